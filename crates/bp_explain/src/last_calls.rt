@@ -1,13 +1,11 @@
 //! By which call of a schedule a thread is finished, and why.
 
+use crate::sources::program_of;
 use bp_advice::Part::{Name, Number, Words};
 use bp_advice::{number_at_front, push_all, push_parts};
-use bp_code::{CodeFault, ProgramFault, code_of};
-use bp_flat::Code;
-use bp_language::CheckFault;
+use bp_code::compile;
 use bp_machine::limits::MAX_FRAMES;
 use bp_machine::{AskFault, Reply, Session, Setup, SetupFault, Start};
-use bp_syntax::ReadFault;
 use bp_text::{line_of, take_line};
 use std::alloc::{AllocError, Global};
 
@@ -18,17 +16,6 @@ pub(crate) struct LastCall {
     /// The line of the schedule, or of the steps, that makes it.
     pub(crate) line: usize,
     pub(crate) reply: Reply,
-}
-
-/// The code of a text, where it has one.
-fn code_where_lawful(alloc: Global, text: &[u8]) -> Result<Option<Code>, AllocError> {
-    match code_of(alloc, text) {
-        Ok(code) => Ok(Some(code)),
-        Err(CodeFault::Memory)
-        | Err(CodeFault::Program(ProgramFault::Read(ReadFault::Memory)))
-        | Err(CodeFault::Program(ProgramFault::Check(CheckFault::Memory, _))) => Err(AllocError),
-        Err(_) => Ok(None),
-    }
 }
 
 /// The thread and the choice bit of a line of a schedule.
@@ -95,10 +82,11 @@ pub(crate) fn last_call(
     let Some(line) = line_of(schedule, number) else {
         return Ok(None);
     };
-    let (Some((thread, _)), Some(code)) = (call_of(line.text), code_where_lawful(alloc, program)?)
+    let (Some((thread, _)), Some(checked)) = (call_of(line.text), &program_of(alloc, program)?)
     else {
         return Ok(None);
     };
+    let code = compile(alloc, checked)?;
     let setup = match start.setup(alloc, &code, None) {
         Ok(setup) => setup,
         Err(SetupFault::Memory) => return Err(AllocError),

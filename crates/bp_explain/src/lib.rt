@@ -12,12 +12,15 @@ mod option_sentences;
 mod recorded_calls;
 mod schedules;
 mod setup_sentences;
+mod sources;
 mod stand_sentences;
 mod step_sentences;
 mod steps;
 mod steps_before;
 mod trace_heads;
 mod traces;
+mod tried_steps;
+mod value_sentences;
 
 pub use option_sentences::{global_sentence, start_sentence, variable_sentence};
 pub use schedules::explain_schedule;

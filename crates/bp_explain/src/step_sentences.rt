@@ -1,22 +1,17 @@
 //! Sentences on a step that is not taken.
 
 use crate::last_calls::{LastCall, push_last_call};
+use crate::sources::source_of;
 use crate::stand_sentences::{push_location, push_stand};
 use crate::steps_before::{next_line_of, push_context_lines, steps_before};
+use crate::tried_steps::{Confirming, trace_before};
+use crate::value_sentences::{push_changes, push_values, session_after};
 use bp_advice::Part::{Count, Name, Number, Quoted, Words};
 use bp_advice::{push_all, push_parts};
 use bp_confirm::{Difference, Stand, StepReason, StepRefusal, value_on_line};
+use bp_machine::Reply;
 use bp_machine::limits::MAX_FRAMES;
-use bp_machine::{Reply, Start};
 use std::alloc::AllocError;
-
-/// The texts that an explanation of steps is about, and what the steps start from.
-#[derive(Clone, Copy)]
-pub(crate) struct Confirming<'a> {
-    pub(crate) program: &'a [u8],
-    pub(crate) start: &'a Start,
-    pub(crate) steps: &'a [u8],
-}
 
 /// Adds a thread and words on it.
 fn push_of_thread(out: &mut Vec<u8>, thread: u32, words: &[u8]) -> Result<(), AllocError> {
@@ -103,6 +98,29 @@ fn push_no_contexts(
     push_context_lines(out, texts.steps, refusal.line as usize)
 }
 
+/// Adds that the assumption at which the thread waits is false: the values that it reads, and which
+/// step changed each of them last.
+fn push_false(
+    out: &mut Vec<u8>,
+    texts: Confirming<'_>,
+    refusal: StepRefusal,
+) -> Result<(), AllocError> {
+    let is_false = b": its assumption is false".as_slice();
+    let alloc = *out.allocator();
+    let (Some(source), Some(trace)) = (
+        &source_of(alloc, texts.program)?,
+        &trace_before(alloc, texts, refusal.line)?,
+    ) else {
+        return push_all(out, &[is_false]);
+    };
+    let Some(session) = &session_after(alloc, source, trace)? else {
+        return push_all(out, &[is_false]);
+    };
+    push_values(out, source, session, refusal.thread)?;
+    push_all(out, &[is_false])?;
+    push_changes(out, source, trace, session, refusal.thread)
+}
+
 /// Adds why the machine does not grant the step.
 fn push_refused(
     out: &mut Vec<u8>,
@@ -133,7 +151,7 @@ fn push_refused(
         Reply::Blocked => {
             push_of_thread(out, refusal.thread, b" waits at ")?;
             push_stand(out, texts.program, refusal.stand)?;
-            push_all(out, &[b": its assumption is false"])
+            push_false(out, texts, refusal)
         }
         Reply::Ended | Reply::Failed | Reply::Stepped => {
             push_of_thread(out, refusal.thread, b" does not make this step")

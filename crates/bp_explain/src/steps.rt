@@ -5,7 +5,8 @@ ghost use Rattle.bp_advice.specs.Explanations.{ExplainsLine, IsExplanationOf};
 
 use crate::malformed_steps::push_malformed;
 use crate::schedules::push_no_entry;
-use crate::step_sentences::{Confirming, push_refusal};
+use crate::step_sentences::push_refusal;
+use crate::tried_steps::Confirming;
 use bp_advice::Part::{Quoted, Words};
 use bp_advice::{Explanation, about_excerpt, about_line, explain_too_long, push_all, push_parts};
 use bp_confirm::{ConfirmFault, StepRefusal, value_on_line};
