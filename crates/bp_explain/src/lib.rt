@@ -4,6 +4,7 @@
 
 mod call_excerpts;
 mod call_sentences;
+mod elsewhere_sentences;
 mod head_sentences;
 mod last_calls;
 mod line_sentences;

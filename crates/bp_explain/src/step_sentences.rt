@@ -1,5 +1,6 @@
 //! Sentences on a step that is not taken.
 
+use crate::elsewhere_sentences::{push_missing_steps, push_other_thread};
 use crate::last_calls::{LastCall, push_last_call};
 use crate::sources::source_of;
 use crate::stand_sentences::{push_location, push_stand};
@@ -22,7 +23,7 @@ fn push_of_thread(out: &mut Vec<u8>, thread: u32, words: &[u8]) -> Result<(), Al
 }
 
 /// Adds where the thread is in place of the location of its line.
-fn push_elsewhere(
+fn push_other_place(
     out: &mut Vec<u8>,
     texts: Confirming<'_>,
     refusal: StepRefusal,
@@ -34,6 +35,17 @@ fn push_elsewhere(
     push_stand(out, texts.program, refusal.stand)?;
     push_all(out, &[b", not at "])?;
     push_location(out, refusal.location)
+}
+
+/// Adds the same, and what leads to that location: another thread, or steps that are left out.
+fn push_elsewhere(
+    out: &mut Vec<u8>,
+    texts: Confirming<'_>,
+    refusal: StepRefusal,
+) -> Result<(), AllocError> {
+    push_other_place(out, texts, refusal)?;
+    push_other_thread(out, texts, refusal)?;
+    push_missing_steps(out, texts, refusal)
 }
 
 /// Adds that the place of the thread's next line does not tell which way its `?` went.
