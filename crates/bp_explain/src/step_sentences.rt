@@ -2,16 +2,17 @@
 
 use crate::elsewhere_sentences::{push_missing_steps, push_other_thread};
 use crate::last_calls::{LastCall, push_last_call};
-use crate::sources::source_of;
+use crate::sources::{Source, source_of};
 use crate::stand_sentences::{push_location, push_stand};
 use crate::steps_before::{next_line_of, push_context_lines, steps_before};
 use crate::tried_steps::{Confirming, trace_before};
 use crate::value_sentences::{push_changes, push_values, session_after};
-use bp_advice::Part::{Count, Name, Number, Quoted, Words};
+use bp_advice::Part::{Count, Name, Number, Place, Quoted, Words};
 use bp_advice::{push_all, push_parts};
 use bp_confirm::{Difference, Stand, StepReason, StepRefusal, value_on_line};
 use bp_machine::Reply;
 use bp_machine::limits::MAX_FRAMES;
+use bp_text::Position;
 use std::alloc::AllocError;
 
 /// Adds a thread and words on it.
@@ -48,6 +49,40 @@ fn push_elsewhere(
     push_missing_steps(out, texts, refusal)
 }
 
+/// Where the two ways of the instruction of this number begin, if that is on one line.
+fn ways_of(source: &Source, number: Option<u32>) -> Option<(Position, Position)> {
+    let instr = source.code.get(number?)?;
+    let taken = source.statements.get(instr.next()? as usize)?.position?;
+    let other = source.statements.get(instr.other()? as usize)?.position?;
+    if taken.line != other.line {
+        return None;
+    }
+    Some((taken, other))
+}
+
+/// Adds the two places that tell the ways of a `?` from each other, if they are on one line.
+fn push_ways(
+    out: &mut Vec<u8>,
+    texts: Confirming<'_>,
+    refusal: StepRefusal,
+) -> Result<(), AllocError> {
+    let Some(source) = &source_of(*out.allocator(), texts.program)? else {
+        return Ok(());
+    };
+    let Some((taken, other)) = ways_of(source, refusal.number) else {
+        return Ok(());
+    };
+    push_parts(
+        out,
+        &[
+            Words(b": write "),
+            Place(taken.line, taken.column),
+            Words(b" or "),
+            Place(other.line, other.column),
+        ],
+    )
+}
+
 /// Adds that the place of the thread's next line does not tell which way its `?` went.
 fn push_ambiguous(
     out: &mut Vec<u8>,
@@ -61,9 +96,10 @@ fn push_ambiguous(
         Words(b", which wants a column"),
     );
     match next_line_of(texts.steps, refusal.thread, refusal.line as usize) {
-        Some(line) => push_parts(out, &[before, Words(b"line "), Number(line), after]),
-        None => push_parts(out, &[before, Words(b"its next step"), after]),
+        Some(line) => push_parts(out, &[before, Words(b"line "), Number(line), after])?,
+        None => push_parts(out, &[before, Words(b"its next step"), after])?,
     }
+    push_ways(out, texts, refusal)
 }
 
 /// Adds by which step a thread was finished, and why.
