@@ -4,26 +4,13 @@ use crate::recorded_calls::{Recorded, recorded_call};
 use crate::trace_heads::is_version_two;
 use bp_advice::Part::{Number, Words};
 use bp_advice::{push_all, push_parts};
-use bp_machine::{Call, Reply};
+use bp_machine::Call;
 use bp_trace::{Due, EndCounts};
 use std::alloc::AllocError;
 
 /// The digit of a choice bit.
 fn digit_of(bit: bool) -> u8 {
     if bit { b'1' } else { b'0' }
-}
-
-/// Why the machine gives a reply.
-fn reason(reply: Reply) -> &'static [u8] {
-    match reply {
-        Reply::Stopped => b"an assertion failed before",
-        Reply::Ended => b"the thread has ended",
-        Reply::NoContexts => b"one more step of the thread is not within the contexts",
-        Reply::Full => b"the stack has no room for the frame of this call",
-        Reply::Blocked => b"the assumption is false",
-        Reply::Failed => b"the assertion is false",
-        Reply::Stepped => b"the thread makes a step",
-    }
 }
 
 /// Adds the line that ends a trace with these counts, between these words.
@@ -63,11 +50,11 @@ pub(crate) fn push_no_end(out: &mut Vec<u8>, counts: EndCounts) -> Result<(), Al
     push_end_line(out, b"the trace ends here; expected ", counts, after)
 }
 
-/// Adds that a call is due, as a trace of this version has it.
-fn push_due(out: &mut Vec<u8>, is_version_two: bool, call: Call) -> Result<(), AllocError> {
+/// Adds that a call is due in place of that of a trace.
+pub(crate) fn push_due(out: &mut Vec<u8>, trace: &[u8], call: Call) -> Result<(), AllocError> {
     let digit = [digit_of(call.bit)];
     let letter = [call.reply.letter()];
-    if is_version_two {
+    if is_version_two(trace) {
         return push_all(out, &[b"expected '", &digit, &letter, b"': "]);
     }
     push_parts(
@@ -84,25 +71,10 @@ fn push_due(out: &mut Vec<u8>, is_version_two: bool, call: Call) -> Result<(), A
     )
 }
 
-/// Adds the machine's own call in place of that of a trace, and why it is due.
-fn push_due_call(out: &mut Vec<u8>, trace: &[u8], own: Call, why: &[u8]) -> Result<(), AllocError> {
-    push_due(out, is_version_two(trace), own)?;
-    push_all(out, &[why])
-}
-
 /// Adds that a call of a trace has another choice bit than the seed.
 pub(crate) fn push_other_bit(out: &mut Vec<u8>, trace: &[u8], due: Due) -> Result<(), AllocError> {
-    let why = b"the choice bit is that of the seed".as_slice();
-    push_due_call(out, trace, due.call, why)
-}
-
-/// Adds that a call of a trace has another reply than the machine's own.
-pub(crate) fn push_other_reply(
-    out: &mut Vec<u8>,
-    trace: &[u8],
-    due: Due,
-) -> Result<(), AllocError> {
-    push_due_call(out, trace, due.call, reason(due.call.reply))
+    push_due(out, trace, due.call)?;
+    push_all(out, &[b"the choice bit is that of the seed"])
 }
 
 /// Adds that the call after the first `made` calls of a trace is of a thread that has made its last

@@ -11,6 +11,7 @@ mod line_sentences;
 mod malformed_steps;
 mod option_sentences;
 mod recorded_calls;
+mod reply_sentences;
 mod schedules;
 mod setup_sentences;
 mod sources;

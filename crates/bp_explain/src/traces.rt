@@ -4,11 +4,10 @@ ghost use Rattle.bp_explain.specs.Explained.{ExplainsCall, ExplainsNoEnd, Explai
 ghost use Rattle.bp_advice.specs.Explanations.{ExplainsLine, IsExplanationOf};
 
 use crate::call_excerpts::excerpt_in_line;
-use crate::call_sentences::{
-    push_finished, push_no_end, push_other_bit, push_other_end, push_other_reply,
-};
+use crate::call_sentences::{push_finished, push_no_end, push_other_bit, push_other_end};
 use crate::head_sentences::push_head;
 use crate::line_sentences::push_body_line;
+use crate::reply_sentences::push_other_reply;
 use crate::setup_sentences::{line_of_setup, push_setup};
 use bp_advice::{Explanation, about_excerpt, about_line, explain_too_long, tree_of};
 use bp_machine::SetupFault;
@@ -76,11 +75,16 @@ fn explain_line<'a>(
 }
 
 /// Adds what is wrong with the call of a trace that the fault names.
-fn push_call_fault(out: &mut Vec<u8>, trace: &[u8], fault: &ReplayFault) -> Result<(), AllocError> {
+fn push_call_fault(
+    out: &mut Vec<u8>,
+    program: &[u8],
+    trace: &[u8],
+    fault: &ReplayFault,
+) -> Result<(), AllocError> {
     match fault {
         ReplayFault::AfterFinish(_, made) => push_finished(out, trace, *made),
         ReplayFault::Bit(_, due) => push_other_bit(out, trace, *due),
-        ReplayFault::Reply(_, due) => push_other_reply(out, trace, *due),
+        ReplayFault::Reply(_, due) => push_other_reply(out, program, trace, *due),
         _ => Ok(()),
     }
 }
@@ -88,6 +92,7 @@ fn push_call_fault(out: &mut Vec<u8>, trace: &[u8], fault: &ReplayFault) -> Resu
 /// Explains what is wrong with a call on this line of a trace.
 fn explain_call<'a>(
     alloc: Global,
+    program: &[u8],
     file: &'a str,
     trace: &[u8],
     fault: &ReplayFault,
@@ -96,7 +101,7 @@ fn explain_call<'a>(
     ensures { IfOk result (λ e. ExplainsCall file.now trace.now number fault.now e) }
 {
     let mut sentence = Vec::new(alloc);
-    push_call_fault(&mut sentence, trace, fault)?;
+    push_call_fault(&mut sentence, program, trace, fault)?;
     let excerpt = excerpt_in_line(alloc, trace, number as usize, fault)?;
     about_excerpt(alloc, file, number as usize, excerpt, sentence.as_slice())
 }
@@ -123,7 +128,7 @@ pub fn explain_trace<'a>(
         }
         ReplayFault::AfterFinish(line, _)
         | ReplayFault::Bit(line, _)
-        | ReplayFault::Reply(line, _) => explain_call(alloc, file, trace, fault, *line)?,
+        | ReplayFault::Reply(line, _) => explain_call(alloc, program, file, trace, fault, *line)?,
         ReplayFault::Memory => return Ok(None),
     };
     Ok(Some(explanation))

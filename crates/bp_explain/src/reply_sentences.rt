@@ -1,0 +1,141 @@
+//! Sentences on a call of a trace that has another reply than the machine's own.
+
+use crate::call_sentences::push_due;
+use crate::recorded_calls::{Recorded, recorded_call};
+use crate::sources::{Source, source_of};
+use crate::stand_sentences::push_stand;
+use crate::value_sentences::{push_values, session_after};
+use bp_advice::Part::{Number, Words};
+use bp_advice::{push_all, push_parts};
+use bp_confirm::Stand;
+use bp_machine::{Reply, Session};
+use bp_text::part_before;
+use bp_trace::{Due, ReplayFault, replay};
+use std::alloc::{AllocError, Global};
+
+/// What a thread does that has this reply.
+fn verb_of(reply: Reply) -> &'static [u8] {
+    match reply {
+        Reply::Stopped => b"is stopped: an assertion failed before",
+        Reply::Ended => b"has ended",
+        Reply::NoContexts => b"is refused a context",
+        Reply::Full => b"is refused a frame",
+        Reply::Blocked => b"waits",
+        Reply::Failed => b"fails",
+        Reply::Stepped => b"makes a step",
+    }
+}
+
+/// The reply of this letter.
+fn reply_of(letter: u8) -> Option<Reply> {
+    match letter {
+        b'x' => Some(Reply::Stopped),
+        b'e' => Some(Reply::Ended),
+        b'n' => Some(Reply::NoContexts),
+        b'u' => Some(Reply::Full),
+        b'b' => Some(Reply::Blocked),
+        b'f' => Some(Reply::Failed),
+        b's' => Some(Reply::Stepped),
+        _ => None,
+    }
+}
+
+/// What a trace says of the thread of the call after the first `made`.
+fn recorded_verb(trace: &[u8], made: u64) -> Option<&'static [u8]> {
+    let letter = trace.get(recorded_call(trace, made)?.reply_at)?;
+    Some(verb_of(reply_of(*letter)?))
+}
+
+/// A trace up to its first `made` calls, with the line feed after them.
+fn lines_of_calls(alloc: Global, trace: &[u8], made: u64) -> Result<Vec<u8>, AllocError> {
+    let mut lines = Vec::new(alloc);
+    let Some(Recorded { thread, bit_at, .. }) = recorded_call(trace, made) else {
+        return Ok(lines);
+    };
+    let before = part_before(trace, bit_at);
+    if before.last() == Some(&b' ') {
+        // The call is the first of its line.
+        let size = thread.len().saturating_add(1);
+        lines.extend_from_slice(part_before(before, before.len().saturating_sub(size)))?;
+    } else {
+        lines.extend_from_slice(before)?;
+        lines.push(b'\n')?;
+    }
+    Ok(lines)
+}
+
+/// The session after the first `made` calls of a trace.
+fn session_before(
+    alloc: Global,
+    source: &Source,
+    trace: &[u8],
+    made: u64,
+) -> Result<Option<Session>, AllocError> {
+    let mut lines = lines_of_calls(alloc, trace, made)?;
+    let counts = match replay(alloc, &source.code, lines.as_slice()) {
+        Err(ReplayFault::NoEnd(counts)) => counts,
+        Err(ReplayFault::Memory) => return Err(AllocError),
+        _ => return Ok(None),
+    };
+    let (calls, left_open) = (
+        Number(counts.calls as usize),
+        Number(counts.left_open as usize),
+    );
+    let end = [Words(b"end "), calls, Words(b" "), left_open, Words(b"\n")];
+    push_parts(&mut lines, &end)?;
+    session_after(alloc, source, lines.as_slice())
+}
+
+/// Where a thread of a session stands.
+fn stand_of(source: &Source, session: &Session, thread: u32) -> Stand {
+    let Some(top) = session.top(thread) else {
+        return Stand::Ended;
+    };
+    match source.statements.get(top.number as usize) {
+        Some(statement) => match statement.position {
+            Some(position) => Stand::Statement(position),
+            None => Stand::End,
+        },
+        None => Stand::Ended,
+    }
+}
+
+/// Adds where the thread of a call stands, with the values that its statement reads.
+fn push_place(out: &mut Vec<u8>, program: &[u8], trace: &[u8], due: Due) -> Result<(), AllocError> {
+    let alloc = *out.allocator();
+    let Some(source) = &source_of(alloc, program)? else {
+        return Ok(());
+    };
+    let Some(session) = &session_before(alloc, source, trace, due.calls)? else {
+        return Ok(());
+    };
+    let thread = due.call.thread;
+    push_all(out, &[b"is at "])?;
+    push_stand(out, program, stand_of(source, session, thread))?;
+    push_values(out, source, session, thread)?;
+    push_all(out, &[b" and "])
+}
+
+/// Adds that a call of a trace has another reply than the machine's own, and what each says of the
+/// thread.
+pub(crate) fn push_other_reply(
+    out: &mut Vec<u8>,
+    program: &[u8],
+    trace: &[u8],
+    due: Due,
+) -> Result<(), AllocError> {
+    push_due(out, trace, due.call)?;
+    let thread = Number(due.call.thread as usize);
+    push_parts(out, &[Words(b"thread "), thread, Words(b" ")])?;
+    if !matches!(due.call.reply, Reply::Ended | Reply::Stopped) {
+        push_place(out, program, trace, due)?;
+    }
+    push_all(out, &[verb_of(due.call.reply)])?;
+    if let Some(verb) = recorded_verb(trace, due.calls) {
+        push_all(out, &[b"; the trace says it ", verb])?;
+    }
+    push_all(
+        out,
+        &[b". The trace may be of another version of the program."],
+    )
+}
