@@ -73,7 +73,7 @@ fn of_input<'a>(
             explain_schedule(alloc, text, start, name, lines, fault)
         }
         (SecondInput::Steps, Fault::Steps(fault)) => {
-            explain_steps(alloc, text, start, name, lines, fault)
+            explain_steps(alloc, program.name, text, start, name, lines, fault)
         }
         (SecondInput::Trace, Fault::Trace(fault)) => explain_trace(alloc, text, name, lines, fault),
         (SecondInput::Trace, Fault::Setup(fault)) => {

@@ -14,6 +14,7 @@ mod recorded_calls;
 mod reply_sentences;
 mod schedules;
 mod setup_sentences;
+mod shell_words;
 mod sources;
 mod stand_sentences;
 mod step_sentences;

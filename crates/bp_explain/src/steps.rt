@@ -6,6 +6,7 @@ ghost use Rattle.bp_advice.specs.Explanations.{ExplainsLine, IsExplanationOf};
 use crate::malformed_steps::push_malformed;
 use crate::schedules::push_no_entry;
 use crate::step_sentences::push_refusal;
+use crate::steps_before::push_run_before;
 use crate::tried_steps::Confirming;
 use bp_advice::Part::{Quoted, Words};
 use bp_advice::{Explanation, about_excerpt, about_line, explain_too_long, push_all, push_parts};
@@ -64,7 +65,7 @@ fn explain_no_variable<'a>(
     about_line(alloc, file, steps, number as usize, sentence.as_slice())
 }
 
-/// Explains why a step is not taken.
+/// Explains why a step is not taken, and how to see the run up to there.
 fn explain_refusal<'a>(
     alloc: Global,
     file: &'a str,
@@ -77,14 +78,18 @@ fn explain_refusal<'a>(
     let mut sentence = Vec::new(alloc);
     push_refusal(&mut sentence, texts, refusal)?;
     let number = refusal.line as usize;
+    let (program_file, steps_file) = (texts.program_file.as_bytes(), file.as_bytes());
+    push_run_before(&mut sentence, program_file, steps_file, number)?;
     about_line(alloc, file, texts.steps, number, sentence.as_slice())
 }
 
 /// Explains this fault of the reported steps of the program of a text, which run from this start,
-/// at its line. Steps that are too long or none are explained as a whole. Nothing explains refused memory
-/// and an output that failed. The only error is refused memory.
+/// at its line. The files are those of the program and of the steps. Steps that are too long or
+/// none are explained as a whole. Nothing explains refused memory and an output that failed. The
+/// only error is refused memory.
 pub fn explain_steps<'a>(
     alloc: Global,
+    program_file: &str,
     program: &[u8],
     start: &Start,
     file: &'a str,
@@ -109,6 +114,7 @@ pub fn explain_steps<'a>(
         }
         ConfirmFault::Step(refusal) => {
             let texts = Confirming {
+                program_file,
                 program,
                 start,
                 steps,

@@ -1,5 +1,6 @@
 //! What the steps before and after a line are.
 
+use crate::shell_words::{is_word, push_word};
 use bp_advice::Part::{Number, Words};
 use bp_advice::{number_at_front, push_all, push_parts};
 use bp_text::{Line, take_line};
@@ -87,4 +88,30 @@ pub(crate) fn next_line_of(steps: &[u8], thread: u32, number: usize) -> Option<u
         }
     }
     None
+}
+
+/// Adds how to see the run that the steps before the line of this number are, if there are any and
+/// a shell can name the files.
+pub(crate) fn push_run_before(
+    out: &mut Vec<u8>,
+    program_file: &[u8],
+    steps_file: &[u8],
+    number: usize,
+) -> Result<(), AllocError> {
+    if number < 2 || !is_word(program_file) || !is_word(steps_file) {
+        return Ok(());
+    }
+    let before: &[u8] = if number == 2 {
+        b"; the step before it is a run: head -n "
+    } else {
+        b"; the steps before it are a run: head -n "
+    };
+    push_parts(
+        out,
+        &[Words(before), Number(number.saturating_sub(1)), Words(b" ")],
+    )?;
+    push_word(out, steps_file)?;
+    push_all(out, &[b" | btrun confirm "])?;
+    push_word(out, program_file)?;
+    push_all(out, &[b" - .."])
 }

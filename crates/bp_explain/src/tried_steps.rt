@@ -8,9 +8,11 @@ use bp_text::{part_before, text_from_line};
 use bp_trace::write_trace;
 use std::alloc::{AllocError, Global};
 
-/// The texts that an explanation of steps is about, and what the steps start from.
+/// The texts that an explanation of steps is about, the program's file, and what the steps start
+/// from.
 #[derive(Clone, Copy)]
 pub(crate) struct Confirming<'a> {
+    pub(crate) program_file: &'a str,
     pub(crate) program: &'a [u8],
     pub(crate) start: &'a Start,
     pub(crate) steps: &'a [u8],
