@@ -13,6 +13,9 @@ use std::alloc::{AllocError, Global};
 /// How many steps that are left out are looked for.
 const MOST_MISSING: u32 = 6;
 
+/// How many bytes of steps are tried again for each thread.
+const MOST_TRIED: usize = 262_144;
+
 /// Adds a line of steps without values.
 fn push_step(out: &mut Vec<u8>, thread: u32, location: Location) -> Result<(), AllocError> {
     push_parts(out, &[Number(thread as usize), Words(b" ")])?;
@@ -77,7 +80,7 @@ fn only_thread_there(
 }
 
 /// Adds which other thread stands at the location of a refused step, if one alone does.
-pub(crate) fn push_other_thread(
+fn push_other_thread(
     out: &mut Vec<u8>,
     texts: Confirming<'_>,
     refusal: StepRefusal,
@@ -230,7 +233,7 @@ fn lead_of(count: usize, are_lines: bool) -> &'static [u8] {
 
 /// Adds which steps of the thread of a refused step lead it to the location of that step, if they
 /// do not depend on a choice and are few.
-pub(crate) fn push_missing_steps(
+fn push_missing_steps(
     out: &mut Vec<u8>,
     texts: Confirming<'_>,
     refusal: StepRefusal,
@@ -254,4 +257,18 @@ pub(crate) fn push_missing_steps(
             b" are missing"
         }],
     )
+}
+
+/// Adds what leads to the location of a refused step: another thread, or steps that are left out.
+/// They are looked for after a list that is not too long.
+pub(crate) fn push_ways_there(
+    out: &mut Vec<u8>,
+    texts: Confirming<'_>,
+    refusal: StepRefusal,
+) -> Result<(), AllocError> {
+    if lines_before(texts.steps, refusal.line).len() > MOST_TRIED {
+        return Ok(());
+    }
+    push_other_thread(out, texts, refusal)?;
+    push_missing_steps(out, texts, refusal)
 }

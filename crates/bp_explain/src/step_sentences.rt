@@ -1,6 +1,6 @@
 //! Sentences on a step that is not taken.
 
-use crate::elsewhere_sentences::{push_missing_steps, push_other_thread};
+use crate::elsewhere_sentences::push_ways_there;
 use crate::last_calls::{LastCall, push_last_call};
 use crate::sources::{Source, source_of};
 use crate::stand_sentences::{push_location, push_stand};
@@ -45,8 +45,7 @@ fn push_elsewhere(
     refusal: StepRefusal,
 ) -> Result<(), AllocError> {
     push_other_place(out, texts, refusal)?;
-    push_other_thread(out, texts, refusal)?;
-    push_missing_steps(out, texts, refusal)
+    push_ways_there(out, texts, refusal)
 }
 
 /// Where the two ways of the instruction of this number begin, if that is on one line.
