@@ -16,13 +16,13 @@ use Rattle.bp_commands.specs.Given.{Pair}
 use Rattle.bp_commands.specs.Traces.{IsOfTrace, IsTraceReport}
 use Rattle.bp_show.specs.Shows.{shows, IsViewText}
 
-module _ (o : ViewOptions) (given : Pair) (t : Program) (of : IsLawfulText given.text t) where
+module _ (o : ViewOptions) (file : List ℕ) (given : Pair) (t : Program) (of : IsLawfulText given.text t) where
   -- a view of a trace is what the command writes and reports
-  module _ (written : List ℕ) (r : Report) (is : IsViewOfTrace t given.text given.input o written r) where
+  module _ (written : List ℕ) (r : Report) (is : IsViewOfTrace t given.text given.input o file written r) where
     reported_of : IsReport is.replayed.setup is.replayed.history.items r
     reported_of = subst (IsReport is.replayed.setup is.replayed.history.items) (sym is.report_is) is.is.report
 
-    shown : IsOfTrace (IsViewText o) given written
+    shown : IsOfTrace (IsViewText o file) given written
     shown = record {
       program = t;
       setup = is.replayed.setup;
@@ -31,15 +31,15 @@ module _ (o : ViewOptions) (given : Pair) (t : Program) (of : IsLawfulText given
       is = record { report = r; reported = reported_of; there = is.there; declared = is.declared; is = is.view_is };
     }
 
-    reported : IsTraceReport (IsViewText o) given written r
+    reported : IsTraceReport (IsViewText o file) given written r
     unfolding shown
     reported = record { trace = shown; reported = reported_of }
 
   module _ (old new : Option (List ℕ)) where
-    pub viewed : (r : Report) → IsViewed t given.text given.input o old new r → IsDoneWith (shows o) old new given r
+    pub viewed : (r : Report) → IsViewed t given.text given.input o file old new r → IsDoneWith (shows o file) old new given r
     viewed r done = record { text = done.text; reports = reported done.text r done.is; written = done.written }
 
-    pub not_viewed : (f : ViewFault) → IsViewRefusal t given.text given.input o old new f → IsRefusedWith (shows o) old new given (fault_of_view f)
+    pub not_viewed : (f : ViewFault) → IsViewRefusal t given.text given.input o file old new f → IsRefusedWith (shows o file) old new given (fault_of_view f)
     not_viewed (view.Replay f) found = inl (
       subst (Keeps old) (sym found.0) (Keeps-refl old),
       inr (inl (record { program = t; lawful = of; cause = f; why = found.1; is = refl })),

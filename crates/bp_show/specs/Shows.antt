@@ -21,14 +21,14 @@ use Rattle.bp_commands.specs.Traces.{on_trace, IsBegun, IsNoTrace, IsOfTrace, Is
 
 -- the view of a history with these options, whose foot says its report
 pub record IsViewText
-    (o : ViewOptions) (text : List ℕ) (t : Program) (s : SetupOf) (h : List Call)
-    (written : List ℕ)
+    (o : ViewOptions) (file : List ℕ) (text : List ℕ) (t : Program) (s : SetupOf)
+    (h : List Call) (written : List ℕ)
     : Type 0 where
   pub report : Report
   pub reported : IsReport s h report
   pub there : IsThere o.thread (threads s)
   pub declared : AreDeclared t (watched_names o.watch)
-  pub is : IsView t text s h report o written
+  pub is : IsView t text s h report o file written
 
 -- the state after the first n calls of a history, or after all where there are no more
 abbrev pub IsStateOf : ViewFormat → ℕ → TextRule
@@ -64,15 +64,15 @@ pub record HasNoVariable (o : ViewOptions) (given : Pair) (f : Fault) : Type 0 w
   pub undeclared : IsUndeclared program (watched_names o.watch) number
   pub is : f ≡ NoVariable number
 
--- it writes a view of the history, each line as it is made
-abbrev pub shows : ViewOptions → Command Pair Report
-shows o = record {
-  Writes = IsOfTrace (IsViewText o);
-  Reports = IsTraceReport (IsViewText o);
+-- it writes a view of the history, each line as it is made, of a program in this file
+abbrev pub shows : ViewOptions → (file : List ℕ) → Command Pair Report
+shows o file = record {
+  Writes = IsOfTrace (IsViewText o file);
+  Reports = IsTraceReport (IsViewText o file);
   Refuses = λ given f.
       HasNoCode given.text f
       ⊎ (IsNoTrace given f ⊎ (HasNoThread o given f ⊎ HasNoVariable o given f));
-  Spoils = IsBegun (IsViewText o);
+  Spoils = IsBegun (IsViewText o file);
 }
 
 -- it writes the state after n calls of the history
@@ -89,8 +89,10 @@ lists_steps = on_trace AreStepsOf
 
 -- The first of these that is asked for: the state after a number of calls, the contexts, the steps.
 -- If none is, the calls.
-abbrev pub shows_as : ViewOptions → (contexts steps : Bool) → Option ℕ → Command Pair Report
-shows_as o contexts steps (Some n) = states o.format n
-shows_as o true steps None = lists_contexts o.format
-shows_as o false true None = lists_steps
-shows_as o false false None = shows o
+abbrev pub shows_as
+    : ViewOptions → (file : List ℕ) → (contexts steps : Bool) → Option ℕ
+    → Command Pair Report
+shows_as o file contexts steps (Some n) = states o.format n
+shows_as o file true steps None = lists_contexts o.format
+shows_as o file false true None = lists_steps
+shows_as o file false false None = shows o file

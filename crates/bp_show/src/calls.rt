@@ -13,12 +13,14 @@ use std::io::Write;
 pub struct Show<'a> {
     /// Which calls are shown, and how.
     pub options: ViewOptions<'a>,
+    /// The name of the program's text.
+    pub file: &'a str,
 }
 
 impl TraceCommand for Show<'_> {
     ghost use Rattle.bp_show.specs.Shows.{shows};
 
-    ghost command = { λ s. shows s.options };
+    ghost command = { λ s. shows s.options s.file.now };
 
     fn apply_to_trace<W: Write>(
         &self,
@@ -28,7 +30,8 @@ impl TraceCommand for Show<'_> {
         out: &mut W,
     ) -> Result<Report, Fault> {
         let (checked, code) = program_of(alloc, text)?;
-        let report = view(alloc, text, &checked, &code, trace, self.options, out)?;
+        let (options, file) = (self.options, self.file);
+        let report = view(alloc, text, &checked, &code, trace, options, file, out)?;
         Ok(report)
     }
 

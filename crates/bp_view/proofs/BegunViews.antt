@@ -47,7 +47,7 @@ module _ {c : Flat} {t : Program} {text : List ℕ} {s : SetupOf} {r : Report} {
   h = x.history.now
 
   -- a view is a text of parts: its head, its lines and its end
-  pub kind : IsKind (IsLine t text s x) (head t text s x) (length h) (IsEnd x.options t text s h r) (IsView t text s h r x.options)
+  pub kind : IsKind (IsLine t text s x) (head t text s x) (length h) (IsEnd x.options x.file.now t text s h r) (IsView t text s h r x.options x.file.now)
   kind = record {
     whole = λ lines end lines_are end_is. record {
       widths = x.widths;
@@ -63,7 +63,7 @@ module _ {c : Flat} {t : Program} {text : List ℕ} {s : SetupOf} {r : Report} {
       lines_are = lines_are;
     };
     each = each_line c t can.code text x.program.statements.now can.known.program.statements s x.options x.widths h;
-    some_end = some_end c t can.code text x.program.statements.now can.known.program.statements s x.options h can.playable.legal r can.outcome;
+    some_end = some_end c t can.code text x.program.statements.now can.known.program.statements s x.options x.file.now h can.playable.legal r can.outcome;
   }
 
   module _ {i : ℕ} {w : ViewWriter} {a b : Option (List ℕ)} (has : HasWritten t text s x i w a b) where
@@ -73,8 +73,8 @@ module _ {c : Flat} {t : Program} {text : List ℕ} {s : SetupOf} {r : Report} {
     -- all calls were made: the end that follows is one of the view
     pub end_there : {end : List ℕ} → length h ≤ i
         → ((t : Program) (text : List ℕ) (g : List Call) → IsViewContextOf t text w.context → StandsFor w.session.code t → Stands t w.session g
-        → w.context.history.now ≡ g → r.outcome ≡ outcome_of g → IsEnd w.context.options t text w.session.setup g r end)
-        → IsEnd x.options t text s h r end
+        → w.context.history.now ≡ g → r.outcome ≡ outcome_of g → IsEnd w.context.options w.context.file.now t text w.session.setup g r end)
+        → IsEnd x.options x.file.now t text s h r end
     end_there past end =
         let made = subst (λ g. HasMade t g w) (take_all i h past) has.made in
         rw (has.context, has.setup) at (end t text h known_there made.code made.stands (ap (λ (y : ViewContext). y.history.now) has.context) can.outcome)

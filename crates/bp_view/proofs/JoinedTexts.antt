@@ -13,15 +13,16 @@ statement_joined place statement lead values line =
     condition_parts (codes " at ") place (codes ": ") statement lead values
     ∙ ap (λ x. concat (concat (codes " at " ∷ place ∷ codes ": " ∷ statement ∷ []) ∷ x ∷ [])) line
 
-place_parts : (a l b c d e f g : List ℕ) → concat (a ∷ l ∷ b ∷ c ∷ d ∷ e ∷ f ∷ g ∷ []) ≡ concat (a ∷ (l ++ b ++ c) ∷ d ∷ e ∷ f ∷ g ∷ [])
-place_parts a l b c d e f g = simp regrouped
+place_parts : (a n k l b c d e f g : List ℕ)
+    → concat (a ∷ n ∷ k ∷ l ∷ b ∷ c ∷ d ∷ e ∷ f ∷ g ∷ []) ≡ concat (a ∷ (n ++ k ++ (l ++ b ++ c)) ∷ d ∷ e ∷ f ∷ g ∷ [])
+place_parts a n k l b c d e f g = simp regrouped
 
-pub condition_joined : (line column statement lead values : List ℕ) → lead ++ values ≡ values_line values
-    → concat (codes " at " ∷ line ∷ codes ":" ∷ column ∷ codes ": " ∷ statement ∷ lead ∷ values ∷ [])
-    ≡ condition_lines (line ++ codes ":" ++ column) statement values
-condition_joined line column statement lead values is =
-    place_parts (codes " at ") line (codes ":") column (codes ": ") statement lead values
-    ∙ statement_joined (line ++ codes ":" ++ column) statement lead values is
+pub condition_joined : (file line column statement lead values : List ℕ) → lead ++ values ≡ values_line values
+    → concat (codes " at " ∷ file ∷ codes ":" ∷ line ∷ codes ":" ∷ column ∷ codes ": " ∷ statement ∷ lead ∷ values ∷ [])
+    ≡ condition_lines (file ++ codes ":" ++ (line ++ codes ":" ++ column)) statement values
+condition_joined file line column statement lead values is =
+    place_parts (codes " at ") file (codes ":") line (codes ":") column (codes ": ") statement lead values
+    ∙ statement_joined (file ++ codes ":" ++ (line ++ codes ":" ++ column)) statement lead values is
 
 frame_parts : (a b c d e f g h z : List ℕ)
     → concat (a ∷ b ∷ c ∷ d ∷ e ∷ f ∷ g ∷ h ∷ z ∷ []) ≡ concat (concat (a ∷ b ∷ []) ∷ concat (c ∷ d ∷ e ∷ f ∷ g ∷ h ∷ []) ∷ z ∷ [])

@@ -52,19 +52,19 @@ module _ (t : Program) (text : List ℕ) (s : SetupOf) (o : ViewOptions) (w : Wi
           let (x, at) = item_at whole k (subst (λ m. k < m) count few) in
           line_if (has_line t text s o w whole (take k whole) x) (take k whole) x p q (a x at) (b x at)
 
-module _ (t : Program) (text : List ℕ) (s : SetupOf) (h : List Call) (r : Report) (o : ViewOptions) where
+module _ (t : Program) (text : List ℕ) (s : SetupOf) (h : List Call) (r : Report) (o : ViewOptions) (file : List ℕ) where
   state_if : (asked : Bool) (v w : List ℕ) → IsStateIf o.format t text s h asked v → IsStateIf o.format t text s h asked w → v ≡ w
   state_if false v w x y = x ∙ sym y
   state_if true v w (a, v_is, a_is) (b, w_is, b_is) = v_is ∙ ap (after_foot o.format) (one_state o.format t text s h (length h) a b a_is b_is) ∙ sym w_is
 
-  one_end : (v w : List ℕ) → IsEnd o t text s h r v → IsEnd o t text s h r w → v ≡ w
+  one_end : (v w : List ℕ) → IsEnd o file t text s h r v → IsEnd o file t text s h r w → v ≡ w
   one_end v w x y =
-      let foot = one_foot o.format t text s h r x.foot y.foot x.foot_is y.foot_is in
+      let foot = one_foot o.format file t text s h r x.foot y.foot x.foot_is y.foot_is in
       x.is ∙ ap₂ (λ a b. a ++ b) foot (state_if o.has_state x.state y.state x.state_is y.state_is) ∙ sym y.is
 
-pub one_view : (t : Program) (text : List ℕ) (s : SetupOf) (h : List Call) (r : Report) (o : ViewOptions) (v w : List ℕ)
-    → IsView t text s h r o v → IsView t text s h r o w → v ≡ w
-one_view t text s h r o v w x y =
+pub one_view : (t : Program) (text : List ℕ) (s : SetupOf) (h : List Call) (r : Report) (o : ViewOptions) (file : List ℕ) (v w : List ℕ)
+    → IsView t text s h r o file v → IsView t text s h r o file w → v ≡ w
+one_view t text s h r o file v w x y =
     let statements = one_list_of_statements text (places_of t.procedures) x.statements y.statements x.statements_are y.statements_are in
     let places = map (place_text text) (starts_of t) in
     let extent_of_y = λ (texts : List (List ℕ)). extent (length h) places texts (length t.procedures) o.columns in
@@ -72,7 +72,7 @@ one_view t text s h r o v w x y =
     let widths = one_widths s (extent_of_y y.statements) x.widths y.widths widths_are y.widths_are in
     let lines_are = subst (λ z. AreLines t text s o z h (length h) x.lines) widths x.lines_are in
     let lines = one_lines t text s o y.widths h (length h) refl x.lines y.lines lines_are y.lines_are in
-    let end = one_end t text s h r o x.end y.end x.end_is y.end_is in
+    let end = one_end t text s h r o file x.end y.end x.end_is y.end_is in
     x.is
     ∙ ap (λ z. view_head o t.globals s z ++ x.lines ++ x.end) widths
     ∙ ap₂ (λ a b. view_head o t.globals s y.widths ++ a ++ b) lines end

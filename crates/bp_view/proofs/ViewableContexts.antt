@@ -38,32 +38,33 @@ module _ {t : Program} {text trace : List ℕ} {shown : ShownTrace} (is : IsShow
     outcome = is.is.report.outcome ∙ ap outcome_of (sym history);
   }
 
-  module _ (o : ViewOptions) (a : Option (List ℕ)) where
-    pub missing : (f : ViewFault) → IsMissing o.thread (threads r.setup) f → IsViewRefusal t text trace o a a f
+  module _ (o : ViewOptions) (file : List ℕ) (a : Option (List ℕ)) where
+    pub missing : (f : ViewFault) → IsMissing o.thread (threads r.setup) f → IsViewRefusal t text trace o file a a f
     missing f (i, asked, past, same) =
-        subst (IsViewRefusal t text trace o a a) (sym same) (refl, record { replayed = r; is = is.is; asked = asked; past = past })
+        subst (IsViewRefusal t text trace o file a a) (sym same) (refl, record { replayed = r; is = is.is; asked = asked; past = past })
 
-    pub unnamed : IsThere o.thread (threads r.setup) → (n : ℕ) → IsUndeclared t (watched_names o.watch) n → IsViewRefusal t text trace o a a (NoVariable n)
+    pub unnamed : IsThere o.thread (threads r.setup) → (n : ℕ) → IsUndeclared t (watched_names o.watch) n → IsViewRefusal t text trace o file a a (NoVariable n)
     unnamed there n undeclared = (refl, record { replayed = r; is = is.is; there = there; undeclared = undeclared })
 
   -- what a view is made of is the history of the trace
   module _
-      {o : ViewOptions} (there : IsThere o.thread (threads r.setup)) (declared : AreDeclared t (watched_names o.watch))
-      {s : SetupOf} {h : List Call} {p : ViewOptions} (setup : s ≡ r.setup) (history : h ≡ r.history.items) (same : p ≡ o) where
-    of_trace : (view : List ℕ) → IsView t text s h r.report p view → IsViewOfTrace t text trace o view r.report
+      {o : ViewOptions} {file : List ℕ} (there : IsThere o.thread (threads r.setup)) (declared : AreDeclared t (watched_names o.watch))
+      {s : SetupOf} {h : List Call} {p : ViewOptions} (setup : s ≡ r.setup) (history : h ≡ r.history.items) (same : p ≡ o)
+      {named : List ℕ} (name : named ≡ file) where
+    of_trace : (view : List ℕ) → IsView t text s h r.report p named view → IsViewOfTrace t text trace o file view r.report
     of_trace view view_is = record {
       replayed = r;
       is = is.is;
-      view_is = rw (setup, history, same) at view_is;
+      view_is = rw (setup, history, same, name) at view_is;
       report_is = refl;
       there = there;
       declared = declared;
     }
 
-    pub viewed : {a b : Option (List ℕ)} → IsWritten (IsView t text s h r.report p) a b → IsViewed t text trace o a b r.report
+    pub viewed : {a b : Option (List ℕ)} → IsWritten (IsView t text s h r.report p named) a b → IsViewed t text trace o file a b r.report
     viewed done = written_as of_trace done
 
-    pub stopped : (a b : Option (List ℕ)) (f : ViewFault) → IsStopped (IsView t text s h r.report p) a b f → IsViewRefusal t text trace o a b f
+    pub stopped : (a b : Option (List ℕ)) (f : ViewFault) → IsStopped (IsView t text s h r.report p named) a b f → IsViewRefusal t text trace o file a b f
     stopped a b (Replay f) why = absurd why
     stopped a b (NoThread i) why = absurd why
     stopped a b (NoVariable n) why = absurd why

@@ -29,8 +29,8 @@ module _ (c : Flat) (t : Program) (code : StandsFor c t) (text : List ℕ) (stat
     state_if format true = let (state, state_is) = some_state format in (after_foot format state, (state, refl, state_is))
     state_if format false = ([], refl)
 
-  pub some_end : (o : ViewOptions) (h : List Call) → IsLegal t s h → (r : Report) → r.outcome ≡ outcome_of h → (end : List ℕ) × IsEnd o t text s h r end
-  some_end o h legal r is =
-      let (foot, foot_is) = some_foot c t code text statements are s h o.format legal r is in
+  pub some_end : (o : ViewOptions) (file : List ℕ) (h : List Call) → IsLegal t s h → (r : Report) → r.outcome ≡ outcome_of h → (end : List ℕ) × IsEnd o file t text s h r end
+  some_end o file h legal r is =
+      let (foot, foot_is) = some_foot c t code text statements are s h o.format file legal r is in
       let (state, state_is) = state_if h o.format o.has_state in
       (foot ++ state, record { foot = foot; foot_is = foot_is; state = state; state_is = state_is; is = refl })

@@ -42,8 +42,8 @@ module _ (c : Flat) (t : Program) (code : StandsFor c t) (text : List ℕ) (stat
         → (line : List ℕ) × ((x : Call) → slice_get whole k ≡ Some x → IsShownLine t text s o w whole (take k whole) x line)
     each_line = part_of_each (λ k x line. IsShownLine t text s o w whole (take k whole) x line) whole (λ k x at. shown_line (take k whole) x)
 
-  pub some_foot : (h : List Call) (format : ViewFormat) → IsLegal t s h → (r : Report) → r.outcome ≡ outcome_of h
-      → (foot : List ℕ) × IsFoot format t text s h r foot
-  some_foot h format legal r is =
+  pub some_foot : (h : List Call) (format : ViewFormat) (file : List ℕ) → IsLegal t s h → (r : Report) → r.outcome ≡ outcome_of h
+      → (foot : List ℕ) × IsFoot format file t text s h r foot
+  some_foot h format file legal r is =
       let (x, x_are) = facts.some_foot c t code text statements are s h legal r is in
-      (foot_text format x, record { facts = x; facts_are = x_are; is = refl })
+      (foot_text format file x, record { facts = x; facts_are = x_are; is = refl })

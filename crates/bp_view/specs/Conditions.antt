@@ -1,8 +1,9 @@
 -- The text of a condition, which is an assertion or an assumption, from its facts.
-use Rattle.std.specs.Prelude.{ℕ, List, [], ◌∷◌, ◌++◌, codes, decimal}
+use Rattle.std.specs.Prelude.{ℕ, List, [], ◌∷◌, ◌++◌, codes, decimal, map}
 use Rattle.std.specs.List.{concat}
 use Rattle.bp_text.specs.declared.positions.Position.{Position}
 use Rattle.bp_text.specs.JsonStrings.{string_text}
+use Rattle.bp_text.specs.OneLine.{on_one_line}
 use Rattle.bp_text.specs.Pieces.{key_text, list_text}
 use Rattle.bp_source.specs.Places.{position_text}
 use Rattle.bp_facts.specs.FootFacts.{ShownCondition}
@@ -33,14 +34,15 @@ condition_members position statement values =
     ∷ key_text (codes "values") ∷ list_text values
     ∷ [])
 
--- what is said of a condition in a view of this format
-abbrev pub condition_text : ViewFormat → ShownCondition → List ℕ
-condition_text Columns x =
-    condition_lines (position_text x.position) x.text (entries_text Columns x.values)
-condition_text Json x = condition_members x.position x.text (entries_text Json x.values)
+-- what is said of a condition in a view of this format; for people its place is in a file
+abbrev pub condition_text : ViewFormat → (file : List ℕ) → ShownCondition → List ℕ
+condition_text Columns file x =
+    let place = map on_one_line file ++ codes ":" ++ position_text x.position in
+    condition_lines place x.text (entries_text Columns x.values)
+condition_text Json file x = condition_members x.position x.text (entries_text Json x.values)
 
 -- the object of the thread that stands at it, and what is said of it
 abbrev pub condition_object : ShownCondition → List ℕ
 condition_object x =
     concat (
-    codes "{\"thread\":" ∷ decimal x.thread ∷ condition_text Json x ∷ codes "}" ∷ [])
+    codes "{\"thread\":" ∷ decimal x.thread ∷ condition_text Json [] x ∷ codes "}" ∷ [])

@@ -27,11 +27,11 @@ module _ (format : ViewFormat) (t : Program) (text : List ℕ) (s : SetupOf) (h 
 
 -- the foot with the report of a history, and the state after its last call where that is asked for
 pub record IsEnd
-    (o : ViewOptions)
+    (o : ViewOptions) (file : List ℕ)
     (t : Program) (text : List ℕ) (s : SetupOf) (h : List Call) (r : Report) (end : List ℕ)
     : Type 0 where
   pub foot : List ℕ
-  pub foot_is : IsFoot o.format t text s h r foot
+  pub foot_is : IsFoot o.format file t text s h r foot
   pub state : List ℕ
   pub state_is : IsStateIf o.format t text s h o.has_state state
   pub is : end ≡ foot ++ state

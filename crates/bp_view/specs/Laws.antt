@@ -14,9 +14,9 @@ use Rattle.bp_view.specs.Views.{IsView}
 abbrev pub OneView : Type 0
 OneView =
     (t : Program) (text : List ℕ) (s : SetupOf) (h : List Call) (r : Report) (o : ViewOptions)
-    (v w : List ℕ)
-    → IsView t text s h r o v
-    → IsView t text s h r o w
+    (file : List ℕ) (v w : List ℕ)
+    → IsView t text s h r o file v
+    → IsView t text s h r o file w
     → v ≡ w
 
 -- and at most one state within this many calls

@@ -20,13 +20,13 @@ counts_line r =
     ∷ codes ", open threads " ∷ decimal r.left_open
     ∷ codes "\n" ∷ [])
 
--- the thread whose assertion failed, and what is said of the assertion
-abbrev pub failure_text : ViewFormat → ShownCondition → List ℕ
-failure_text Columns x =
+-- the thread whose assertion failed, and what is said of the assertion, which is in this file
+abbrev pub failure_text : ViewFormat → (file : List ℕ) → ShownCondition → List ℕ
+failure_text Columns file x =
     concat (
     concat (codes "an assertion of thread " ∷ decimal x.thread ∷ codes " failed" ∷ [])
-    ∷ condition_text Columns x ∷ [])
-failure_text Json x = condition_object x
+    ∷ condition_text Columns file x ∷ [])
+failure_text Json file x = condition_object x
 
 -- what is said where no assertion failed, and the threads are deadlocked or not
 abbrev pub clean_text : ViewFormat → (deadlocked : Bool) → List ℕ
@@ -35,20 +35,21 @@ clean_text Columns false = codes "no assertion failed"
 clean_text Json deadlocked = codes "null"
 
 abbrev pub outcome_text
-    : ViewFormat → (deadlocked : Bool) → (failure : Option ShownCondition) → List ℕ
-outcome_text format deadlocked None = clean_text format deadlocked
-outcome_text format deadlocked (Some x) = failure_text format x
+    : ViewFormat → (file : List ℕ) → (deadlocked : Bool)
+    → (failure : Option ShownCondition) → List ℕ
+outcome_text format file deadlocked None = clean_text format deadlocked
+outcome_text format file deadlocked (Some x) = failure_text format file x
 
 -- a thread that waits, after a line feed or a comma, and what is said of its assumption
-abbrev pub wait_text : ViewFormat → ShownCondition → List ℕ
-wait_text Columns x =
+abbrev pub wait_text : ViewFormat → (file : List ℕ) → ShownCondition → List ℕ
+wait_text Columns file x =
     concat (
     concat (codes "\nthread " ∷ decimal x.thread ∷ codes " waits" ∷ [])
-    ∷ condition_text Columns x ∷ [])
-wait_text Json x = codes "," ++ condition_object x
+    ∷ condition_text Columns file x ∷ [])
+wait_text Json file x = codes "," ++ condition_object x
 
-abbrev pub waits_text : ViewFormat → List ShownCondition → List ℕ
-waits_text format xs = flat_map (wait_text format) xs
+abbrev pub waits_text : ViewFormat → (file : List ℕ) → List ShownCondition → List ℕ
+waits_text format file xs = flat_map (wait_text format file) xs
 
 -- the counts of a report, this text of its outcome, and this one of the threads that wait
 abbrev pub foot_in_format : ViewFormat → Report → (outcome waits : List ℕ) → List ℕ
@@ -63,16 +64,16 @@ foot_in_format Json r outcome waits =
     ∷ key_text (codes "deadlock") ∷ list_text waits
     ∷ codes "}\n" ∷ [])
 
-abbrev pub foot_text : ViewFormat → ShownFoot → List ℕ
-foot_text format x =
-    let outcome = outcome_text format x.deadlocked x.failure in
-    foot_in_format format x.report outcome (waits_text format x.waits)
+abbrev pub foot_text : ViewFormat → (file : List ℕ) → ShownFoot → List ℕ
+foot_text format file x =
+    let outcome = outcome_text format file x.deadlocked x.failure in
+    foot_in_format format x.report outcome (waits_text format file x.waits)
 
 -- of a program and its text, in a setup: the foot at the end of the history h, with its report
 pub record IsFoot
-    (format : ViewFormat)
+    (format : ViewFormat) (file : List ℕ)
     (t : Program) (text : List ℕ) (s : SetupOf) (h : List Call) (r : Report) (foot : List ℕ)
     : Type 0 where
   pub facts : ShownFoot
   pub facts_are : AreFootFacts t text s h r facts
-  pub is : foot ≡ foot_text format facts
+  pub is : foot ≡ foot_text format file facts

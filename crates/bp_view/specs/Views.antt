@@ -95,7 +95,7 @@ module _
 -- the head, a line for each call of the history that is shown, and the end
 pub record IsView
     (t : Program) (text : List ℕ) (s : SetupOf) (h : List Call) (r : Report) (o : ViewOptions)
-    (view : List ℕ)
+    (file : List ℕ) (view : List ℕ)
     : Type 0 where
   pub widths : Widths
   pub statements : List (List ℕ)
@@ -107,16 +107,17 @@ pub record IsView
   pub lines : List ℕ
   pub end : List ℕ
   pub is : view ≡ view_head o t.globals s widths ++ lines ++ end
-  pub end_is : IsEnd o t text s h r end
+  pub end_is : IsEnd o file t text s h r end
   pub lines_are : AreLines t text s o widths h (length h) lines
 
 -- the view of the history of a trace of the program, and its report
 pub record IsViewOfTrace
-    (t : Program) (text trace : List ℕ) (o : ViewOptions) (view : List ℕ) (report : Report)
+    (t : Program) (text trace : List ℕ) (o : ViewOptions) (file : List ℕ)
+    (view : List ℕ) (report : Report)
     : Type 0 where
   pub replayed : Replayed
   pub is : IsReplayed t trace replayed
-  pub view_is : IsView t text replayed.setup replayed.history.items report o view
+  pub view_is : IsView t text replayed.setup replayed.history.items report o file view
   pub report_is : report ≡ replayed.report
   pub there : IsThere o.thread (threads replayed.setup)
   pub declared : AreDeclared t (watched_names o.watch)
@@ -129,10 +130,12 @@ IsStopped IsText old new Write = IsCutShort IsText old new
 IsStopped IsText old new f = ⊥
 
 -- A view of a trace was to be written; the bytes of the writer are those before and after it.
-module _ (t : Program) (text trace : List ℕ) (o : ViewOptions) (old new : Option (List ℕ)) where
+module _
+    (t : Program) (text trace : List ℕ) (o : ViewOptions) (file : List ℕ)
+    (old new : Option (List ℕ)) where
   -- a view with this report was written
   abbrev pub IsViewed : Report → Type 0
-  IsViewed report = IsWritten (λ view. IsViewOfTrace t text trace o view report) old new
+  IsViewed report = IsWritten (λ view. IsViewOfTrace t text trace o file view report) old new
 
   -- the trace has no thread i, of which alone the calls were to be shown
   pub record HasNoThread (i : ℕ) : Type 0 where
@@ -155,7 +158,7 @@ module _ (t : Program) (text trace : List ℕ) (o : ViewOptions) (old new : Opti
   IsViewRefusal (NoThread i) = (new ≡ old) × HasNoThread i
   IsViewRefusal (NoVariable n) = (new ≡ old) × HasNoVariable n
   IsViewRefusal f =
-      IsStopped (λ view. (report : Report) × IsViewOfTrace t text trace o view report) old new f
+      IsStopped (λ view. (report : Report) × IsViewOfTrace t text trace o file view report) old new f
 
 -- A device: thread i is to be shown alone, and is none of n threads.
 abbrev pub IsMissing : Option ℕ → (n : ℕ) → ViewFault → Type 0

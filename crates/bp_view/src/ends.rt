@@ -62,7 +62,8 @@ pub(crate) fn end_of(
         → context.now.history.now ≡ h
         → report.outcome ≡ outcome_of h
         → let s = session.now.setup in
-        IfOk result (λ v. IsEnd context.now.options t text s h report v.items) }
+        let file = context.now.file.now in
+        IfOk result (λ v. IsEnd context.now.options file t text s h report v.items) }
 {
     let mut end = foot_of(alloc, context, session, report)?;
     push_state(alloc, &mut end, context, session)?;

@@ -26,9 +26,10 @@ fn push_failure(
     view: &mut Vec<u8>,
     note: &mut Vec<u8>,
     format: ViewFormat,
+    file: &str,
     assertion: &ConditionFacts<'_>,
 ) -> Result<(), AllocError>
-    ensures { let text = failure_text format (condition_in assertion.now) in
+    ensures { let text = failure_text format file.now (condition_in assertion.now) in
         OnOk result (view.new.items ≡ view.old.items ++ text) }
 {
     match format {
@@ -39,7 +40,7 @@ fn push_failure(
                 Number(u64::from(assertion.thread)),
                 Bytes(b" failed"),
             )?;
-            push_condition(view, note, format, assertion)
+            push_condition(view, note, format, file, assertion)
         }
         ViewFormat::Json => push_condition_object(view, note, assertion),
     }
@@ -60,11 +61,13 @@ fn clean_text(format: ViewFormat, deadlocked: bool) -> &'static [u8]
 fn outcome_text(
     alloc: Global,
     format: ViewFormat,
+    file: &str,
     deadlocked: bool,
     failure: Option<&ConditionFacts<'_>>,
 ) -> Result<Vec<u8>, AllocError>
     ensures { let failure = option_map (λ x. condition_in x.now) failure.entry in
-        IfOk result (λ v. v.items ≡ outcome_text format deadlocked failure) }
+        let text = outcome_text format file.now deadlocked failure in
+        IfOk result (λ v. v.items ≡ text) }
 {
     let mut view = Vec::new(alloc);
     let Some(assertion) = failure else {
@@ -72,7 +75,7 @@ fn outcome_text(
         return Ok(view);
     };
     let mut note = Vec::new(alloc);
-    push_failure(&mut view, &mut note, format, assertion)?;
+    push_failure(&mut view, &mut note, format, file, assertion)?;
     Ok(view)
 }
 
@@ -81,16 +84,17 @@ fn push_wait(
     view: &mut Vec<u8>,
     note: &mut Vec<u8>,
     format: ViewFormat,
+    file: &str,
     assumption: &ConditionFacts<'_>,
 ) -> Result<(), AllocError>
-    ensures { let text = wait_text format (condition_in assumption.now) in
+    ensures { let text = wait_text format file.now (condition_in assumption.now) in
         OnOk result (view.new.items ≡ view.old.items ++ text) }
 {
     match format {
         ViewFormat::Columns => {
             let thread = u64::from(assumption.thread);
             push_three(view, Bytes(b"\nthread "), Number(thread), Bytes(b" waits"))?;
-            push_condition(view, note, format, assumption)
+            push_condition(view, note, format, file, assumption)
         }
         ViewFormat::Json => {
             push_bytes(view, b",")?;
@@ -103,14 +107,16 @@ fn push_wait(
 fn waits_text(
     alloc: Global,
     format: ViewFormat,
+    file: &str,
     waits: &[ConditionFacts<'_>],
 ) -> Result<Vec<u8>, AllocError>
-    ensures { IfOk result (λ v. v.items ≡ waits_text format (map condition_in waits.now)) }
+    ensures { let waits = map condition_in waits.now in
+        IfOk result (λ v. v.items ≡ waits_text format file.now waits) }
 {
     let mut view = Vec::new(alloc);
     let mut note = Vec::new(alloc);
     for wait in waits {
-        push_wait(&mut view, &mut note, format, wait)?;
+        push_wait(&mut view, &mut note, format, file, wait)?;
     }
     Ok(view)
 }
@@ -203,13 +209,14 @@ pub(crate) fn foot_of(
         → StandsFor session.now.code t
         → Stands t session.now h
         → report.outcome ≡ outcome_of h
-        → let format = context.now.options.format in
+        → let o = context.now.options in
         let s = session.now.setup in
-        IfOk result (λ v. IsFoot format t text s h report v.items) }
+        let file = context.now.file.now in
+        IfOk result (λ v. IsFoot o.format file t text s h report v.items) }
 {
-    let format = context.options.format;
+    let (format, file) = (context.options.format, context.file);
     let foot = facts_of_foot(alloc, &context.program, session, report)?;
-    let outcome = outcome_text(alloc, format, foot.deadlocked, foot.failure.as_ref())?;
-    let waits = waits_text(alloc, format, foot.waits.as_slice())?;
+    let outcome = outcome_text(alloc, format, file, foot.deadlocked, foot.failure.as_ref())?;
+    let waits = waits_text(alloc, format, file, foot.waits.as_slice())?;
     foot_in_format(alloc, format, foot.report, &outcome, &waits)
 }

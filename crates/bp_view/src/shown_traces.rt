@@ -140,6 +140,7 @@ impl ShownTrace {
             &self.replayed.setup,
             self.replayed.history.as_slice(),
             all_calls(format),
+            "",
             &[],
         )
     }

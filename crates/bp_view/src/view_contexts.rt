@@ -42,6 +42,8 @@ pub(crate) struct ViewContext<'a> {
     /// The whole history.
     pub(crate) history: &'a [Call],
     pub(crate) options: ViewOptions<'a>,
+    /// The name of the program's text.
+    pub(crate) file: &'a str,
     /// The calls that are asked for, by the options.
     pub(crate) filter: CallFilter,
     /// The names of the watched variables, or none.
@@ -80,6 +82,7 @@ pub(crate) fn view_context_of<'a>(
     setup: &Setup,
     history: &'a [Call],
     options: ViewOptions<'a>,
+    file: &'a str,
     names: &'a [&'a [u8]],
 ) -> ViewContext<'a>
     ensures known { (text : List ℕ)
@@ -89,6 +92,7 @@ pub(crate) fn view_context_of<'a>(
     ensures widths { AreWidths setup.now (extent_of result) result.widths }
     ensures history { result.history.now ≡ history.now }
     ensures options { result.options ≡ options.entry }
+    ensures file { result.file.now ≡ file.now }
 {
     let program = facts_of_program(statements, checked);
     let indents = 2 * program.procs.len().min(MAX_INDENTS);
@@ -106,6 +110,7 @@ pub(crate) fn view_context_of<'a>(
         },
         history,
         options,
+        file,
         filter: filter_of(&options),
         names,
     }

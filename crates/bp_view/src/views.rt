@@ -59,7 +59,7 @@ fn write_parts<W: Write>(
         → writer.old.made ≤ length whole
         → writer.old.made ≤ skipped (filter_of x.options) (length whole)
         → head.now ≡ view_head x.options x.program.globals.now s x.widths
-        → let is_view = IsView t text s x.history.now report x.options in
+        → let is_view = IsView t text s x.history.now report x.options x.file.now in
         MatchResult result
         (λ _. IsWritten is_view (W.contents out.old) (W.contents out.new))
         (IsStopped is_view (W.contents out.old) (W.contents out.new)) }
@@ -87,6 +87,7 @@ fn write_view<W: Write>(
     shown: &ShownTrace,
     start: Checkpoint,
     options: ViewOptions<'_>,
+    file: &str,
     names: &[&[u8]],
     out: &mut W,
 ) -> Result<(), ViewFault>
@@ -99,9 +100,10 @@ fn write_view<W: Write>(
         → let old = W.contents out.old in
         let new = W.contents out.new in
         let options = options.entry in
+        let name = file.now in
         MatchResult result
-        (λ _. IsViewed checked.now text trace options old new shown.now.replayed.report)
-        (IsViewRefusal checked.now text trace options old new) }
+        (λ _. IsViewed checked.now text trace options name old new shown.now.replayed.report)
+        (IsViewRefusal checked.now text trace options name old new) }
 {
     check_thread(options, &shown.replayed.setup)?;
     if let Some(n) = undeclared(checked, names) {
@@ -109,7 +111,15 @@ fn write_view<W: Write>(
     }
     let setup = &shown.replayed.setup;
     let history = shown.replayed.history.as_slice();
-    let context = view_context_of(&shown.statements, checked, setup, history, options, names);
+    let context = view_context_of(
+        &shown.statements,
+        checked,
+        setup,
+        history,
+        options,
+        file,
+        names,
+    );
     let head = head_of(alloc, &context, setup)?;
     let Checkpoint {
         session,
@@ -131,7 +141,8 @@ fn write_view<W: Write>(
 
 /// Writes a view of the history of a trace of a program, and answers its report. The view has the
 /// setup, a line for each call that is shown, and the foot. The state after the last call follows
-/// where it is asked for. The lines are written as they are made, after the trace was replayed.
+/// where it is asked for. The places in the foot have the name of the program's text before them.
+/// The lines are written as they are made, after the trace was replayed.
 /// For them the calls are made once more, from the first that is asked for.
 ///
 /// A text that is no trace of the program is refused as `replay` refuses it. Then a thread is
@@ -144,21 +155,23 @@ pub fn view<W: Write>(
     code: &Code,
     trace: &[u8],
     options: ViewOptions<'_>,
+    file: &str,
     out: &mut W,
 ) -> Result<Report, ViewFault>
     requires { StandsFor code.now checked.now }
     ensures { let old = W.contents out.old in
         let new = W.contents out.new in
         let options = options.entry in
+        let name = file.now in
         MatchResult result
-        (IsViewed checked.now text.now trace.now options old new)
-        (IsViewRefusal checked.now text.now trace.now options old new) }
+        (IsViewed checked.now text.now trace.now options name old new)
+        (IsViewRefusal checked.now text.now trace.now options name old new) }
 {
     let filter = filter_of(&options);
     let (shown, start) = shown_trace_before(alloc, text, checked, code, trace, &filter)?;
     let Ok(names) = watched_names(alloc, options.watch) else {
         return Err(ViewFault::Replay(ReplayFault::Memory));
     };
-    write_view(alloc, checked, &shown, start, options, &names, out)?;
+    write_view(alloc, checked, &shown, start, options, file, &names, out)?;
     Ok(shown.replayed.report)
 }

@@ -52,7 +52,8 @@ module _ (bytes : List ℕ → Option (List ℕ)) (screen : Screen) (format : Fa
   abbrev pub show_job : ShowTask → Job
   show_job task =
       let options = on_screen task.options screen in
-      let command = shows_as options task.contexts task.steps task.at in
+      let file = task.program.now in
+      let command = shows_as options file task.contexts task.steps task.at in
       on_trace command task.program.now task.trace.now
 
   -- what a task asks for; standard input has these bytes

@@ -116,7 +116,11 @@ fn show<F: Files, W: Write + Drop, E: Write + Drop>(
         None if task.steps => run_on_pair(io, &ShowSteps, path, trace, streams),
         None => {
             let options = on_screen(task.options, screen);
-            run_on_pair(io, &Show { options }, path, trace, streams)
+            let show = Show {
+                options,
+                file: path,
+            };
+            run_on_pair(io, &show, path, trace, streams)
         }
     }
 }

@@ -1,4 +1,5 @@
-use Rattle.std.proofs.Common.{◌++◌, ap, decimal}
+use Rattle.std.proofs.Common.{◌++◌, ap, decimal, map}
+use Rattle.bp_text.specs.OneLine.{on_one_line}
 use Rattle.bp_source.proofs.JoinedPieces.{when_ok}
 use Rattle.bp_view.proofs.JoinedTexts.{condition_joined}
 use Rattle.bp_view.proofs.conditions.push_condition_lines.Goals as goal
@@ -8,5 +9,6 @@ returns c =
     let x = c.args.condition.now in
     let old = c.args.view.now.items in
     let lead = c.values_lead.result.now in
-    let joined = condition_joined (decimal x.position.line) (decimal x.position.column) x.text.now lead c.args.values.now c.values_lead.ensures in
-    when_ok c.push_pieces.result c.push_pieces.ensures (λ added. rw added (ap (λ y. old ++ y) joined))
+    let file = map on_one_line c.args.file.now in
+    let joined = condition_joined file (decimal x.position.line) (decimal x.position.column) x.text.now lead c.args.values.now c.values_lead.ensures in
+    when_ok c.push_pieces.result c.push_pieces.ensures (λ added. rw (added, c.as_bytes.ensures.value) (ap (λ y. old ++ y) joined))

@@ -12,11 +12,12 @@ pub returns-in_ok-push_three-in-Columns : goal.returns-in_ok-push_three-in-Colum
 returns-in_ok-push_three-in-Columns c =
     let x = condition_in c.args.assertion.now in
     let old = c.args.view.now.items in
+    let file = c.args.file.now in
     let lead = codes "an assertion of thread " ∷ decimal x.thread ∷ codes " failed" ∷ [] in
     let three : c.push_three.new.line.items ≡ old ++ concat lead = rw (c.in_ok-push_three-in-Columns.ensures, c.from.ensures) (all_added old lead) in
     when_ok c.push_condition.result c.push_condition.ensures (λ added.
     added
-    ∙ ap (λ f. c.push_three.new.line.items ++ condition_text f x) c.in-Columns.is
-    ∙ ap (λ y. y ++ condition_text Columns x) three
-    ∙ all_added old (concat lead ∷ condition_text Columns x ∷ [])
-    ∙ ap (λ f. old ++ failure_text f x) (sym c.in-Columns.is))
+    ∙ ap (λ f. c.push_three.new.line.items ++ condition_text f file x) c.in-Columns.is
+    ∙ ap (λ y. y ++ condition_text Columns file x) three
+    ∙ all_added old (concat lead ∷ condition_text Columns file x ∷ [])
+    ∙ ap (λ f. old ++ failure_text f file x) (sym c.in-Columns.is))

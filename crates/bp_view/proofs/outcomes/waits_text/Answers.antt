@@ -5,4 +5,4 @@ use Rattle.bp_view.specs.Outcomes.{wait_text}
 use Rattle.bp_view.proofs.outcomes.waits_text.Goals as goal
 
 pub returns : goal.returns
-returns c = c.loop-wait.invariant ∙ all_mapped (wait_text c.args.format) condition_in c.args.waits.now c.loop-wait.wait-index (omega arith)
+returns c = c.loop-wait.invariant ∙ all_mapped (wait_text c.args.format c.args.file.now) condition_in c.args.waits.now c.loop-wait.wait-index (omega arith)

@@ -4,4 +4,4 @@ use Rattle.bp_view.specs.Outcomes.{wait_text}
 use Rattle.bp_view.proofs.outcomes.waits_text.Given as goal
 
 abbrev pub invariant-loop-wait : goal.invariant-loop-wait
-invariant-loop-wait l = l.view.items ≡ flat_map (λ x. wait_text l.format (condition_in x)) (take l.wait-index l.waits)
+invariant-loop-wait l = l.view.items ≡ flat_map (λ x. wait_text l.format l.file (condition_in x)) (take l.wait-index l.waits)

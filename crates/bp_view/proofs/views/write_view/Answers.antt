@@ -16,11 +16,11 @@ use Rattle.bp_view.proofs.views.write_view.Goals as goal
 pub returns-in_err-check_thread : goal.returns-in_err-check_thread
 returns-in_err-check_thread g c = λ text trace shown is before names.
     let p = err_from_is_err_and c.from_residual.result c.from_residual.ensures.1 in
-    rw (p.1, p.2) (missing shown c.args.options _ c.in_err-check_thread.field-0.0 c.in_err-check_thread.ensures)
+    rw (p.1, p.2) (missing shown c.args.options c.args.file.now _ c.in_err-check_thread.field-0.0 c.in_err-check_thread.ensures)
 
 pub returns-in-Some : goal.returns-in-Some
 returns-in-Some g c = λ text trace shown is before names.
-    unnamed shown c.args.options _ c.in_ok-check_thread.ensures c.in-Some.n (rw names at c.in-Some.ensures)
+    unnamed shown c.args.options c.args.file.now _ c.in_ok-check_thread.ensures c.in-Some.n (rw names at c.in-Some.ensures)
 
 pub returns-in_err-head : goal.returns-in_err-head
 returns-in_err-head g c = λ text trace shown is before names.
@@ -28,7 +28,7 @@ returns-in_err-head g c = λ text trace shown is before names.
     let x = c.view_context_of-context.ensures in
     let history = x.history ∙ c.as_slice-history.ensures.value in
     let can = viewable shown is.code c.deref.ensures.value (λ are. x.known text are names) x.widths history in
-    rw (p.1, p.2) (stopped shown c.in_ok-check_thread.ensures (rw names at c.in_default.ensures) refl history x.options _ _ Memory (none_begun (kind can)))
+    rw (p.1, p.2) (stopped shown c.in_ok-check_thread.ensures (rw names at c.in_default.ensures) refl history x.options x.file _ _ Memory (none_begun (kind can)))
 
 pub returns : goal.returns
 returns g c = λ text trace shown is before names.
@@ -53,5 +53,5 @@ returns g c = λ text trace shown is before names.
       made = sym (length-take-le k.made made.history.now few);
     }) few early (rw is.setup head) in
     MatchResult-weaker c.write_parts.result done
-    (λ _ done. viewed shown there declared is.setup history x.options done)
-    (λ f why. stopped shown there declared is.setup history x.options _ _ f why)
+    (λ _ done. viewed shown there declared is.setup history x.options x.file done)
+    (λ f why. stopped shown there declared is.setup history x.options x.file _ _ f why)
