@@ -1,7 +1,7 @@
 -- What the blocks of a wave say one after the other.
 use Rattle.std.proofs.Common.{◌≡◌, ℕ, suc, ◌+◌, ◌-◌, ◌≤◌, Bool, true, false, List, [], ◌∷◌, ◌++◌, length, append-nil, Option, None, Some, Result, Ok, refl, sym, ◌∙◌, subst, arith}
 use Rattle.std.proofs.Math.Nat.{mul-le-mul_right}
-use Rattle.std.specs.Prelude.{max, slice_index_or, is_some}
+use Rattle.std.specs.Prelude.{max, slice_index_or, is_some, IfSome}
 use Rattle.bp_text.proofs.GrownLists.{regrouped}
 use Rattle.bp_tree.specs.Ast.{Program}
 use Rattle.bp_flat.specs.Flat.{Flat}
@@ -52,7 +52,7 @@ module _ {E : Type 0} (k : Flat) (s : SetupOf) (p : Plan) (from size runs : ℕ)
     blocks = are;
     made = [];
     number = omega (arith, same);
-    ends = (omega (arith, same), omega (arith, same), λ untimed none. omega (arith, same));
+    ends = (omega (arith, same), omega (arith, same), (λ untimed none. omega (arith, same)), tt);
     clean = tt;
     tallied = subst (λ rs. IsTally t s rs tally) (sym (append-nil earlier)) tallied;
   }
@@ -95,8 +95,9 @@ module _ {E : Type 0} (k : Flat) (s : SetupOf) (p : Plan) (from size runs : ℕ)
         let high = was.ends.1 in (
           low,
           omega (arith, high, rise, next_rise, last_rise),
-          λ untimed none.
-              absurd (cut (let here = this.0 in let same = was.ends.2 untimed none in omega (arith, here, same, rise))),
+          (λ untimed none.
+              absurd (cut (let here = this.0 in let same = was.ends.2 untimed none in omega (arith, here, same, rise)))),
+          tt,
         )
 
     module _ (new : Tally) (adds : Adds old block.tally new) (here : block.from ≡ end) where
@@ -123,11 +124,12 @@ module _ {E : Type 0} (k : Flat) (s : SetupOf) (p : Plan) (from size runs : ℕ)
       ends_here : (n : ℕ) → start_of_block from size (was.before + 1) runs ≤ start_of_block from size n runs
           → (o : Option FoundRun)
           → (p.deadline ≡ None → o ≡ None → block.end ≡ max (start_of_block from size 0 runs) (start_of_block from size n runs))
+          → IfSome o (λ f. block.end ≡ f.run + 1)
           → IsEnd p.deadline (start_of_block from size 0 runs) (start_of_block from size n runs) o block.end
-      ends_here n le o untimed =
+      ends_here n le o untimed at =
           let low = was.ends.0 in
           let high = this.1.1 in
-          (omega (arith, low, below), omega (arith, high, le, next_rise), untimed)
+          (omega (arith, low, below), omega (arith, high, le, next_rise), untimed, at)
 
       pub before_rest : is_some block.found ≡ false → IsBefore all rest block.end new
       before_rest e =
@@ -144,14 +146,15 @@ module _ {E : Type 0} (k : Flat) (s : SetupOf) (p : Plan) (from size runs : ℕ)
             number = let low = was.ends.0 in let many = none.0 in omega (arith, low, below, many);
             ends =
                 ends_here (was.before + 1) (omega arith) None
-                (λ untimed o. let same = this.1.2 untimed (none_of block.found e) in omega (arith, same, rise, next_rise));
+                (λ untimed o. let same = this.1.2 untimed (none_of block.found e) in omega (arith, same, rise, next_rise))
+                tt;
             clean = none.1;
             tallied = tallied_both;
           }
 
       pub ends_found : is_some block.found ≡ true
           → IsEnd p.deadline (start_of_block from size 0 runs) (start_of_block from size (length all) runs) block.found block.end
-      ends_found e = ends_here (length all) last_rise block.found (λ untimed none. absurd (some_of block.found e none))
+      ends_found e = ends_here (length all) last_rise block.found (λ untimed none. absurd (some_of block.found e none)) this.1.3
 
       pub found_any : IsTalliedAfter earlier t s p.with_deadlock p.seed (start_of_block from size 0 runs) block.end block.found new
       found_any = record { runs = both; first = both_first; tallied = tallied_both }

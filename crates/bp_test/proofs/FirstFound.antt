@@ -45,6 +45,7 @@ module _ (t : Program) (s : SetupOf) (with_deadlock : Bool) (seed : ℕ) where
     found_later le (Some f) runs later = record {
       others = before ++ later.others;
       deadlocked = later.deadlocked;
+      returned = later.returned;
       whole = ap (λ ys. before ++ ys) later.whole ∙ simp regrouped;
       number = (let here = later.number in rw length-append (omega (arith, here, count)));
       below = later.below;
@@ -60,6 +61,7 @@ module _ (t : Program) (s : SetupOf) (with_deadlock : Bool) (seed : ℕ) where
   found_among_more a b c le f runs found = record {
     others = found.others;
     deadlocked = found.deadlocked;
+    returned = found.returned;
     whole = found.whole;
     number = found.number;
     below = (let two = found.below in grind (arith, le, two));
@@ -98,6 +100,7 @@ module _ (t : Program) (s : SetupOf) (x : TestOptions) (f : FoundRun) (runs : Li
     history = f.history.items;
     others = first.others;
     deadlocked = first.deadlocked;
+    returned = first.returned;
     whole = first.whole;
     number = count;
     below = first.below;
@@ -146,6 +149,7 @@ module _ (t : Program) (s : SetupOf) (x : TestOptions) (f : FoundRun) (runs : Li
     history = f.history.items;
     report = f.report;
     deadlocked = first.deadlocked;
+    returned = first.returned;
     others = first.others;
     number = count;
     below = first.below;

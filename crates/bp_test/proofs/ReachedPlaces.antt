@@ -209,10 +209,10 @@ whole_marks t s h old first cur new start calls end =
 -- what a history reaches does not depend on the seed
 module _ (t : Program) (s : SetupOf) (o : Option ℕ) (x : Place) where
   waiting_with : (h : List Call) (i : ℕ) → IsWaiting t (record s { seed = o }) h i x → IsWaiting t s h i x
-  waiting_with h i is = record { within = is.within; unfinished = is.unfinished; has_to_wait = is.has_to_wait; next = is.next }
+  waiting_with h i is = record { within = is.within; has_to_wait = is.has_to_wait; next = is.next }
 
   waiting_without : (h : List Call) (i : ℕ) → IsWaiting t s h i x → IsWaiting t (record s { seed = o }) h i x
-  waiting_without h i is = record { within = is.within; unfinished = is.unfinished; has_to_wait = is.has_to_wait; next = is.next }
+  waiting_without h i is = record { within = is.within; has_to_wait = is.has_to_wait; next = is.next }
 
   pub reaches_with : (h : List Call) → Reaches t (record s { seed = o }) h x → Reaches t s h x
   reaches_with h (inl (inl tried)) =

@@ -17,7 +17,7 @@ use Rattle.bp_machine.proofs.GrantedSteps.{within as within_contexts}
 use Rattle.bp_test.specs.Failing.{FailsAt}
 use Rattle.bp_test.specs.Keys.{IsRunKey}
 use Rattle.bp_test.specs.Reached.{place_of, MarksGrow, Reaches}
-use Rattle.bp_test.specs.Resting.{IsOver}
+use Rattle.bp_test.specs.Resting.{HaveReturned, IsOver}
 use Rattle.bp_test.specs.Blocks.{is_sought}
 use Rattle.bp_test.specs.Tallies.{made}
 use Rattle.bp_test.specs.declared.waiting.Waiting.{Waiting}
@@ -47,7 +47,7 @@ clean_of Clean e = refl
 clean_of (Failed i) e = absurd cc
 
 -- what a report, and whether there is a deadlock, say of a history that is over
-module _ (t : Program) (s : SetupOf) (with_deadlock : Bool) (h : List Call) (r : Report) (d : Bool) (run : IsMadeRun t s (made h r d)) where
+module _ (t : Program) (s : SetupOf) (with_deadlock : Bool) (h : List Call) (r : Report) (d ended : Bool) (run : IsMadeRun t s (made h r d ended)) where
   outcome_is : r.outcome ≡ outcome_of h
   outcome_is = run.report.outcome
 
@@ -63,7 +63,7 @@ module _ (t : Program) (s : SetupOf) (with_deadlock : Bool) (h : List Call) (r :
   looked_for true false false f_is w_is e_is is = absurd cc
   looked_for false false e f_is w_is e_is is = absurd cc
 
-  pub sought_by_report : is_sought with_deadlock r d ≡ true → IsSoughtRun t s with_deadlock (made h r d)
+  pub sought_by_report : is_sought with_deadlock r d ≡ true → IsSoughtRun t s with_deadlock (made h r d ended)
   sought_by_report e = record { made = run; sought = looked_for with_deadlock (is_failure r.outcome) d refl refl refl e }
 
   no_failure : (w f e : Bool) → (f || (w && e)) ≡ false → f ≡ false
@@ -76,7 +76,7 @@ module _ (t : Program) (s : SetupOf) (with_deadlock : Bool) (h : List Call) (r :
   no_deadlock true false false is asked dead = cc
   no_deadlock false f e is asked dead = absurd cc
 
-  pub clean_by_report : is_sought with_deadlock r d ≡ false → IsCleanRun t s with_deadlock (made h r d)
+  pub clean_by_report : is_sought with_deadlock r d ≡ false → IsCleanRun t s with_deadlock (made h r d ended)
   clean_by_report e = record {
     made = run;
     clean = clean_of (outcome_of h) (sym (ap is_failure outcome_is) ∙ no_failure with_deadlock (is_failure r.outcome) d e);
@@ -97,21 +97,23 @@ module _ (c : Flat) (s : SetupOf) (with_deadlock : Bool) (seed run : ℕ) (old x
 
   module _ (stands : StandsForAll x h) (over : (t : Program) → StandsFor x.code t → IsOver t x.setup h) (r : Report)
       (counted : (u : Program) (g : List Call) → Stands u x g → IsReport x.setup g r)
-      (d : Bool) (told : (u : Program) (g : List Call) → StandsFor x.code u → Stands u x g → IsTrue d ↔ IsDeadlocked u (configuration_after u x.setup g)) where
-    made_run : (t : Program) → StandsFor c t → IsMadeRun t (setup_of_run s seed run) (made h r d)
+      (d : Bool) (told : (u : Program) (g : List Call) → StandsFor x.code u → Stands u x g → IsTrue d ↔ IsDeadlocked u (configuration_after u x.setup g))
+      (ended : Bool) (returns : (u : Program) (g : List Call) → StandsFor x.code u → Stands u x g → IsTrue ended ↔ HaveReturned (configuration_after u x.setup g) (threads x.setup)) where
+    made_run : (t : Program) → StandsFor c t → IsMadeRun t (setup_of_run s seed run) (made h r d ended)
     made_run t is = let own = own_program t is in let stood = stands t own in
-        subst (λ z. IsMadeRun t z (made h r d)) setup_is (record {
+        subst (λ z. IsMadeRun t z (made h r d ended)) setup_is (record {
           sample = record { legal = stood.state.legal; seeded = stood.seeded; within = within_contexts t x.setup h stood.state.legal };
           over = over t own;
           report = counted t h stood;
           deadlock = told t h own stood;
+          returns = returns t h own stood;
         })
 
-    pub clean_run : is_sought with_deadlock r d ≡ false → (t : Program) → StandsFor c t → IsCleanRun t (setup_of_run s seed run) with_deadlock (made h r d)
-    clean_run e t is = clean_by_report t (setup_of_run s seed run) with_deadlock h r d (made_run t is) e
+    pub clean_run : is_sought with_deadlock r d ≡ false → (t : Program) → StandsFor c t → IsCleanRun t (setup_of_run s seed run) with_deadlock (made h r d ended)
+    clean_run e t is = clean_by_report t (setup_of_run s seed run) with_deadlock h r d ended (made_run t is) e
 
-    pub sought_run : is_sought with_deadlock r d ≡ true → (t : Program) → StandsFor c t → IsSoughtRun t (setup_of_run s seed run) with_deadlock (made h r d)
-    sought_run e t is = sought_by_report t (setup_of_run s seed run) with_deadlock h r d (made_run t is) e
+    pub sought_run : is_sought with_deadlock r d ≡ true → (t : Program) → StandsFor c t → IsSoughtRun t (setup_of_run s seed run) with_deadlock (made h r d ended)
+    sought_run e t is = sought_by_report t (setup_of_run s seed run) with_deadlock h r d ended (made_run t is) e
 
   -- what it reaches
   pub reaches_is : (t : Program) → StandsFor c t → (marks new : List Bool)

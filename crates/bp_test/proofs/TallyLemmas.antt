@@ -22,8 +22,8 @@ capped_both a b n e = omega (arith, e)
 pub count_both : (p : MadeRun → Bool) (xs ys : List MadeRun) → capped (count_by p (xs ++ ys)) ≡ capped (capped (count_by p xs) + capped (count_by p ys))
 count_both p xs ys = capped_both (count_by p xs) (count_by p ys) (count_by p (xs ++ ys)) (sum_by-append _ xs ys)
 
-pub ends_both : (n : ℕ) (xs ys : List MadeRun) → ends_of n (xs ++ ys) ≡ ends_sum (ends_of n xs) (ends_of n ys)
-ends_both n xs ys = simp count_both
+pub ends_both : (xs ys : List MadeRun) → ends_of (xs ++ ys) ≡ ends_sum (ends_of xs) (ends_of ys)
+ends_both xs ys = simp count_both
 
 pub most_from : (a : ℕ) (xs : List MadeRun) → fold (λ most r. max most (calls_of r)) a xs ≡ max a (longest_of xs)
 most_from a [] = omega arith
@@ -47,7 +47,7 @@ module _ (s : SetupOf) (runs more : List MadeRun) (old new : Tally) (was : IsCou
   pub counted_both : new.runs ≡ capped (old.runs + capped (length more))
       → new.calls ≡ capped (old.calls + capped (sum_by calls_of more))
       → new.longest ≡ max old.longest (longest_of more)
-      → new.ends ≡ ends_of (threads s) (runs ++ more)
+      → new.ends ≡ ends_of (runs ++ more)
       → ((k : ℕ) → slice_index_or new.contexts.items k 0 ≡ capped (slice_index_or old.contexts.items k 0 + capped (using_contexts k more)))
       → AreMarks (λ i. Some i) (λ i. SomeSteps runs i ⊎ SomeSteps more i) (threads s) new.stepped.items
       → IsCounted s (runs ++ more) new
@@ -92,7 +92,7 @@ module _ (s : SetupOf) (runs : List MadeRun) (r : MadeRun) (old new : Tally) (wa
   pub counted_run : new.runs ≡ min (old.runs + 1) (2 ^ 64 - 1)
       → new.calls ≡ min (old.calls + r.report.calls) (2 ^ 64 - 1)
       → new.longest ≡ max old.longest r.report.calls
-      → new.ends ≡ ends_of (threads s) (runs ++ r ∷ [])
+      → new.ends ≡ ends_of (runs ++ r ∷ [])
       → ((k : ℕ) → slice_index_or new.contexts.items k 0 ≡ count_with r.report.contexts 1 old.contexts.items k)
       → MarksGrow (λ i. Some i) (HasStep r.history) old.stepped.items new.stepped.items
       → IsCounted s (runs ++ r ∷ []) new
@@ -162,7 +162,7 @@ tally_both t s runs more old other new was also count calls longest ends context
       (calls ∙ ap (λ n. capped (old.calls + n)) also.counted.calls)
       (longest ∙ ap (λ n. max old.longest n) also.counted.longest)
       (ends ∙ (ap (λ e. ends_sum old.ends e) also.counted.ends
-      ∙ (ap (λ e. ends_sum e (ends_of (threads s) more)) was.counted.ends ∙ sym (ends_both (threads s) runs more))))
+      ∙ (ap (λ e. ends_sum e (ends_of more)) was.counted.ends ∙ sym (ends_both runs more))))
       (λ k. contexts k ∙ ap (λ n. capped (slice_index_or old.contexts.items k 0 + n)) (also.counted.contexts k))
       (both_marks (λ i. Some i) (SomeSteps runs) (SomeSteps more) (threads s) old.stepped.items other.stepped.items
       new.stepped.items was.counted.stepped also.counted.stepped stepped);

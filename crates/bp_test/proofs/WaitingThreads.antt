@@ -1,5 +1,5 @@
 -- The threads that wait, one after the other.
-use Rattle.std.proofs.Common.{◌≡◌, ◌+◌, ◌&&◌, ℕ, Bool, true, false, List, [], ◌∷◌, ◌++◌, None, cond, refl, ap, sym, ◌∙◌, add-one}
+use Rattle.std.proofs.Common.{◌≡◌, ◌+◌, ◌&&◌, ℕ, Bool, true, false, List, [], ◌∷◌, ◌++◌, Option, None, Some, is_some, cond, refl, ap, sym, ◌∙◌, add-one}
 use Rattle.std.proofs.lemmas.List.{map-append}
 use Rattle.std.proofs.lemmas.List.Elements.{All-nil, All-push}
 use Rattle.bp_tree.specs.Ast.{Program}
@@ -7,7 +7,7 @@ use Rattle.bp_flat.specs.Configurations.{Frame, Configuration}
 use Rattle.bp_machine.specs.Answers.{stack_of, reply_on_stack}
 use Rattle.bp_machine.specs.Waiting.{is_blocked, waits}
 use Rattle.bp_test.specs.declared.waiting.Waiting.{Waiting}
-use Rattle.bp_test.specs.Reached.{place_on, next_place}
+use Rattle.bp_test.specs.Reached.{place_on, next_place, IsNumberOf}
 use Rattle.bp_test.specs.Waits.{waiting_below, IsNext, AreWaiting, IsWait}
 
 module _ (t : Program) (c : Configuration) where
@@ -43,3 +43,16 @@ module _ (t : Program) (c : Configuration) where
           ∙ (ap (λ i. waiting_below t c n ++ i ∷ []) is.thread ∙ after true is.waiting));
       each = All-push (IsNext t c) xs x was.each is.next;
     }
+
+no_frame : (fs : List Frame) → place_on fs ≡ None → fs ≡ []
+no_frame [] e = refl
+no_frame (f ∷ fs) e = absurd cc
+
+-- a thread that has no next instruction is at the end of its program
+pub no_frames : (t : Program) (c : Configuration) (i : ℕ) (o : Option ℕ) → IsNumberOf t (next_place c i) o → is_some o ≡ false → stack_of c i ≡ []
+no_frames t c i None none e = no_frame (stack_of c i) none
+no_frames t c i (Some n) some e = absurd cc
+
+pub some_frames : (t : Program) (c : Configuration) (i : ℕ) (o : Option ℕ) → IsNumberOf t (next_place c i) o → is_some o ≡ true → stack_of c i ≡ [] → ⊥
+some_frames t c i None none e empty = absurd cc
+some_frames t c i (Some n) some e empty = let next = some.1 in let none : place_on (stack_of c i) ≡ None = ap place_on empty in absurd cc

@@ -1,5 +1,5 @@
 -- Blocks of runs that are made side by side.
-use Rattle.std.specs.Prelude.{◌≡◌, ◌+◌, ◌*◌, ◌++◌, ◌<◌, ◌≤◌, ℕ, max, min, Bool, ◌||◌, ◌&&◌, List, Option, None, Result, length, slice_index_or, IfOk}
+use Rattle.std.specs.Prelude.{◌≡◌, ◌+◌, ◌*◌, ◌++◌, ◌<◌, ◌≤◌, ℕ, max, min, Bool, ◌||◌, ◌&&◌, List, Option, None, Result, length, slice_index_or, IfOk, IfSome}
 use Rattle.bp_tree.specs.Ast.{Program}
 use Rattle.bp_flat.specs.Flat.{Flat}
 use Rattle.bp_flat.specs.StandsFor.{StandsFor}
@@ -21,13 +21,14 @@ is_sought with_deadlock r deadlocked = is_failure r.outcome || (with_deadlock &&
 abbrev pub start_of_block : (from size n runs : ℕ) → ℕ
 start_of_block from size n runs = min (from + n * size) runs
 
--- Runs were to be made from one number to before another, and were made to before this one: all of
--- them, if there is no deadline and none was found.
+-- Runs were to be made from one number to before another, and were made to before this one: up to
+-- the one that was found, or all of them, if there is no deadline and none was found.
 abbrev pub IsEnd : (deadline : Option ℕ) → (from to : ℕ) → Option FoundRun → (end : ℕ) → Type 0
 IsEnd deadline from to found end =
     (from ≤ end)
     × (end ≤ max from to)
     × (deadline ≡ None → found ≡ None → end ≡ max from to)
+    × IfSome found (λ f. end ≡ f.run + 1)
 
 module _ {E : Type 0} (k : Flat) (s : SetupOf) (p : Plan) (from size runs : ℕ) where
   -- what block n of a wave came to

@@ -35,7 +35,7 @@ pub record AreCounts (s : SetupOf) (runs : List MadeRun) (x : Counts) : Type 0 w
   pub count : x.runs ≡ length runs
   pub calls : x.calls ≡ capped (sum_by calls_of runs)
   pub longest : x.longest ≡ longest_of runs
-  pub ends : x.ends ≡ ends_of (threads s) runs
+  pub ends : x.ends ≡ ends_of runs
   pub contexts : AreContextsUsed runs x.contexts
   pub threads : IsShareOfThreads (threads s) runs x.threads
 

@@ -7,7 +7,7 @@ use Rattle.bp_machine.specs.declared.calls.Call.{Call}
 use Rattle.bp_machine.specs.declared.calls.Reply.{Reply}
 use Rattle.bp_machine.specs.declared.calls.Reply.TheVariants.{NoContexts}
 use Rattle.bp_machine.specs.Answers.{stack_of}
-use Rattle.bp_machine.specs.Histories.{configuration_after, is_finished}
+use Rattle.bp_machine.specs.Histories.{configuration_after}
 use Rattle.bp_machine.specs.Replies.{is_granted}
 use Rattle.bp_machine.specs.Setups.{SetupOf, threads}
 use Rattle.bp_machine.specs.Waiting.{waits}
@@ -38,11 +38,10 @@ pub record IsTried (t : Program) (s : SetupOf) (h : List Call) (x : Place) : Typ
   pub tried : refuses_context call.reply ≡ false
   pub next : next_place (configuration_after t s (take before h)) call.thread ≡ Some x
 
--- after the history the line of thread i is open, and it waits at this place
+-- after the history thread i waits at this place, whether it may make more calls or not
 pub record IsWaiting (t : Program) (s : SetupOf) (h : List Call) (i : ℕ) (x : Place)
     : Type 0 where
   pub within : i < threads s
-  pub unfinished : is_finished s h i ≡ false
   pub has_to_wait : waits t (configuration_after t s h) i ≡ true
   pub next : next_place (configuration_after t s h) i ≡ Some x
 

@@ -1,10 +1,8 @@
 -- What the runs of a test came to, counted.
-use Rattle.std.specs.Prelude.{◌≡◌, ◌==◌, ◌^◌, ◌+◌, ◌-◌, if◌then◌else◌, ℕ, min, max, Bool, true, false, not, ◌&&◌, nat_le, List, [], ◌∷◌, Some, length, take, fold, count_by, sum_by, slice_index_or, Any}
+use Rattle.std.specs.Prelude.{◌≡◌, ◌==◌, ◌^◌, ◌+◌, ◌-◌, if◌then◌else◌, ℕ, min, max, Bool, not, ◌&&◌, nat_le, List, [], ◌∷◌, Some, length, take, fold, count_by, sum_by, slice_index_or, Any}
 use Rattle.bp_tree.specs.Ast.{Program}
 use Rattle.bp_flat.specs.StandsFor.{places_of}
 use Rattle.bp_machine.specs.declared.calls.Call.{Call}
-use Rattle.bp_machine.specs.declared.calls.Reply.{Reply}
-use Rattle.bp_machine.specs.declared.calls.Reply.TheVariants.{Ended}
 use Rattle.bp_machine.specs.declared.reports.Report.{Report}
 use Rattle.bp_machine.specs.Reports.{is_failure}
 use Rattle.bp_machine.specs.Setups.{SetupOf, threads}
@@ -14,23 +12,21 @@ use Rattle.bp_test.specs.declared.limits.TheConstants.{MAX_KEYS}
 use Rattle.bp_test.specs.Keys.{IsRunKey}
 use Rattle.bp_test.specs.Reached.{has_refusal, place_of, AreMarks, HasStep, Reaches}
 
--- a run that was made: its history, the report of that, and whether it ended in a deadlock
+-- a run that was made: its history, the report of that, whether it ended in a deadlock, and whether
+-- each thread then was at the end of its program
 pub record MadeRun : Type 0 where
   pub history : List Call
   pub report : Report
   pub deadlocked : Bool
+  pub returned : Bool
 
-abbrev pub made : List Call → Report → Bool → MadeRun
-made h r deadlocked = record { history = h; report = r; deadlocked = deadlocked }
+abbrev pub made : List Call → Report → (deadlocked returned : Bool) → MadeRun
+made h r deadlocked returned =
+    record { history = h; report = r; deadlocked = deadlocked; returned = returned }
 
 -- a count as it is kept, in 64 bits
 abbrev pub capped : ℕ → ℕ
 capped n = min n (2 ^ 64 - 1)
-
--- the thread came to the end of its program
-abbrev pub is_end : Reply → Bool
-is_end Ended = true
-is_end r = false
 
 -- Each run ended in one of these ways, the first that applies: an assertion failed; its threads are
 -- deadlocked; some lines are open; a thread was refused a context; each thread came to its end;
@@ -43,9 +39,6 @@ leaves_open r = nat_le 1 r.report.left_open
 
 abbrev pub lacks_contexts : MadeRun → Bool
 lacks_contexts r = has_refusal r.history
-
-abbrev pub has_ends : (count : ℕ) → MadeRun → Bool
-has_ends count r = count_by (λ x. is_end x.reply) r.history == count
 
 abbrev pub is_deadlocked_run : MadeRun → Bool
 is_deadlocked_run r = not (fails r) && r.deadlocked
@@ -60,21 +53,21 @@ is_starved r = lives r && leaves_open r
 abbrev pub is_out_of_contexts : MadeRun → Bool
 is_out_of_contexts r = lives r && (not (leaves_open r) && lacks_contexts r)
 
-abbrev pub is_finished_run : (count : ℕ) → MadeRun → Bool
-is_finished_run count r =
-    lives r && (not (leaves_open r) && (not (lacks_contexts r) && has_ends count r))
+abbrev pub is_finished_run : MadeRun → Bool
+is_finished_run r =
+    lives r && (not (leaves_open r) && (not (lacks_contexts r) && r.returned))
 
-abbrev pub is_cut_off : (count : ℕ) → MadeRun → Bool
-is_cut_off count r =
-    lives r && (not (leaves_open r) && (not (lacks_contexts r) && not (has_ends count r)))
+abbrev pub is_cut_off : MadeRun → Bool
+is_cut_off r =
+    lives r && (not (leaves_open r) && (not (lacks_contexts r) && not r.returned))
 
--- how many runs of this many threads ended in each way
-abbrev pub ends_of : (count : ℕ) → List MadeRun → Ends
-ends_of count runs =
+-- how many runs ended in each way
+abbrev pub ends_of : List MadeRun → Ends
+ends_of runs =
     record {
-      finished = capped (count_by (is_finished_run count) runs);
+      finished = capped (count_by is_finished_run runs);
       out_of_contexts = capped (count_by is_out_of_contexts runs);
-      cut_off = capped (count_by (is_cut_off count) runs);
+      cut_off = capped (count_by is_cut_off runs);
       starved = capped (count_by is_starved runs);
       deadlocked = capped (count_by is_deadlocked_run runs);
     }
@@ -95,7 +88,7 @@ pub record IsCounted (s : SetupOf) (runs : List MadeRun) (x : Tally) : Type 0 wh
   pub count : x.runs ≡ capped (length runs)
   pub calls : x.calls ≡ capped (sum_by calls_of runs)
   pub longest : x.longest ≡ longest_of runs
-  pub ends : x.ends ≡ ends_of (threads s) runs
+  pub ends : x.ends ≡ ends_of runs
   pub contexts : (k : ℕ) → slice_index_or x.contexts.items k 0 ≡ capped (using_contexts k runs)
   pub stepped :
       AreMarks (λ i. Some i) (λ i. Any (λ r. HasStep r.history i) runs) (threads s) x.stepped.items

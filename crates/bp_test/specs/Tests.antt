@@ -1,5 +1,5 @@
 -- What a test of a program finds.
-use Rattle.std.specs.Prelude.{◌≡◌, ◌⊎◌, ◌↔◌, ◌<◌, ◌≤◌, ◌+◌, ◌-◌, ◌%◌, ◌^◌, ℕ, suc, Bool, true, List, [], ◌∷◌, ◌++◌, Option, None, Some, length, IsTrue, MatchOption}
+use Rattle.std.specs.Prelude.{◌≡◌, ◌⊎◌, ◌↔◌, ◌<◌, ◌≤◌, ◌+◌, ◌-◌, ◌%◌, ◌^◌, ℕ, suc, max, min, Bool, true, List, [], ◌∷◌, ◌++◌, Option, None, Some, length, IsTrue, MatchOption}
 use Rattle.bp_tree.specs.Ast.{Program}
 use Rattle.bp_text.specs.Writing.{AppendsAll, AppendsPart}
 use Rattle.bp_machine.specs.declared.calls.Call.{Call}
@@ -16,6 +16,7 @@ use Rattle.bp_trace.specs.TraceText.{trace_text}
 use Rattle.bp_test.specs.declared.blocks.FoundRun.{FoundRun}
 use Rattle.bp_test.specs.declared.faults.TestFault.{TestFault}
 use Rattle.bp_test.specs.declared.faults.TestFault.TheVariants as fault
+use Rattle.bp_tasks.specs.declared.limits.TheConstants.{MAX_JOBS}
 use Rattle.bp_tasks.specs.declared.test_options.TestOptions.{TestOptions}
 use Rattle.bp_test.specs.declared.tallies.Tally.{Tally}
 use Rattle.bp_test.specs.declared.testing.Found.{Found}
@@ -23,9 +24,13 @@ use Rattle.bp_test.specs.declared.testing.Found.TheVariants as found
 use Rattle.bp_test.specs.declared.testing.Tested.{Tested}
 use Rattle.bp_test.specs.declared.waiting.Waiting.{Waiting}
 use Rattle.bp_test.specs.Failing.{FailsAt}
-use Rattle.bp_test.specs.Resting.{IsOver}
+use Rattle.bp_test.specs.Resting.{HaveReturned, IsOver}
 use Rattle.bp_test.specs.Tallies.{MadeRun, made, IsTally}
 use Rattle.bp_test.specs.Waits.{AreWaiting}
+
+-- how many jobs make the runs: as many as are asked for, and at least one
+abbrev pub jobs_of : TestOptions → ℕ
+jobs_of x = max 1 (min x.jobs MAX_JOBS)
 
 -- the setup of run r, from 0: its seed is the r-th after the first one, modulo 2 ^ 64
 abbrev pub setup_of_run : SetupOf → ℕ → ℕ → SetupOf
@@ -48,13 +53,14 @@ abbrev pub IsSought : Program → SetupOf → Bool → List Call → Type 0
 IsSought t s with_deadlock h =
     (is_failure (outcome_of h) ≡ true) ⊎ ((with_deadlock ≡ true) × IsDeadlock t s h)
 
--- a run that came to its end: its history is over, and has this report; and whether its threads are
--- deadlocked is told
+-- a run that came to its end: its history is over, and has this report; and it is told whether its
+-- threads are deadlocked, and whether each is at the end of its program
 pub record IsMadeRun (t : Program) (s : SetupOf) (r : MadeRun) : Type 0 where
   pub sample : IsSample t s r.history
   pub over : IsOver t s r.history
   pub report : IsReport s r.history r.report
   pub deadlock : IsTrue r.deadlocked ↔ IsDeadlocked t (configuration_after t s r.history)
+  pub returns : IsTrue r.returned ↔ HaveReturned (configuration_after t s r.history) (threads s)
 
 -- a run that is not what a test looks for
 pub record IsCleanRun (t : Program) (s : SetupOf) (with_deadlock : Bool) (r : MadeRun)
@@ -87,12 +93,13 @@ pub record IsFoundRun (t : Program) (s : SetupOf) (with_deadlock : Bool) (seed f
     (f : FoundRun) (runs : List MadeRun) : Type 0 where
   pub others : List MadeRun
   pub deadlocked : Bool
-  pub whole : runs ≡ others ++ made f.history.items f.report deadlocked ∷ []
+  pub returned : Bool
+  pub whole : runs ≡ others ++ made f.history.items f.report deadlocked returned ∷ []
   pub number : from + length others ≡ f.run
   pub below : f.run < to
   pub clean : AreCleanRuns t s with_deadlock seed from others
   pub found :
-      let run = made f.history.items f.report deadlocked in
+      let run = made f.history.items f.report deadlocked returned in
       IsSoughtRun t (setup_of_run s seed f.run) with_deadlock run
   pub at : MatchOption f.number
       (outcome_of f.history.items ≡ Clean)
@@ -137,12 +144,13 @@ module _ (t : Program) (s : SetupOf) (x : TestOptions) (old new : Option (List �
     pub history : List Call
     pub others : List MadeRun
     pub deadlocked : Bool
-    pub whole : runs ≡ others ++ made history report deadlocked ∷ []
+    pub returned : Bool
+    pub whole : runs ≡ others ++ made history report deadlocked returned ∷ []
     pub number : length others ≡ run
     pub below : run < x.runs
     pub clean : AreCleanRuns t s x.with_deadlock x.seed 0 others
     pub found :
-        let made_run = made history report deadlocked in
+        let made_run = made history report deadlocked returned in
         IsSoughtRun t (setup_of_run s x.seed run) x.with_deadlock made_run
     pub holds : Holds (setup_of_run s x.seed run) history
     pub written : AppendsAll old new (trace_text (setup_of_run s x.seed run) history)
@@ -180,12 +188,13 @@ module _ (t : Program) (s : SetupOf) (x : TestOptions) (old new : Option (List �
     pub history : List Call
     pub report : Report
     pub deadlocked : Bool
+    pub returned : Bool
     pub others : List MadeRun
     pub number : length others ≡ run
     pub below : run < x.runs
     pub clean : AreCleanRuns t s x.with_deadlock x.seed 0 others
     pub found :
-        let made_run = made history report deadlocked in
+        let made_run = made history report deadlocked returned in
         IsSoughtRun t (setup_of_run s x.seed run) x.with_deadlock made_run
     pub written : AppendsPart old new (trace_text (setup_of_run s x.seed run) history)
 

@@ -11,7 +11,7 @@ use crate::failing::failed_instruction;
 use crate::plans::Plan;
 use crate::runs::run_once;
 use crate::tallies::Tally;
-use crate::waiting::{Waiting, waiting_threads};
+use crate::waiting::{Waiting, have_returned, waiting_threads};
 use bp_flat::Code;
 use bp_machine::{Call, Outcome, Report, Session, Setup};
 use std::alloc::{AllocError, Global};
@@ -93,7 +93,14 @@ pub fn first_found<C: Clock>(
         let followed = run_once(&mut session, seed, visible, lengths, &mut history, reached)?;
         let report = session.report();
         let is_deadlocked = session.is_deadlocked();
-        tally.add_run(history.as_slice(), &report, is_deadlocked, &followed)?;
+        let has_returned = have_returned(&session);
+        tally.add_run(
+            history.as_slice(),
+            &report,
+            is_deadlocked,
+            has_returned,
+            &followed,
+        )?;
         if is_sought(&report, is_deadlocked, plan.with_deadlock) {
             let number = failed_instruction(&session);
             let waiting = waiting_threads(alloc, &session)?;

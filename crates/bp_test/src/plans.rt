@@ -2,12 +2,14 @@
 ghost use Rattle.std.specs.Prelude.{◌≡◌, IfOk};
 ghost use Rattle.bp_machine.specs.Setups.{FitsCode};
 
+use crate::deadlines::is_over;
 use crate::runs::{next_number, run_once};
 use crate::tallies::is_step;
 use crate::visible_steps::VisibleSteps;
 use bp_flat::Code;
 use bp_machine::{Call, Session, Setup};
 use std::alloc::{AllocError, Global};
+use std::time::Clock;
 
 /// How many pilots there are at most.
 const PILOTS: u64 = 64;
@@ -22,7 +24,7 @@ pub struct Plan {
     pub seed: u64,
     /// Whether the test also looks for runs that end in a deadlock.
     pub with_deadlock: bool,
-    /// What the clock shows, in milliseconds, when no more run begins.
+    /// What the clock shows, in milliseconds, when no more run or pilot begins.
     pub deadline: Option<u64>,
     /// The steps before which runs switch.
     pub visible: VisibleSteps,
@@ -66,8 +68,10 @@ impl Plan {
     /// The plan of a test that begins with this seed. It makes pilots: runs with the first 64 of
     /// its seeds, whose switches are spread over powers of two. The lengths of those that were cut
     /// off by the allowed calls, or made no visible step, are not kept. After a million calls no
-    /// pilot begins. A plan does not depend on the number of runs or of jobs.
-    pub fn new(
+    /// pilot begins, nor after the deadline, when no run begins either. A plan does not depend on
+    /// the number of runs or of jobs.
+    pub fn new<C: Clock>(
+        clock: &C,
         alloc: Global,
         code: &Code,
         setup: &Setup,
@@ -87,7 +91,7 @@ impl Plan {
         let mut lengths = Vec::new(alloc);
         let mut calls: u64 = 0;
         for pilot in 0..PILOTS {
-            if calls >= PILOT_CALLS {
+            if calls >= PILOT_CALLS || is_over(clock, deadline) {
                 break;
             }
             let own = seed.wrapping_add(pilot);

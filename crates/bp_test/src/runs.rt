@@ -93,8 +93,8 @@ pub(crate) fn is_marked(marks: &[bool], place: usize) -> bool
     }
 }
 
-/// Marks this instruction, the next one of a thread, where the thread waits at it and its line is
-/// open. It is quicker to tell that the instruction is marked than that the thread waits.
+/// Marks this instruction, the next one of a thread, where the thread waits at it. It is quicker to
+/// tell that the instruction is marked than that the thread waits.
 fn reach_wait(reached: &mut Vec<bool>, session: &Session, thread: u32, number: Option<u32>)
     requires { thread < threads session.now.setup }
     ensures { (t : Program) (h : List Answered)
@@ -111,7 +111,7 @@ fn reach_wait(reached: &mut Vec<bool>, session: &Session, thread: u32, number: O
     if is_marked(reached, number as usize) {
         return;
     }
-    if !session.is_finished(thread) && session.waits(thread) {
+    if session.waits(thread) {
         mark(reached, number as usize);
     }
 }

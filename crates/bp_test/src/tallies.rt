@@ -1,14 +1,15 @@
 //! What runs of a test came to, counted.
 ghost use Rattle.std.specs.Prelude.{◌≡◌, ◌<◌, ◌^◌, ◌++◌, ◌∷◌, [], ℕ, true, false, List};
-ghost use Rattle.std.specs.Prelude.{length, count_by, take, slice_set, slice_index_or, IfOk, OnOk};
+ghost use Rattle.std.specs.Prelude.{length, take, slice_set, slice_index_or, IfOk, OnOk};
 ghost use Rattle.bp_tree.specs.Ast.{Program};
 ghost use Rattle.bp_flat.specs.StandsFor.{StandsFor};
+ghost use Rattle.bp_machine.specs.declared.calls.Call.{Call as Answered};
 ghost use Rattle.bp_machine.specs.Replies.{is_granted};
 ghost use Rattle.bp_machine.specs.Setups.{SetupOf};
 ghost use Rattle.bp_test.specs.Counts.{contexts_with, AreContextsUsed};
 ghost use Rattle.bp_test.specs.declared.limits.TheConstants.{MAX_KEYS};
 ghost use Rattle.bp_test.specs.Reached.{has_refusal, is_marked, HasStep, MarksGrow};
-ghost use Rattle.bp_test.specs.Tallies.{MadeRun, made, is_end, ends_of, ends_sum, count_with};
+ghost use Rattle.bp_test.specs.Tallies.{MadeRun, made, ends_of, ends_sum, count_with};
 ghost use Rattle.bp_test.specs.Tallies.{IsCounted, IsTally};
 
 use crate::keys::{push_key, push_keys};
@@ -113,14 +114,6 @@ fn count_contexts(counts: &mut Vec<u64>, used: usize, runs: u64) -> Result<(), A
     Ok(())
 }
 
-/// How many calls came to the end of a thread's program.
-fn count_ended(history: &[Call]) -> usize
-    ensures { result ≡ count_by (λ x. is_end x.reply) history.now }
-{
-    let ended = |call: &&Call| matches!(call.reply, Reply::Ended);
-    history.iter().filter(ended).count()
-}
-
 /// Whether the call made a step.
 pub(crate) fn is_step(call: &Call) -> bool
     ensures { result ≡ is_granted call.now.reply }
@@ -164,21 +157,20 @@ impl Ends {
         deadlocked: 0,
     };
 
-    /// Counts a run of this many threads, where no assertion failed in it. It is known whether a
-    /// call was refused a context.
+    /// Counts a run, where no assertion failed in it. It is known whether each thread came to the
+    /// end of its program, and whether a call was refused a context.
     fn add_run(
         &mut self,
-        history: &[Call],
         report: &Report,
         is_deadlocked: bool,
+        has_returned: bool,
         was_refused: bool,
-        threads: usize,
     )
-        requires { was_refused ≡ has_refusal history.now }
-        ensures { (runs : List MadeRun)
-            → self.old ≡ ends_of threads runs
-            → let run = made history.now report.now is_deadlocked in
-            self.new ≡ ends_of threads (runs ++ run ∷ []) }
+        ensures { (h : List Answered) (runs : List MadeRun)
+            → was_refused ≡ has_refusal h
+            → self.old ≡ ends_of runs
+            → let run = made h report.now is_deadlocked has_returned in
+            self.new ≡ ends_of (runs ++ run ∷ []) }
     {
         if matches!(report.outcome, Outcome::Failed { .. }) {
             return;
@@ -189,7 +181,7 @@ impl Ends {
             self.starved = self.starved.saturating_add(1);
         } else if was_refused {
             self.out_of_contexts = self.out_of_contexts.saturating_add(1);
-        } else if count_ended(history) == threads {
+        } else if has_returned {
             self.finished = self.finished.saturating_add(1);
         } else {
             self.cut_off = self.cut_off.saturating_add(1);
@@ -257,10 +249,11 @@ impl Tally {
         history: &[Call],
         report: &Report,
         is_deadlocked: bool,
+        has_returned: bool,
         followed: &FollowedRun,
     ) -> Result<(), AllocError>
         requires { followed.now.was_refused ≡ has_refusal history.now }
-        ensures counted { let run = made history.now report.now is_deadlocked in
+        ensures counted { let run = made history.now report.now is_deadlocked has_returned in
             OnOk result
             ((s : SetupOf) (runs : List MadeRun)
             → IsCounted s runs self.old
@@ -273,14 +266,9 @@ impl Tally {
         self.runs = self.runs.saturating_add(1);
         self.calls = self.calls.saturating_add(report.calls);
         self.longest = self.longest.max(report.calls);
-        let threads = self.stepped.len();
-        self.ends.add_run(
-            history,
-            report,
-            is_deadlocked,
-            followed.was_refused,
-            threads,
-        );
+        let was_refused = followed.was_refused;
+        self.ends
+            .add_run(report, is_deadlocked, has_returned, was_refused);
         note_steps(&mut self.stepped, history);
         push_key(&mut self.keys, followed.key)?;
         count_contexts(&mut self.contexts, report.contexts as usize, 1)

@@ -3,7 +3,7 @@ ghost use Rattle.std.specs.Prelude.{◌≡◌, MatchResult};
 ghost use Rattle.bp_tree.specs.Ast.{Program};
 ghost use Rattle.bp_flat.specs.StandsFor.{StandsFor};
 ghost use Rattle.bp_machine.specs.Setups.{FitsCode};
-ghost use Rattle.bp_test.specs.Tests.{found_in, IsTest, IsTestRefusal};
+ghost use Rattle.bp_test.specs.Tests.{found_in, jobs_of, IsTest, IsTestRefusal};
 
 use crate::blocks::Block;
 use crate::deadlines::{Runtimes, deadline_after};
@@ -46,6 +46,13 @@ pub struct Tested {
     pub tally: Tally,
 }
 
+/// How many jobs make the runs of a test, side by side: as many as are asked for, and at least one.
+fn jobs_of(options: &TestOptions) -> usize
+    ensures { result ≡ jobs_of options.now }
+{
+    options.jobs.clamp(1, MAX_JOBS) as usize
+}
+
 /// What was found in a run with this report.
 fn found_in(run: u64, report: Report) -> Found
     ensures { result ≡ found_in run report }
@@ -82,9 +89,17 @@ pub fn test<R: Threads + Sync, C: Clock + Sync, P: Progress, W: Write>(
 {
     let deadline = deadline_after(rt.clock, options.seconds);
     let (seed, with_deadlock) = (options.seed, options.with_deadlock);
-    let plan = Plan::new(alloc, code, setup, seed, with_deadlock, deadline)?;
-    let jobs = options.jobs.clamp(1, MAX_JOBS) as usize;
-    let made = search(rt, alloc, code, setup, &plan, options.runs, jobs, progress);
+    let plan = Plan::new(rt.clock, alloc, code, setup, seed, with_deadlock, deadline)?;
+    let made = search(
+        rt,
+        alloc,
+        code,
+        setup,
+        &plan,
+        options.runs,
+        jobs_of(options),
+        progress,
+    );
     progress.end();
     let Block { found, tally, .. } = made?;
     let Some(found) = found else {

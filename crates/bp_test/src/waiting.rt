@@ -1,5 +1,5 @@
 //! Whether a thread may step, and where threads wait.
-ghost use Rattle.std.specs.Prelude.{◌≡◌, ◌<◌, List, true, false, IfOk, MatchOption};
+ghost use Rattle.std.specs.Prelude.{◌≡◌, ◌<◌, ◌↔◌, List, true, false, IsTrue, IfOk, MatchOption};
 ghost use Rattle.bp_tree.specs.Ast.{Program};
 ghost use Rattle.bp_flat.specs.StandsFor.{StandsFor};
 ghost use Rattle.bp_machine.specs.declared.calls.Call.{Call as Answered};
@@ -7,7 +7,7 @@ ghost use Rattle.bp_machine.specs.Histories.{configuration_after};
 ghost use Rattle.bp_machine.specs.Sessions.{Stands};
 ghost use Rattle.bp_machine.specs.Setups.{threads};
 ghost use Rattle.bp_machine.specs.Waiting.{waits};
-ghost use Rattle.bp_test.specs.Resting.{RestsIn};
+ghost use Rattle.bp_test.specs.Resting.{HaveReturned, RestsIn};
 ghost use Rattle.bp_test.specs.Waits.{AreWaiting, IsWait};
 
 use crate::runs::next_number;
@@ -61,6 +61,22 @@ pub(crate) fn may_step(session: &Session, thread: u32) -> bool
         → RestsIn session.now thread }
 {
     may_step_at(session, thread, next_number(session, thread))
+}
+
+/// Whether each thread is at the end of its program.
+pub(crate) fn have_returned(session: &Session) -> bool
+    ensures { (t : Program) (h : List Answered)
+        → StandsFor session.now.code t
+        → Stands t session.now h
+        → let now = configuration_after t session.now.setup h in
+        (IsTrue result ↔ HaveReturned now (threads session.now.setup)) }
+{
+    for thread in 0..session.setup().threads() {
+        if next_number(session, thread).is_some() {
+            return false;
+        }
+    }
+    true
 }
 
 /// Where a thread waits, if it does.

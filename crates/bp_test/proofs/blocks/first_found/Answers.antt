@@ -29,7 +29,7 @@ pub returns-then-is_over-clause-end : goal.returns-then-is_over-clause-end
 returns-then-is_over-clause-end g c =
     let low = c.loop-run.auto.run in
     let high = c.loop-run.invariant.ahead in
-    (omega (arith, low), high, λ untimed none. absurd (let over = sym (c.is_over.ensures untimed) ∙ c.if-is_over.true in cc))
+    (omega (arith, low), high, (λ untimed none. absurd (let over = sym (c.is_over.ensures untimed) ∙ c.if-is_over.true in cc)), tt)
 
 pub returns-then-is_over-clause-tallied : goal.returns-then-is_over-clause-tallied
 returns-then-is_over-clause-tallied g c = λ t is.
@@ -40,18 +40,19 @@ pub returns-then-is_sought-clause-end : goal.returns-then-is_sought-clause-end
 returns-then-is_sought-clause-end g c =
     let low = c.loop-run.auto.run in
     let high = c.loop-run-test.true in
-    (omega (arith, low), omega (arith, high), λ untimed none. absurd (some_of (Some _) refl none))
+    (omega (arith, low), omega (arith, high), (λ untimed none. absurd (some_of (Some _) refl none)), omega arith)
 
 pub returns-then-is_sought-clause-tallied : goal.returns-then-is_sought-clause-tallied
 returns-then-is_sought-clause-tallied g c = λ t is.
     let before = c.loop-run.invariant in
     let now = c.in_ok-followed in
-    let run = made c.run_once.new.history.items c.report-report.result c.is_deadlocked-is_deadlocked.result in
+    let run = made c.run_once.new.history.items c.report-report.result c.is_deadlocked-is_deadlocked.result c.have_returned-has_returned.result in
     record {
       runs = before.earlier ++ run ∷ [];
       first = record {
         others = before.earlier;
         deadlocked = c.is_deadlocked-is_deadlocked.result;
+        returned = c.have_returned-has_returned.result;
         whole = refl;
         number = let count = before.count in let after = c.loop-run.auto.run in omega (arith, count, after);
         below = omega arith;
@@ -62,6 +63,7 @@ returns-then-is_sought-clause-tallied g c = λ t is.
             now.ensures.code now.ensures.setup
             now.ensures.stands now.ensures.over c.report-report.result c.report-report.ensures
             c.is_deadlocked-is_deadlocked.result c.is_deadlocked-is_deadlocked.ensures
+            c.have_returned-has_returned.result c.have_returned-has_returned.ensures
             (sym c.is_sought.ensures ∙ c.if-is_sought.true) t is;
         at =
             fails_there c.args.code.now c.args.setup.now c.args.plan.now.with_deadlock c.args.plan.now.seed
@@ -94,7 +96,7 @@ pub loop-run-preserved : goal.loop-run-preserved
 loop-run-preserved g c =
     let before = c.loop-run.invariant in
     let now = c.in_ok-followed in
-    let run = made c.run_once.new.history.items c.report-report.result c.is_deadlocked-is_deadlocked.result in
+    let run = made c.run_once.new.history.items c.report-report.result c.is_deadlocked-is_deadlocked.result c.have_returned-has_returned.result in
     let count = before.count in
     let after = c.loop-run.auto.run in
     record {
@@ -110,6 +112,7 @@ loop-run-preserved g c =
           now.ensures.setup
           now.ensures.stands now.ensures.over c.report-report.result c.report-report.ensures
           c.is_deadlocked-is_deadlocked.result c.is_deadlocked-is_deadlocked.ensures
+          c.have_returned-has_returned.result c.have_returned-has_returned.ensures
           (sym c.is_sought.ensures ∙ c.if-is_sought.false) t is));
       tallied = λ t is. tally_run t c.args.setup.now before.earlier run c.loop-run.tally c.add_run.new.self c.run_once.new.reached.items _ (before.tallied t is)
           (key_is c.args.code.now c.args.setup.now c.args.plan.now.with_deadlock c.args.plan.now.seed c.loop-run.run
@@ -128,7 +131,7 @@ loop-run-preserved g c =
     }
 
 pub returns-clause-end : goal.returns-clause-end
-returns-clause-end g c = let most = c.max.ensures in (omega (arith, most), omega (arith, most), λ untimed none. most)
+returns-clause-end g c = let most = c.max.ensures in (omega (arith, most), omega (arith, most), (λ untimed none. most), tt)
 
 pub returns-clause-tallied : goal.returns-clause-tallied
 returns-clause-tallied g c = λ t is.

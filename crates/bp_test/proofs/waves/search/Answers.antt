@@ -21,11 +21,12 @@ returns-then-is_some g c = λ t is.
       (
         omega arith,
         omega (arith, high, within),
-        λ untimed none. let same = wave.0.2 untimed none in elim c.then-is_some.branch [
+        (λ untimed none. let same = wave.0.2 untimed none in elim c.then-is_some.branch [
           | then-is_some-via-then-is_some w ↦ absurd (some_of _ (sym c.is_some.ensures ∙ w.if-is_some.true) none)
           | then-is_some-via-else-is_some+then-end-next w ↦
               absurd (w.if-end-next.true (let all = ap (λ n. n * size) count in omega (arith, same, next, all, within)))
-        ],
+        ]),
+        wave.0.3,
       ),
       after_wave t s p.with_deadlock p.seed from _ wave.0.0 was.runs was.first.0 was.first.1 _ _ wave.1,
     )

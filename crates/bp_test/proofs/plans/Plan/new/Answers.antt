@@ -3,19 +3,19 @@ use Rattle.bp_test.proofs.RunsOfTests.{fits_again, reseeded}
 use Rattle.bp_test.proofs.plans.Plan.new.Goals as goal
 
 pub run_once-requires : goal.run_once-requires
-run_once-requires c =
+run_once-requires g c =
     fits_again c.args.code.now c.loop-pilot.session.code c.loop-pilot.session.setup c.args.setup.now
     c.loop-pilot.invariant.code c.loop-pilot.invariant.setup c.requires
 
 pub restart-requires : goal.restart-requires
-restart-requires c =
+restart-requires g c =
     let now = c.in_ok-run_once.ensures in
     let made = c.run_once.new.session in
     fits_again c.args.code.now made.code made.setup c.args.setup.now (now.code ∙ c.loop-pilot.invariant.code)
     (reseeded c.args.setup.now c.loop-pilot.session made _ c.loop-pilot.invariant.setup now.setup) c.requires
 
 pub loop-pilot-preserved : goal.loop-pilot-preserved
-loop-pilot-preserved c =
+loop-pilot-preserved g c =
     let now = c.in_ok-run_once.ensures in
     let made = c.run_once.new.session in
     let again = c.in_ok-restart.ensures in

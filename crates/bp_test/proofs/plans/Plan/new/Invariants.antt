@@ -3,7 +3,7 @@ use Rattle.bp_test.proofs.RunsOfTests.{IsReseeded}
 use Rattle.bp_test.proofs.plans.Plan.new.Given as goal
 
 abbrev pub invariant-loop-pilot : goal.invariant-loop-pilot
-invariant-loop-pilot l = record {
+invariant-loop-pilot g l = record {
   code : l.session.code ≡ l.fn.code;
   setup : IsReseeded l.session.setup l.fn.setup;
 }

@@ -2,11 +2,11 @@ use Rattle.std.proofs.lemmas.Grind.{common_steps}
 use Rattle.std.proofs.Common.{arith}
 use Rattle.bp_test.proofs.tallies.Ends.add_run.Goals as goal
 
-pub returns-else-count_ended-threads : goal.returns-else-count_ended-threads
-returns-else-count_ended-threads c = grind (arith, common_steps)
+pub returns-else-has_returned : goal.returns-else-has_returned
+returns-else-has_returned c = grind (arith, common_steps)
 
-pub returns-then-count_ended-threads : goal.returns-then-count_ended-threads
-returns-then-count_ended-threads c = grind (arith, common_steps)
+pub returns-then-has_returned : goal.returns-then-has_returned
+returns-then-has_returned c = grind (arith, common_steps)
 
 pub returns-then-was_refused : goal.returns-then-was_refused
 returns-then-was_refused c = grind (arith, common_steps)
