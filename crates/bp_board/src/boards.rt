@@ -1,10 +1,13 @@
 //! The board: a desk under one lock.
-ghost use Rattle.std.specs.Prelude.{◌≡◌, ◌≤◌, ◌<◌, [], true, false, None, is_some, IfOk, MatchResult};
+ghost use Rattle.std.specs.Prelude.{◌≡◌, ◌≤◌, ◌<◌, [], true, false, None, is_some, IfOk, IfErr, MatchResult};
+ghost use Rattle.bp_tree.specs.Ast.{Program};
+ghost use Rattle.bp_flat.specs.StandsFor.{StandsFor};
 ghost use Rattle.bp_machine.specs.Setups.{threads, FitsCode};
 ghost use Rattle.bp_board.specs.declared.limits.TheConstants.{MAX_TURN};
 ghost use Rattle.bp_board.specs.Kits.{IsNamed};
 ghost use Rattle.bp_board.specs.Seats.{AreNewSeats};
 ghost use Rattle.bp_board.specs.SeatTurns.{IsSeatTurn, IsCutSeatTurn};
+ghost use Rattle.bp_board.specs.Stopping.{TellsOfRefusal};
 
 use crate::desks::Desk;
 use crate::kits::Kit;
@@ -46,7 +49,8 @@ impl<C: Calls, O: Ledger> Board<C, O> {
         Ok((Board { desk }, seats, tap))
     }
 
-    /// Takes the lock once, for one turn of the seat's thread at the desk, and may wait for it.
+    /// Takes the lock once, for one turn of the seat's thread at the desk, and may wait for it. A
+    /// refusal has a reason in a legal history of the setup.
     pub fn turn<R: Wait>(&self, rt: &R, seat: &mut Seat<C, O>, n: u32) -> Result<Reply, AskFault>
         requires some { 0 < n }
         requires few { n ≤ MAX_TURN }
@@ -55,7 +59,14 @@ impl<C: Calls, O: Ledger> Board<C, O> {
         ensures answer { MatchResult result
             (IsSeatTurn seat.old seat.new n)
             (IsCutSeatTurn seat.old seat.new n) }
+        ensures refused { (t : Program)
+            → StandsFor C.code t
+            → seat.old.is_open ≡ true
+            → IfErr result (TellsOfRefusal t C.setup seat.old.thread) }
     {
-        self.desk.lock(rt).turn(seat, n)
+        let mut desk = self.desk.lock(rt);
+        let answer = desk.turn(seat, n);
+        desk.is_legal();
+        answer
     }
 }

@@ -98,11 +98,13 @@ impl<C: Calls, O: Ledger> Desk<C, O> {
         Ok((desk, seats, Tap::new(from)))
     }
 
-    /// States what a desk is at each moment: its history is a legal one, with the seed's bits.
+    /// States what a desk is at each moment: its history is a legal one of its board's code and
+    /// setup, with the seed's bits.
     pub fn is_legal(&self)
-        ensures { (t : Program)
+        ensures legal { (t : Program)
             → StandsFor self.now.code t
             → IsLegalDesk t self.now }
+        ensures own { (self.now.code ≡ C.code) × (self.now.setup ≡ C.setup) }
     {
         let _ = &self.session;
     }

@@ -20,7 +20,8 @@ use std::thread;
 use std::thread::{Promise, PromisedHandle, Scope, Threads};
 use std::time::Clock;
 
-/// The promise of a worker: it leaves a seat of this thread, which is open unless its work is done.
+/// The promise of a worker: it leaves a seat of this thread, which is open unless its work is done,
+/// and then it says why.
 #[derive(Drop)]
 pub(crate) struct OfThread {
     pub thread: u32,
@@ -29,7 +30,8 @@ pub(crate) struct OfThread {
 impl<C: Calls, O: Ledger> Promise<Worked<C, O>> for OfThread {
     ghost use Rattle.bp_run.specs.Works.{IsWorked};
 
-    ghost kept_by = { λ p worked. IsWorked p.thread worked.seat worked.done };
+    ghost kept_by = { λ p worked.
+        IsWorked C.code C.setup p.thread worked.seat worked.done };
 }
 
 /// A worker that is to be joined.
@@ -87,7 +89,7 @@ fn start_workers<
             move || -> Worked<C, O>
                 requires some { 0 < calls }
                 requires few { calls ≤ MAX_TURN }
-                ensures { IsWorked seat.thread result.seat result.done }
+                ensures { IsWorked C.code C.setup seat.thread result.seat result.done }
             { worker(rt, board, signals, seat, calls, gate) },
         ) {
             Ok(handle) => handles.push_reserved(handle),

@@ -1,7 +1,9 @@
 //! Workers: each makes the calls of one guest thread.
-ghost use Rattle.std.specs.Prelude.{◌≡◌, ◌≤◌, ◌<◌, ◌⊎◌, false, true, OnOk, OnErr};
+ghost use Rattle.std.specs.Prelude.{◌≡◌, ◌≤◌, ◌<◌, false, true, IfErr, OnOk, OnErr};
+ghost use Rattle.bp_tree.specs.Ast.{Program};
+ghost use Rattle.bp_flat.specs.StandsFor.{StandsFor};
 ghost use Rattle.bp_board.specs.declared.limits.TheConstants.{MAX_TURN};
-ghost use Rattle.bp_run.specs.Works.{IsWorked};
+ghost use Rattle.bp_run.specs.Works.{IsWorked, TellsOfStop};
 
 use crate::bells::Idle;
 use crate::gates::Gate;
@@ -15,7 +17,7 @@ use std::time::Clock;
 /// Why a worker stops though its seat is open. The calls that were made stand.
 #[derive(Clone, Copy, Debug, PartialEq, Eq)]
 pub enum Unfinished {
-    /// Memory was refused.
+    /// Memory was refused, before a call of a procedure.
     Memory,
     /// The line of its thread was finished already.
     Finished,
@@ -37,6 +39,9 @@ fn take_turns<C: Calls, O: Ledger, G: Gate, R: Wait + Clock>(
     requires few { turn ≤ MAX_TURN }
     ensures ok { OnOk result (seat.new.is_open ≡ false) }
     ensures refused { OnErr result (seat.new.is_open ≡ true) }
+    ensures stopped { (t : Program)
+        → StandsFor C.code t
+        → IfErr result (TellsOfStop t C.setup seat.old.thread) }
     ensures thread { seat.new.thread ≡ seat.old.thread }
     ensures calls { seat.old.calls ≤ seat.new.calls }
 {
@@ -81,6 +86,9 @@ pub fn work<C: Calls, O: Ledger, G: Gate, R: Wait + Clock>(
     requires few { turn ≤ MAX_TURN }
     ensures ok { OnOk result (seat.new.is_open ≡ false) }
     ensures refused { OnErr result (seat.new.is_open ≡ true) }
+    ensures stopped { (t : Program)
+        → StandsFor C.code t
+        → IfErr result (TellsOfStop t C.setup seat.old.thread) }
     ensures thread { seat.new.thread ≡ seat.old.thread }
     ensures calls { seat.old.calls ≤ seat.new.calls }
 {
@@ -107,7 +115,7 @@ pub(crate) fn worker<C: Calls, O: Ledger, G: Gate, R: Wait + Clock>(
 ) -> Worked<C, O>
     requires some { 0 < turn }
     requires few { turn ≤ MAX_TURN }
-    ensures { IsWorked seat.thread result.seat result.done }
+    ensures { IsWorked C.code C.setup seat.thread result.seat result.done }
 {
     let done = work(rt, board, &mut seat, turn, gate, signals);
     signals.note_end();

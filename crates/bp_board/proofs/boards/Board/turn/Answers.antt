@@ -1,11 +1,21 @@
-use Rattle.std.proofs.Common.{inl}
+use Rattle.std.proofs.Common.{rules, ◌≡◌, inl, subst, sym}
+use Rattle.bp_flat.specs.StandsFor.{StandsFor}
 use Rattle.bp_board.proofs.SeatsOfTurns.{seat_stays, seat_turn}
+use Rattle.bp_board.proofs.ToldRefusals.{told}
 use Rattle.bp_board.proofs.boards.Board.turn.Goals as goal
 
 pub returns-clause-shut : goal.returns-clause-shut
 returns-clause-shut g c = λ shut.
-    let finished = c.turn.ensures.finished.1 (inl shut) in
-    (finished, seat_stays c.deref_mut.result.now c.turn.new.self c.args.seat.now c.turn.new.seat c.args.n c.turn.result c.turn.ensures.answer finished)
+    let finished = c.turn-answer.ensures.finished.1 (inl shut) in
+    (finished, seat_stays c.deref_mut.result.now c.turn-answer.new.self c.args.seat.now c.turn-answer.new.seat c.args.n c.turn-answer.result c.turn-answer.ensures.answer finished)
 
 pub returns-clause-answer : goal.returns-clause-answer
-returns-clause-answer g c = seat_turn c.deref_mut.result.now c.turn.new.self c.args.seat.now c.turn.new.seat c.args.n c.turn.result c.turn.ensures.answer
+returns-clause-answer g c = seat_turn c.deref_mut.result.now c.turn-answer.new.self c.args.seat.now c.turn-answer.new.seat c.args.n c.turn-answer.result c.turn-answer.ensures.answer
+
+pub returns-clause-refused : goal.returns-clause-refused
+returns-clause-refused g c = λ t is is_open.
+    let same : c.deref.result.now ≡ c.turn-answer.new.self = search rules in
+    let own = rw same at c.is_legal.ensures.own in
+    let of_desk = subst (λ k. StandsFor k t) (sym own.0) is in
+    told t c.deref_mut.result.now c.turn-answer.new.self c.args.seat.now c.turn-answer.new.seat c.args.n
+    ((rw same at c.is_legal.ensures.legal) t of_desk) of_desk is_open g.C.Calls.setup own.1 c.turn-answer.result c.turn-answer.ensures.answer
