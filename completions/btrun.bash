@@ -47,7 +47,7 @@ _btrun_options() {
         check) echo "$common --json" ;;
         code) echo "$common --source --json" ;;
         drive) echo "$common $start" ;;
-        confirm) echo "$common $start --json" ;;
+        confirm) echo "$common $start --expect --json" ;;
         run) echo "$common $start --seed --turn --ring --spread" ;;
         test) echo "$common $start --seed --runs --time --jobs --deadlock --unreached --json" ;;
         show) echo "$common --thread --last --from --to --watch --fold --state --brief --at --contexts --steps --json" ;;

@@ -75,7 +75,8 @@ complete -c btrun -n '__fish_seen_subcommand_from check' -l json -d 'Print one J
 complete -c btrun -n '__fish_seen_subcommand_from code' -l source -d 'Print the statement of each instruction'
 complete -c btrun -n '__fish_seen_subcommand_from code' -l json -d 'Print one JSON object a line'
 
-complete -c btrun -n '__fish_seen_subcommand_from confirm' -l json -d 'Print a fault as one JSON object'
+complete -c btrun -n '__fish_seen_subcommand_from confirm' -x -l expect -a 'failure deadlock run' -d 'How the run is to end'
+complete -c btrun -n '__fish_seen_subcommand_from confirm' -l json -d 'Print the verdict or a fault as JSON objects'
 
 complete -c btrun -n '__fish_seen_subcommand_from run' -x -l turn -d 'How many calls a worker makes in a turn'
 complete -c btrun -n '__fish_seen_subcommand_from run' -x -l ring -d 'How many calls wait to be printed'

@@ -111,7 +111,7 @@ drive_rules =
     ∷ option_rule (codes "init")
     ∷ []
 
--- `STEPS [ENTRY].. [--contexts N] [--calls N] [--init BITS] [--json]`
+-- `STEPS [ENTRY].. [--contexts N] [--calls N] [--init BITS] [--expect END] [--json]`
 abbrev pub confirm_rules : List Rule
 confirm_rules =
     required_rule (codes "STEPS")
@@ -119,6 +119,7 @@ confirm_rules =
     ∷ number_rule (codes "contexts")
     ∷ number_rule (codes "calls")
     ∷ option_rule (codes "init")
+    ∷ option_rule (codes "expect")
     ∷ flag_rule (codes "json")
     ∷ []
 

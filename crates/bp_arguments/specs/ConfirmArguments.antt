@@ -2,7 +2,7 @@
 use Rattle.std.specs.Prelude.{◌≡◌, ℕ, List, None, Some, codes}
 use Rattle.clap.specs.Walk.{Row, one_of}
 use Rattle.bp_machine.specs.declared.limits.TheConstants.{DEFAULT_CONTEXTS, DEFAULT_CALLS}
-use Rattle.bp_arguments.specs.Values.{entries_in, init_in, named_in, value_of, IsFlagOf, IsNumberIn, IsNumberOf}
+use Rattle.bp_arguments.specs.Values.{entries_in, expected_in, init_in, named_in, value_of, IsFlagOf, IsNumberIn, IsNumberOf}
 use Rattle.bp_arguments.specs.Explains.{IsExplainingOf}
 use Rattle.bp_tasks.specs.declared.context_bounds.ContextBound.{ContextBound}
 use Rattle.bp_tasks.specs.declared.context_bounds.ContextBound.TheVariants.{AsUsed, Kept}
@@ -25,5 +25,6 @@ pub record IsConfirmOf (rows : List Row) (task : ConfirmTask) : Type 0 where
       IsNumberOf 32 DEFAULT_CONTEXTS (one_of (codes "contexts") rows) task.start.contexts
   pub calls :
       IsNumberOf 32 DEFAULT_CALLS (one_of (codes "calls") rows) task.start.calls
+  pub expected : task.expected ≡ expected_in rows
   pub json : IsFlagOf (one_of (codes "json") rows) task.json
   pub explain : IsExplainingOf rows task.explain

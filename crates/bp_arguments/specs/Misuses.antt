@@ -9,9 +9,9 @@ use Rattle.clap.specs.declared.error.kind.ErrorKind.TheVariants.{ArgumentConflic
 use Rattle.clap.specs.declared.parser.matches.ValueSource.{ValueSource}
 use Rattle.clap.specs.declared.parser.matches.ValueSource.TheVariants.{CommandLine, DefaultValue}
 use Rattle.bp_tasks.specs.declared.limits.TheConstants.{MAX_JOBS}
-use Rattle.bp_arguments.specs.Values.{has_bad_init, number_in}
+use Rattle.bp_arguments.specs.Values.{has_bad_init, has_bad_verdict, number_in}
 use Rattle.bp_arguments.specs.declared.misuses.Misuse.{Misuse}
-use Rattle.bp_arguments.specs.declared.misuses.Misuse.TheVariants.{BadInit, ManyJobs, Together, Backwards}
+use Rattle.bp_arguments.specs.declared.misuses.Misuse.TheVariants.{BadInit, BadVerdict, ManyJobs, Together, Backwards}
 use Rattle.bp_arguments.specs.declared.misuses.OptionName.{OptionName}
 use Rattle.bp_arguments.specs.declared.misuses.OptionName.TheVariants as option
 
@@ -102,6 +102,7 @@ pair_misuse None None = None
 abbrev pub misuse_in : List Row → Option Misuse
 misuse_in rows =
     if has_bad_init rows then Some BadInit
+    else if has_bad_verdict rows then Some BadVerdict
     else if has_many_jobs rows then Some ManyJobs
     else pair_misuse (clash_in rows) (backwards_in rows)
 

@@ -1,10 +1,12 @@
 -- What the values of arguments say: numbers, bits, names.
-use Rattle.std.specs.Prelude.{if◌then◌else◌, ◌≡◌, ◌⊎◌, ◌<◌, ◌^◌, ◌==◌, ◌&&◌, ◌||◌, ℕ, Bool, false, true, not, List, [], ◌∷◌, Option, Some, None, codes, map, nat_lt, option_and_then, unwrap_or}
+use Rattle.std.specs.Prelude.{if◌then◌else◌, ◌≡◌, ◌⊎◌, ◌<◌, ◌^◌, ◌==◌, ◌&&◌, ◌||◌, ℕ, Bool, false, true, not, List, [], ◌∷◌, Option, Some, None, codes, map, nat_lt, option_and_then, unwrap_or, is_some, bytes_eq}
 use Rattle.std.specs.List.{list_all}
 use Rattle.std.specs.Option.{option_map_or}
 use Rattle.std.specs.Str.Parse.{IsNumeral, digits_value, without_leading_plus}
 use Rattle.clap.specs.ValueTests.{is_numeral}
 use Rattle.clap.specs.Walk.{Row, Text, all_of, first_of}
+use Rattle.bp_tasks.specs.declared.verdicts.Verdict.{Verdict}
+use Rattle.bp_tasks.specs.declared.verdicts.Verdict.TheVariants as verdict
 use Rattle.bp_init.specs.NamedBits.{NamedBitOf}
 use Rattle.bp_init.specs.Texts.{are_named_bits, gives_names, named_bits}
 
@@ -86,3 +88,20 @@ named_in rows = option_map_or names_given (first_of (codes "init") rows) []
 -- the initial bits are neither bits nor names with bits
 abbrev pub has_bad_init : List Row → Bool
 has_bad_init rows = option_map_or (λ t. not (is_init t)) (first_of (codes "init") rows) false
+
+-- the verdict that a text names
+abbrev pub verdict_named : Text → Option Verdict
+verdict_named text =
+    if bytes_eq text (codes "failure") then Some verdict.Failure
+    else if bytes_eq text (codes "deadlock") then Some verdict.Deadlock
+    else if bytes_eq text (codes "run") then Some verdict.Run
+    else None
+
+-- the verdict that is expected, if one is given
+abbrev pub expected_in : List Row → Option Verdict
+expected_in rows = option_and_then verdict_named (first_of (codes "expect") rows)
+
+-- what is expected is no verdict
+abbrev pub has_bad_verdict : List Row → Bool
+has_bad_verdict rows =
+    option_map_or (λ t. not (is_some (verdict_named t))) (first_of (codes "expect") rows) false

@@ -6,7 +6,7 @@ ghost use Rattle.bp_arguments.specs.ConfirmArguments.{IsBoundOf, IsConfirmOf};
 use crate::arguments::{Row, Takes};
 use crate::explain::explaining;
 use crate::rows::{CALLS, ENTRY, INIT};
-use crate::values::{entries, given_number, init, is_given, named, number};
+use crate::values::{entries, expected_verdict, given_number, init, is_given, named, number};
 use bp_machine::Start;
 use bp_machine::limits::{DEFAULT_CALLS, DEFAULT_CONTEXTS};
 use bp_tasks::{ConfirmTask, ContextBound};
@@ -21,16 +21,17 @@ pub const ABOUT: &str =
 pub const NOTES: &str = "\
     A line of the steps is 'THREAD PLACE', and then any number of ' NAME=BIT'. The place is where\n\
     the thread stands before the step: 'LINE', 'LINE:COLUMN', or '-' for a procedure's end. The\n\
-    values are those that the thread sees after the step. Choice bits are left out.\n\
+    values are those that the thread sees after the step; NAME may be that of a variable, or of a\n\
+    procedure, a dot and its local. Choice bits are left out.\n\
     The first fault is one line on standard error.\n\n\
     Example:\n  btrun confirm race.bp steps.txt writer reader --init 00\n\n\
-    Exit status:\n  0  the steps are a run, and no assertion failed\n  \
-    1  an assertion failed at the last step\n  \
+    Exit status:\n  0  the steps are a run, and no assertion failed; or it ends as expected\n  \
+    1  an assertion failed at the last step, and nothing was expected\n  \
     2  an input was refused, or the arguments were\n  3  memory, a device or the output failed\n  \
-    4  a step is not taken";
+    4  a step is not taken, or the run does not end as expected";
 
 /// The arguments of the command after its file.
-pub static ROWS: [Row<'static>; 6] = [
+pub static ROWS: [Row<'static>; 7] = [
     Row {
         name: "STEPS",
         takes: Takes::One,
@@ -45,9 +46,14 @@ pub static ROWS: [Row<'static>; 6] = [
     CALLS,
     INIT,
     Row {
+        name: "expect",
+        takes: Takes::Text("END"),
+        help: "End with status 0 if the run ends so: failure, deadlock or run; else with 4",
+    },
+    Row {
         name: "json",
         takes: Takes::Nothing,
-        help: "Print a fault as one JSON object, for programs",
+        help: "Print the verdict or a fault as JSON objects, for programs",
     },
 ];
 
@@ -75,6 +81,7 @@ pub fn confirm_arguments<'a>(
         json: is_given(arguments, "json"),
         explain: explaining(arguments),
         bound: context_bound(arguments),
+        expected: expected_verdict(arguments),
         start: Start {
             entries: entries(alloc, arguments)?,
             init: init(alloc, arguments)?,

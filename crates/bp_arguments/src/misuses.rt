@@ -3,7 +3,7 @@ ghost use Rattle.std.specs.Prelude.{◌≡◌};
 ghost use Rattle.clap.specs.Words.{found_of, kind_of, rows_of, subcommand_rows_of};
 ghost use Rattle.bp_arguments.specs.Misuses.{are_on_line, are_many, backwards_in, clash_in, descending, has_many_jobs, is_from_line, is_on_line, misuse_in, misuse_kind, misuse_of, option_name};
 
-use crate::values::{given_long_number, given_number, has_bad_init};
+use crate::values::{given_long_number, given_number, has_bad_init, has_bad_verdict};
 use bp_tasks::limits::MAX_JOBS;
 use clap::ArgMatches;
 use clap::error::ErrorKind;
@@ -34,6 +34,8 @@ pub enum OptionName {
 pub enum Misuse {
     /// The initial bits are neither bits nor different names with bits.
     BadInit,
+    /// What is expected is no verdict.
+    BadVerdict,
     /// More blocks of runs are to be made side by side than there may be.
     ManyJobs,
     /// Beside the first of these options, the second has no effect.
@@ -177,6 +179,9 @@ fn misuse_in(arguments: &ArgMatches<'_>) -> Option<Misuse>
     if has_bad_init(arguments) {
         return Some(Misuse::BadInit);
     }
+    if has_bad_verdict(arguments) {
+        return Some(Misuse::BadVerdict);
+    }
     if has_many_jobs(arguments) {
         return Some(Misuse::ManyJobs);
     }
@@ -216,6 +221,7 @@ pub fn misuse_text(alloc: Global, misuse: Misuse) -> Result<String, AllocError> 
                 different globals with bits, as valid=1,freed=0"
             )
         }
+        Misuse::BadVerdict => format!(in alloc; "--expect takes failure, deadlock or run"),
         Misuse::ManyJobs => format!(in alloc; "--jobs takes 0 to {MAX_JOBS}"),
         Misuse::Together(first, second) => {
             let (first, second) = (option_name(first), option_name(second));

@@ -1,10 +1,11 @@
 //! The values of arguments.
 ghost use Rattle.std.specs.Prelude.{◌≡◌, codes, map, string_bytes, option_map, IfOk};
 ghost use Rattle.clap.specs.Words.{first_of, found_of, one_of, rows_of};
-ghost use Rattle.bp_arguments.specs.Values.{bits_given, bits_in, entries_in, has_bad_init, init_in, is_bits, is_init, named_in, names_given, IsFlagOf, IsNumberIn, IsNumberOf};
+ghost use Rattle.bp_arguments.specs.Values.{bits_given, bits_in, entries_in, expected_in, has_bad_init, has_bad_verdict, init_in, is_bits, is_init, named_in, names_given, verdict_named, IsFlagOf, IsNumberIn, IsNumberOf};
 
 use bp_init::{NamedBits, are_named_bits, gives_names, named_bits};
 use bp_machine::limits::DEFAULT_ENTRY;
+use bp_tasks::Verdict;
 use clap::ArgMatches;
 use std::alloc::{AllocError, Global};
 
@@ -85,6 +86,38 @@ pub fn named<'a>(alloc: Global, arguments: &ArgMatches<'a>) -> Result<NamedBits<
     match arguments.get_str("init") {
         Some(text) => names_given(alloc, text),
         None => Ok(NamedBits::none(alloc)),
+    }
+}
+
+/// The verdict that a text names.
+fn verdict_named(text: &str) -> Option<Verdict>
+    ensures { result ≡ verdict_named text.now }
+{
+    match text {
+        "failure" => Some(Verdict::Failure),
+        "deadlock" => Some(Verdict::Deadlock),
+        "run" => Some(Verdict::Run),
+        _ => None,
+    }
+}
+
+/// The verdict that is expected, if one is given.
+pub fn expected_verdict(arguments: &ArgMatches<'_>) -> Option<Verdict>
+    ensures { result ≡ expected_in (rows_of (found_of arguments.now)) }
+{
+    match arguments.get_str("expect") {
+        Some(text) => verdict_named(text),
+        None => None,
+    }
+}
+
+/// Whether what is expected is no verdict.
+pub fn has_bad_verdict(arguments: &ArgMatches<'_>) -> bool
+    ensures { result ≡ has_bad_verdict (rows_of (found_of arguments.now)) }
+{
+    match arguments.get_str("expect") {
+        Some(text) => verdict_named(text).is_none(),
+        None => false,
     }
 }
 

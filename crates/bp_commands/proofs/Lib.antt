@@ -1,7 +1,6 @@
 pub mod Answered
-mod AnswersByNames
+pub mod AnswersByNames
 mod ConcludedReads
-mod ConfirmedSteps
 mod Driven
 mod ExplainedRuns
 mod FirstSeparator

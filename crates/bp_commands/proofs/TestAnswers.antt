@@ -46,6 +46,7 @@ module _ (start : StartOf) (x : TestOptions) (file : List ℕ) (unreached json :
       history = is.history;
       others = is.others;
       deadlocked = is.deadlocked;
+      returned = is.returned;
       whole = is.whole;
       number = is.number;
       below = is.below;
@@ -124,11 +125,12 @@ module _ (start : StartOf) (x : TestOptions) (file : List ℕ) (unreached json :
           testable = testable;
           run = cut.run;
           report = cut.report;
-          runs = cut.others ++ made_of cut.history cut.report cut.deadlocked ∷ [];
+          runs = cut.others ++ made_of cut.history cut.report cut.deadlocked cut.returned ∷ [];
           first = record {
             history = cut.history;
             others = cut.others;
             deadlocked = cut.deadlocked;
+            returned = cut.returned;
             whole = refl;
             number = cut.number;
             below = cut.below;

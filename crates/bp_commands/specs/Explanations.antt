@@ -15,7 +15,7 @@ use Rattle.bp_explain.specs.Explained.{ExplainsTrace, ExplainsSchedule, Explains
 use Rattle.bp_commands.specs.declared.explanations.SecondInput.{SecondInput}
 use Rattle.bp_commands.specs.declared.explanations.SecondInput.TheVariants as second
 use Rattle.bp_messages.specs.declared.faults.Fault.{Fault}
-use Rattle.bp_messages.specs.declared.faults.Fault.TheVariants.{Program, Setup, Schedule, Steps, Trace}
+use Rattle.bp_messages.specs.declared.faults.Fault.TheVariants.{Program, Setup, Schedule, Steps, Trace, Write}
 use Rattle.bp_commands.specs.declared.run_ends.Explained.{Explained}
 use Rattle.bp_commands.specs.RunEnds.{nothing_explained}
 use Rattle.bp_tasks.specs.declared.fault_formats.FaultFormat.{FaultFormat}
@@ -105,9 +105,17 @@ IsTold other IsSaid done e old new = (new ≡ old) × IsUntold other done e
 abbrev pub AreReadOr : {X R : Type 0} → Inputs X → X → Result R Fault → Type 0
 AreReadOr inputs given done = inputs.Holds given ⊎ IsErrAnd done inputs.Unread
 
--- What is said of a fault: it is of the inputs that were read, or is why they were not.
+-- these inputs were not read; the fault that is told is why, or that the output was not written
+abbrev pub AreUnread : {X : Type 0} → Inputs X → Fault → Type 0
+AreUnread inputs told = (why : Fault) × inputs.Unread why × ((told ≡ why) ⊎ (told ≡ Write))
+
+-- these inputs were read, or the fault that is told is of inputs that were not
+abbrev pub AreReadOrNot : {X : Type 0} → Inputs X → X → Fault → Type 0
+AreReadOrNot inputs given f = inputs.Holds given ⊎ AreUnread inputs f
+
+-- What is said of a fault: it is of the inputs that were read, or of why they were not.
 module _ {X : Type 0} (inputs : Inputs X) (Explains : X → Fault → Explanation → Type 0) where
   pub record IsSaidOfRead (f : Fault) (e : Explained) (said : List ℕ) : Type 0 where
     pub given : X
-    pub read : inputs.Holds given ⊎ inputs.Unread f
+    pub read : AreReadOrNot inputs given f
     pub is : IsSaid (Explains given f) e said

@@ -12,7 +12,7 @@ use Rattle.bp_messages.specs.declared.faults.Fault.TheVariants.{Device, TooLong,
 use Rattle.bp_commands.specs.declared.run_ends.Explained.{Explained}
 use Rattle.bp_commands.specs.declared.run_ends.RunEnd.{RunEnd}
 use Rattle.bp_commands.specs.RunEnds.{AnswerRule, IsEndOf, HasFaultLine}
-use Rattle.bp_commands.specs.Explanations.{ExplainsPair, ExplainsText, IsMessage, IsTold}
+use Rattle.bp_commands.specs.Explanations.{AreReadOrNot, ExplainsPair, ExplainsText, IsMessage, IsTold}
 use Rattle.bp_messages.specs.FaultObjects.{fault_object}
 use Rattle.bp_messages.specs.FaultTable.{fault_row}
 use Rattle.bp_commands.specs.Given.{text_alone_of, Inputs, Pair}
@@ -86,12 +86,12 @@ on_pair kind name input_name = record {
 abbrev pub on_nothing : {X : Type 0} → FaultReport X
 on_nothing = record { Explains = λ _ _ _. ⊥; IsObject = λ _ _ _ _. ⊥ }
 
--- the object of a fault of the inputs that were read, or of why they were not
+-- the object of a fault, of the inputs that were read or of why they were not
 module _
     {X : Type 0} (inputs : Inputs X) (IsObject : X → Explained → Fault → List ℕ → Type 0) where
   pub record IsObjectRead (e : Explained) (f : Fault) (object : List ℕ) : Type 0 where
     pub given : X
-    pub read : inputs.Holds given ⊎ inputs.Unread f
+    pub read : AreReadOrNot inputs given f
     pub is : IsObject given e f object
 
 -- A run ended so: its summary was written, or its refusal in this format, by an object in JSON.

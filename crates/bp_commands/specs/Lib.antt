@@ -2,7 +2,6 @@ pub mod BundleParts
 pub mod Bundles
 pub mod Checks
 pub mod Commands
-pub mod Confirms
 pub mod Drives
 pub mod Explanations
 pub mod FaultReports

@@ -19,23 +19,22 @@ has_failed (Failed thread) = true
 abbrev pub report_failed : Report → Bool
 report_failed r = has_failed r.outcome
 
--- what a command's answers say: whether an assertion failed, and what a user reads of it on
--- standard error
+-- what a command's answers say: the exit status, and what a user reads on standard error
 pub record AnswerRule (T : Type 0) : Type 0 where
-  pub failed : T → Bool
+  pub status : T → ℕ
   pub summary : T → List ℕ
 
 -- a report has no summary
 abbrev pub of_report : AnswerRule Report
-of_report = record { failed = report_failed; summary = λ _. [] }
+of_report = record { status = λ r. exit_status (report_failed r) None; summary = λ _. [] }
 
 -- nor has what a run by workers answers
 abbrev pub of_run : AnswerRule RunReport
-of_run = record { failed = λ r. report_failed r.report; summary = λ _. [] }
+of_run = record { status = λ r. exit_status (report_failed r.report) None; summary = λ _. [] }
 
--- no assertion fails, and there is no summary
-abbrev pub never : {T : Type 0} → AnswerRule T
-never = record { failed = λ _. false; summary = λ _. [] }
+-- all was done, no assertion failed, and there is no summary
+abbrev pub done : {T : Type 0} → AnswerRule T
+done = record { status = λ _. exit_status false None; summary = λ _. [] }
 
 -- nothing was to be explained
 abbrev pub nothing_explained : Explained
@@ -60,6 +59,6 @@ module _
   -- the status of the answer, and its summary or the report of its fault
   abbrev pub IsEndOf : Result T Fault → RunEnd → Option (List ℕ) → Option (List ℕ) → Type 0
   IsEndOf (Ok answer) e old new =
-      (e.status ≡ exit_status (rule.failed answer) None)
+      (e.status ≡ rule.status answer)
       × HasSummary (rule.summary answer) old new e.told
   IsEndOf (Err f) e old new = (e.status ≡ status_of f) × IsReported f old new e.told

@@ -21,6 +21,7 @@ use Rattle.bp_commands.specs.RunEnds.{AnswerRule}
 use Rattle.bp_messages.specs.Faults.{fault_of_setup}
 use Rattle.bp_commands.specs.Listings.{HasNoCode}
 use Rattle.bp_commands.specs.NamedStarts.{by_names}
+use Rattle.bp_messages.specs.FaultTable.{exit_status}
 use Rattle.bp_messages.specs.Notes.{has_found}
 use Rattle.bp_messages.specs.Summaries.{summary_text}
 use Rattle.bp_messages.specs.SummaryObjects.{summary_objects}
@@ -34,7 +35,7 @@ summary_of x = if x.json then summary_objects x else summary_text x
 
 -- a test has a summary
 abbrev pub of_test : AnswerRule TestReport
-of_test = record { failed = λ x. has_found x.found; summary = summary_of }
+of_test = record { status = λ x. exit_status (has_found x.found) None; summary = summary_of }
 
 -- the lines of the program's statements, as JSON or not, where they are to be listed
 abbrev pub AreListed

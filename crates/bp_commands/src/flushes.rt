@@ -5,7 +5,8 @@ ghost use Rattle.bp_commands.specs.Flushes.{IsFlushed};
 use bp_messages::Fault;
 use std::io::{BufWriter, Write};
 
-/// Flushes a buffer after a command's answer, and gives back the output.
+/// Flushes a buffer after a command's answer, and gives back the output. Where bytes are lost, the
+/// answer is that the output could not be written, whatever the command answered.
 pub fn flushed<T: Drop, W: Write + Drop>(
     done: Result<T, Fault>,
     out: BufWriter<W>,
@@ -16,11 +17,11 @@ pub fn flushed<T: Drop, W: Write + Drop>(
     match out.into_inner() {
         Ok(output) => (done, output),
         Err(error) => {
-            let (output, _) = error.into_inner().into_parts();
-            match done {
-                Ok(_) => (Err(Fault::Write), output),
-                Err(fault) => (Err(fault), output),
+            let (output, lost) = error.into_inner().into_parts();
+            if lost.is_empty() {
+                return (done, output);
             }
+            (Err(Fault::Write), output)
         }
     }
 }

@@ -9,7 +9,7 @@ use bp_messages::Fault;
 use std::alloc::{AllocError, Global};
 
 /// The start with the bits of the globals that are named in it, where there are any.
-pub(crate) fn start_by_names(
+pub fn start_by_names(
     alloc: Global,
     text: &[u8],
     asked: NamedStart<'_>,

@@ -1,6 +1,7 @@
 //! How a run ends: the line on standard error, and the exit status.
-ghost use Rattle.std.specs.Prelude.{◌≡◌};
-ghost use Rattle.bp_commands.specs.RunEnds.{AnswerRule, IsEndOf, HasFaultLine, HasSummary, never, nothing_explained, of_report, of_run};
+ghost use Rattle.std.specs.Prelude.{◌≡◌, None};
+ghost use Rattle.bp_messages.specs.FaultTable.{exit_status};
+ghost use Rattle.bp_commands.specs.RunEnds.{AnswerRule, IsEndOf, HasFaultLine, HasSummary, done, nothing_explained, of_report, of_run, report_failed};
 
 use bp_machine::{Outcome, Report};
 use bp_messages::{Fault, exit_status, show_fault};
@@ -13,9 +14,9 @@ use std::io::Write;
 pub trait CommandAnswer {
     ghost rule: { AnswerRule Self };
 
-    /// Whether an assertion failed.
-    fn has_failed(&self) -> bool
-        ensures { result ≡ rule.failed self.now };
+    /// The exit status of a run that answers this.
+    fn status(&self) -> u8
+        ensures { result ≡ rule.status self.now };
 
     /// Writes the summary, where there is one.
     fn summarize<E: Write>(&self, errors: &mut E) -> Result<(), WriteFault>
@@ -23,11 +24,18 @@ pub trait CommandAnswer {
             (E.contents errors.old) (E.contents errors.new) result };
 }
 
-impl CommandAnswer for () {
-    ghost rule = { never };
+/// The exit status of a run that ends with this report.
+fn status_of_report(report: &Report) -> u8
+    ensures { result ≡ exit_status (report_failed report.now) None }
+{
+    exit_status(matches!(report.outcome, Outcome::Failed { .. }), None)
+}
 
-    fn has_failed(&self) -> bool {
-        false
+impl CommandAnswer for () {
+    ghost rule = { done };
+
+    fn status(&self) -> u8 {
+        exit_status(false, None)
     }
 
     fn summarize<E: Write>(&self, _errors: &mut E) -> Result<(), WriteFault> {
@@ -38,8 +46,8 @@ impl CommandAnswer for () {
 impl CommandAnswer for Report {
     ghost rule = { of_report };
 
-    fn has_failed(&self) -> bool {
-        matches!(self.outcome, Outcome::Failed { .. })
+    fn status(&self) -> u8 {
+        status_of_report(self)
     }
 
     fn summarize<E: Write>(&self, _errors: &mut E) -> Result<(), WriteFault> {
@@ -50,8 +58,8 @@ impl CommandAnswer for Report {
 impl CommandAnswer for RunReport {
     ghost rule = { of_run };
 
-    fn has_failed(&self) -> bool {
-        self.report.has_failed()
+    fn status(&self) -> u8 {
+        status_of_report(&self.report)
     }
 
     fn summarize<E: Write>(&self, _errors: &mut E) -> Result<(), WriteFault> {
@@ -95,10 +103,7 @@ pub fn end<T: CommandAnswer, E: Write>(done: &Result<T, Fault>, errors: &mut E) 
     ensures explained { result.explained ≡ nothing_explained }
 {
     let (told, status) = match done {
-        Ok(answer) => (
-            answer.summarize(errors),
-            exit_status(answer.has_failed(), None),
-        ),
+        Ok(answer) => (answer.summarize(errors), answer.status()),
         Err(fault) => (show_fault(fault, errors), fault.status()),
     };
     RunEnd {

@@ -14,7 +14,7 @@ use crate::run_ends::CommandAnswer;
 use bp_check::Checked;
 use bp_init::NamedStart;
 use bp_machine::Start;
-use bp_messages::{Fault, TestReport, put_summary, put_summary_objects};
+use bp_messages::{Fault, TestReport, exit_status, put_summary, put_summary_objects};
 use bp_source::{statement_lines, statement_positions, statement_texts, unreached_objects};
 use bp_test::{
     Counts, Distinct, Found, Progress, Runtimes, Tally, TestOptions, Waiting, distinct_of, test,
@@ -51,8 +51,8 @@ impl CommandAnswer for TestReport {
 
     ghost rule = { of_test };
 
-    fn has_failed(&self) -> bool {
-        self.has_found()
+    fn status(&self) -> u8 {
+        exit_status(self.has_found(), None)
     }
 
     fn summarize<E: Write>(&self, errors: &mut E) -> Result<(), WriteFault> {

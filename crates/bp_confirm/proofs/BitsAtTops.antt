@@ -1,9 +1,9 @@
 -- The bit that is inferred at an instruction is that of the stack which goes on there.
 use Rattle.std.proofs.Common.{◌≡◌, ◌∙◌, ℕ, Bool, List, ◌∷◌, Option, Some, ap, sym, subst, Bor}
-use Rattle.std.specs.Prelude.{slice_get, MatchOption}
+use Rattle.std.specs.Prelude.{slice_get}
 use Rattle.std.specs.Option.{option_copied}
 use Rattle.bp_tree.specs.Ast.{Block, Procedure, Program}
-use Rattle.bp_flat.specs.Configurations.{Frame, Configuration}
+use Rattle.bp_flat.specs.Configurations.{Configuration}
 use Rattle.bp_flat.specs.Flat.{Flat, Instruction}
 use Rattle.bp_flat.specs.StandsFor.{StandsFor, Does, places_of}
 use Rattle.bp_machine.specs.declared.tops.Top.{Top}
@@ -11,18 +11,13 @@ use Rattle.bp_machine.specs.Answers.{stack_of}
 use Rattle.bp_machine.specs.Tops.{IsTop}
 use Rattle.bp_confirm.specs.Places as point
 use Rattle.bp_confirm.specs.Steps.{StepOf, next_place}
-use Rattle.bp_confirm.specs.Inferred.{bit_of_block, bit_of_stack, some_follow, IsClear, IsClearOnStack, IsAmbiguous, IsAmbiguousOnStack}
-
--- what is inferred at a statement, and on a stack
-abbrev pub IsInferred : Program → Block → Option point.Place → Bool → Option Bool → Type 0
-IsInferred t left next follow o = MatchOption o (IsAmbiguous t left next) (λ bit. (bit ≡ bit_of_block left next follow) × IsClear left next)
-
-abbrev pub IsInferredOn : Program → ℕ → List StepOf → List Frame → Option Bool → Type 0
-IsInferredOn t i later S o = MatchOption o (IsAmbiguousOnStack t i later S) (λ bit. (bit ≡ bit_of_stack i later S) × IsClearOnStack i later S)
+use Rattle.bp_confirm.specs.declared.choices.Inferred.{Inferred}
+use Rattle.bp_confirm.specs.Inferred.{some_follow}
+use Rattle.bp_confirm.specs.InferredBits.{IsInferred, IsInferredOn}
 
 pub inferred_here : (t : Program) (code : Flat) (c : Configuration) (i : ℕ) (x : Top) (later : List StepOf) → StandsFor code t → IsTop t c i x
     → (got : Option (Bor Instruction)) (instr : Bor Instruction) → got ≡ Some instr → option_copied got ≡ slice_get code.instructions x.number
-    → (next : Option point.Place) (follow : Bool) (o : Option Bool) → next ≡ next_place i later → follow ≡ some_follow later
+    → (next : Option point.Place) (follow : Bool) (o : Inferred) → next ≡ next_place i later → follow ≡ some_follow later
     → ((p : Procedure) (left : Block) → Does t (places_of t.procedures) p left instr.now → IsInferred t left next follow o)
     → IsInferredOn t i later (stack_of c i) o
 inferred_here t code c i x later stands top got instr got_is copied next follow o next_is follow_is inferred =

@@ -1,6 +1,6 @@
 -- The bit by the effects of an instruction is that of the statement which it stands for.
 use Rattle.std.proofs.Common.{◌≡◌, ◌==◌, ℕ, arith, Bool, true, false, cond, not, ◌&&◌, List, [], Option, None, Some, refl, ap, sym, ◌∙◌, subst, option_map}
-use Rattle.std.specs.Prelude.{slice_get}
+use Rattle.std.specs.Prelude.{slice_get, MatchBool}
 use Rattle.std.proofs.lemmas.Option.{slice_get-map}
 use Rattle.std.proofs.lemmas.Bool.{false≢true}
 use Rattle.std.proofs.lemmas.Bool.Decides.{nat_tests}
@@ -83,6 +83,19 @@ module _ (next : NextNumbers) where
 pub record SplitTells (b : Bool) (clear : Type 0) (ambiguous : Type 0) : Type 0 where
   pub no : b ≡ false → clear
   pub split : b ≡ true → ambiguous
+
+-- so the ways are clear if they do not split
+pub tells_clear : (own b : Bool) → own ≡ b → (clear ambiguous : Type 0) → SplitTells b clear ambiguous → MatchBool (not own) clear ambiguous
+tells_clear true b is clear ambiguous tells = tells.split (sym is)
+tells_clear false b is clear ambiguous tells = tells.no (sym is)
+
+pub if_clear : (b : Bool) → not b ≡ false → (clear ambiguous : Type 0) → MatchBool b clear ambiguous → clear
+if_clear true is clear ambiguous tells = tells
+if_clear false is clear ambiguous tells = absurd (false≢true (sym is))
+
+pub if_unclear : (b : Bool) → not b ≡ true → (clear ambiguous : Type 0) → MatchBool b clear ambiguous → ambiguous
+if_unclear true is clear ambiguous tells = absurd (false≢true is)
+if_unclear false is clear ambiguous tells = tells
 
 never_split : (b : Bool) (P : Type 0) → b ≡ false → SplitTells b (Unit {0}) P
 never_split b P is = record { no = λ e. tt; split = λ e. absurd (false≢true (sym is ∙ e)) }

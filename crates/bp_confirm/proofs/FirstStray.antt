@@ -8,7 +8,8 @@ use Rattle.bp_tree.specs.Ast.{Program}
 use Rattle.bp_flat.specs.Values.{Valuation}
 use Rattle.bp_machine.specs.Setups.{SetupOf}
 use Rattle.bp_confirm.specs.StepLines.{StepLineOf}
-use Rattle.bp_confirm.specs.DeclaredLines.{declares, AreDeclared, IsFirstUndeclared, AreDeclaredLines, IsFirstStray}
+use Rattle.bp_source.specs.VariableNames.{declares}
+use Rattle.bp_confirm.specs.DeclaredLines.{AreDeclared, IsFirstUndeclared, AreDeclaredLines, IsFirstStray}
 use Rattle.bp_confirm.specs.Confirms.{AreOfThreads}
 
 -- the elements before the n-th, it, and the others

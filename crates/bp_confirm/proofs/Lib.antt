@@ -31,6 +31,7 @@ pub mod ColumnsTell
 pub mod FullBlocks
 pub mod OwnLinesTaken
 pub mod OwnStepsMade
+pub mod OwnValues
 pub mod OneInstruction
 pub mod OneReason
 pub mod OneStepRefusal

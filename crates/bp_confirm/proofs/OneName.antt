@@ -1,119 +1,173 @@
 -- A text begins with at most one name, and with at most one value.
-use Rattle.std.proofs.Common.{◌≡◌, ◌≢◌, inl, inr, ℕ, suc, Bool, true, false, List, [], ◌∷◌, ◌++◌, refl, sym, ap, ◌∙◌, subst, ◌+◌, length, take, arith}
+use Rattle.std.proofs.Common.{◌≡◌, ◌≢◌, ◌<◌, ◌≤◌, ◌==◌, ◌&&◌, ◌||◌, ℕ, suc, Bool, true, false, not, List, [], ◌∷◌, ◌++◌, Option, None, Some, Bor, refl, sym, ap, ◌∙◌, subst, ◌+◌, length, take, drop, get_or, length-append, arith}
+use Rattle.std.specs.Prelude.{MatchOption}
+use Rattle.std.proofs.lemmas.Bool.{eq-eqb, eqb-true, false≢true}
+use Rattle.std.proofs.lemmas.List.{append-nil, append_cancel_left, take_all, take_more, take-append-drop}
+use Rattle.std.proofs.Math.ListN.{length-take}
+use Rattle.std.proofs.Math.Seq.{drop-cons}
 use Rattle.bp_text.proofs.GrownLists.{regrouped}
+use Rattle.bp_source.specs.Lists.{is_braced_after}
 use Rattle.bp_trace.specs.Schedules.{bit_digit}
 use Rattle.bp_trace.specs.Writable.{Without}
-use Rattle.bp_confirm.specs.StepTexts.{value_text, IsBraced, IsPlain, IsStepName}
-use Rattle.bp_confirm.specs.LineReading.{BeginsWith, IsCut, IsNameAt, HasNoName, IsValueAt, HasNoValue}
-use Rattle.bp_confirm.proofs.Cuts.{same_head, one_cut, no_cut, without_front}
+use Rattle.bp_confirm.specs.StepTexts.{value_text, Continues, IsNameRest, IsStepName}
+use Rattle.bp_confirm.specs.LineReading.{IsNameAt, HasNoName, IsValueAt, HasNoValue}
+use Rattle.bp_confirm.proofs.Cuts.{same_head, without_rest}
 
--- a braced name, and what comes after it
-braced_cut : (name : List ℕ) (is : IsBraced name) (more : List ℕ) → name ++ more ≡ (123 ∷ is.inner) ++ 125 ∷ more
-braced_cut name is more = ap (λ x. x ++ more) is.is ∙ simp regrouped
-
-braced_closed : (name : List ℕ) (is : IsBraced name) → Without 125 (123 ∷ is.inner)
-braced_closed name is = (λ e. absurd (omega (arith, e)), is.closed)
-
-plain_cut : (name : List ℕ) (is : IsPlain name) (more : List ℕ) → name ++ more ≡ is.first ∷ (is.others ++ more)
-plain_cut name is more = ap (λ x. x ++ more) is.is
-
-mixed : (a b : List ℕ) (p : IsBraced a) (q : IsPlain b) (x y : List ℕ) → a ++ x ≡ b ++ y → ⊥
-mixed a b p q x y e =
-    q.unbraced (sym (same_head 123 q.first (p.inner ++ 125 ∷ x) (q.others ++ y) (sym (braced_cut a p x) ∙ e ∙ plain_cut b q y)).0)
+one_rest : (a b x y : List ℕ) (braced : Bool) → IsNameRest a braced → IsNameRest b braced → a ++ 61 ∷ x ≡ b ++ 61 ∷ y → (a ≡ b) × (x ≡ y)
+one_rest [] [] x y braced p q e = (refl, (same_head 61 61 x y e).1)
+one_rest [] (d ∷ b) x y true p q e = absurd p
+one_rest [] (d ∷ b) x y false p q e = absurd (q.0.2 (sym (same_head 61 d x (b ++ 61 ∷ y) e).0))
+one_rest (c ∷ a) [] x y true p q e = absurd q
+one_rest (c ∷ a) [] x y false p q e = absurd (p.0.2 (same_head c 61 (a ++ 61 ∷ x) y e).0)
+one_rest (c ∷ a) (d ∷ b) x y braced p q e =
+    let heads = same_head c d (a ++ 61 ∷ x) (b ++ 61 ∷ y) e in
+    let own = subst (λ k. IsNameRest b (is_braced_after braced k)) (sym heads.0) q.1 in
+    let rest = one_rest a b x y (is_braced_after braced c) p.1 own heads.1 in
+    (cc (heads.0, rest.0), rest.1)
 
 pub one_name : (a b x y : List ℕ) → IsStepName a → IsStepName b → a ++ 61 ∷ x ≡ b ++ 61 ∷ y → (a ≡ b) × (x ≡ y)
-one_name a b x y (inl p) (inl q) e =
-    let cut = one_cut 125 (123 ∷ p.inner) (123 ∷ q.inner) (61 ∷ x) (61 ∷ y) (braced_closed a p) (braced_closed b q)
-    (sym (braced_cut a p (61 ∷ x)) ∙ e ∙ braced_cut b q (61 ∷ y)) in
-    (p.is ∙ ap (λ z. z ++ 125 ∷ []) cut.0 ∙ sym q.is, (same_head 61 61 x y cut.1).1)
-one_name a b x y (inl p) (inr q) e = absurd (mixed a b p q (61 ∷ x) (61 ∷ y) e)
-one_name a b x y (inr p) (inl q) e = absurd (mixed b a q p (61 ∷ y) (61 ∷ x) (sym e))
-one_name a b x y (inr p) (inr q) e = one_cut 61 a b x y p.signs q.signs e
+one_name a b x y p q e = one_rest a b x y false p.is q.is e
 
-module _ (text : List ℕ) (line : Without 10 text) where
-  module _ (braced : BeginsWith 123 text) where
-    not_plain : (name : List ℕ) (q : IsPlain name) (rest : List ℕ) → text ≢ name ++ rest
-    not_plain name q rest e = q.unbraced (sym (same_head 123 q.first braced.0 (q.others ++ rest) (sym braced.1 ∙ e ∙ plain_cut name q rest)).0)
+-- The first i bytes of a text may begin a name, inside braces or outside after them; and each name
+-- that begins the text begins with them.
+pub record IsNameFront (text : List ℕ) (i : ℕ) (braced : Bool) : Type 0 where
+  pub front : (rest : List ℕ) → IsNameRest rest braced → IsNameRest (take i text ++ rest) false
+  pub only :
+      (name rest : List ℕ) → IsNameRest name false → text ≡ name ++ 61 ∷ rest
+      → (more : List ℕ) × (name ≡ take i text ++ more) × IsNameRest more braced
 
-    pub no_brace : Without 125 text → HasNoName text
-    no_brace none = λ name rest is e. by_kind name rest is e
-      where
-        by_kind : (name rest : List ℕ) → IsStepName name → text ≡ name ++ 61 ∷ rest → ⊥
-        by_kind name rest (inl p) e = no_cut 125 text (123 ∷ p.inner) (61 ∷ rest) none (e ∙ braced_cut name p (61 ∷ rest))
-        by_kind name rest (inr q) e = not_plain name q (61 ∷ rest) e
+pub no_bytes : (text : List ℕ) → IsNameFront text 0 false
+no_bytes text = record { front = λ rest is. is; only = λ name rest is e. (name, refl, is) }
 
-    module _ (inner rest : List ℕ) (cut : IsCut 125 text inner rest) where
-      pub no_sign_after : ((more : List ℕ) → rest ≢ 61 ∷ more) → HasNoName text
-      no_sign_after none = λ name more is e. by_kind name more is e
-        where
-          by_kind : (name more : List ℕ) → IsStepName name → text ≡ name ++ 61 ∷ more → ⊥
-          by_kind name more (inl p) e =
-              none more (one_cut 125 inner (123 ∷ p.inner) rest (61 ∷ more) cut.first (braced_closed name p)
-              (sym cut.parts ∙ e ∙ braced_cut name p (61 ∷ more))).1
-          by_kind name more (inr q) e = not_plain name q (61 ∷ more) e
+-- whether a byte ends a name, or cannot be in it
+abbrev is_end : Bool → ℕ → Bool
+is_end braced b = not braced && (b == 61 || b == 32)
 
-      inner_braced : (xs : List ℕ) → inner ≡ xs → IsBraced (xs ++ 125 ∷ [])
-      inner_braced [] e =
-          absurd (let bytes = sym braced.1 ∙ cut.parts ∙ ap (λ x. x ++ 125 ∷ rest) e in
-          omega (arith, (same_head 123 125 braced.0 rest bytes).0))
-      inner_braced (c ∷ xs) e =
-          let bytes = sym braced.1 ∙ cut.parts ∙ ap (λ x. x ++ 125 ∷ rest) e in
-          let brace = (same_head 123 c braced.0 (xs ++ 125 ∷ rest) bytes).0 in
-          let closed : Without 125 (c ∷ xs) = subst (Without 125) e cut.first in
-          let lines : Without 10 (c ∷ xs) = subst (Without 10) e (without_front 10 inner (125 ∷ rest) (subst (Without 10) cut.parts line)) in
-          record { inner = xs; is = ap (λ b. b ∷ (xs ++ 125 ∷ [])) (sym brace); closed = closed.1; line = lines.1 }
+none_of : (p q : Bool) → (p || q) ≡ false → (p ≡ false) × (q ≡ false)
+none_of false false e = (refl, refl)
+none_of false true e = absurd (false≢true (sym e))
+none_of true q e = absurd (false≢true (sym e))
 
-      take_one_more : (xs : List ℕ) (c : ℕ) (ys : List ℕ) → take (suc (length xs)) (xs ++ c ∷ ys) ≡ xs ++ c ∷ []
-      take_one_more [] c ys = refl
-      take_one_more (x ∷ xs) c ys = ap (λ zs. x ∷ zs) (take_one_more xs c ys)
+other_than : (b n : ℕ) → (b == n) ≡ false → b ≢ n
+other_than b n odd e = false≢true (sym odd ∙ eq-eqb b n e)
 
-      pub has_braced : (name more : List ℕ) → name ≡ take (length inner + 1) text → rest ≡ 61 ∷ more → IsNameAt text name more
-      has_braced name more taken sign =
-          let own : name ≡ inner ++ 125 ∷ [] =
-          taken ∙ ap (take (length inner + 1)) cut.parts
-          ∙ ap (λ k. take k (inner ++ 125 ∷ rest)) (let one : length inner + 1 ≡ suc (length inner) = omega arith in one)
-          ∙ take_one_more inner 125 rest in
-          record {
-            name_is = inl (subst IsBraced (sym own) (inner_braced inner refl));
-            parts = cut.parts ∙ rw (sign, own) (simp regrouped);
-          }
+-- a byte that does not end a name continues it
+continues : (braced : Bool) (b : ℕ) → b ≢ 10 → is_end braced b ≡ false → Continues braced b
+continues true b line odd = line
+continues false b line odd =
+    let both = none_of (b == 61) (b == 32) odd in
+    (line, other_than b 32 both.1, other_than b 61 both.0)
 
-  module _ (unbraced : BeginsWith 123 text → ⊥) where
-    not_braced : (name : List ℕ) (p : IsBraced name) (rest : List ℕ) → text ≢ name ++ rest
-    not_braced name p rest e = unbraced (p.inner ++ 125 ∷ rest, e ∙ braced_cut name p rest)
+not_at_end : (braced : Bool) (b : ℕ) → is_end braced b ≡ false → IsNameRest [] braced → b ≢ 61
+not_at_end true b odd ends same = ends
+not_at_end false b odd ends same = other_than b 61 (none_of (b == 61) (b == 32) odd).0 same
 
-    pub no_sign : Without 61 text → HasNoName text
-    no_sign none = λ name rest is e. no_cut 61 text name rest none e
+unbraced : (braced : Bool) (b : ℕ) → is_end braced b ≡ true → braced ≡ false
+unbraced true b end = absurd (false≢true end)
+unbraced false b end = refl
 
-    module _ (name rest : List ℕ) (cut : IsCut 61 text name rest) where
-      same_name : (other more : List ℕ) → IsStepName other → text ≡ other ++ 61 ∷ more → IsPlain other × (name ≡ other)
-      same_name other more (inl p) e = absurd (not_braced other p (61 ∷ more) e)
-      same_name other more (inr q) e = (q, (one_cut 61 name other rest more cut.first q.signs (sym cut.parts ∙ e)).0)
+space_else : (braced : Bool) (b : ℕ) → is_end braced b ≡ true → b ≢ 61 → b ≡ 32
+space_else true b end other = absurd (false≢true end)
+space_else false b end other = by_test (b == 61) refl end
+  where
+    by_test : (t : Bool) → (b == 61) ≡ t → (t || b == 32) ≡ true → b ≡ 32
+    by_test true is e = absurd (other (eqb-true b 61 is))
+    by_test false is e = eqb-true b 32 e
 
-      pub no_empty_name : name ≡ [] → HasNoName text
-      no_empty_name none = λ other more is e.
-          let same = same_name other more is e in
-          let empty = sym same.0.is ∙ sym same.1 ∙ none in absurd cc
+module _ (text : List ℕ) (i : ℕ) (braced : Bool) (d : ℕ) (within : i < length text) (is : IsNameFront text i braced) where
+  abbrev byte : ℕ
+  byte = get_or text i d
 
-      pub no_spaced_name : (before after : List ℕ) → IsCut 32 name before after → HasNoName text
-      no_spaced_name before after spaced = λ other more is e.
-          let same = same_name other more is e in
-          no_cut 32 name before after (subst (Without 32) (sym same.1) same.0.spaces) spaced.parts
+  abbrev rest_after : List ℕ
+  rest_after = drop (i + 1) text
 
-      plain_of : (xs : List ℕ) → name ≡ xs → xs ≢ [] → Without 32 name → IsPlain name
-      plain_of [] e some spaces = absurd (some refl)
-      plain_of (c ∷ xs) e some spaces = record {
-        first = c;
-        others = xs;
-        is = e;
-        unbraced = λ b. unbraced (xs ++ 61 ∷ rest, cut.parts ∙ ap (λ x. x ++ 61 ∷ rest) e ∙ ap (λ x. x ∷ (xs ++ 61 ∷ rest)) b);
-        spaces = spaces;
-        signs = cut.first;
-        line = without_front 10 name (61 ∷ rest) (subst (Without 10) cut.parts line);
-      }
+  parts : text ≡ take i text ++ byte ∷ rest_after
+  parts =
+      let one : suc i ≡ i + 1 = omega arith in
+      sym (take-append-drop i text) ∙ ap (λ x. take i text ++ x) (drop-cons text i d within ∙ ap (λ k. byte ∷ drop k text) one)
 
-      pub has_plain : name ≢ [] → Without 32 name → IsNameAt text name rest
-      has_plain some spaces = record { name_is = inr (plain_of name refl some spaces); parts = cut.parts }
+  -- what follows the first bytes of a name that begins the text
+  record IsAfter (name rest : List ℕ) : Type 0 where
+    more : List ℕ
+    whole : name ≡ take i text ++ more
+    named : IsNameRest more braced
+    head : more ++ 61 ∷ rest ≡ byte ∷ rest_after
+
+  after : (name rest : List ℕ) → IsNameRest name false → text ≡ name ++ 61 ∷ rest → IsAfter name rest
+  after name rest named e =
+      let found = is.only name rest named e in
+      let more = found.0 in
+      let assoc : (take i text ++ more) ++ 61 ∷ rest ≡ take i text ++ (more ++ 61 ∷ rest) = simp regrouped in
+      let both : take i text ++ (more ++ 61 ∷ rest) ≡ take i text ++ byte ∷ rest_after =
+      sym (e ∙ ap (λ n. n ++ 61 ∷ rest) found.1 ∙ assoc) ∙ parts in
+      record { more = more; whole = found.1; named = found.2; head = append_cancel_left (take i text) _ _ both }
+
+  taken : take (i + 1) text ≡ take i text ++ byte ∷ []
+  taken = take_more text i d within
+
+  pub one_more : Without 10 text → is_end braced byte ≡ false → IsNameFront text (i + 1) (is_braced_after braced byte)
+  one_more line odd = record {
+    front = λ rest named.
+        let assoc : (take i text ++ byte ∷ []) ++ rest ≡ take i text ++ byte ∷ rest = simp regrouped in
+        subst (λ x. IsNameRest x false) (sym (ap (λ x. x ++ rest) taken ∙ assoc))
+        (is.front (byte ∷ rest) (continues braced byte other odd, named));
+    only = λ name rest named e. let found = after name rest named e in by_more name rest found.more found.whole found.named found.head;
+  }
+    where
+      other : byte ≢ 10
+      other = (without_rest 10 (take i text) (byte ∷ rest_after) (subst (Without 10) parts line)).0
+
+      by_more : (name rest more : List ℕ) → name ≡ take i text ++ more → IsNameRest more braced → more ++ 61 ∷ rest ≡ byte ∷ rest_after
+          → (others : List ℕ) × (name ≡ take (i + 1) text ++ others) × IsNameRest others (is_braced_after braced byte)
+      by_more name rest [] whole named head = absurd (not_at_end braced byte odd named (sym (same_head 61 byte rest rest_after head).0))
+      by_more name rest (c ∷ others) whole named head =
+          let same = (same_head c byte (others ++ 61 ∷ rest) rest_after head).0 in
+          let assoc : (take i text ++ byte ∷ []) ++ others ≡ take i text ++ byte ∷ others = simp regrouped in (
+            others,
+            whole ∙ ap (λ k. take i text ++ k ∷ others) same ∙ sym (ap (λ x. x ++ others) taken ∙ assoc),
+            subst (λ k. IsNameRest others (is_braced_after braced k)) same named.1,
+          )
+
+  -- a name that begins the text ends before a byte that ends it
+  ends_before : (name rest : List ℕ) → is_end braced byte ≡ true → (found : IsAfter name rest) → (name ≡ take i text ++ []) × (byte ≡ 61)
+  ends_before name rest end found = by_more found.more found.whole found.named found.head
+    where
+      outside : (b : ℕ) → Continues false b → (b ≡ 61 → ⊥) × (b ≡ 32 → ⊥)
+      outside b ok = (ok.2, ok.1)
+
+      by_more : (more : List ℕ) → name ≡ take i text ++ more → IsNameRest more braced → more ++ 61 ∷ rest ≡ byte ∷ rest_after
+          → (name ≡ take i text ++ []) × (byte ≡ 61)
+      by_more [] whole named head = (whole, sym (same_head 61 byte rest rest_after head).0)
+      by_more (c ∷ more) whole named head =
+          let same = (same_head c byte (more ++ 61 ∷ rest) rest_after head).0 in
+          let own = outside byte (subst (Continues false) same (subst (λ k. Continues k c) (unbraced braced byte end) named.0)) in
+          absurd (own.1 (space_else braced byte end own.0))
+
+  pub space_here : is_end braced byte ≡ true → byte ≢ 61 → HasNoName text
+  space_here end other = λ name rest named e. other (ends_before name rest end (after name rest named.is e)).1
+
+  pub name_here : is_end braced byte ≡ true → byte ≡ 61 → (r : Option (Bor (List ℕ) × Bor (List ℕ)))
+      → MatchOption r (i ≡ 0) (λ p. (0 < i) × (p.0.now ≡ take i text) × (p.1.now ≡ drop (i + 1) text))
+      → MatchOption r (HasNoName text) (λ p. IsNameAt text p.0.now p.1.now)
+  name_here end sign None zero = λ name rest named e.
+      named.some ((ends_before name rest end (after name rest named.is e)).0 ∙ ap (λ k. take k text ++ []) zero)
+  name_here end sign (Some p) (some, own, more) = record {
+    name_is = record {
+      some = λ none. let size = ap length (sym none ∙ own) in let all = length-take i text in omega (arith, some, size, all, within);
+      is = subst (λ x. IsNameRest x false) (append-nil (take i text) ∙ sym own) (is.front [] (subst (IsNameRest []) (sym (unbraced braced byte end)) tt));
+    };
+    parts = parts ∙ (λ j. sym own j ++ sign j ∷ sym more j);
+  }
+
+-- no name begins a text that has no end of one
+pub no_end : (text : List ℕ) (i : ℕ) (braced : Bool) → length text ≤ i → IsNameFront text i braced → HasNoName text
+no_end text i braced all is = λ name rest named e.
+    let found = is.only name rest named.is e in
+    let whole = take_all i text all in
+    let size = ap length (e ∙ ap (λ n. n ++ 61 ∷ rest) (found.1 ∙ ap (λ x. x ++ found.0) whole)) in
+    let first = length-append (text ++ found.0) (61 ∷ rest) in
+    let second = length-append text found.0 in
+    omega (arith, size, first, second)
 
 -- a value: a space, the name, an equals sign and the bit
 pub value_then : (v : List ℕ × Bool) (rest : List ℕ) → value_text v ++ rest ≡ 32 ∷ (v.0 ++ 61 ∷ bit_digit v.1 ∷ rest)

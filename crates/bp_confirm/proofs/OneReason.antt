@@ -17,13 +17,14 @@ use Rattle.bp_confirm.specs.declared.faults.Difference.{Difference}
 use Rattle.bp_confirm.specs.declared.faults.StepReason.{StepReason}
 use Rattle.bp_confirm.specs.declared.faults.StepReason.TheVariants.{Elsewhere, Ambiguous, Finished, Refused, Differs}
 use Rattle.bp_confirm.specs.Changes.{seen_by, seen_after, IsLastChange}
-use Rattle.bp_confirm.specs.Confirms.{GoesOnAt, IsAnswered, IsReason, IsUnclear, SeesOther, StandsThere}
+use Rattle.bp_confirm.specs.Confirms.{GoesOnAt, IsAnswered, IsReason, IsUnclear, SeesOther, StandsAtPlace}
 use Rattle.bp_confirm.specs.Inferred.{AreBothAt, AreBothWays, IsAmbiguous, IsAmbiguousOnStack, IsClear, IsClearOnStack, IsClearWay}
 use Rattle.bp_confirm.specs.Places.{Place}
 use Rattle.bp_confirm.specs.Steps.{StepOf, value_seen, IsFirstUnseen, next_place}
 use Rattle.bp_confirm.proofs.FullBlocks.{IsFull, full_place}
-use Rattle.bp_confirm.proofs.LocalRefusals.{not_granted, seen_same}
+use Rattle.bp_confirm.proofs.LocalRefusals.{not_granted, other_values, seen_same}
 use Rattle.bp_confirm.proofs.LastChanges.{one_change}
+use Rattle.bp_confirm.proofs.StepsFollowed.{unseen_not}
 use Rattle.bp_confirm.proofs.StartsInOrder.{starts_distinct}
 
 -- where the later steps tell which way a `?` went, it may not have gone either way
@@ -85,13 +86,31 @@ module _ (c d : Configuration) (i : ℕ) (same : (x : List ℕ) → value_seen c
       (record { value = q.value; at = q.at; first = q.first.1; is_seen = q.is_seen; differs = q.differs }) in
       (ap suc rest.0, rest.1)
 
-module _ (text : List ℕ) (t : Program) (is : IsLawfulText text t) (s : SetupOf) (h : List Call) (x : StepOf) (later : List StepOf)
-    (number : Option ℕ) (goes_on : GoesOnAt t (configuration_after t s h) x.thread number) where
-  here_or_elsewhere : {X : Type 0} → StandsThere t s h x later → IsReason t s h x later Elsewhere → X
-  here_or_elsewhere there other = absurd (false≢true (sym other ∙ there.at))
+module _ (t : Program) (s : SetupOf) (h : List Call) (x : StepOf) (later : List StepOf) where
+  abbrev IsNotTakenFor : StepReason → Type 0
+  IsNotTakenFor Ambiguous = ⊥
+  IsNotTakenFor reason = IsReason t s h x later reason
 
-  clear_or_not : {X : Type 0} → StandsThere t s h x later → IsUnclear t s h x later → X
-  clear_or_not there unclear = absurd (not_clear text t is (configuration_after t s h) x.thread later number goes_on there.clear unclear.ambiguous)
+  here_or_elsewhere : {X : Type 0} → StandsAtPlace t s h x true → IsReason t s h x later Elsewhere → X
+  here_or_elsewhere there other = absurd (false≢true (sym other ∙ there))
+
+  -- a call takes the step, so it is refused for no other reason
+  taken_or_not : {X : Type 0} → IsUnclear t s h x later → (reason : StepReason) → IsNotTakenFor reason → X
+  taken_or_not unclear reason other = absurd (by_reason reason other)
+    where
+      a : Call
+      a = unclear.call
+
+      by_reason : (reason : StepReason) → IsNotTakenFor reason → ⊥
+      by_reason Elsewhere elsewhere = false≢true (sym elsewhere ∙ unclear.takes.at)
+      by_reason Finished over = false≢true (sym unclear.takes.allowed.unfinished ∙ ap (is_finished s h) unclear.takes.thread ∙ over.1)
+      by_reason (Refused r) refused =
+          not_granted r a.reply (ap Some (refused.1.each a unclear.takes.thread unclear.takes.allowed)) unclear.takes.granted refused.1.refused
+      by_reason (Differs d) other =
+          let seen = other.1 in
+          let after = configuration_after t s (h ++ seen.call ∷ []) in
+          other_values t s h x seen.call seen.takes (unseen_not after x.thread x.values d.place d.seen seen.differs.unseen) a unclear.takes
+      by_reason Ambiguous none = none
 
   over_or_answered : {X : Type 0} → is_finished s h x.thread ≡ true → (r : Reply) → IsAnswered t s h x r → X
   over_or_answered over r answered = absurd (false≢true (sym answered.allowed.unfinished ∙ ap (is_finished s h) answered.thread ∙ over))
@@ -123,27 +142,27 @@ module _ (text : List ℕ) (t : Program) (is : IsLawfulText text t) (s : SetupOf
 
   pub one_reason : (a b : StepReason) → IsReason t s h x later a → IsReason t s h x later b → a ≡ b
   one_reason Elsewhere Elsewhere p q = refl
-  one_reason Elsewhere Ambiguous p q = absurd (false≢true (sym p ∙ q.at))
   one_reason Elsewhere Finished p q = here_or_elsewhere q.0 p
   one_reason Elsewhere (Refused r) p q = here_or_elsewhere q.0 p
   one_reason Elsewhere (Differs e) p q = here_or_elsewhere q.0 p
-  one_reason Ambiguous Elsewhere p q = absurd (false≢true (sym q ∙ p.at))
-  one_reason Ambiguous Ambiguous p q = refl
-  one_reason Ambiguous Finished p q = clear_or_not q.0 p
-  one_reason Ambiguous (Refused r) p q = clear_or_not q.0 p
-  one_reason Ambiguous (Differs e) p q = clear_or_not q.0 p
+  one_reason Elsewhere Ambiguous p q = taken_or_not q Elsewhere p
   one_reason Finished Elsewhere p q = here_or_elsewhere p.0 q
-  one_reason Finished Ambiguous p q = clear_or_not p.0 q
   one_reason Finished Finished p q = refl
   one_reason Finished (Refused r) p q = over_or_answered p.1 r q.1
   one_reason Finished (Differs e) p q = over_or_seen p.1 e q.1
+  one_reason Finished Ambiguous p q = taken_or_not q Finished p
   one_reason (Refused r) Elsewhere p q = here_or_elsewhere p.0 q
-  one_reason (Refused r) Ambiguous p q = clear_or_not p.0 q
   one_reason (Refused r) Finished p q = over_or_answered q.1 r p.1
   one_reason (Refused r) (Refused k) p q = ap Refused (one_reply r k p.1 q.1)
   one_reason (Refused r) (Differs e) p q = refused_or_seen r p.1 e q.1
+  one_reason (Refused r) Ambiguous p q = taken_or_not q (Refused r) p
   one_reason (Differs d) Elsewhere p q = here_or_elsewhere p.0 q
-  one_reason (Differs d) Ambiguous p q = clear_or_not p.0 q
   one_reason (Differs d) Finished p q = over_or_seen q.1 d p.1
   one_reason (Differs d) (Refused r) p q = refused_or_seen r q.1 d p.1
   one_reason (Differs d) (Differs e) p q = one_seen d e p.1 q.1
+  one_reason (Differs d) Ambiguous p q = taken_or_not q (Differs d) p
+  one_reason Ambiguous Elsewhere p q = taken_or_not p Elsewhere q
+  one_reason Ambiguous Finished p q = taken_or_not p Finished q
+  one_reason Ambiguous (Refused r) p q = taken_or_not p (Refused r) q
+  one_reason Ambiguous (Differs d) p q = taken_or_not p (Differs d) q
+  one_reason Ambiguous Ambiguous p q = refl

@@ -4,12 +4,13 @@ use Rattle.std.proofs.lemmas.Fmt.{decimal_nonempty}
 use Rattle.std.proofs.lemmas.List.{append-nil}
 use Rattle.bp_text.proofs.GrownLists.{regrouped}
 use Rattle.bp_flat.specs.Values.{Valuation}
+use Rattle.bp_source.specs.Lists.{is_braced_after}
 use Rattle.bp_trace.specs.Schedules.{bit_digit}
 use Rattle.bp_trace.specs.Writable.{Without}
 use Rattle.bp_confirm.specs.declared.locations.Location.{Location}
 use Rattle.bp_confirm.specs.declared.locations.Location.TheVariants.{End, Line, Column}
 use Rattle.bp_confirm.specs.StepLines.{StepLineOf}
-use Rattle.bp_confirm.specs.StepTexts.{IsShort, IsShortLocation, IsStepName, AreNamed, HasLine, location_text, value_text, values_text, line_text}
+use Rattle.bp_confirm.specs.StepTexts.{IsNameRest, IsShort, IsShortLocation, IsStepName, AreNamed, HasLine, location_text, value_text, values_text, line_text}
 use Rattle.bp_confirm.specs.LineReading.{IsCut, IsField, IsValueAt, HasNoValue, AreValues, AreNoValues}
 use Rattle.bp_confirm.proofs.Cuts.{same_head, one_cut, no_cut, without_both, without_rest, BeginsSpaced, one_field, decimal_without, no_space, no_line_feed, no_dash, no_colon, one_decimal}
 use Rattle.bp_confirm.proofs.OneName.{one_value, value_then}
@@ -151,11 +152,13 @@ bit_without_feed : (b : Bool) → bit_digit b ≢ 10
 bit_without_feed true e = omega (arith, e)
 bit_without_feed false e = omega (arith, e)
 
+rest_without_feed : (name : List ℕ) (braced : Bool) → IsNameRest name braced → Without 10 name
+rest_without_feed [] braced is = tt
+rest_without_feed (c ∷ name) true is = (is.0, rest_without_feed name (is_braced_after true c) is.1)
+rest_without_feed (c ∷ name) false is = (is.0.0, rest_without_feed name (is_braced_after false c) is.1)
+
 name_without_feed : (name : List ℕ) → IsStepName name → Without 10 name
-name_without_feed name (inl p) =
-    subst (Without 10) (sym p.is)
-    ((λ e. absurd (omega (arith, e))), without_both 10 p.inner (125 ∷ []) p.line ((λ e. absurd (omega (arith, e))), tt))
-name_without_feed name (inr q) = q.line
+name_without_feed name is = rest_without_feed name false is.is
 
 pub values_without_feed : (vs : Valuation) → AreNamed vs → Without 10 (values_text vs)
 values_without_feed [] p = tt

@@ -152,7 +152,7 @@ module _ (text : List ℕ) (t : Program) (is : IsLawfulText text t) (s : SetupOf
         (subst (λ k. GoesOnAt t (configuration_after t s k) q.thread q.number) (sym history) other.number)) in
         let stand : r.stand ≡ q.stand = refused.stand ∙ ap (stand_of text t) number ∙ sym other.stand in
         let reason : r.reason ≡ q.reason =
-        one_reason text t is s refused.history (step_of text refused.step) (steps_of text refused.later) r.number goes_on r.reason q.reason refused.reason
+        one_reason t s refused.history (step_of text refused.step) (steps_of text refused.later) r.reason q.reason refused.reason
         (subst (λ k. IsReason t s k (step_of text refused.step) (steps_of text refused.later) q.reason) (sym history)
         (subst (λ y. IsReason t s other.history (step_of text y) (steps_of text refused.later) q.reason) (sym cut.here)
         (subst (λ ys. IsReason t s other.history (step_of text other.step) (steps_of text ys) q.reason) (sym cut.rest) other.reason))) in

@@ -10,14 +10,15 @@ use Rattle.bp_machine.specs.Setups.{SetupOf}
 use Rattle.bp_machine.proofs.ContextCounts.{least_opened}
 use Rattle.bp_trace.specs.declared.limits.TheConstants.{MAX_SCHEDULE}
 use Rattle.bp_confirm.specs.declared.confirming.ConfirmFault.{ConfirmFault}
-use Rattle.bp_confirm.specs.declared.confirming.ConfirmFault.TheVariants.{TooLong, NoSteps, Line, NoThread, NoVariable, Step, Memory, Write}
+use Rattle.bp_confirm.specs.declared.confirming.ConfirmFault.TheVariants.{TooLong, NoSteps, Line, NoThread, NoVariable, Step, Memory}
 use Rattle.bp_tasks.specs.declared.context_bounds.ContextBound.{ContextBound}
 use Rattle.bp_tasks.specs.declared.context_bounds.ContextBound.TheVariants.{Kept, AsUsed}
 use Rattle.bp_confirm.specs.declared.faults.StepRefusal.{StepRefusal}
 use Rattle.bp_confirm.specs.Confirms.{IsStepRefusal}
 use Rattle.bp_confirm.specs.ConfirmedTexts.{AreRead, HasFitLength, IsConfirmedText, IsStepsRefusal}
 use Rattle.bp_confirm.specs.ContextBounds.{IsSetupFor, contexts_allowed}
-use Rattle.bp_confirm.specs.DeclaredLines.{AreDeclared, AreDeclaredLines, IsDeclared, IsFirstStray, IsFirstUndeclared, IsOfNoThread, IsOfNoVariable, declares}
+use Rattle.bp_confirm.specs.DeclaredLines.{AreDeclared, AreDeclaredLines, IsDeclared, IsFirstStray, IsFirstUndeclared, IsOfNoThread, IsOfNoVariable}
+use Rattle.bp_source.specs.VariableNames.{declares}
 use Rattle.bp_confirm.specs.OneRefusal.{NoRefusalOfConfirmed, OneRefusal}
 use Rattle.bp_confirm.specs.StepLines.{StepLineOf}
 use Rattle.bp_confirm.specs.StepTexts.{HasLines, IsBadLine}
@@ -100,7 +101,6 @@ module _ (text : List ℕ) (t : Program) (is : IsLawfulText text t) (s : SetupOf
   sorted (NoVariable n k) other p = of_lines (NoVariable n k) p.lines p.read (of_no_variable n k p.stray)
   sorted (Step r) other p = of_lines (Step r) p.lines p.told.read (of_step r p.setup p.told.declared p.allows p.refused)
   sorted Memory other p = absurd (other refl)
-  sorted Write other p = absurd p
 
   too_long : {X : Type 0} → MAX_SCHEDULE < length steps → HasFitLength t s steps → X
   too_long long fit = absurd (omega (arith, long, fit.1))
@@ -190,7 +190,6 @@ module _ (text : List ℕ) (t : Program) (is : IsLawfulText text t) (s : SetupOf
     by_fault (NoThread n i) p = absurd (none_sorted (NoThread n i) (of_lines (NoThread n i) p.lines p.read (of_no_thread n i p.stray)))
     by_fault (NoVariable n k) p = absurd (none_sorted (NoVariable n k) (of_lines (NoVariable n k) p.lines p.read (of_no_variable n k p.stray)))
     by_fault (Step r) p = absurd (none_sorted (Step r) (of_lines (Step r) p.lines p.told.read (of_step r p.setup p.told.declared p.allows p.refused)))
-    by_fault Write p = absurd p
 
 pub one_refusal : OneRefusal
 one_refusal text t s steps bound f g is one two p q =

@@ -26,9 +26,9 @@ use Rattle.bp_confirm.specs.declared.faults.StepReason.TheVariants.{Elsewhere, A
 use Rattle.bp_confirm.specs.declared.faults.StepRefusal.{StepRefusal}
 use Rattle.bp_confirm.specs.StepLines.{StepLineOf, step_of, steps_of}
 use Rattle.bp_confirm.specs.Steps.{StepOf, value_seen, IsFirstUnseen, SeesValues, IsStepOf, TakeAfter, Takes}
-use Rattle.bp_confirm.specs.Inferred.{bit_of_stack, IsAmbiguousOnStack, IsClearOnStack, Follows, FollowAfter}
+use Rattle.bp_confirm.specs.Inferred.{bit_of_stack, IsAmbiguousOnStack, Follows, FollowAfter}
 use Rattle.bp_confirm.specs.Changes.{IsDifference}
-use Rattle.bp_confirm.specs.Confirms.{GoesOnAt, StandsAtPlace, StandsThere, IsStuck, IsReason, ForStuck, IsStepRefusal, IsNotConfirmed, IsConfirmed}
+use Rattle.bp_confirm.specs.Confirms.{GoesOnAt, StandsAtPlace, IsStuck, IsReason, ForStuck, IsStepRefusal, IsNotConfirmed, IsConfirmed}
 use Rattle.bp_confirm.specs.StepRefusals.{IsRefusedHere, IsNotTaken, refusal_of}
 use Rattle.bp_confirm.specs.declared.source_points.SourcePoint.{SourcePoint}
 use Rattle.bp_confirm.specs.SourcePoints.{source_points_of}
@@ -130,7 +130,7 @@ module _ (text : List ℕ) (t : Program) (s : SetupOf) (lines : List StepLineOf)
       record { legal = legal; takes = taken t s [] steps [] h follows; follows = follows }
 
 -- a value that is not seen is one of those that are wanted
-unseen_not : (c : Configuration) (i : ℕ) (vs : Valuation) (n : ℕ) (seen : Option Bool) → IsFirstUnseen c i vs n seen → SeesValues c i vs → ⊥
+pub unseen_not : (c : Configuration) (i : ℕ) (vs : Valuation) (n : ℕ) (seen : Option Bool) → IsFirstUnseen c i vs n seen → SeesValues c i vs → ⊥
 unseen_not c i vs n seen unseen sees = unseen.differs (unseen.is_seen ∙ seen_at vs n unseen.value unseen.at sees)
   where
     seen_at : (ws : Valuation) (m : ℕ) (v : List ℕ × Bool) → slice_get ws m ≡ Some v → SeesValues c i ws → value_seen c.globals (stack_of c i) v.0 ≡ Some v.1
@@ -177,32 +177,32 @@ module _ (text : List ℕ) (t : Program) (s : SetupOf) (h : List Call) (x : Step
   elsewhere other = refused_for Elsewhere other (λ y takes. false≢true (sym other ∙ takes.at))
 
   module _ (at : StandsAtPlace t s h (step_of text x) true) where
-    pub ambiguous : IsAmbiguousOnStack t x.thread later (stack_of (configuration_after t s h) x.thread) → IsRefusedFor Ambiguous
-    ambiguous both = refused_for Ambiguous (record { at = at; ambiguous = both }) tt
+    pub finished : is_finished s h x.thread ≡ true → IsRefusedFor Finished
+    finished over = refused_for Finished (at, over) (λ y takes. false≢true (sym takes.allowed.unfinished ∙ ap (is_finished s h) takes.thread ∙ over))
 
-    module _ (clear : IsClearOnStack x.thread later (stack_of (configuration_after t s h) x.thread)) where
-      there : StandsThere t s h (step_of text x) later
-      there = record { at = at; clear = clear }
+    module _ (a : Call) (thread : a.thread ≡ x.thread) (allowed : IsAllowed t s h a)
+        (bit : a.bit ≡ bit_of_stack x.thread later (stack_of (configuration_after t s h) x.thread)) where
+      pub answered : is_granted a.reply ≡ false → IsRefusedFor (Refused a.reply)
+      answered none =
+          refused_for (Refused a.reply)
+          (at, record { call = a; thread = thread; allowed = allowed; each = same_reply t s h step later a thread bit allowed none; refused = none })
+          (refused_for_all t s h step later a thread bit allowed none)
 
-      pub finished : is_finished s h x.thread ≡ true → IsRefusedFor Finished
-      finished over = refused_for Finished (there, over) (λ y takes. false≢true (sym takes.allowed.unfinished ∙ ap (is_finished s h) takes.thread ∙ over))
+      module _ (granted : is_granted a.reply ≡ true) where
+        bare : IsStepOf t s h (record step { values = [] }) a
+        bare = record { thread = thread; allowed = allowed; granted = granted; at = at; values = tt }
 
-      module _ (a : Call) (thread : a.thread ≡ x.thread) (allowed : IsAllowed t s h a)
-          (bit : a.bit ≡ bit_of_stack x.thread later (stack_of (configuration_after t s h) x.thread)) where
-        pub answered : is_granted a.reply ≡ false → IsRefusedFor (Refused a.reply)
-        answered none =
-            refused_for (Refused a.reply)
-            (there, record { call = a; thread = thread; allowed = allowed; each = same_reply t s h step later a thread bit allowed none; refused = none })
-            (refused_for_all t s h step later a thread bit allowed none)
+        pub others_seen : (d : Difference) → IsDifference t s (h ++ a ∷ []) x.thread x.values d → IsRefusedFor (Differs d)
+        others_seen d differs =
+            refused_for (Differs d) (at, record { call = a; takes = bare; differs = differs })
+            (other_values t s h step a bare (unseen_not (configuration_after t s (h ++ a ∷ [])) x.thread x.values d.place d.seen differs.unseen))
 
-        module _ (granted : is_granted a.reply ≡ true) where
-          bare : IsStepOf t s h (record step { values = [] }) a
-          bare = record { thread = thread; allowed = allowed; granted = granted; at = at; values = tt }
+        module _ (sees : SeesValues (configuration_after t s (h ++ a ∷ [])) x.thread x.values) where
+          pub takes : IsStepOf t s h step a
+          takes = record { thread = thread; allowed = allowed; granted = granted; at = at; values = sees }
 
-          pub others_seen : (d : Difference) → IsDifference t s (h ++ a ∷ []) x.thread x.values d → IsRefusedFor (Differs d)
-          others_seen d differs =
-              refused_for (Differs d) (there, record { call = a; takes = bare; differs = differs })
-              (other_values t s h step a bare (unseen_not (configuration_after t s (h ++ a ∷ [])) x.thread x.values d.place d.seen differs.unseen))
+          pub ambiguous : IsAmbiguousOnStack t x.thread later (stack_of (configuration_after t s h) x.thread) → IsRefusedFor Ambiguous
+          ambiguous both = refused_for Ambiguous (record { call = a; takes = takes; ambiguous = both }) tt
 
 -- a call that is refused to a thread that is there, where the setup has no seed
 pub ask_refused : (t : Program) (s : SetupOf) (h : List Call) (i : ℕ) (bit : Bool) (f : AskFault) → i < threads s

@@ -1,45 +1,31 @@
 -- Reading the text of values gives these values.
-use Rattle.std.proofs.Common.{◌≡◌, ◌==◌, inl, inr, ℕ, Bool, true, false, cond, List, [], ◌∷◌, ◌++◌, refl, sym, ap, ◌∙◌, subst}
+use Rattle.std.proofs.Common.{◌≡◌, ◌==◌, ℕ, Bool, true, false, cond, List, [], ◌∷◌, ◌++◌, refl, sym, ap, ◌∙◌, subst}
 use Rattle.std.proofs.lemmas.Bool.{ne_eqb}
 use Rattle.std.proofs.lemmas.List.{append-nil}
 use Rattle.bp_text.proofs.GrownLists.{regrouped}
 use Rattle.bp_flat.specs.Values.{Valuation}
+use Rattle.bp_source.specs.Lists.{is_braced_after}
 use Rattle.bp_trace.specs.Schedules.{bit_digit}
-use Rattle.bp_trace.specs.Writable.{Without}
 use Rattle.bp_confirm.specs.LineReading.{AreValues}
-use Rattle.bp_confirm.specs.StepTexts.{AreNamed, IsStepName, value_text, values_text}
+use Rattle.bp_confirm.specs.StepTexts.{AreNamed, IsNameRest, IsStepName, value_text, values_text}
 use Rattle.bp_confirm.specs.ValuesIn.{values_from, values_in, SaysValues}
-use Rattle.bp_confirm.specs.ValuesIn.Reading.{First, Plain, Braced, Sign, Bit}
+use Rattle.bp_confirm.specs.ValuesIn.Reading.{Name, Bit}
 use Rattle.bp_confirm.proofs.OneName.{value_then}
 
-plain_read : (front others rest : List ℕ) → Without 61 others → values_from (Plain front) (others ++ 61 ∷ rest) ≡ values_from (Bit (front ++ others)) rest
-plain_read front [] rest none = ap (λ name. values_from (Bit name) rest) (sym (append-nil front))
-plain_read front (c ∷ others) rest none =
-    ap (λ b. cond b (values_from (Bit front) (others ++ 61 ∷ rest)) (values_from (Plain (front ++ c ∷ [])) (others ++ 61 ∷ rest))) (ne_eqb c 61 none.0)
-    ∙ plain_read (front ++ c ∷ []) others rest none.1
+name_rest_read : (front name : List ℕ) (braced : Bool) → IsNameRest name braced → (rest : List ℕ)
+    → values_from (Name front braced) (name ++ 61 ∷ rest) ≡ values_from (Bit (front ++ name)) rest
+name_rest_read front [] true named rest = absurd named
+name_rest_read front [] false named rest = ap (λ name. values_from (Bit name) rest) (sym (append-nil front))
+name_rest_read front (c ∷ name) true named rest =
+    name_rest_read (front ++ c ∷ []) name (is_braced_after true c) named.1 rest ∙ simp regrouped
+name_rest_read front (c ∷ name) false named rest =
+    ap (λ b. cond b (values_from (Bit front) (name ++ 61 ∷ rest))
+    (values_from (Name (front ++ c ∷ []) (is_braced_after false c)) (name ++ 61 ∷ rest))) (ne_eqb c 61 named.0.2)
+    ∙ name_rest_read (front ++ c ∷ []) name (is_braced_after false c) named.1 rest
     ∙ simp regrouped
 
-braced_read : (front inner rest : List ℕ) → Without 125 inner
-    → values_from (Braced front) (inner ++ 125 ∷ 61 ∷ rest) ≡ values_from (Bit (front ++ (inner ++ 125 ∷ []))) rest
-braced_read front [] rest none = refl
-braced_read front (c ∷ inner) rest none =
-    ap (λ b. cond b (values_from (Sign (front ++ c ∷ [])) (inner ++ 125 ∷ 61 ∷ rest))
-    (values_from (Braced (front ++ c ∷ [])) (inner ++ 125 ∷ 61 ∷ rest))) (ne_eqb c 125 none.0)
-    ∙ braced_read (front ++ c ∷ []) inner rest none.1
-    ∙ simp regrouped
-
-name_read : (name : List ℕ) → IsStepName name → (rest : List ℕ) → values_from First (name ++ 61 ∷ rest) ≡ values_from (Bit name) rest
-name_read name (inl p) rest =
-    (simp regrouped at (ap (λ xs. values_from First (xs ++ 61 ∷ rest)) p.is))
-    ∙ braced_read (123 ∷ []) p.inner rest p.closed
-    ∙ ap (λ xs. values_from (Bit xs) rest) (sym p.is)
-name_read name (inr q) rest =
-    let signs : Without 61 (q.first ∷ q.others) = subst (Without 61) q.is q.signs in
-    let others = q.others ++ 61 ∷ rest in
-    ap (λ xs. values_from First (xs ++ 61 ∷ rest)) q.is
-    ∙ ap (λ b. cond b (values_from (Braced (q.first ∷ [])) others) (values_from (Plain (q.first ∷ [])) others)) (ne_eqb q.first 123 q.unbraced)
-    ∙ plain_read (q.first ∷ []) q.others rest signs.1
-    ∙ ap (λ xs. values_from (Bit xs) rest) (sym q.is)
+name_read : (name : List ℕ) → IsStepName name → (rest : List ℕ) → values_from (Name [] false) (name ++ 61 ∷ rest) ≡ values_from (Bit name) rest
+name_read name named rest = name_rest_read [] name false named.is rest
 
 bit_read : (b : Bool) → (bit_digit b == 49) ≡ b
 bit_read true = refl

@@ -7,7 +7,6 @@ use Rattle.bp_flat.specs.Bits.{bits_of}
 use Rattle.bp_flat.specs.Configurations.{Configuration}
 use Rattle.bp_flat.specs.StandsFor.{Place, valuation_of, variables, place, places_of}
 use Rattle.bp_flat.specs.Starts.{start_of_block, starts_of}
-use Rattle.bp_flat.specs.Values.{lookup}
 use Rattle.bp_flat.proofs.ProceduresOfPlaces.{ends, procedure_of}
 use Rattle.bp_machine.specs.declared.tops.Top.{Top}
 use Rattle.bp_machine.specs.Answers.{stack_of}
@@ -16,7 +15,7 @@ use Rattle.bp_confirm.specs.declared.locations.Location.{Location}
 use Rattle.bp_confirm.specs.declared.source_points.SourcePoint.{SourcePoint}
 use Rattle.bp_confirm.specs.Places.{place_of, stands_at}
 use Rattle.bp_confirm.specs.SourcePoints.{is_there, source_points_of}
-use Rattle.bp_confirm.specs.Steps.{local_seen}
+use Rattle.bp_confirm.specs.Steps.{local_seen, own_value}
 use Rattle.bp_confirm.proofs.PointsOfInstructions.{procedure_at, is_there_at}
 use Rattle.bp_confirm.proofs.BitsOfEffects.{start_is_at}
 
@@ -36,10 +35,10 @@ stands_where text t points c i x here are is =
 
 -- the locals of its frame
 pub top_locals : (t : Program) (c : Configuration) (i : ℕ) (x : Top) (p : Procedure) (name : List ℕ) → (is : IsTop t c i x) → p ≡ is.frame.procedure
-    → lookup (valuation_of (variables p) (bits_of x.store.locals)) name ≡ local_seen (stack_of c i) name
+    → own_value p.name.text (valuation_of (variables p) (bits_of x.store.locals)) name ≡ local_seen (stack_of c i) name
 top_locals t c i x p name is same =
-    ap (λ q. lookup (valuation_of (variables q) (bits_of x.store.locals)) name) same
-    ∙ ap (λ m. lookup m name) (sym is.locals)
+    ap (λ q. own_value q.name.text (valuation_of (variables q) (bits_of x.store.locals)) name) same
+    ∙ ap (λ m. own_value is.frame.procedure.name.text m name) (sym is.locals)
     ∙ ap (λ S. local_seen S name) (sym is.stack)
 
 -- what is got is the n-th
@@ -78,7 +77,7 @@ module _ (text : List ℕ) (t : Program) (points : List SourcePoint) (top : Opti
     none_missing none = let e = sym (ap (option_map (λ (q : Bor Procedure). q.now)) none) ∙ is_found in cc
 
     pub locals_found : (p : Bor Procedure) (name : List ℕ) → found ≡ Some p
-        → lookup (valuation_of (variables p.now) (bits_of x.store.locals)) name ≡ local_seen (stack_of c i) name
+        → own_value p.now.name.text (valuation_of (variables p.now) (bits_of x.store.locals)) name ≡ local_seen (stack_of c i) name
     locals_found p name is =
         let e = sym (ap (option_map (λ (q : Bor Procedure). q.now)) is) ∙ is_found in
         let same : p.now ≡ own_top.frame.procedure = cc in

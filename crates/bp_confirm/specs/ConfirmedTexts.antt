@@ -1,17 +1,15 @@
--- What is written of a text of reported steps, and how the text is refused.
-use Rattle.std.specs.Prelude.{◌≡◌, ◌<◌, ◌≤◌, ℕ, List, Option, length}
-use Rattle.bp_text.specs.Writing.{AppendsAll, AppendsPart}
+-- When a text of reported steps is confirmed, and how it is refused.
+use Rattle.std.specs.Prelude.{◌≡◌, ◌<◌, ◌≤◌, ℕ, List, length}
 use Rattle.bp_tree.specs.Ast.{Program}
 use Rattle.bp_machine.specs.declared.calls.Call.{Call}
+use Rattle.bp_machine.specs.Sessions.{Stands}
 use Rattle.bp_machine.specs.Setups.{SetupOf}
 use Rattle.bp_trace.specs.declared.limits.TheConstants.{MAX_SCHEDULE}
-use Rattle.bp_trace.specs.TraceText.{trace_text}
 use Rattle.bp_confirm.specs.declared.confirming.ConfirmFault.{ConfirmFault}
 use Rattle.bp_confirm.specs.declared.confirming.ConfirmFault.TheVariants as fault
 use Rattle.bp_tasks.specs.declared.context_bounds.ContextBound.{ContextBound}
 use Rattle.bp_confirm.specs.declared.faults.StepRefusal.{StepRefusal}
-use Rattle.bp_confirm.specs.declared.histories.ConfirmReport.{ConfirmReport}
-use Rattle.bp_confirm.specs.ConfirmReports.{IsConfirmReport}
+use Rattle.bp_confirm.specs.declared.histories.Confirmed.{Confirmed}
 use Rattle.bp_confirm.specs.ContextBounds.{IsSetupFor}
 use Rattle.bp_confirm.specs.StepLines.{StepLineOf, steps_of}
 use Rattle.bp_confirm.specs.StepTexts.{HasLines, IsBadLine}
@@ -67,27 +65,12 @@ module _ (t : Program) (s : SetupOf) (steps : List ℕ) where
       pub allows : IsSetupFor s lines bound setup
       pub refused : IsStepRefusal text t setup lines r
 
-    -- the trace of the history that takes the steps was written, and it is reported
-    pub record ConfirmsTo (old new : Option (List ℕ)) (r : ConfirmReport) : Type 0 where
-      pub setup : SetupOf
-      pub history : List Call
-      pub confirmed : IsConfirmedText setup history
-      pub written : AppendsAll old new (trace_text setup history)
-      pub report : IsConfirmReport t setup history r
-
-    -- the writer refused a part of the trace
-    pub record IsCutShort (old new : Option (List ℕ)) : Type 0 where
-      pub setup : SetupOf
-      pub history : List Call
-      pub confirmed : IsConfirmedText setup history
-      pub written : AppendsPart old new (trace_text setup history)
+    -- this history takes the steps, in the setup of this session, which stands after it
+    pub record ConfirmsTo (x : Confirmed) : Type 0 where
+      pub confirmed : IsConfirmedText x.session.setup x.history.items
+      pub stands : Stands t x.session x.history.items
 
     -- why the steps are not confirmed: the first that applies
     abbrev pub IsStepsRefusal : ConfirmFault → Type 0
     IsStepsRefusal (fault.Step r) = IsRefusedText r
     IsStepsRefusal f = IsUntold f
-
-    -- and what was written then
-    abbrev pub IsConfirmRefusal : Option (List ℕ) → Option (List ℕ) → ConfirmFault → Type 0
-    IsConfirmRefusal old new fault.Write = IsCutShort old new
-    IsConfirmRefusal old new f = (new ≡ old) × IsStepsRefusal f

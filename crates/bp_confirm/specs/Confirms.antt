@@ -22,7 +22,7 @@ use Rattle.bp_confirm.specs.Places.{stands_at}
 use Rattle.bp_confirm.specs.Stands.{stand_of}
 use Rattle.bp_confirm.specs.Steps.{StepOf, IsStepOf, Takes}
 use Rattle.bp_confirm.specs.StepLines.{StepLineOf, step_of, steps_of}
-use Rattle.bp_confirm.specs.Inferred.{IsAmbiguousOnStack, IsClearOnStack, FollowAfter}
+use Rattle.bp_confirm.specs.Inferred.{IsAmbiguousOnStack, FollowAfter}
 
 -- the legal history takes the steps, one call for each, with the bits that are inferred
 pub record IsConfirmed (t : Program) (s : SetupOf) (steps : List StepOf) (h : List Call)
@@ -45,14 +45,10 @@ module _ (t : Program) (s : SetupOf) (h : List Call) (x : StepOf) where
   abbrev pub StandsAtPlace : Bool → Type 0
   StandsAtPlace b = stands_at x.place (stack_of (configuration_after t s h) x.thread) ≡ b
 
-  -- its thread stands at its place, and these later steps tell which way it goes
-  pub record StandsThere (later : List StepOf) : Type 0 where
-    pub at : StandsAtPlace true
-    pub clear : IsClearOnStack x.thread later (stack_of (configuration_after t s h) x.thread)
-
-  -- its thread stands at its place, and these later steps do not tell which way it goes
+  -- a call takes it, but these later steps do not tell which way its thread goes
   pub record IsUnclear (later : List StepOf) : Type 0 where
-    pub at : StandsAtPlace true
+    pub call : Call
+    pub takes : IsStepOf t s h x call
     pub ambiguous :
         IsAmbiguousOnStack t x.thread later (stack_of (configuration_after t s h) x.thread)
 
@@ -73,10 +69,10 @@ module _ (t : Program) (s : SetupOf) (h : List Call) (x : StepOf) where
   -- Why it is refused, before these later steps: the first of these.
   abbrev pub IsReason : List StepOf → StepReason → Type 0
   IsReason later Elsewhere = StandsAtPlace false
+  IsReason later Finished = StandsAtPlace true × (is_finished s h x.thread ≡ true)
+  IsReason later (Refused r) = StandsAtPlace true × IsAnswered r
+  IsReason later (Differs d) = StandsAtPlace true × SeesOther d
   IsReason later Ambiguous = IsUnclear later
-  IsReason later Finished = StandsThere later × (is_finished s h x.thread ≡ true)
-  IsReason later (Refused r) = StandsThere later × IsAnswered r
-  IsReason later (Differs d) = StandsThere later × SeesOther d
 
 -- the reason says that nothing takes a step; an ambiguous one asks for a column
 abbrev pub ForStuck : StepReason → Type 0 → Type 0

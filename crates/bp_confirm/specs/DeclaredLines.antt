@@ -1,20 +1,11 @@
 -- Lines of threads and variables that are declared, and the first of another one.
-use Rattle.std.specs.Prelude.{◌≡◌, ◌<◌, ◌≤◌, ℕ, ◌+◌, ◌||◌, Bool, true, false, List, ◌∷◌, ◌++◌, length, is_some}
-use Rattle.std.specs.List.{AllByRecursion, list_any}
-use Rattle.bp_tree.specs.Ast.{Procedure, Program}
-use Rattle.bp_language.specs.Tables.{first_index}
-use Rattle.bp_flat.specs.StandsFor.{variables}
+use Rattle.std.specs.Prelude.{◌≡◌, ◌<◌, ◌≤◌, ℕ, ◌+◌, Bool, true, false, List, ◌∷◌, ◌++◌, length}
+use Rattle.std.specs.List.{AllByRecursion}
+use Rattle.bp_tree.specs.Ast.{Program}
 use Rattle.bp_flat.specs.Values.{Valuation}
+use Rattle.bp_source.specs.VariableNames.{declares}
 use Rattle.bp_machine.specs.Setups.{SetupOf, threads}
 use Rattle.bp_confirm.specs.StepLines.{StepLineOf}
-
--- a formal or local of one of these procedures has this name
-abbrev pub has_local : List Procedure → List ℕ → Bool
-has_local ps x = list_any (λ p. is_some (first_index (variables p) x)) ps
-
--- a variable of the program has this name
-abbrev pub declares : Program → List ℕ → Bool
-declares t x = is_some (first_index t.globals x) || has_local t.procedures x
 
 abbrev pub AreDeclared : Program → Valuation → Type 0
 AreDeclared t vs = AllByRecursion (λ v. declares t v.0 ≡ true) vs

@@ -1,4 +1,5 @@
 pub mod Inferred
+pub mod InferredBits
 pub mod Places
 pub mod SourcePoints
 pub mod Stands
@@ -16,7 +17,6 @@ pub mod LineReading
 pub mod ValuesIn
 pub mod DeclaredLines
 pub mod StrayLines
-pub mod ConfirmReports
 pub mod ConfirmedTexts
 pub mod ContextBounds
 pub mod Reading

@@ -48,10 +48,6 @@ pub record IsLocationAt (text : List ℕ) (x : Location) (rest : List ℕ) : Typ
 abbrev pub HasNoLocation : List ℕ → Type 0
 HasNoLocation text = (x : Location) (rest : List ℕ) → IsLocationAt text x rest → ⊥
 
--- this byte begins the text
-abbrev pub BeginsWith : ℕ → List ℕ → Type 0
-BeginsWith byte text = (rest : List ℕ) × (text ≡ byte ∷ rest)
-
 -- a name begins the text, with an equals sign after it
 pub record IsNameAt (text name rest : List ℕ) : Type 0 where
   pub name_is : IsStepName name

@@ -1,5 +1,5 @@
 -- A value on a line of a text of steps.
-use Rattle.std.specs.Prelude.{◌≡◌, ℕ, ◌-◌, Bool, List, Option, None, Some, slice_get}
+use Rattle.std.specs.Prelude.{◌≡◌, ℕ, zero, suc, ◌-◌, Bool, List, Option, None, Some, slice_get}
 use Rattle.bp_trace.specs.Writable.{Without}
 use Rattle.bp_confirm.specs.LineReading.{AreValues, IsStepLine}
 use Rattle.bp_confirm.specs.StepLines.{StepLineOf}
@@ -10,9 +10,10 @@ abbrev pub value_in : Option StepLineOf → (k : ℕ) → Option (List ℕ × Bo
 value_in None k = None
 value_in (Some x) k = slice_get x.values k
 
--- the value of number k, from 0, of line n, from 1
+-- the value of number k, from 0, of line n, from 1; there is no line 0
 abbrev pub value_on_line : List StepLineOf → (n k : ℕ) → Option (List ℕ × Bool)
-value_on_line lines n k = value_in (slice_get lines (n - 1)) k
+value_on_line lines zero k = None
+value_on_line lines (suc n) k = value_in (slice_get lines n) k
 
 -- this is that value of a text of steps, if the text has lines
 abbrev pub IsValueOnLine : (text : List ℕ) → (n k : ℕ) → Option (List ℕ × Bool) → Type 0

@@ -1,9 +1,9 @@
 -- The text of reported steps: a line for each, T PLACE and then any number of NAME=BIT.
-use Rattle.std.specs.Prelude.{◌≡◌, ◌≢◌, ◌⊎◌, ◌<◌, ◌^◌, ℕ, ◌+◌, Bool, List, [], ◌∷◌, ◌++◌, length, flat_map, codes, decimal}
+use Rattle.std.specs.Prelude.{◌≡◌, ◌≢◌, ◌<◌, ◌^◌, ℕ, ◌+◌, Bool, true, false, List, [], ◌∷◌, ◌++◌, length, flat_map, codes, decimal}
 use Rattle.std.specs.List.{AllByRecursion}
 use Rattle.bp_flat.specs.Values.{Valuation}
 use Rattle.bp_trace.specs.Schedules.{bit_digit}
-use Rattle.bp_trace.specs.Writable.{Without}
+use Rattle.bp_source.specs.Lists.{is_braced_after}
 use Rattle.bp_confirm.specs.declared.locations.Location.{Location}
 use Rattle.bp_confirm.specs.declared.locations.Location.TheVariants.{End, Line, Column}
 use Rattle.bp_confirm.specs.StepLines.{StepLineOf}
@@ -35,25 +35,21 @@ IsShortLocation End = Unit {0}
 IsShortLocation (Line n) = IsShort n
 IsShortLocation (Column n m) = IsShort n × IsShort m
 
--- a braced name ends at its first }
-pub record IsBraced (name : List ℕ) : Type 0 where
-  pub inner : List ℕ
-  pub is : name ≡ 123 ∷ (inner ++ 125 ∷ [])
-  pub closed : Without 125 inner
-  pub line : Without 10 inner
+-- a name continues with this byte, inside braces or outside
+abbrev pub Continues : (braced : Bool) → ℕ → Type 0
+Continues true b = b ≢ 10
+Continues false b = (b ≢ 10) × (b ≢ 32) × (b ≢ 61)
 
--- another name has no space, = or line feed, and does not begin with {
-pub record IsPlain (name : List ℕ) : Type 0 where
-  pub first : ℕ
-  pub others : List ℕ
-  pub is : name ≡ first ∷ others
-  pub unbraced : first ≢ 123
-  pub spaces : Without 32 name
-  pub signs : Without 61 name
-  pub line : Without 10 name
+-- and with these bytes, after which its braces are closed
+abbrev pub IsNameRest : List ℕ → (braced : Bool) → Type 0
+IsNameRest [] true = ⊥
+IsNameRest [] false = Unit {0}
+IsNameRest (b ∷ bs) braced = Continues braced b × IsNameRest bs (is_braced_after braced b)
 
-abbrev pub IsStepName : List ℕ → Type 0
-IsStepName name = IsBraced name ⊎ IsPlain name
+-- a name has no line feed, and outside braces neither a space nor =
+pub record IsStepName (name : List ℕ) : Type 0 where
+  pub some : name ≢ []
+  pub is : IsNameRest name false
 
 abbrev pub AreNamed : Valuation → Type 0
 AreNamed vs = AllByRecursion (λ v. IsStepName v.0) vs

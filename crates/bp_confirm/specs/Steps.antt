@@ -1,9 +1,10 @@
 -- Reported steps, and the histories that take them.
-use Rattle.std.specs.Prelude.{if◌then◌else◌, slice_get, take, ◌≢◌, ◌≡◌, ◌==◌, ℕ, Bool, true, List, [], ◌∷◌, ◌++◌, Option, None, Some}
+use Rattle.std.specs.Prelude.{if◌then◌else◌, slice_get, take, ◌≢◌, ◌≡◌, ◌==◌, ℕ, Bool, true, List, [], ◌∷◌, ◌++◌, Option, None, Some, map}
 use Rattle.std.specs.Option.{option_or}
 use Rattle.bp_tree.specs.Ast.{Program}
 use Rattle.bp_flat.specs.Configurations.{Frame, Configuration}
 use Rattle.bp_flat.specs.Values.{Valuation, lookup}
+use Rattle.bp_source.specs.VariableNames.{qualified}
 use Rattle.bp_machine.specs.declared.calls.Call.{Call}
 use Rattle.bp_machine.specs.Answers.{stack_of}
 use Rattle.bp_machine.specs.Histories.{configuration_after, IsAllowed}
@@ -18,10 +19,18 @@ pub record StepOf : Type 0 where
   pub place : Place
   pub values : Valuation
 
--- the value of a local as the topmost frame of a stack sees it, where it has one of this name
+-- these variables, each by its name after that of a procedure and a dot
+abbrev pub qualified_values : (procedure : List ℕ) → Valuation → Valuation
+qualified_values p vs = map (λ v. (qualified p v.0, v.1)) vs
+
+-- the value of a local of a procedure by its name, or by that after the procedure's and a dot
+abbrev pub own_value : (procedure : List ℕ) → Valuation → List ℕ → Option Bool
+own_value p locals x = option_or (lookup locals x) (lookup (qualified_values p locals) x)
+
+-- the value of a local as the topmost frame of a stack sees it, if it has one of this name
 abbrev pub local_seen : List Frame → List ℕ → Option Bool
 local_seen [] x = None
-local_seen (f ∷ fs) x = lookup f.locals x
+local_seen (f ∷ fs) x = own_value f.procedure.name.text f.locals x
 
 -- the value of a variable: a local hides a global of its name; none if there is neither
 abbrev pub value_seen : Valuation → List Frame → List ℕ → Option Bool

@@ -1,30 +1,22 @@
 -- The values that a part of a line says, as its bytes are read one after the other.
-use Rattle.std.specs.Prelude.{if◌then◌else◌, ◌≡◌, ◌≢◌, ℕ, ◌==◌, List, [], ◌∷◌, ◌++◌, Some, option_map, slice_get}
+use Rattle.std.specs.Prelude.{if◌then◌else◌, ◌≡◌, ◌≢◌, ◌&&◌, ℕ, ◌==◌, Bool, false, not, List, [], ◌∷◌, ◌++◌, Some, option_map, slice_get}
+use Rattle.bp_source.specs.Lists.{is_braced_after}
 use Rattle.bp_flat.specs.Values.{Valuation}
 use Rattle.bp_confirm.specs.LineReading.{AreValues}
 use Rattle.bp_confirm.specs.StepTexts.{AreNamed, values_text}
 
--- what the next byte is: a space, the first of a name, one more of a name without or with braces,
--- the equals sign after a name, or its bit
+-- what the next byte is: a space, one more of a name or the equals sign after it, or its bit
 pub data Reading : Type 0 where
   Space : Reading
-  First : Reading
-  Plain : (front : List ℕ) → Reading
-  Braced : (front : List ℕ) → Reading
-  Sign : (name : List ℕ) → Reading
+  Name : (front : List ℕ) → (braced : Bool) → Reading
   Bit : (name : List ℕ) → Reading
 
 abbrev pub values_from : Reading → List ℕ → Valuation
 values_from reading [] = []
-values_from Space (c ∷ cs) = values_from First cs
-values_from First (c ∷ cs) =
-    if c == 123 then values_from (Braced (c ∷ [])) cs else values_from (Plain (c ∷ [])) cs
-values_from (Plain front) (c ∷ cs) =
-    if c == 61 then values_from (Bit front) cs else values_from (Plain (front ++ c ∷ [])) cs
-values_from (Braced front) (c ∷ cs) =
-    let more = front ++ c ∷ [] in
-    if c == 125 then values_from (Sign more) cs else values_from (Braced more) cs
-values_from (Sign name) (c ∷ cs) = values_from (Bit name) cs
+values_from Space (c ∷ cs) = values_from (Name [] false) cs
+values_from (Name front braced) (c ∷ cs) =
+    if not braced && c == 61 then values_from (Bit front) cs
+    else values_from (Name (front ++ c ∷ []) (is_braced_after braced c)) cs
 values_from (Bit name) (c ∷ cs) = (name, c == 49) ∷ values_from Space cs
 
 -- the values that the text says, if it says values

@@ -1,15 +1,24 @@
 //! The choice bits that reported steps leave out.
-ghost use Rattle.std.specs.Prelude.{◌≡◌, ℕ, Bool, List, Option, IfSome, MatchOption, option_map};
+ghost use Rattle.std.specs.Prelude.{◌≡◌, ℕ, Bool, List, Option, IfSome, option_map};
 ghost use Rattle.bp_tree.specs.Ast.{Block, Procedure, Program};
 ghost use Rattle.bp_flat.specs.StandsFor.{Does, places_of};
 ghost use Rattle.bp_confirm.specs.EffectBits.{bit_of_effects, has_test, splits};
-ghost use Rattle.bp_confirm.specs.Inferred.{bit_of_block, IsAmbiguous, IsClear};
+ghost use Rattle.bp_confirm.specs.Inferred.{bit_of_block, IsClear};
+ghost use Rattle.bp_confirm.specs.InferredBits.{IsInferred};
 ghost use Rattle.bp_confirm.specs.Places.{place_of, Place};
 ghost use Rattle.bp_confirm.specs.SourcePoints.{is_there, source_points_of};
 
 use crate::locations::Location;
 use crate::source_points::{SourcePoint, is_there};
 use bp_flat::{Effect, Instr, Kind, Store};
+
+/// What later steps tell of the choice bit of a step.
+#[derive(Clone, Copy)]
+pub(crate) struct Inferred {
+    pub(crate) bit: bool,
+    /// Whether they tell which way a `?` went.
+    pub(crate) is_clear: bool,
+}
 
 /// The inferred bit of an instruction that has these effects with the bits 0 and 1.
 fn bit_of_effects(
@@ -75,27 +84,24 @@ pub(crate) fn plain_bit(instr: &Instr) -> Option<bool>
     Some(false)
 }
 
-/// The inferred bit of an instruction, where the next step of its thread is at this location and
-/// steps follow or not; none where the location does not tell which way a `?` went.
+/// The inferred bit of an instruction, if the next step of its thread is at this location and steps
+/// follow or not; and whether the location tells which way a `?` went.
 pub(crate) fn inferred_bit(
     instr: &Instr,
     store: Store,
     points: &[SourcePoint],
     next: Option<Location>,
     follow: bool,
-) -> Option<bool>
+) -> Inferred
     ensures { (text : List ℕ) (t : Program) (p : Procedure) (left : Block)
         → Does t (places_of t.procedures) p left instr.now
         → points.now ≡ source_points_of text t
-        → let place = option_map (place_of text) next in
-        MatchOption result
-        (IsAmbiguous t left place)
-        (λ bit. (bit ≡ bit_of_block left place follow) × IsClear left place) }
+        → IsInferred t left (option_map (place_of text) next) follow result }
 {
     let zero = instr.effect(store, false);
     let one = instr.effect(store, true);
-    if splits(points, next, zero, one) {
-        return None;
+    Inferred {
+        bit: bit_of_effects(points, next, follow, zero, one),
+        is_clear: !splits(points, next, zero, one),
     }
-    Some(bit_of_effects(points, next, follow, zero, one))
 }

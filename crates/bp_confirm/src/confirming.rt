@@ -2,14 +2,13 @@
 ghost use Rattle.std.specs.Prelude.{◌≡◌, ◌<◌, ◌^◌, None, length, IfOk, MatchResult};
 ghost use Rattle.bp_flat.specs.StandsFor.{StandsFor};
 ghost use Rattle.bp_machine.specs.Setups.{FitsCode};
-ghost use Rattle.bp_confirm.specs.ConfirmedTexts.{AreTold, ConfirmsTo, IsConfirmRefusal, IsUntold};
+ghost use Rattle.bp_confirm.specs.ConfirmedTexts.{AreTold, ConfirmsTo, IsStepsRefusal, IsUntold};
 ghost use Rattle.bp_confirm.specs.StrayLines.{fault_of_stray};
 
-use crate::confirmed_traces::write_confirmed;
 use crate::context_bounds::setup_for;
 use crate::declared::{Stray, check_lines};
 use crate::faults::{StepFault, StepRefusal};
-use crate::histories::{ConfirmReport, confirm_lines};
+use crate::histories::{Confirmed, confirm_lines};
 use crate::kept_lines::StepLines;
 use crate::reading_lines::read_lines;
 use crate::step_texts::StepsFault;
@@ -19,7 +18,6 @@ use bp_machine::Setup;
 use bp_tasks::ContextBound;
 use bp_trace::limits::MAX_SCHEDULE;
 use std::alloc::Global;
-use std::io::Write;
 use thiserror::Error;
 
 /// Why a text of steps is not confirmed: the first of these that applies. Lines are counted from 1.
@@ -48,9 +46,6 @@ pub enum ConfirmFault {
     /// There was not enough memory.
     #[error("out of memory")]
     Memory,
-    /// The trace could not be written whole.
-    #[error("the output could not be written")]
-    Write,
 }
 
 /// The fault of the first line that names what is not declared.
@@ -92,10 +87,9 @@ fn told_lines<'a>(
     Ok(lines)
 }
 
-/// Confirms a text of reported steps of the program of a text, and writes the trace of the history
-/// that takes them, one call for each step. At a refusal nothing is written, but for a writer that
-/// refuses: it then has a proper prefix of the trace.
-pub fn confirm<W: Write>(
+/// Confirms a text of reported steps of the program of a text: the history that takes them, one
+/// call for each step, in the setup of its trace.
+pub fn confirm(
     alloc: Global,
     text: &[u8],
     checked: &Checked,
@@ -103,28 +97,14 @@ pub fn confirm<W: Write>(
     setup: &Setup,
     bound: ContextBound,
     steps: &[u8],
-    out: &mut W,
-) -> Result<ConfirmReport, ConfirmFault>
+) -> Result<Confirmed, ConfirmFault>
     requires code { StandsFor code.now checked.now }
     requires fits { FitsCode code.now setup.now }
     requires unseeded { setup.now.seed ≡ None }
-    ensures { MatchResult result
-        (ConfirmsTo
-        checked.now
-        setup.now
-        steps.now
-        text.now
-        bound
-        (W.contents out.old)
-        (W.contents out.new))
-        (IsConfirmRefusal
-        checked.now
-        setup.now
-        steps.now
-        text.now
-        bound
-        (W.contents out.old)
-        (W.contents out.new)) }
+    ensures answer { MatchResult result
+        (ConfirmsTo checked.now setup.now steps.now text.now bound)
+        (IsStepsRefusal checked.now setup.now steps.now text.now bound) }
+    ensures code { IfOk result (λ x. x.session.code ≡ code.now) }
 {
     let lines = told_lines(alloc, checked, setup, steps)?;
     let setup = match setup_for(alloc, code, setup, bound, &lines) {
@@ -132,14 +112,9 @@ pub fn confirm<W: Write>(
         // It fits, since the given one does.
         Err(_) => return Err(ConfirmFault::Memory),
     };
-    let confirmed = match confirm_lines(alloc, text, checked, code, &setup, &lines) {
-        Ok(confirmed) => confirmed,
-        Err(StepFault::Refusal(refusal)) => return Err(ConfirmFault::Step(refusal)),
-        Err(StepFault::Memory) => return Err(ConfirmFault::Memory),
-    };
-    let left_open = confirmed.report.report.left_open;
-    match write_confirmed(&setup, confirmed.history.as_slice(), left_open, out) {
-        Ok(()) => Ok(confirmed.report),
-        Err(_) => Err(ConfirmFault::Write),
+    match confirm_lines(alloc, text, checked, code, &setup, &lines) {
+        Ok(confirmed) => Ok(confirmed),
+        Err(StepFault::Refusal(refusal)) => Err(ConfirmFault::Step(refusal)),
+        Err(StepFault::Memory) => Err(ConfirmFault::Memory),
     }
 }

@@ -1,7 +1,7 @@
 //! The first line of a thread or a variable that is not declared.
-ghost use Rattle.std.specs.Prelude.{◌≡◌, ◌<◌, ◌^◌, length, IsTrue, MatchOption, MatchResult};
+ghost use Rattle.std.specs.Prelude.{◌<◌, ◌^◌, length, IsTrue, MatchOption, MatchResult};
 ghost use Rattle.bp_machine.specs.Setups.{threads};
-ghost use Rattle.bp_confirm.specs.DeclaredLines.{declares, has_local, AreDeclared, AreDeclaredLines, IsFirstUndeclared};
+ghost use Rattle.bp_confirm.specs.DeclaredLines.{AreDeclared, AreDeclaredLines, IsFirstUndeclared};
 ghost use Rattle.bp_confirm.specs.KeptLines.{kept_lines};
 ghost use Rattle.bp_confirm.specs.StrayLines.{IsStray};
 ghost use Rattle.bp_confirm.specs.ValuesIn.{values_in, SaysValues};
@@ -9,9 +9,8 @@ ghost use Rattle.bp_confirm.specs.ValuesIn.{values_in, SaysValues};
 use crate::fields::value_at;
 use crate::kept_lines::{KeptLine, StepLines};
 use bp_check::Checked;
-use bp_flat::{local_slot_of, slot_of};
 use bp_machine::Setup;
-use bp_tree::Proc;
+use bp_source::declares;
 
 /// What a line names that is not declared.
 #[derive(Clone, Copy)]
@@ -19,21 +18,6 @@ pub(crate) enum Stray {
     Thread(u32),
     /// The value of this place on the line, from 0.
     Variable(usize),
-}
-
-/// Whether a procedure has a variable of this name.
-fn is_local(procs: &[Proc], name: &[u8]) -> bool
-    ensures { result ≡ has_local procs.now name.now }
-{
-    procs.iter().any(|proc| local_slot_of(proc, name).is_some())
-}
-
-/// Whether a variable of the program has this name.
-fn declares(checked: &Checked, name: &[u8]) -> bool
-    ensures { result ≡ declares checked.now name.now }
-{
-    let tree = checked.tree();
-    slot_of(tree.globals(), name).is_some() || is_local(tree.procs(), name)
 }
 
 /// The first of the values that a text says, from 0, that is of no variable.

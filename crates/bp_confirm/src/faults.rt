@@ -22,14 +22,15 @@ pub struct Difference {
 pub enum StepReason {
     /// Its thread does not stand at its location.
     Elsewhere,
-    /// Its thread stands at a `?`, and both ways are at the location of the thread's next step.
-    Ambiguous,
     /// Its thread makes no further call: its assertion failed, or its calls are used up.
     Finished,
     /// The machine does not grant it, and gives this reply.
     Refused(Reply),
     /// Its thread does not see one of its values after it.
     Differs(Difference),
+    /// It is taken, but its thread stands at a `?`, and both ways are at the location of the
+    /// thread's next step.
+    Ambiguous,
 }
 
 /// The first step that is not taken.

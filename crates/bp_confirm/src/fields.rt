@@ -1,12 +1,13 @@
 //! The fields of a line of reported steps.
-ghost use Rattle.std.specs.Prelude.{◌≡◌, ◌≢◌, Bool, ◌∷◌, List, ℕ, MatchOption};
+ghost use Rattle.std.specs.Prelude.{◌≡◌, ◌≢◌, ◌==◌, ◌&&◌, ◌||◌, ◌<◌, ◌+◌, Bool, not, ◌∷◌, List, ℕ, MatchOption, drop, take};
 ghost use Rattle.bp_trace.specs.Schedules.{bit_digit};
 ghost use Rattle.bp_trace.specs.Writable.{Without};
-ghost use Rattle.bp_confirm.specs.LineReading.{BeginsWith, HasNoLocation, HasNoName, HasNoNumber, HasNoValue, IsCut, IsField, IsLocationAt, IsNameAt, IsNumberAt, IsValueAt};
+ghost use Rattle.bp_confirm.specs.LineReading.{HasNoLocation, HasNoName, HasNoNumber, HasNoValue, IsCut, IsField, IsLocationAt, IsNameAt, IsNumberAt, IsValueAt};
 ghost use Rattle.bp_confirm.specs.StepLines.{value_of};
 
 use crate::locations::Location;
 use crate::step_lines::SeenValue;
+use bp_source::is_braced_after;
 use bp_text::{part_before, part_from};
 
 /// The text before the first of a byte, and what is after it.
@@ -103,41 +104,26 @@ pub(crate) fn location_at(text: &[u8]) -> Option<(Location, &[u8])>
     }
 }
 
-/// The name in braces that begins a text, and what is after the equals sign after it.
-fn braced_name_at(text: &[u8]) -> Option<(&[u8], &[u8])>
-    requires line { Without 10 text.now }
-    requires braced { BeginsWith 123 text.now }
-    ensures { MatchOption result
-        (HasNoName text.now)
-        (λ p. IsNameAt text.now p.0.now p.1.now) }
+/// Whether a byte ends a name, or cannot be in it: a space or an equals sign outside braces.
+fn ends_name(braced: bool, byte: u8) -> bool
+    ensures { result ≡ (not braced && (byte == 61 || byte == 32)) }
 {
-    let Some((inner, rest)) = cut_at(text, b'}') else {
-        return None;
-    };
-    let Some(rest) = after(rest, b'=') else {
-        return None;
-    };
-    Some((part_before(text, inner.len() + 1), rest))
+    !braced && (byte == b'=' || byte == b' ')
 }
 
-/// The name without braces that begins a text, and what is after the equals sign after it.
-fn plain_name_at(text: &[u8]) -> Option<(&[u8], &[u8])>
-    requires line { Without 10 text.now }
-    requires unbraced { BeginsWith 123 text.now → ⊥ }
+/// The name before this byte of a text, if there is one, and what is after the byte.
+fn name_before(text: &[u8], end: usize) -> Option<(&[u8], &[u8])>
     ensures { MatchOption result
-        (HasNoName text.now)
-        (λ p. IsNameAt text.now p.0.now p.1.now) }
+        (end ≡ 0)
+        (λ p. (0 < end) × (p.0.now ≡ take end text.now) × (p.1.now ≡ drop (end + 1) text.now)) }
 {
-    let Some((name, rest)) = cut_at(text, b'=') else {
-        return None;
-    };
-    if name.is_empty() {
+    if end == 0 {
         return None;
     }
-    match cut_at(name, b' ') {
-        Some(_) => None,
-        None => Some((name, rest)),
-    }
+    Some((
+        part_before(text, end),
+        part_from(text, end.saturating_add(1)),
+    ))
 }
 
 /// The name that begins a text, and what is after the equals sign after it.
@@ -147,10 +133,17 @@ pub(crate) fn name_at(text: &[u8]) -> Option<(&[u8], &[u8])>
         (HasNoName text.now)
         (λ p. IsNameAt text.now p.0.now p.1.now) }
 {
-    if text.first() == Some(&b'{') {
-        return braced_name_at(text);
+    let mut braced = false;
+    for (i, byte) in text.iter().enumerate() {
+        if ends_name(braced, *byte) {
+            if *byte != b'=' {
+                return None;
+            }
+            return name_before(text, i);
+        }
+        braced = is_braced_after(braced, *byte);
     }
-    plain_name_at(text)
+    None
 }
 
 /// The bit of the digit that begins a text, and what is after it.

@@ -13,7 +13,8 @@ ghost use Rattle.bp_trace.specs.Replays.{IsPlayable};
 ghost use Rattle.bp_confirm.specs.declared.faults.StepFault.{StepFault};
 ghost use Rattle.bp_confirm.specs.Changes.{IsDifference};
 ghost use Rattle.bp_confirm.specs.Confirms.{AreOfThreads, GoesOnAt, IsConfirmed, IsNotConfirmed};
-ghost use Rattle.bp_confirm.specs.Inferred.{bit_of_stack, IsAmbiguousOnStack, IsClearOnStack, Follows};
+ghost use Rattle.bp_confirm.specs.Inferred.{Follows};
+ghost use Rattle.bp_confirm.specs.InferredBits.{IsInferredOn};
 ghost use Rattle.bp_confirm.specs.Places.{place_of, stands_at};
 ghost use Rattle.bp_confirm.specs.SourcePoints.{source_points_of};
 ghost use Rattle.bp_confirm.specs.StepLines.{location_in, next_locations, step_of, steps_of};
@@ -21,7 +22,7 @@ ghost use Rattle.bp_confirm.specs.StepRefusals.{refusal_of, IsNotCalled, IsNotTa
 ghost use Rattle.bp_confirm.specs.Steps.{StepOf, SeesValues};
 
 use crate::changes::{sight_after, sight_of};
-use crate::choices::{inferred_bit, plain_bit};
+use crate::choices::{Inferred, inferred_bit, plain_bit};
 use crate::faults::{Difference, StepFault, StepReason, StepRefusal};
 use crate::kept_lines::StepLines;
 use crate::locations::Location;
@@ -81,32 +82,30 @@ fn top_at(
     Ok(top)
 }
 
-/// The inferred bit of the next step of a thread with this top; none where the later steps do not
-/// tell which way a `?` went.
+/// The inferred bit of the next step of a thread with this top, and whether the later steps tell
+/// which way a `?` went.
 fn bit_at(
     session: &Session,
     points: &[SourcePoint],
     top: Top,
     lines: &StepLines,
     next: Next,
-) -> Option<bool>
+) -> Inferred
     ensures { (text : List ℕ) (t : Program) (h : List Answered) (x : StepOf) (later : List StepOf)
         → StandsFor session.now.code t
         → points.now ≡ source_points_of text t
         → TellsNext text x later lines.now next
         → let now = configuration_after t session.now.setup h in
         IsTop t now x.thread top
-        → MatchOption result
-        (IsAmbiguousOnStack t x.thread later (stack_of now x.thread))
-        (λ bit.
-        (bit ≡ bit_of_stack x.thread later (stack_of now x.thread))
-        × IsClearOnStack x.thread later (stack_of now x.thread)) }
+        → IsInferredOn t x.thread later (stack_of now x.thread) result }
 {
+    let is_clear = true;
     let Some(instr) = session.code().get(top.number) else {
-        return None;
+        let bit = false;
+        return Inferred { bit, is_clear };
     };
     if let Some(bit) = plain_bit(instr) {
-        return Some(bit);
+        return Inferred { bit, is_clear };
     }
     inferred_bit(
         instr,
@@ -234,10 +233,8 @@ fn take_step(
         Err(number) => return Err(refusal_of(points, line, n, number, StepReason::Elsewhere)),
     };
     let number = Some(top.number);
-    let Some(bit) = bit_at(session, points, top, lines, next) else {
-        return Err(refusal_of(points, line, n, number, StepReason::Ambiguous));
-    };
-    let call = match call_of(session, line.thread, bit) {
+    let inferred = bit_at(session, points, top, lines, next);
+    let call = match call_of(session, line.thread, inferred.bit) {
         Ok(call) => call,
         Err(NotCalled::Finished) => return Err(refusal_of(
             points,
@@ -251,11 +248,14 @@ fn take_step(
     if !is_granted(call.reply) {
         return Err(refusal_of(points, line, n, number, StepReason::Refused(call.reply)));
     }
-    match first_difference(alloc, checked, points, session, history, line) {
-        Ok(None) => Ok(call),
-        Ok(Some(found)) => Err(refusal_of(points, line, n, number, StepReason::Differs(found))),
-        Err(_) => Err(StepFault::Memory),
+    let difference = first_difference(alloc, checked, points, session, history, line)?;
+    if let Some(found) = difference {
+        return Err(refusal_of(points, line, n, number, StepReason::Differs(found)));
     }
+    if !inferred.is_clear {
+        return Err(refusal_of(points, line, n, number, StepReason::Ambiguous));
+    }
+    Ok(call)
 }
 
 /// Adds a call to a history.

@@ -1,8 +1,8 @@
 //! The history that takes the steps of lines.
-ghost use Rattle.std.specs.Prelude.{◌≡◌, ◌<◌, ◌^◌, None, length, MatchResult};
+ghost use Rattle.std.specs.Prelude.{◌≡◌, ◌<◌, ◌^◌, None, length, IfOk, MatchResult};
 ghost use Rattle.bp_flat.specs.StandsFor.{StandsFor};
+ghost use Rattle.bp_machine.specs.Sessions.{Stands};
 ghost use Rattle.bp_machine.specs.Setups.{FitsCode};
-ghost use Rattle.bp_confirm.specs.ConfirmReports.{IsConfirmReport};
 ghost use Rattle.bp_confirm.specs.Confirms.{AreOfThreads, IsConfirmed, IsNotConfirmed};
 ghost use Rattle.bp_confirm.specs.StepLines.{steps_of};
 
@@ -13,23 +13,15 @@ use crate::next_steps::next_steps;
 use crate::source_points::source_points_of;
 use bp_check::Checked;
 use bp_flat::Code;
-use bp_machine::{Call, Report, Session, Setup};
+use bp_machine::{Call, Session, Setup};
 use std::alloc::Global;
 
-/// How the history ends that takes reported steps.
-#[derive(Clone, Copy)]
-pub struct ConfirmReport {
-    pub report: Report,
-    /// Whether its threads are deadlocked: some did not end, and each of those waits.
-    pub is_deadlocked: bool,
-}
-
-/// The history that takes reported steps, and how it ends.
+/// The history that takes reported steps, a call for each.
 #[derive(Drop)]
-pub(crate) struct Confirmed {
-    /// A call for each step.
-    pub(crate) history: Vec<Call>,
-    pub(crate) report: ConfirmReport,
+pub struct Confirmed {
+    pub history: Vec<Call>,
+    /// The session after the last call. Its setup is that of the trace.
+    pub session: Session,
 }
 
 /// Confirms the steps of these lines in the program of a text: the history that takes them, one
@@ -48,10 +40,12 @@ pub(crate) fn confirm_lines(
     requires threads { AreOfThreads setup.now lines.now }
     requires unseeded { setup.now.seed ≡ None }
     requires short { length lines.now < 2 ^ 32 }
-    ensures { MatchResult result
-        (λ f. IsConfirmed checked.now setup.now (steps_of text.now lines.now) f.history.items
-        × IsConfirmReport checked.now setup.now f.history.items f.report)
+    ensures answer { MatchResult result
+        (λ f. IsConfirmed checked.now setup.now (steps_of text.now lines.now) f.history.items)
         (IsNotConfirmed text.now checked.now setup.now lines.now) }
+    ensures stands { IfOk result (λ f. Stands checked.now f.session f.history.items) }
+    ensures kept { IfOk result
+        (λ f. (f.session.code ≡ code.now) × (f.session.setup ≡ setup.now)) }
 {
     setup.is_in_range();
     let points = source_points_of(alloc, text, checked)?;
@@ -65,9 +59,5 @@ pub(crate) fn confirm_lines(
         &mut session,
         lines,
     )?;
-    let report = ConfirmReport {
-        report: session.report(),
-        is_deadlocked: session.is_deadlocked(),
-    };
-    Ok(Confirmed { history, report })
+    Ok(Confirmed { history, session })
 }

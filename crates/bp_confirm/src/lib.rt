@@ -4,7 +4,6 @@
 
 mod changes;
 mod choices;
-mod confirmed_traces;
 mod confirming;
 mod context_bounds;
 mod declared;
@@ -29,7 +28,7 @@ mod values;
 pub use bp_tasks::ContextBound;
 pub use confirming::{ConfirmFault, confirm};
 pub use faults::{Difference, StepReason, StepRefusal};
-pub use histories::ConfirmReport;
+pub use histories::Confirmed;
 pub use laws::{
     refused_steps_are_not_taken, steps_are_of_the_run, steps_have_one_answer,
     texts_are_read_in_one_way,

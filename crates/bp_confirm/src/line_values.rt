@@ -46,6 +46,9 @@ fn values_on(steps: &[u8], line: u32) -> Option<&[u8]>
 pub fn value_on_line(steps: &[u8], line: u32, place: usize) -> Option<SeenValue<'_>>
     ensures { IsValueOnLine steps.now line place (option_map value_of result) }
 {
+    if line == 0 {
+        return None;
+    }
     let Some(values) = values_on(steps, line) else {
         return None;
     };

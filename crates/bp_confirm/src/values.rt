@@ -1,14 +1,15 @@
 //! The values that a thread sees.
 ghost use Rattle.std.specs.Prelude.{◌≡◌, ◌↔◌, IsTrue, Some, [], ℕ, List, IfSome, MatchOption};
 ghost use Rattle.bp_flat.specs.Configurations.{Configuration};
-ghost use Rattle.bp_flat.specs.StandsFor.{StandsFor};
+ghost use Rattle.bp_flat.specs.Bits.{bits_of};
+ghost use Rattle.bp_flat.specs.StandsFor.{valuation_of, variables, StandsFor};
 ghost use Rattle.bp_machine.specs.declared.calls.Call.{Call as Answered};
 ghost use Rattle.bp_machine.specs.Answers.{stack_of};
 ghost use Rattle.bp_machine.specs.Histories.{configuration_after};
 ghost use Rattle.bp_machine.specs.Sessions.{Stands};
 ghost use Rattle.bp_machine.specs.Tops.{IsTop};
 ghost use Rattle.bp_confirm.specs.SourcePoints.{source_points_of};
-ghost use Rattle.bp_confirm.specs.Steps.{local_seen, value_seen, IsFirstUnseen, SeesValues};
+ghost use Rattle.bp_confirm.specs.Steps.{local_seen, own_value, value_seen, IsFirstUnseen, SeesValues};
 ghost use Rattle.bp_confirm.specs.ValuesIn.{values_in, IsNameIn, SaysValues};
 
 use crate::fields::value_at;
@@ -16,8 +17,26 @@ use crate::source_points::{SourcePoint, procedure_of};
 use bp_check::Checked;
 use bp_flat::{global_value, local_value};
 use bp_machine::{Session, Top};
+use bp_source::own_name;
+use bp_tree::Proc;
 
-/// The value of a local of the frame at the top, where it has one of this name.
+/// The value of a local of a procedure in this word, by its name or by that after the procedure's
+/// name and a dot; none if it has no such local.
+fn own_value(proc: &Proc, word: u128, name: &[u8]) -> Option<bool>
+    ensures { let locals = valuation_of (variables proc.now) (bits_of word) in
+        result ≡ own_value proc.now.name.text locals name.now }
+{
+    if let Some(bit) = local_value(proc, word, name) {
+        return Some(bit);
+    }
+    match own_name(name, proc.name().text().as_bytes()) {
+        Some(own) => local_value(proc, word, own),
+        None => None,
+    }
+}
+
+/// The value of a local of the frame at the top, by its name or by that after the name of the
+/// frame's procedure and a dot; none if it has no such local.
 fn local_seen(
     checked: &Checked,
     points: &[SourcePoint],
@@ -38,7 +57,7 @@ fn local_seen(
     let Some(proc) = checked.tree().procs().get(procedure) else {
         return None;
     };
-    local_value(proc, top.store.locals, name)
+    own_value(proc, top.store.locals, name)
 }
 
 /// The value of a variable as a thread sees it: a local hides a global of its name.

@@ -67,7 +67,7 @@ ExplainsSchedule file schedule (drive.AfterFinish n) e = ExplainsLine file sched
 ExplainsSchedule file schedule drive.Memory e = ⊥
 ExplainsSchedule file schedule drive.Write e = ⊥
 
--- the explanation of a fault of reported steps: none of refused memory and of an output that failed
+-- the explanation of a fault of reported steps: none of refused memory
 abbrev pub ExplainsSteps : List ℕ → List ℕ → ConfirmFault → Explanation → Type 0
 ExplainsSteps file steps confirm.TooLong e = ExplainsLength file e
 ExplainsSteps file steps confirm.NoSteps e = IsExplanation file (Line 1) [] e
@@ -76,4 +76,3 @@ ExplainsSteps file steps (confirm.NoThread n thread) e = ExplainsLine file steps
 ExplainsSteps file steps (confirm.NoVariable n value) e = ExplainsLine file steps n e
 ExplainsSteps file steps (confirm.Step r) e = ExplainsLine file steps r.line e
 ExplainsSteps file steps confirm.Memory e = ⊥
-ExplainsSteps file steps confirm.Write e = ⊥

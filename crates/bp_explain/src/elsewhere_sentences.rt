@@ -103,8 +103,8 @@ enum Way {
     Nowhere,
 }
 
-/// Where the thread of a refused step is after these steps, of which the last are its own. Then the
-/// refused step would be on the line of this number.
+/// Says where the thread of a refused step stands after these steps. The last of them are its own,
+/// and the refused step would come on the line with this number.
 fn way_after(
     alloc: Global,
     texts: Confirming<'_>,

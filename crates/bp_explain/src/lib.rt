@@ -2,6 +2,7 @@
 //! expected there or what is wrong. Also what is said of the arguments that a setup is made of.
 #![tactic(auto)]
 
+mod accepted_calls;
 mod call_excerpts;
 mod call_sentences;
 mod elsewhere_sentences;

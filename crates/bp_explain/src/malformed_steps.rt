@@ -2,6 +2,7 @@
 
 use bp_advice::Part::{Quoted, Words};
 use bp_advice::{ENDS_IN_CR_LF, ends_in_cr_lf, push_all, push_parts};
+use bp_source::is_braced_after;
 use bp_text::{Line, part_before, part_from};
 use std::alloc::AllocError;
 
@@ -24,18 +25,18 @@ fn word_at(text: &[u8]) -> &[u8] {
 
 /// What follows the name that begins a text, from the equals sign on.
 fn after_name(text: &[u8]) -> Option<&[u8]> {
-    let end = if text.first() == Some(&b'{') {
-        text.iter()
-            .position(|byte| *byte == b'}')?
-            .saturating_add(1)
-    } else {
-        word_at(text).iter().position(|byte| *byte == b'=')?
-    };
-    let rest = part_from(text, end);
-    if end == 0 || rest.first() != Some(&b'=') {
-        return None;
+    let mut braced = false;
+    for (i, byte) in text.iter().enumerate() {
+        if !braced && matches!(byte, b'=' | b' ') {
+            return if i > 0 && *byte == b'=' {
+                Some(part_from(text, i))
+            } else {
+                None
+            };
+        }
+        braced = is_braced_after(braced, *byte);
     }
-    Some(rest)
+    None
 }
 
 /// The word after the name and the equals sign that begin a text, with a space before them.

@@ -1,7 +1,8 @@
 //! Sentences on a call of a trace that has another reply than the machine's own.
 
+use crate::accepted_calls::accepted_part;
 use crate::call_sentences::push_due;
-use crate::recorded_calls::{Recorded, recorded_call};
+use crate::recorded_calls::recorded_call;
 use crate::sources::{Source, source_of};
 use crate::stand_sentences::push_stand;
 use crate::value_sentences::{push_values, session_after};
@@ -9,9 +10,8 @@ use bp_advice::Part::{Number, Words};
 use bp_advice::{push_all, push_parts};
 use bp_confirm::Stand;
 use bp_machine::{Reply, Session};
-use bp_text::part_before;
-use bp_trace::{Due, ReplayFault, replay};
-use std::alloc::{AllocError, Global};
+use bp_trace::Due;
+use std::alloc::AllocError;
 
 /// What a thread does that has this reply.
 fn verb_of(reply: Reply) -> &'static [u8] {
@@ -46,46 +46,6 @@ fn recorded_verb(trace: &[u8], made: u64) -> Option<&'static [u8]> {
     Some(verb_of(reply_of(*letter)?))
 }
 
-/// A trace up to its first `made` calls, with the line feed after them.
-fn lines_of_calls(alloc: Global, trace: &[u8], made: u64) -> Result<Vec<u8>, AllocError> {
-    let mut lines = Vec::new(alloc);
-    let Some(Recorded { thread, bit_at, .. }) = recorded_call(trace, made) else {
-        return Ok(lines);
-    };
-    let before = part_before(trace, bit_at);
-    if before.last() == Some(&b' ') {
-        // The call is the first of its line.
-        let size = thread.len().saturating_add(1);
-        lines.extend_from_slice(part_before(before, before.len().saturating_sub(size)))?;
-    } else {
-        lines.extend_from_slice(before)?;
-        lines.push(b'\n')?;
-    }
-    Ok(lines)
-}
-
-/// The session after the first `made` calls of a trace.
-fn session_before(
-    alloc: Global,
-    source: &Source,
-    trace: &[u8],
-    made: u64,
-) -> Result<Option<Session>, AllocError> {
-    let mut lines = lines_of_calls(alloc, trace, made)?;
-    let counts = match replay(alloc, &source.code, lines.as_slice()) {
-        Err(ReplayFault::NoEnd(counts)) => counts,
-        Err(ReplayFault::Memory) => return Err(AllocError),
-        _ => return Ok(None),
-    };
-    let (calls, left_open) = (
-        Number(counts.calls as usize),
-        Number(counts.left_open as usize),
-    );
-    let end = [Words(b"end "), calls, Words(b" "), left_open, Words(b"\n")];
-    push_parts(&mut lines, &end)?;
-    session_after(alloc, source, lines.as_slice())
-}
-
 /// Where a thread of a session stands.
 fn stand_of(source: &Source, session: &Session, thread: u32) -> Stand {
     let Some(top) = session.top(thread) else {
@@ -106,7 +66,10 @@ fn push_place(out: &mut Vec<u8>, program: &[u8], trace: &[u8], due: Due) -> Resu
     let Some(source) = &source_of(alloc, program)? else {
         return Ok(());
     };
-    let Some(session) = &session_before(alloc, source, trace, due.calls)? else {
+    let Some(accepted) = accepted_part(alloc, &source.code, trace)? else {
+        return Ok(());
+    };
+    let Some(session) = &session_after(alloc, source, &accepted.trace)? else {
         return Ok(());
     };
     let thread = due.call.thread;

@@ -85,8 +85,7 @@ fn explain_refusal<'a>(
 
 /// Explains this fault of the reported steps of the program of a text, which run from this start,
 /// at its line. The files are those of the program and of the steps. Steps that are too long or
-/// none are explained as a whole. Nothing explains refused memory and an output that failed. The
-/// only error is refused memory.
+/// none are explained as a whole. Nothing explains refused memory, which is also the only error.
 pub fn explain_steps<'a>(
     alloc: Global,
     program_file: &str,
@@ -121,7 +120,7 @@ pub fn explain_steps<'a>(
             };
             explain_refusal(alloc, file, texts, refusal)?
         }
-        ConfirmFault::Memory | ConfirmFault::Write => return Ok(None),
+        ConfirmFault::Memory => return Ok(None),
     };
     Ok(Some(explanation))
 }

@@ -3,6 +3,7 @@ ghost use Rattle.std.specs.Prelude.{IfOk};
 ghost use Rattle.bp_explain.specs.Explained.{ExplainsCall, ExplainsNoEnd, ExplainsSetup, ExplainsTrace};
 ghost use Rattle.bp_advice.specs.Explanations.{ExplainsLine, IsExplanationOf};
 
+use crate::accepted_calls::push_accepted;
 use crate::call_excerpts::excerpt_in_line;
 use crate::call_sentences::{push_finished, push_no_end, push_other_bit, push_other_end};
 use crate::head_sentences::push_head;
@@ -36,6 +37,7 @@ fn explain_setup<'a>(
 
 fn explain_no_end<'a>(
     alloc: Global,
+    program: &[u8],
     file: &'a str,
     trace: &[u8],
     counts: EndCounts,
@@ -44,6 +46,7 @@ fn explain_no_end<'a>(
 {
     let mut sentence = Vec::new(alloc);
     push_no_end(&mut sentence, counts)?;
+    push_accepted(&mut sentence, program, trace, &ReplayFault::NoEnd(counts))?;
     let last = position_of(trace, trace.len());
     let nothing = Vec::new(alloc);
     about_excerpt(alloc, file, last.line, nothing, sentence.as_slice())
@@ -62,6 +65,7 @@ fn push_line_fault(out: &mut Vec<u8>, trace: &[u8], fault: &ReplayFault) -> Resu
 /// Explains what is wrong with this line of a trace.
 fn explain_line<'a>(
     alloc: Global,
+    program: &[u8],
     file: &'a str,
     trace: &[u8],
     fault: &ReplayFault,
@@ -71,6 +75,7 @@ fn explain_line<'a>(
 {
     let mut sentence = Vec::new(alloc);
     push_line_fault(&mut sentence, trace, fault)?;
+    push_accepted(&mut sentence, program, trace, fault)?;
     about_line(alloc, file, trace, number as usize, sentence.as_slice())
 }
 
@@ -102,6 +107,7 @@ fn explain_call<'a>(
 {
     let mut sentence = Vec::new(alloc);
     push_call_fault(&mut sentence, program, trace, fault)?;
+    push_accepted(&mut sentence, program, trace, fault)?;
     let excerpt = excerpt_in_line(alloc, trace, number as usize, fault)?;
     about_excerpt(alloc, file, number as usize, excerpt, sentence.as_slice())
 }
@@ -122,9 +128,9 @@ pub fn explain_trace<'a>(
     let explanation = match fault {
         ReplayFault::TooLong => explain_too_long(alloc, file, b"trace", MAX_TRACE)?,
         ReplayFault::Setup(fault) => explain_setup(alloc, program, file, trace, *fault)?,
-        ReplayFault::NoEnd(counts) => explain_no_end(alloc, file, trace, *counts)?,
+        ReplayFault::NoEnd(counts) => explain_no_end(alloc, program, file, trace, *counts)?,
         ReplayFault::Head(line) | ReplayFault::Line(line) | ReplayFault::EndCount(line, _) => {
-            explain_line(alloc, file, trace, fault, *line)?
+            explain_line(alloc, program, file, trace, fault, *line)?
         }
         ReplayFault::AfterFinish(line, _)
         | ReplayFault::Bit(line, _)

@@ -3,7 +3,7 @@
 use crate::sources::program_of;
 use bp_code::compile;
 use bp_confirm::{ConfirmFault, ContextBound, StepRefusal, confirm};
-use bp_machine::{Setup, SetupFault, Start};
+use bp_machine::{Call, Setup, SetupFault, Start};
 use bp_text::{part_before, text_from_line};
 use bp_trace::write_trace;
 use std::alloc::{AllocError, Global};
@@ -28,10 +28,10 @@ pub(crate) enum Tried {
     Unread,
 }
 
-/// What becomes of no steps: the trace has no call.
-fn begun(alloc: Global, setup: &Setup) -> Result<Tried, AllocError> {
+/// Steps that this history takes.
+fn traced(alloc: Global, setup: &Setup, history: &[Call]) -> Result<Tried, AllocError> {
     let mut trace = Vec::new(alloc);
-    match write_trace(setup, &[], &mut trace) {
+    match write_trace(setup, history, &mut trace) {
         Ok(()) => Ok(Tried::Taken(trace)),
         Err(_) => Err(AllocError),
     }
@@ -53,21 +53,12 @@ pub(crate) fn try_steps(
         Err(_) => return Ok(Tried::Unread),
     };
     let bound = ContextBound::AsUsed;
-    let mut trace = Vec::new(alloc);
-    match confirm(
-        alloc,
-        texts.program,
-        checked,
-        &code,
-        &setup,
-        bound,
-        steps,
-        &mut trace,
-    ) {
-        Ok(_) => Ok(Tried::Taken(trace)),
+    let text = texts.program;
+    match confirm(alloc, text, checked, &code, &setup, bound, steps) {
+        Ok(confirmed) => traced(alloc, confirmed.session.setup(), &confirmed.history),
         Err(ConfirmFault::Step(refusal)) => Ok(Tried::Refused(refusal)),
-        Err(ConfirmFault::NoSteps) => begun(alloc, &setup),
-        Err(ConfirmFault::Memory | ConfirmFault::Write) => Err(AllocError),
+        Err(ConfirmFault::NoSteps) => traced(alloc, &setup, &[]),
+        Err(ConfirmFault::Memory) => Err(AllocError),
         Err(_) => Ok(Tried::Unread),
     }
 }

@@ -1,5 +1,7 @@
--- The lines of calls stand for these calls, each once.
-use Rattle.std.proofs.Common.{◌≡◌, ◌∙◌, ◌+◌, ◌==◌, ◌&&◌, if◌then◌else◌, nat_lt, ℕ, zero, suc, Bool, true, false, List, [], ◌∷◌, ◌++◌, replicate, ap, ap₂, refl, sym, subst, arith}
+-- The lines of the calls that are asked for stand for these calls, each once.
+use Rattle.std.proofs.Common.{◌≡◌, ◌∙◌, ◌+◌, ◌-◌, ◌≤◌, ◌==◌, ◌&&◌, if◌then◌else◌, nat_le, nat_lt, ℕ, zero, suc, Bool, true, false, List, [], ◌∷◌, ◌++◌, append-nil, drop, length, length-append, replicate, reverse, take, ap, ap₂, refl, sym, subst, arith}
+use Rattle.std.proofs.Math.Seq.{drop-append-add, drop-append_seam, take-append_seam, take-nil}
+use Rattle.std.proofs.lemmas.List.{append_assoc, drop_all, length-take-le, reverse-append, take-append-drop}
 use Rattle.std.proofs.lemmas.Bool.{false≢true}
 use Rattle.std.proofs.lemmas.Bool.Decides.{nat_tests}
 use Rattle.bp_flat.specs.Values.{same_bit}
@@ -7,8 +9,16 @@ use Rattle.bp_machine.specs.declared.calls.Call.{Call}
 use Rattle.bp_machine.specs.declared.calls.Reply.{Reply}
 use Rattle.bp_machine.specs.declared.calls.Reply.TheVariants.{Stopped, Ended, NoContexts, Full, Blocked, Failed, Stepped}
 use Rattle.bp_facts.specs.declared.waits.TheConstants.{MAX_WAITS}
-use Rattle.bp_facts.specs.Waits.{calls_in_line, calls_of_lines, is_same_wait, is_wait, waits_like, StandForEachOnce}
+use Rattle.bp_facts.specs.declared.filters.CallFilter.{CallFilter}
+use Rattle.bp_facts.specs.Filters.{asked_calls, calls_at, calls_of_lines, last_number, skipped, StandForEachOnce}
+use Rattle.bp_facts.specs.Waits.{calls_in_line, is_same_wait, is_wait, waits_like}
 use Rattle.bp_facts.proofs.EqualWaits.{other_first, same_first}
+
+-- the calls for which the lines of these calls stand, one line after the other; the calls `before`
+-- come before them, the latest first
+abbrev calls_after : (folds : Bool) → (before calls : List Call) → List Call
+calls_after folds before [] = []
+calls_after folds before (x ∷ xs) = replicate (calls_in_line folds x before xs) x ++ calls_after folds (x ∷ before) xs
 
 both_left : (a b : Bool) → a && b ≡ true → a ≡ true
 both_left true b e = refl
@@ -136,7 +146,7 @@ joined x xs p q true true none =
     ap (λ n. replicate (suc n) x ++ xs) all ∙ one_more p x xs
 joined x xs p q true false none = one_more p x xs
 
-folded : (before calls : List Call) → calls_of_lines true before calls ≡ pending before calls ++ calls
+folded : (before calls : List Call) → calls_after true before calls ≡ pending before calls ++ calls
 folded before [] = refl
 folded before (x ∷ xs) =
     let p = waits_like x before in
@@ -145,7 +155,7 @@ folded before (x ∷ xs) =
     ap (λ ys. line ++ ys) (folded (x ∷ before) xs ∙ ap (λ ys. ys ++ xs) (next x before xs))
     ∙ joined x xs p q (nat_lt MAX_WAITS (suc (p + q))) (q == 0) (equal_threads q 0)
 
-unfolded : (before calls : List Call) → calls_of_lines false before calls ≡ calls
+unfolded : (before calls : List Call) → calls_after false before calls ≡ calls
 unfolded before [] = refl
 unfolded before (x ∷ xs) = ap (λ ys. x ∷ ys) (unfolded (x ∷ before) xs)
 
@@ -157,6 +167,84 @@ none_pending (x ∷ xs) = by_test (nat_lt MAX_WAITS (suc (0 + waits_like x xs)))
     by_test true = refl
     by_test false = refl
 
+each_after : (folds : Bool) (calls : List Call) → calls_after folds [] calls ≡ calls
+each_after true calls = folded [] calls ∙ ap (λ ys. ys ++ calls) (none_pending calls)
+each_after false calls = unfolded [] calls
+
+first_taken : (n : ℕ) (x : Call) (xs ys : List Call) → take n (x ∷ ys) ≡ x ∷ xs → take (n - 1) ys ≡ xs
+first_taken zero x xs ys e = absurd cc
+first_taken (suc n) x xs ys e = let same : take n ys ≡ xs = cc in (let less : suc n - 1 ≡ n = omega arith in ap (λ k. take k ys) less ∙ same)
+
+-- the calls before those that are asked for are `first`; of those, these are before the next one
+module _ (f : CallFilter) (whole : List Call) (first : List Call) (skips : length first ≡ skipped f (length whole)) where
+  abbrev last : ℕ
+  last = last_number f (length whole)
+
+  line : (before : List Call) (x : Call) (xs rest : List Call) → whole ≡ (first ++ before) ++ x ∷ (xs ++ rest)
+      → take (last - suc (length (first ++ before))) (xs ++ rest) ≡ xs
+      → calls_at f whole (suc (length (first ++ before))) x ≡ calls_in_line f.folds x (reverse before) xs
+  line before x xs rest whole_is cut =
+      let n = length (first ++ before) in
+      let same : suc n - 1 ≡ n = omega arith in
+      let earlier : drop (skipped f (length whole)) (take (suc n - 1) whole) ≡ before =
+      ap (λ k. drop (skipped f (length whole)) (take k whole)) same
+      ∙ ap (λ ys. drop (skipped f (length whole)) (take n ys)) whole_is
+      ∙ ap (λ ys. drop (skipped f (length whole)) ys) (take-append_seam (first ++ before) (x ∷ (xs ++ rest)))
+      ∙ ap (λ k. drop k (first ++ before)) (sym skips)
+      ∙ drop-append_seam first before in
+      let next : suc n ≡ n + 1 = omega arith in
+      let later : drop (suc n) whole ≡ xs ++ rest =
+      ap (λ k. drop k whole) next ∙ ap (λ ys. drop (n + 1) ys) whole_is ∙ drop-append-add (first ++ before) (x ∷ (xs ++ rest)) 1 in
+      ap₂ (λ (b a : List Call). calls_in_line f.folds x (reverse b) a) earlier (ap (λ ys. take (last - suc n) ys) later ∙ cut)
+
+  along : (before xs rest : List Call) → whole ≡ (first ++ before) ++ (xs ++ rest)
+      → take (last - length (first ++ before)) (xs ++ rest) ≡ xs
+      → calls_of_lines f whole (suc (length (first ++ before))) xs ≡ calls_after f.folds (reverse before) xs
+  along before [] rest whole_is cut = refl
+  along before (x ∷ xs) rest whole_is cut =
+      let n = length (first ++ before) in
+      let fewer : last - n - 1 ≡ last - suc n = omega arith in
+      let cut_later : take (last - suc n) (xs ++ rest) ≡ xs =
+      ap (λ k. take k (xs ++ rest)) (sym fewer) ∙ first_taken (last - n) x xs (xs ++ rest) cut in
+      let more : first ++ (before ++ x ∷ []) ≡ (first ++ before) ++ x ∷ [] = sym (append_assoc first before (x ∷ [])) in
+      let long : length (first ++ (before ++ x ∷ [])) ≡ suc n =
+      ap length more ∙ length-append (first ++ before) (x ∷ []) ∙ (let one : n + 1 ≡ suc n = omega arith in one) in
+      let is : whole ≡ (first ++ (before ++ x ∷ [])) ++ (xs ++ rest) =
+      whole_is ∙ sym (append_assoc (first ++ before) (x ∷ []) (xs ++ rest)) ∙ ap (λ ys. ys ++ (xs ++ rest)) (sym more) in
+      let turned : reverse (before ++ x ∷ []) ≡ x ∷ reverse before = reverse-append before (x ∷ []) in
+      let others = along (before ++ x ∷ []) xs rest is (ap (λ k. take (last - k) (xs ++ rest)) long ∙ cut_later) in
+      ap₂ (λ (k : ℕ) (ys : List Call). replicate k x ++ ys) (line before x xs rest whole_is cut_later)
+      (ap (λ k. calls_of_lines f whole (suc k) xs) (sym long) ∙ others ∙ ap (λ b. calls_after f.folds b xs) turned)
+
+module _ (f : CallFilter) (whole : List Call) where
+  abbrev skipped_first : ℕ
+  skipped_first = skipped f (length whole)
+
+  abbrev asked : List Call
+  asked = asked_calls f whole
+
+  abbrev cut_at : ℕ
+  cut_at = last_number f (length whole) - skipped_first
+
+  stand_for_asked : (b : Bool) → nat_le skipped_first (length whole) ≡ b → calls_of_lines f whole (suc skipped_first) asked ≡ asked
+  stand_for_asked true within =
+      let few : skipped_first ≤ length whole = grind (arith, nat_tests) in
+      let first = take skipped_first whole in
+      let skips : length first ≡ skipped_first = length-take-le skipped_first whole few in
+      let none : first ++ [] ≡ first = append-nil first in
+      let count : length (first ++ []) ≡ skipped_first = ap length none ∙ skips in
+      let rest = drop cut_at (drop skipped_first whole) in
+      let both : asked ++ rest ≡ drop skipped_first whole = take-append-drop cut_at (drop skipped_first whole) in
+      let whole_is : whole ≡ (first ++ []) ++ (asked ++ rest) =
+      sym (take-append-drop skipped_first whole) ∙ ap₂ (λ (a b : List Call). a ++ b) (sym none) (sym both) in
+      ap (λ n. calls_of_lines f whole (suc n) asked) (sym count)
+      ∙ along f whole first skips [] asked rest whole_is
+      (ap₂ (λ (k : ℕ) (ys : List Call). take (last_number f (length whole) - k) ys) count both)
+      ∙ each_after f.folds asked
+  stand_for_asked false past =
+      let few : length whole ≤ skipped_first = grind (arith, nat_tests) in
+      let none : asked ≡ [] = ap (λ ys. take cut_at ys) (drop_all skipped_first whole few) ∙ take-nil cut_at in
+      ap (λ ys. calls_of_lines f whole (suc skipped_first) ys) none ∙ sym none
+
 pub each_once : StandForEachOnce
-each_once true calls = folded [] calls ∙ ap (λ ys. ys ++ calls) (none_pending calls)
-each_once false calls = unfolded [] calls
+each_once f whole = stand_for_asked f whole (nat_le (skipped f (length whole)) (length whole)) refl

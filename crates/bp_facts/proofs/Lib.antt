@@ -22,7 +22,6 @@ pub mod OwnedEntries
 pub mod PlacedStacks
 pub mod PlacesOfTops
 pub mod PlayedFronts
-pub mod QualifiedNames
 pub mod RecordedCalls
 pub mod SpansOfHistories
 pub mod StandingThreads

@@ -1,5 +1,5 @@
 -- Which calls of a history are asked for, and for how many calls a line stands.
-use Rattle.std.specs.Prelude.{◌==◌, ◌-◌, ◌&&◌, ℕ, suc, Bool, true, nat_le, nat_lt, List, Option, None, Some, drop, length, max, reverse, take, unwrap_or}
+use Rattle.std.specs.Prelude.{◌≡◌, ◌==◌, ◌-◌, ◌&&◌, ℕ, suc, Bool, true, nat_le, nat_lt, List, [], ◌∷◌, ◌++◌, Option, None, Some, drop, length, max, replicate, reverse, take, unwrap_or}
 use Rattle.bp_machine.specs.declared.calls.Call.{Call}
 use Rattle.bp_facts.specs.declared.filters.CallFilter.{CallFilter}
 use Rattle.bp_facts.specs.Waits.{calls_in_line}
@@ -47,3 +47,25 @@ calls_at f whole n x =
 -- that of x, which is the next call of this whole history after h
 abbrev pub calls_of : CallFilter → (whole h : List Call) → Call → ℕ
 calls_of f whole h x = calls_at f whole (suc (length h)) x
+
+-- the calls of this whole history whose numbers are asked for
+abbrev pub asked_calls : CallFilter → List Call → List Call
+asked_calls f whole =
+    let count = length whole in
+    let before = skipped f count in
+    take (last_number f count - before) (drop before whole)
+
+-- the calls for which the lines of these calls stand, one line after the other; the first of them
+-- is call n of this whole history
+abbrev pub calls_of_lines : CallFilter → (whole : List Call) → (n : ℕ) → List Call → List Call
+calls_of_lines f whole n [] = []
+calls_of_lines f whole n (x ∷ xs) =
+    replicate (calls_at f whole n x) x ++ calls_of_lines f whole (suc n) xs
+
+-- the lines of the calls whose numbers are asked for stand for these calls, each once and in their
+-- order
+abbrev pub StandForEachOnce : Type 0
+StandForEachOnce =
+    (f : CallFilter) (whole : List Call)
+    → let asked = asked_calls f whole in
+    calls_of_lines f whole (suc (skipped f (length whole))) asked ≡ asked

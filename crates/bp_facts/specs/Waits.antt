@@ -1,5 +1,5 @@
 -- Equal waits in succession, which may be folded into one line.
-use Rattle.std.specs.Prelude.{if◌then◌else◌, ◌≡◌, ◌==◌, ◌&&◌, ◌+◌, nat_lt, ℕ, suc, Bool, true, false, List, [], ◌∷◌, ◌++◌, replicate}
+use Rattle.std.specs.Prelude.{if◌then◌else◌, ◌==◌, ◌&&◌, ◌+◌, nat_lt, ℕ, suc, Bool, true, false, List, [], ◌∷◌}
 use Rattle.bp_flat.specs.Values.{same_bit}
 use Rattle.bp_machine.specs.declared.calls.Call.{Call}
 use Rattle.bp_machine.specs.declared.calls.Reply.{Reply}
@@ -30,14 +30,3 @@ calls_in_line true x before after =
     if nat_lt MAX_WAITS waits
     then if waits_like x after == 0 then waits else 0
     else 1
-
--- the calls for which the lines of these calls stand, one line after the other; the calls `before`
--- come before them, the latest first
-abbrev pub calls_of_lines : (folds : Bool) → (before calls : List Call) → List Call
-calls_of_lines folds before [] = []
-calls_of_lines folds before (x ∷ xs) =
-    replicate (calls_in_line folds x before xs) x ++ calls_of_lines folds (x ∷ before) xs
-
--- the lines of calls stand for these calls, each once and in their order
-abbrev pub StandForEachOnce : Type 0
-StandForEachOnce = (folds : Bool) (calls : List Call) → calls_of_lines folds [] calls ≡ calls

@@ -1,11 +1,10 @@
 -- The names of the watched variables.
-use Rattle.std.specs.Prelude.{◌≡◌, ◌==◌, ◌-◌, ◌||◌, ◌++◌, ℕ, suc, Bool, true, false, List, [], ◌∷◌, Option, None, Some, is_some, bytes_eq, codes, length, map, option_map, slice_get, take, drop}
+use Rattle.std.specs.Prelude.{◌≡◌, ◌==◌, ◌-◌, ◌||◌, ℕ, suc, Bool, true, false, List, [], ◌∷◌, Option, None, Some, bytes_eq, length, map, option_map, slice_get, take, drop}
 use Rattle.std.specs.Borrow.{Bor}
 use Rattle.std.specs.List.{list_all, list_any, prefix_len, suffix_len}
-use Rattle.bp_tree.specs.Ast.{Procedure, Program}
-use Rattle.bp_language.specs.Tables.{first_index}
-use Rattle.bp_flat.specs.StandsFor.{variables}
+use Rattle.bp_tree.specs.Ast.{Program}
 use Rattle.bp_source.specs.Lists.{pieces}
+use Rattle.bp_source.specs.VariableNames.{declares, qualified}
 use Rattle.bp_facts.specs.ChangeFacts.{Entry}
 
 -- a text without the spaces that it begins with, and those that it ends with
@@ -20,10 +19,6 @@ abbrev pub watched_names : Option (Bor (List ℕ)) → List (List ℕ)
 watched_names None = []
 watched_names (Some list) = map trimmed (pieces false list.now)
 
--- the name of a local after that of its procedure and a dot
-abbrev pub qualified : (procedure name : List ℕ) → List ℕ
-qualified procedure name = procedure ++ codes "." ++ name
-
 -- a text names this variable, a local of a procedure or a global: by its own name, or where it is a
 -- local by the qualified one
 abbrev pub is_of : (text : List ℕ) → (procedure : Option (List ℕ)) → (name : List ℕ) → Bool
@@ -33,20 +28,6 @@ is_of text (Some p) x = bytes_eq text x || bytes_eq text (qualified p x)
 -- one of these texts says so
 abbrev pub is_watched : List (List ℕ) → (procedure : Option (List ℕ)) → (name : List ℕ) → Bool
 is_watched texts p x = list_any (λ text. is_of text p x) texts
-
--- a formal or local of one of these procedures has this name
-abbrev pub has_local : List Procedure → List ℕ → Bool
-has_local ps x = list_any (λ p. is_some (first_index (variables p) x)) ps
-
--- a formal or local of one of these procedures is that of this text, with its procedure's name
-abbrev pub has_qualified : List Procedure → List ℕ → Bool
-has_qualified ps text =
-    list_any (λ p. list_any (λ v. bytes_eq text (qualified p.name.text v.text)) (variables p)) ps
-
--- a text says which variable of the program is meant
-abbrev pub declares : Program → List ℕ → Bool
-declares t x =
-    (is_some (first_index t.globals x) || has_local t.procedures x) || has_qualified t.procedures x
 
 -- each of these names is that of a variable
 abbrev pub AreDeclared : Program → List (List ℕ) → Type 0

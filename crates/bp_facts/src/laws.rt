@@ -1,8 +1,9 @@
 //! Laws of facts. These functions do nothing: their contracts are the laws.
+ghost use Rattle.bp_facts.specs.Filters.{StandForEachOnce};
 ghost use Rattle.bp_facts.specs.Laws.{ChangesReplay, ListedNames};
-ghost use Rattle.bp_facts.specs.Waits.{StandForEachOnce};
 
-/// States that the lines of calls, folded or not, stand for these calls, each once.
+/// States that the lines of the calls of a history whose numbers are asked for, folded or not,
+/// stand for these calls, each once.
 pub fn lines_stand_for_each_call_once()
     ensures { StandForEachOnce }
 {}

@@ -1,17 +1,15 @@
 //! The names of the watched variables.
-ghost use Rattle.std.specs.Prelude.{◌≡◌, ◌==◌, ◌++◌, ◌-◌, bytes_eq, codes, false, length, map, option_map, IfOk, MatchOption};
+ghost use Rattle.std.specs.Prelude.{◌≡◌, ◌==◌, ◌-◌, false, length, map, option_map, IfOk, MatchOption};
 ghost use Rattle.std.specs.List.{list_any, prefix_len, suffix_len};
-ghost use Rattle.bp_flat.specs.StandsFor.{variables};
 ghost use Rattle.bp_source.specs.Lists.{pieces};
 ghost use Rattle.bp_facts.specs.ChangeFacts.{entry_of};
-ghost use Rattle.bp_facts.specs.Watches.{declares, has_local, has_qualified, is_of, is_seen, owner_name, qualified, trimmed, watched_names, AreDeclared, IsUndeclared};
+ghost use Rattle.bp_facts.specs.Watches.{is_of, is_seen, owner_name, trimmed, watched_names, AreDeclared, IsUndeclared};
 
 use crate::change_facts::Change;
 use bp_check::Checked;
-use bp_flat::{local_slot_of, slot_of};
-use bp_source::piece_size;
+use bp_source::{declares, is_qualified, piece_size};
 use bp_text::{part_before, part_from};
-use bp_tree::{Name, Proc};
+use bp_tree::Proc;
 use std::alloc::{AllocError, Global};
 
 /// How many spaces a text begins with.
@@ -76,31 +74,6 @@ pub fn watched_names<'a>(alloc: Global, list: Option<&'a str>) -> Result<Vec<&'a
     }
 }
 
-/// Whether a procedure has a variable of this name.
-fn is_local(procs: &[Proc], name: &[u8]) -> bool
-    ensures { result ≡ has_local procs.now name.now }
-{
-    procs.iter().any(|proc| local_slot_of(proc, name).is_some())
-}
-
-/// Whether a text is a dot and a name.
-fn is_after_dot(text: &[u8], name: &[u8]) -> bool
-    ensures { result ≡ bytes_eq text.now (codes "." ++ name.now) }
-{
-    match text.split_first() {
-        Some((first, rest)) => *first == b'.' && rest == name,
-        None => false,
-    }
-}
-
-/// Whether a text is the name of a procedure, a dot, and this name.
-fn is_qualified(text: &[u8], procedure: &[u8], name: &[u8]) -> bool
-    ensures { result ≡ bytes_eq text.now (qualified procedure.now name.now) }
-{
-    let size = procedure.len();
-    part_before(text, size) == procedure && is_after_dot(part_from(text, size), name)
-}
-
 /// Whether a text says which variable is meant, which is a local of the procedure or a global.
 fn is_of(text: &[u8], owner: Option<&Proc>, name: &[u8]) -> bool
     ensures { let procedure = option_map (λ p. p.now.name.text) owner.entry in
@@ -118,41 +91,6 @@ fn is_watched(texts: &[&[u8]], owner: Option<&Proc>, name: &[u8]) -> bool
         result ≡ list_any (λ text. is_of text.now procedure name.now) texts.now }
 {
     texts.iter().any(|text| is_of(text, owner, name))
-}
-
-/// Whether a text says which of these variables of a procedure is meant, with the name of that.
-fn is_qualified_among(names: &[Name], procedure: &[u8], text: &[u8]) -> bool
-    ensures { let own = procedure.now in
-        result ≡ list_any (λ v. bytes_eq text.now (qualified own v.text)) names.now }
-{
-    names.iter().any(|name| is_qualified(text, procedure, name.text().as_bytes()))
-}
-
-/// Whether a text says which variable of a procedure is meant, with the name of that.
-fn qualifies(proc: &Proc, text: &[u8]) -> bool
-    ensures { let own = proc.now.name.text in
-        result ≡ list_any (λ v. bytes_eq text.now (qualified own v.text)) (variables proc.now) }
-{
-    let own = proc.name().text().as_bytes();
-    is_qualified_among(proc.formals(), own, text) || is_qualified_among(proc.locals(), own, text)
-}
-
-/// Whether a text says which local is meant, with the name of its procedure.
-fn is_qualified_local(procs: &[Proc], text: &[u8]) -> bool
-    ensures { result ≡ has_qualified procs.now text.now }
-{
-    procs.iter().any(|proc| qualifies(proc, text))
-}
-
-/// Whether a text says which variable of the program is meant.
-fn declares(checked: &Checked, text: &[u8]) -> bool
-    ensures { result ≡ declares checked.now text.now }
-{
-    let tree = checked.tree();
-    let procs = tree.procs();
-    slot_of(tree.globals(), text).is_some()
-        || is_local(procs, text)
-        || is_qualified_local(procs, text)
 }
 
 /// The number, from 1, of the first of these names that no variable has; none where each is that of

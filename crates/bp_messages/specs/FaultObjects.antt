@@ -1,5 +1,5 @@
 -- The object of a fault in JSON.
-use Rattle.std.specs.Prelude.{ℕ, Bool, List, [], ◌∷◌, ◌++◌, Option, None, Some, codes, decimal, option_map}
+use Rattle.std.specs.Prelude.{◌-◌, ℕ, Bool, List, [], ◌∷◌, ◌++◌, Option, None, Some, codes, decimal, option_map}
 use Rattle.std.specs.Borrow.{Bor}
 use Rattle.std.specs.List.{concat}
 use Rattle.bp_machine.specs.Replies.{letter_of}
@@ -11,6 +11,7 @@ use Rattle.bp_messages.specs.declared.fault_table.Detail.TheVariants.{Byte, Thre
 use Rattle.bp_messages.specs.declared.faults.Fault.{Fault}
 use Rattle.bp_messages.specs.FaultTable.{fault_row, RowOf}
 use Rattle.bp_messages.specs.StepObjects.{step_text}
+use Rattle.bp_messages.specs.Verdicts.{refuted_after, verdict_object}
 
 -- the byte of the program text that a fault names
 abbrev pub byte_of : Detail → Option ℕ
@@ -75,8 +76,15 @@ abbrev pub row_object
 row_object r file text value message =
     facts_text r file text ++ (step_text r.detail value ++ message_text message)
 
--- the object of a fault in this file, or in none
+-- the object of the verdict on steps, if a fault refutes them
+abbrev pub refutation_text : Detail → List ℕ
+refutation_text (Step r) = verdict_object (refuted_after (r.line - 1))
+refutation_text d = []
+
+-- the object of a fault in this file, or in none; that of a verdict comes before it
 abbrev pub fault_object
     : Fault → Option (List ℕ) → (text : List ℕ) → Option (List ℕ × Bool) → (message : List ℕ)
     → List ℕ
-fault_object f file text value message = row_object (fault_row f) file text value message
+fault_object f file text value message =
+    let row = fault_row f in
+    refutation_text row.detail ++ row_object row file text value message

@@ -119,7 +119,6 @@ steps_row (confirm.NoThread n k) = row 36 (codes "NoThread") (ThreadOn n k)
 steps_row (confirm.NoVariable n value) = row 57 (codes "NoVariable") (Line n)
 steps_row (confirm.Step r) = row (step_number r.reason) (step_name r.reason) (Step r)
 steps_row confirm.Memory = memory_row
-steps_row confirm.Write = write_row
 
 abbrev pub fault_row : Fault → RowOf
 fault_row fault.Device = row 54 (codes "Device") Nothing
@@ -140,7 +139,7 @@ fault_row fault.Memory = memory_row
 
 -- memory, a write, a worker's start, a device, a worker that stopped early
 abbrev pub is_of_the_machine : ℕ → Bool
-is_of_the_machine n = n == 7 || nat_le 51 n && nat_le n 55
+is_of_the_machine n = n == 7 || (n == 51 || nat_le 53 n && nat_le n 55)
 
 -- a step that is not taken
 abbrev pub is_of_a_step : ℕ → Bool

@@ -66,7 +66,6 @@ fault_of_trace f = Trace f
 abbrev pub fault_of_steps : ConfirmFault → Fault
 fault_of_steps confirm.TooLong = TooLong
 fault_of_steps confirm.Memory = Memory
-fault_of_steps confirm.Write = Write
 fault_of_steps f = Steps f
 
 abbrev pub fault_of_migration : MigrateFault → Fault

@@ -11,4 +11,5 @@ pub mod RunLimits
 pub mod StepObjects
 pub mod Summaries
 pub mod SummaryObjects
+pub mod Verdicts
 pub mod Waits

@@ -3,12 +3,13 @@ ghost use Rattle.std.specs.Prelude.{◌≡◌, option_map};
 ghost use Rattle.bp_text.specs.Writing.{Writes};
 ghost use Rattle.bp_text.specs.Pieces.{piece_text, string_or_null};
 ghost use Rattle.bp_confirm.specs.StepLines.{value_of};
-ghost use Rattle.bp_messages.specs.FaultObjects.{byte_of, column_in, facts_text, fault_object, letter_text, line_in, message_text, name_in, thread_of};
+ghost use Rattle.bp_messages.specs.FaultObjects.{byte_of, column_in, facts_text, fault_object, letter_text, line_in, message_text, name_in, refutation_text, row_object, thread_of};
 ghost use Rattle.bp_messages.specs.FaultTable.{row_of};
 
 use crate::fault_table::{Detail, Row};
 use crate::faults::Fault;
 use crate::step_objects::put_step;
+use crate::verdicts::put_refuted;
 use bp_confirm::SeenValue;
 use bp_text::Piece::{Bytes, Key, Letter, Number, NumberOrNull, Text, TextOrNull};
 use bp_text::{Piece, WriteFault, position_of, put_pieces};
@@ -121,9 +122,40 @@ fn put_message<W: Write>(message: &[u8], out: &mut W) -> Result<(), WriteFault>
     put_pieces(out, &[Key(b"message"), Text(message), Bytes(b"}\n")])
 }
 
+/// Writes the object of the verdict on steps, if a fault refutes them.
+fn put_refutation<W: Write>(detail: Detail, out: &mut W) -> Result<(), WriteFault>
+    ensures { let text = refutation_text detail in
+        Writes (W.contents out.old) (W.contents out.new) text result }
+{
+    match detail {
+        Detail::Step(refusal) => put_refuted(u64::from(refusal.line.saturating_sub(1)), out),
+        _ => Ok(()),
+    }
+}
+
+/// Writes the object of a row of the table.
+fn put_row_object<'a, W: Write>(
+    row: Row,
+    file: Option<&'a str>,
+    text: &[u8],
+    value: Option<SeenValue<'a>>,
+    message: &'a [u8],
+    out: &mut W,
+) -> Result<(), WriteFault>
+    ensures { let file = name_in file.entry in
+        let value = option_map value_of value.entry in
+        let object = row_object (row_of row) file text.now value message.entry.now in
+        Writes (W.contents out.old) (W.contents out.new) object result }
+{
+    put_facts(row, file, text, out)?;
+    put_step(row.detail, value, out)?;
+    put_message(message, out)
+}
+
 /// Writes the object of a fault: its row of the table, the file that it is in, its place there, the
 /// step that it is about, and a sentence that says what it is. The text is that of the program, and
-/// the value is the one on a line of steps that the fault names.
+/// the value is the one on a line of steps that the fault names. If the fault refutes steps, the
+/// object of that verdict comes first.
 pub fn put_fault_object<'a, W: Write>(
     fault: &Fault,
     file: Option<&'a str>,
@@ -138,7 +170,6 @@ pub fn put_fault_object<'a, W: Write>(
         Writes (W.contents out.old) (W.contents out.new) object result }
 {
     let row = fault.row();
-    put_facts(row, file, text, out)?;
-    put_step(row.detail, value, out)?;
-    put_message(message, out)
+    put_refutation(row.detail, out)?;
+    put_row_object(row, file, text, value, message, out)
 }

@@ -17,7 +17,7 @@ pub fn exit_status(has_failed: bool, fault: Option<u32>) -> u8
     ensures { result ≡ exit_status has_failed fault }
 {
     match fault {
-        Some(7 | 51..=55) => 3,
+        Some(7 | 51 | 53..=55) => 3,
         Some(58..=62) => 4,
         Some(_) => 2,
         None => u8::from(has_failed),
@@ -207,7 +207,6 @@ fn steps_row(fault: &ConfirmFault) -> Row
             Detail::Step(*refusal),
         ),
         ConfirmFault::Memory => memory_row(),
-        ConfirmFault::Write => write_row(),
     }
 }
 

@@ -184,7 +184,6 @@ impl From<ConfirmFault> for Fault {
         match fault {
             ConfirmFault::TooLong => Fault::TooLong,
             ConfirmFault::Memory => Fault::Memory,
-            ConfirmFault::Write => Fault::Write,
             fault => Fault::Steps(fault),
         }
     }

@@ -19,6 +19,7 @@ mod step_objects;
 mod summaries;
 mod summary_objects;
 mod test_reports;
+mod verdicts;
 mod waits;
 
 pub use fault_lines::show_fault;
@@ -32,3 +33,4 @@ pub use step_objects::value_in;
 pub use summaries::put_summary;
 pub use summary_objects::put_summary_objects;
 pub use test_reports::TestReport;
+pub use verdicts::{VerdictFacts, put_verdict};

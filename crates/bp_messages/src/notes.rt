@@ -45,7 +45,7 @@ const OUT_OF_CONTEXTS: &[u8] = b"ran out of contexts or starved; raise --context
 
 const CUT_OFF: &[u8] = b"were cut off; raise --calls\n";
 
-/// Whether these are so many of the runs that a note counts them.
+/// Returns whether enough of the runs ended this way for a note to give their number.
 fn are_many(count: u64, runs: u64) -> bool
     ensures { result ≡ are_many count runs }
 {

@@ -23,7 +23,8 @@ const ALL_SEEN: &[u8] =
 
 const FEW_NEW: &[u8] = b"note: less than 1% of new runs would be new\n";
 
-/// What is said if these were seen once, and so many of a hundred new runs would be new.
+/// Returns the note on new runs, if this many runs were seen once and this share of further runs,
+/// in percent, would be new.
 fn novelty_said<'a>(once: u64, percent: u64) -> [Piece<'a>; 3]
     ensures { flat_map piece_text result ≡ novelty_said once percent }
 {

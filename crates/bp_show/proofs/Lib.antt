@@ -1,1 +1,2 @@
+mod ConfirmedSteps
 mod ViewedTraces

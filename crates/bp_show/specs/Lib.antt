@@ -1,1 +1,2 @@
+pub mod Confirms
 pub mod Shows

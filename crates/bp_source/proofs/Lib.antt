@@ -6,6 +6,7 @@ pub mod GotItems
 pub mod JoinedPieces
 pub mod OneStatement
 pub mod PositionsOfStatements
+pub mod QualifiedNames
 pub mod SourceStatementLists
 pub mod TextsOfStatements
 pub mod LexemesOfStatements

@@ -12,3 +12,4 @@ pub mod SourceStatements
 pub mod StatementLines
 pub mod Statements
 pub mod Unreached
+pub mod VariableNames

@@ -5,7 +5,7 @@ ghost use Rattle.bp_source.specs.Lists.{is_braced_after, piece_size, pieces, pie
 use bp_text::{part_before, part_from};
 
 /// Whether what follows this byte is inside braces, where the byte itself is inside or outside.
-fn is_braced_after(braced: bool, byte: u8) -> bool
+pub fn is_braced_after(braced: bool, byte: u8) -> bool
     ensures { result ≡ is_braced_after braced byte }
 {
     if braced { byte != b'}' } else { byte == b'{' }

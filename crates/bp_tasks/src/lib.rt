@@ -9,6 +9,7 @@ mod listing_forms;
 mod run_options;
 mod tasks;
 mod test_options;
+mod verdicts;
 mod view_options;
 
 pub use context_bounds::ContextBound;
@@ -20,4 +21,5 @@ pub use tasks::{
     CheckTask, CodeTask, ConfirmTask, DriveTask, RunTask, ShowTask, Task, TestTask, TraceTask,
 };
 pub use test_options::TestOptions;
+pub use verdicts::Verdict;
 pub use view_options::{ViewFormat, ViewOptions};

@@ -8,6 +8,7 @@ use crate::fault_formats::FaultFormat;
 use crate::listing_forms::ListingForm;
 use crate::run_options::RunOptions;
 use crate::test_options::TestOptions;
+use crate::verdicts::Verdict;
 use crate::view_options::{ViewFormat, ViewOptions};
 use bp_init::NamedBits;
 use bp_machine::Start;
@@ -56,7 +57,9 @@ pub struct ConfirmTask<'a> {
     /// The globals whose initial bits are given by name.
     pub named: NamedBits<'a>,
     pub bound: ContextBound,
-    /// Whether a fault is a JSON object.
+    /// How the run is to end, if the exit status is to say whether it ends so.
+    pub expected: Option<Verdict>,
+    /// Whether the verdict is a JSON object, and a fault too.
     pub json: bool,
     pub explain: Explaining,
 }

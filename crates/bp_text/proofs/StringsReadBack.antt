@@ -3,7 +3,7 @@ use Rattle.std.proofs.Common.{arith, ◌≡◌, ◌<◌, ◌/◌, ◌%◌, ℕ, 
 use Rattle.std.specs.Prelude.{codes, flat_map}
 use Rattle.bp_text.specs.JsonStrings.{hex_digit, is_control, is_marked, string_byte, IsReadAs, ends, plain, marked, numbered}
 
-small : (b : ℕ) → is_control b ≡ true → b < 256
+small : (b : ℕ) → is_control b ≡ true → b < 128
 small b control = grind arith
 
 pub read_back : (text : List ℕ) → IsReadAs (flat_map string_byte text) text

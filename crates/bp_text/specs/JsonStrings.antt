@@ -38,9 +38,9 @@ pub data IsReadAs : (inside text : List ℕ) → Type 0 where
       → is_marked b ≡ true
       → IsReadAs inside text
       → IsReadAs (92 ∷ b ∷ inside) (b ∷ text)
-  -- a byte by its two hexadecimal digits
+  -- a byte of one character, by its two hexadecimal digits
   numbered : (b : ℕ) (inside text : List ℕ)
-      → b < 256
+      → b < 128
       → IsReadAs inside text
       → IsReadAs (codes "\\u00" ++ hex_digit (b / 16) ∷ hex_digit (b % 16) ∷ inside) (b ∷ text)
 

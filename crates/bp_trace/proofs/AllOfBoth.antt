@@ -11,6 +11,10 @@ module _ {X : Type 0} (P : X → Type 0) where
   all_of_first [] b p = tt
   all_of_first (x ∷ a) b p = (p.0, all_of_first a b p.1)
 
+  pub all_of_second : (a b : List X) → AllByRecursion P (a ++ b) → AllByRecursion P b
+  all_of_second [] b p = p
+  all_of_second (x ∷ a) b p = all_of_second a b p.1
+
   pub one_between : (a : List X) (x : X) (b : List X) → AllByRecursion P (a ++ x ∷ b) → P x
   one_between [] x b p = p.0
   one_between (y ∷ a) x b p = one_between a x b p.1

@@ -11,6 +11,7 @@ mod Joined
 mod LineThread
 pub mod LinesDriveAgain
 mod LinesOfHistory
+mod LongestAccepted
 mod OneField
 mod OneHead
 mod OneHistoryAfter

@@ -48,7 +48,7 @@ module _ (t : Program) (v : Version) (s : SetupOf) (few : threads s ≤ MAX_THRE
       (same_calls p l k ls x calls sx) (same_calls p k k ks y refl sy) rest in
       (ap (λ cs. cs ++ calls_of_lines ls) calls ∙ ap (λ cs. k.calls ++ cs) more, after)
 
-  below : (p h : List Call) → IsLegalAfter t s p h → AllByRecursion (λ (x : Call). x.thread < threads s) h
+  pub below : (p h : List Call) → IsLegalAfter t s p h → AllByRecursion (λ (x : Call). x.thread < threads s) h
   below p [] legal = tt
   below p (x ∷ xs) (allowed, rest) = (allowed.thread, below (p ++ x ∷ []) xs rest)
 

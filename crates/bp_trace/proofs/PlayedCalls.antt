@@ -18,7 +18,7 @@ use Rattle.bp_trace.specs.declared.versions.Version.{Version}
 use Rattle.bp_trace.specs.BodyReading.{IsBodyLineAt}
 use Rattle.bp_trace.specs.Judging.{IsCallRefusal, IsLineRefused, IsBodyRefusal}
 use Rattle.bp_trace.specs.TraceText.{calls_text}
-use Rattle.bp_trace.specs.Replays.{IsPlayable, IsBodyLine, IsCallFault, IsRefusedAmong, line_count}
+use Rattle.bp_trace.specs.Replays.{IsPlayable, IsBodyLine, IsCallFault, line_count}
 use Rattle.bp_trace.proofs.GrowsByLine.{text_grows, count_grows, some_line}
 
 last_at : (h : List Call) (n : ℕ) (x : Call) → length h ≡ suc n → slice_get h n ≡ Some x → Some x.thread ≡ last_thread (map (λ (y : Call). y.thread) h)
@@ -55,15 +55,18 @@ module _ (t : Program) (s : SetupOf) (h own calls : List Call) (i : ℕ) (d : Ca
   whole : calls ≡ take i calls ++ get_or calls i d ∷ drop (suc i) calls
   whole = sym (take-append-drop i calls) ∙ ap (λ cs. take i calls ++ cs) (drop-cons calls i d within)
 
-  pub line_refused : (n : ℕ) (f : ReplayFault) → IsPlayable t s own → IsCallRefusal t s own n (get_or calls i d) f → IsLineRefused t s h n calls f
+  pub line_refused : (n : ℕ) (f : ReplayFault) → IsPlayable t s own → IsCallRefusal t s own n (get_or calls i d) f → IsLineRefused t s h n calls own f
   line_refused n f playable (inl memory) = inl memory
   line_refused n f playable (inr refused) = inr (record {
-    good = take i calls;
-    call = get_or calls i d;
-    others = drop (suc i) calls;
-    parts = whole;
-    playable = subst (IsPlayable t s) parts playable;
-    refused = subst (λ k. IsCallFault t s k n (get_or calls i d) f) parts refused;
+    among = record {
+      good = take i calls;
+      call = get_or calls i d;
+      others = drop (suc i) calls;
+      parts = whole;
+      playable = subst (IsPlayable t s) parts playable;
+      refused = subst (λ k. IsCallFault t s k n (get_or calls i d) f) parts refused;
+    };
+    are = parts;
   })
 
 -- one more line of a text
@@ -94,9 +97,9 @@ module _ (v : Version) (n first : ℕ) (text : List ℕ) (h : List Call) (size l
 
   module _ (t : Program) (s : SetupOf) (many : n ≡ threads s) (playable : IsPlayable t s h) (calls : List Call) (more : ℕ)
       (at : IsBodyLineAt v n (last_thread (map (λ (x : Call). x.thread) h)) (drop size text) calls more) where
-    pub body_refused : (f : ReplayFault) → IsLineRefused t s h line calls f → IsBodyRefusal t v s text first f
-    body_refused f (inl memory) = inl memory
-    body_refused f (inr among) = inr (record {
+    pub body_refused : (played : List Call) (f : ReplayFault) → IsLineRefused t s h line calls played f → IsBodyRefusal t v s text first played f
+    body_refused played f (inl memory) = inl memory
+    body_refused played f (inr after) = inr (record {
       history = h;
       rest = drop size text;
       playable = playable;
@@ -107,8 +110,16 @@ module _ (v : Version) (n first : ℕ) (text : List ℕ) (h : List Call) (size l
         more = at.more;
         is_line = subst (λ k. IsBodyLine k (last_thread (map (λ (x : Call). x.thread) h)) at.line calls v) many at.is_line;
         begins = at.begins;
-        among = subst (λ k. IsRefusedAmong t s h k calls f) number among;
+        among = record {
+          good = after.among.good;
+          call = after.among.call;
+          others = after.among.others;
+          parts = after.among.parts;
+          playable = after.among.playable;
+          refused = subst (λ k. IsCallFault t s (h ++ after.among.good) k after.among.call f) number after.among.refused;
+        };
       };
+      are = after.are;
     })
 
 -- one more of the calls of a line

@@ -1,5 +1,5 @@
 -- A text whose head and lines of calls were read is a trace, or is refused.
-use Rattle.std.proofs.Common.{◌≡◌, ℕ, ◌+◌, ◌≤◌, List, [], ◌∷◌, ◌++◌, length, flat_map, drop, None, refl, ap, sym, ◌∙◌, subst, arith, inl, inr, length-append}
+use Rattle.std.proofs.Common.{◌≡◌, ◌⊎◌, ℕ, ◌+◌, ◌≤◌, List, [], ◌∷◌, ◌++◌, length, flat_map, drop, None, refl, ap, sym, ◌∙◌, subst, arith, inl, inr, length-append}
 use Rattle.std.proofs.lemmas.List.{drop_at}
 use Rattle.bp_tree.specs.Ast.{Program}
 use Rattle.bp_machine.specs.declared.calls.Call.{Call}
@@ -19,10 +19,13 @@ use Rattle.bp_trace.specs.EndReading.{counts, IsEndRefusal}
 use Rattle.bp_trace.specs.declared.heads.Head.{Head}
 use Rattle.bp_trace.specs.HeadReading.{setup_of_head, IsHeadOf}
 use Rattle.bp_trace.specs.Heads.{HasHead}
-use Rattle.bp_trace.specs.Judging.{IsBody, IsBodyRefusal, HasRefusedBody, replay_fault_of_setup}
+use Rattle.bp_trace.specs.declared.replaying.Opened.{Opened}
+use Rattle.bp_trace.specs.Accepted.{HasNoCalls, IsLongestAccepted}
+use Rattle.bp_trace.specs.Judging.{IsBody, IsBodyRefusal, HasRefusedBody, FitsText, IsOpened, replay_fault_of_setup}
 use Rattle.bp_trace.specs.Replays.{counts_of, IsPlayable, IsTrace, line_count, HasOtherEnd, HasMoreAfter, Reaches, IsRestRefused, HasRefusedRest, IsReplayRefusal}
 use Rattle.bp_trace.specs.TraceText.{version_line, entry_line, init_line, head_lines, head_text, calls_text, end_line}
 use Rattle.bp_trace.proofs.HeadTexts.{limits_text, setup_text, head_joined}
+use Rattle.bp_trace.proofs.LongestAccepted.{longest_before_no_line, longest_before_refused}
 use Rattle.bp_trace.proofs.WholeHead.{line_total}
 
 -- ---- each line of a head has a byte
@@ -41,23 +44,34 @@ lines_within v s =
     let setup = length-append (flat_map entry_line s.entries) (init_line s.init ++ limits_text s) in
     omega (arith, line_total v s, whole, setup, version_long v, entries_long s.entries)
 
--- a head that begins the text, for the setup that it says
-pub record HeadRead (text : List ℕ) (v : Version) (s : SetupOf) (size lines : ℕ) : Type 0 where
-  pub has : HasHead s
-  pub parts : text ≡ head_text v s ++ drop size text
-  pub first : lines + 1 ≡ length (head_lines v s) + 1
-  pub few : lines + length (drop size text) ≤ length text
+-- a head that begins the text, with its own numbers
+module _ (text : List ℕ) (head : Head) (o : Opened) (at : IsHeadOf text head) (size : o.size ≡ head.size) (lines : o.lines ≡ head.lines) where
+  rest_read : drop o.size text ≡ at.rest
+  rest_read =
+      ap (λ n. drop n text) size
+      ∙ ap (drop head.size) at.parts
+      ∙ drop_at (head_text head.version (setup_of_head head)) at.rest head.size (sym at.size)
 
-pub head_read : (text : List ℕ) (head : Head) (s : SetupOf) → IsHeadOf text head → s ≡ setup_of_head head → HeadRead text head.version s head.size head.lines
-head_read text head s at same =
-    let rest = ap (drop head.size) at.parts ∙ drop_at (head_text head.version (setup_of_head head)) at.rest head.size (sym at.size) in
-    let whole = ap length at.parts ∙ length-append (head_text head.version (setup_of_head head)) at.rest in
-    record {
-      has = subst HasHead (sym same) at.has;
-      parts = at.parts ∙ ap (λ z. head_text head.version z ++ at.rest) (sym same) ∙ ap (λ r. head_text head.version s ++ r) (sym rest);
-      first = ap (λ n. n + 1) (at.lines ∙ ap (λ z. length (head_lines head.version z)) (sym same));
-      few = omega (arith, whole, at.lines, ap length rest, lines_within head.version (setup_of_head head));
-    }
+  pub head_fits : length text ≤ MAX_TRACE → FitsText text o
+  head_fits short =
+      let whole = ap length at.parts ∙ length-append (head_text head.version (setup_of_head head)) at.rest in
+      record {
+        short = short;
+        within = omega (arith, whole, at.size, size);
+        few = omega (arith, whole, at.lines, lines, ap length rest_read, lines_within head.version (setup_of_head head));
+      }
+
+  pub head_opened : o.version ≡ head.version → o.setup ≡ setup_of_head head → IsOpened text o
+  head_opened version setup =
+      let texts : head_text head.version (setup_of_head head) ≡ head_text o.version o.setup =
+      ap (λ v. head_text v (setup_of_head head)) (sym version) ∙ ap (head_text o.version) (sym setup) in
+      let all_lines : length (head_lines head.version (setup_of_head head)) ≡ length (head_lines o.version o.setup) =
+      ap (λ v. length (head_lines v (setup_of_head head))) (sym version) ∙ ap (λ s. length (head_lines o.version s)) (sym setup) in
+      record {
+        has = subst HasHead (sym setup) at.has;
+        parts = at.parts ∙ ap (λ z. z ++ at.rest) texts ∙ ap (λ r. head_text o.version o.setup ++ r) (sym rest_read);
+        lines = lines ∙ at.lines ∙ all_lines;
+      }
 
 module _ (t : Program) (text : List ℕ) (short : length text ≤ MAX_TRACE) (v : Version) (s : SetupOf) (rest : List ℕ)
     (has : HasHead s) (parts : text ≡ head_text v s ++ rest) where
@@ -69,6 +83,14 @@ module _ (t : Program) (text : List ℕ) (short : length text ≤ MAX_TRACE) (v 
   setup_refused setup.InitLength r = (short, record { version = v; setup = s; rest = rest; head = has; parts = parts; fault = r })
   setup_refused setup.OutOfRange r = (short, record { version = v; setup = s; rest = rest; head = has; parts = parts; fault = r })
   setup_refused setup.Memory r = short
+
+  pub setup_has_none : (f : SetupFault) → HasNoCalls (replay_fault_of_setup f)
+  setup_has_none setup.Threads = tt
+  setup_has_none (setup.UnknownEntry k) = tt
+  setup_has_none (setup.EntryHasFormals k) = tt
+  setup_has_none setup.InitLength = tt
+  setup_has_none setup.OutOfRange = tt
+  setup_has_none setup.Memory = tt
 
   module _ (fine : setup_fault t s ≡ None) (first : ℕ) (first_is : first ≡ length (head_lines v s) + 1) where
     module _ (h : List Call) (after : List ℕ) (playable : IsPlayable t s h) (body : rest ≡ calls_text v h ++ after) where
@@ -85,21 +107,31 @@ module _ (t : Program) (text : List ℕ) (short : length text ≤ MAX_TRACE) (v 
       refused_rest f r = record { version = v; setup = s; history = h; number = first + line_count v h; rest = after; reached = reaches; refused = r }
 
     -- a call is refused
-    call_refused : (f : ReplayFault) (r : HasRefusedBody t v s rest first f) → IsReplayRefusal t text f
-    call_refused (fault.AfterFinish m made) r = (short, refused_rest r.history r.rest r.playable r.parts (fault.AfterFinish m made) r.refused)
-    call_refused (fault.Bit m d) r = (short, refused_rest r.history r.rest r.playable r.parts (fault.Bit m d) r.refused)
-    call_refused (fault.Reply m d) r = (short, refused_rest r.history r.rest r.playable r.parts (fault.Reply m d) r.refused)
-    call_refused fault.TooLong r = absurd r.refused.among.refused
-    call_refused (fault.Head k) r = absurd r.refused.among.refused
-    call_refused (fault.Setup g) r = absurd r.refused.among.refused
-    call_refused (fault.Line m) r = absurd r.refused.among.refused
-    call_refused (fault.NoEnd c) r = absurd r.refused.among.refused
-    call_refused (fault.EndCount m c) r = absurd r.refused.among.refused
-    call_refused fault.Memory r = absurd r.refused.among.refused
+    call_refused : (played : List Call) (f : ReplayFault) (r : HasRefusedBody t v s rest first played f) → IsReplayRefusal t text f
+    call_refused played (fault.AfterFinish m made) r = (short, refused_rest r.history r.rest r.playable r.parts (fault.AfterFinish m made) r.refused)
+    call_refused played (fault.Bit m d) r = (short, refused_rest r.history r.rest r.playable r.parts (fault.Bit m d) r.refused)
+    call_refused played (fault.Reply m d) r = (short, refused_rest r.history r.rest r.playable r.parts (fault.Reply m d) r.refused)
+    call_refused played fault.TooLong r = absurd r.refused.among.refused
+    call_refused played (fault.Head k) r = absurd r.refused.among.refused
+    call_refused played (fault.Setup g) r = absurd r.refused.among.refused
+    call_refused played (fault.Line m) r = absurd r.refused.among.refused
+    call_refused played (fault.NoEnd c) r = absurd r.refused.among.refused
+    call_refused played (fault.EndCount m c) r = absurd r.refused.among.refused
+    call_refused played fault.Memory r = absurd r.refused.among.refused
 
-    pub body_refuses : (f : ReplayFault) → IsBodyRefusal t v s rest first f → IsReplayRefusal t text f
-    body_refuses f (inl memory) = subst (IsReplayRefusal t text) (sym memory) short
-    body_refuses f (inr r) = call_refused f r
+    pub body_refuses : (played : List Call) (f : ReplayFault) → IsBodyRefusal t v s rest first played f → IsReplayRefusal t text f
+    body_refuses played f (inl memory) = subst (IsReplayRefusal t text) (sym memory) short
+    body_refuses played f (inr r) = call_refused played f r
+
+    -- those before it are the longest that are accepted
+    pub body_keeps : (played : List Call) (f : ReplayFault) → IsBodyRefusal t v s rest first played f
+        → (f ≡ fault.Memory) ⊎ IsLongestAccepted t text v s played
+    body_keeps played f (inl memory) = inl memory
+    body_keeps played f (inr r) =
+        let whole = parts ∙ ap (λ z. head_text v s ++ z) r.parts in
+        let longest = longest_before_refused t text v s has fine r.history r.playable r.rest whole
+        (first + line_count v r.history) f r.refused in
+        inr (subst (IsLongestAccepted t text v s) (sym r.are) longest)
 
     module _ {O : Type 0} (b : Body O) (body : IsBody v s rest first b)
         (playable : IsPlayable t s b.played.history.items) (r : Report)
@@ -135,6 +167,12 @@ module _ (t : Program) (text : List ℕ) (short : length text ≤ MAX_TRACE) (v 
       end_refuses (fault.Bit m d) q = absurd q
       end_refuses (fault.Reply m d) q = absurd q
       end_refuses fault.Memory q = absurd q
+
+      -- all calls of the lines are the longest that are accepted
+      pub end_keeps : IsLongestAccepted t text v s h
+      end_keeps =
+          longest_before_no_line t text v s has fine h playable after
+          (parts ∙ ap (λ z. head_text v s ++ z) body.parts) body.ends
 
       -- the end is after the calls, alone
       pub is_trace : after ≡ end_line r.calls r.left_open → IsTrace t v s h text

@@ -9,20 +9,26 @@ use Rattle.bp_flat.specs.StandsFor.{StandsFor}
 use Rattle.bp_machine.specs.declared.setup_faults.SetupFault.{SetupFault}
 use Rattle.bp_machine.specs.declared.setup_faults.SetupFault.TheVariants as refused_setup
 use Rattle.bp_machine.specs.ContextCounts.{last_thread}
+use Rattle.bp_machine.specs.declared.reports.Report.{Report}
 use Rattle.bp_machine.specs.PrintedRows.{PrintedRow, printed_rows}
+use Rattle.bp_machine.specs.Reports.{IsReport}
 use Rattle.bp_machine.specs.Sessions.{SessionOf, Stands}
 use Rattle.bp_machine.specs.Setups.{SetupOf, threads}
 use Rattle.bp_trace.specs.declared.judging.Printed.{Printed}
 use Rattle.bp_trace.specs.declared.judging.Played.{Played}
 use Rattle.bp_trace.specs.declared.playing.Body.{Body}
+use Rattle.bp_trace.specs.declared.replaying.Opened.{Opened}
+use Rattle.bp_trace.specs.declared.limits.TheConstants.{MAX_TRACE}
 use Rattle.bp_trace.specs.declared.versions.Version.{Version}
-use Rattle.bp_trace.specs.TraceText.{calls_text}
+use Rattle.bp_trace.specs.Heads.{HasHead}
+use Rattle.bp_trace.specs.TraceText.{calls_text, head_lines, head_text}
 use Rattle.bp_trace.specs.BodyReading.{HasNoBodyLine}
 use Rattle.bp_trace.specs.Replayed.{row_of}
 use Rattle.bp_trace.specs.declared.replay_faults.Due.{Due}
 use Rattle.bp_trace.specs.declared.replay_faults.ReplayFault.{ReplayFault}
 use Rattle.bp_trace.specs.declared.replay_faults.ReplayFault.TheVariants as fault
-use Rattle.bp_trace.specs.Replays.{IsPlayable, line_count, IsCallFault, IsRefusedAmong, HasRefusedCall}
+use Rattle.bp_trace.specs.Accepted.{IsLongestAccepted}
+use Rattle.bp_trace.specs.Replays.{IsPlayable, line_count, IsCallFault, IsRefusedAmong, IsReplayRefusal, IsTrace, HasRefusedCall}
 
 -- the rows of a call, which prints one or none
 abbrev pub rows_of : Option Printed → List PrintedRow
@@ -88,10 +94,19 @@ abbrev pub WatchesAll
 WatchesAll {O} sees t s begun p =
     (first : O) → sees first begun t s [] → sees first p.watcher t s p.history.items
 
--- why the calls of the line n are refused after h
+-- a call of the line n is refused after h, and those of the line before it were played
+pub record IsRefusedAfter
+    (t : Program) (s : SetupOf) (h : List Call) (n : ℕ) (calls played : List Call)
+    (f : ReplayFault)
+    : Type 0 where
+  pub among : IsRefusedAmong t s h n calls f
+  pub are : played ≡ h ++ among.good
+
+-- why the calls of the line n are refused after h, where these were played
 abbrev pub IsLineRefused :
-    Program → SetupOf → List Call → ℕ → List Call → ReplayFault → Type 0
-IsLineRefused t s h n calls f = (f ≡ fault.Memory) ⊎ IsRefusedAmong t s h n calls f
+    Program → SetupOf → List Call → ℕ → List Call → List Call → ReplayFault → Type 0
+IsLineRefused t s h n calls played f =
+    (f ≡ fault.Memory) ⊎ IsRefusedAfter t s h n calls played f
 
 -- the lines of the calls that were played begin the text, and no line of calls is after them
 pub record IsBody
@@ -105,19 +120,46 @@ pub record IsBody
       (drop b.size text)
 
 -- the lines of calls that may be played begin the text, and a line is after them of whose calls
--- one is refused
+-- one is refused; those before it were played
 pub record HasRefusedBody
-    (t : Program) (v : Version) (s : SetupOf) (text : List ℕ) (first : ℕ) (f : ReplayFault)
+    (t : Program) (v : Version) (s : SetupOf) (text : List ℕ) (first : ℕ) (played : List Call)
+    (f : ReplayFault)
     : Type 0 where
   pub history : List Call
   pub rest : List ℕ
   pub playable : IsPlayable t s history
   pub parts : text ≡ calls_text v history ++ rest
   pub refused : HasRefusedCall t v s history (first + line_count v history) rest f
+  pub are : played ≡ history ++ refused.among.good
 
 abbrev pub IsBodyRefusal :
-    Program → Version → SetupOf → List ℕ → ℕ → ReplayFault → Type 0
-IsBodyRefusal t v s text first f = (f ≡ fault.Memory) ⊎ HasRefusedBody t v s text first f
+    Program → Version → SetupOf → List ℕ → ℕ → List Call → ReplayFault → Type 0
+IsBodyRefusal t v s text first played f =
+    (f ≡ fault.Memory) ⊎ HasRefusedBody t v s text first played f
+
+-- the text is short enough, and the head has no more bytes and lines than it
+pub record FitsText (text : List ℕ) (o : Opened) : Type 0 where
+  pub short : length text ≤ MAX_TRACE
+  pub within : o.size ≤ length text
+  pub few : o.lines + length (drop o.size text) ≤ length text
+
+-- the head begins the text, and has this many bytes and lines
+pub record IsOpened (text : List ℕ) (o : Opened) : Type 0 where
+  pub has : HasHead o.setup
+  pub parts : text ≡ head_text o.version o.setup ++ drop o.size text
+  pub lines : o.lines ≡ length (head_lines o.version o.setup)
+
+-- the text with this head is the trace of this history, which has this report
+pub record IsPlayedTrace
+    (t : Program) (text : List ℕ) (o : Opened) (h : List Call) (r : Report) : Type 0 where
+  pub trace : IsTrace t o.version o.setup h text
+  pub report : IsReport o.setup h r
+
+-- the text with this head is refused, after these calls that are accepted
+pub record IsRefusedOpened
+    (t : Program) (text : List ℕ) (o : Opened) (kept : List Call) (f : ReplayFault) : Type 0 where
+  pub refusal : IsReplayRefusal t text f
+  pub longest : (f ≡ fault.Memory) ⊎ IsLongestAccepted t text o.version o.setup kept
 
 -- the refusal of a head whose setup is refused
 abbrev pub replay_fault_of_setup : SetupFault → ReplayFault

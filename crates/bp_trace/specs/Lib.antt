@@ -1,3 +1,4 @@
+pub mod Accepted
 pub mod BodyReading
 pub mod Drives
 pub mod EndReading

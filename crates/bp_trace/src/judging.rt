@@ -43,11 +43,12 @@ fn keep<O: Watcher + Drop>(
         (map row_of played.new.printed.items
         ≡ map row_of played.old.printed.items ++ rows_of row) }
     ensures watcher { OnOk result (played.new.watcher ≡ played.old.watcher) }
+    ensures unkept { IfErr result (λ _. played.new.history.items ≡ played.old.history.items) }
 {
-    played.history.push(call)?;
     if let Some(row) = row {
         played.printed.push(row)?;
     }
+    played.history.push(call)?;
     Ok(())
 }
 
@@ -140,6 +141,7 @@ pub(crate) fn judge<O: Watcher + Drop>(
         → Stands t session.old h
         → h ≡ played.old.history.items
         → IfErr result (IsCallRefusal t session.old.setup h n call.now) }
+    ensures unkept { IfErr result (λ _. played.new.history.items ≡ played.old.history.items) }
 {
     let made = played.history.len() as u64;
     let Ok(row) = row_of_call(session, call) else {

@@ -2,6 +2,7 @@
 //! as a text.
 #![tactic(auto)]
 
+mod accepted_traces;
 mod body_lines;
 mod call_lines;
 mod driving;
@@ -23,6 +24,7 @@ mod traces;
 mod versions;
 mod watchers;
 
+pub use accepted_traces::{AcceptedTrace, accepted_trace};
 pub use call_lines::write_call;
 pub use driving::drive;
 pub use faults::DriveFault;
@@ -36,6 +38,6 @@ pub use migrating::migrate;
 pub use replay_faults::{Due, EndCounts, ReplayFault};
 pub use replaying::{Replayed, Watched, replay, replay_watched};
 pub use schedules::ScheduleLine;
-pub use traces::{write_end, write_head, write_trace, write_trace2};
+pub use traces::{write_end, write_head, write_trace, write_trace2, write_with_open_lines};
 pub use versions::Version;
 pub use watchers::{Unwatched, Watcher};

@@ -54,7 +54,8 @@ fn judge_line<O: Watcher + Drop>(
     ensures refused { (t : Program)
         → StandsFor session.old.code t
         → IfErr result
-        (IsLineRefused t session.old.setup played.old.history.items n calls.now) }
+        (IsLineRefused t session.old.setup played.old.history.items n calls.now
+        played.new.history.items) }
 {
     for call in calls {
         judge(session, call, n, played)?;
@@ -63,7 +64,7 @@ fn judge_line<O: Watcher + Drop>(
 }
 
 /// Plays the lines of calls that begin the text. The first has this number. The watcher has begun
-/// with the setup.
+/// with the setup. The calls before one that is refused are kept.
 pub(crate) fn play<O: Watcher + Drop>(
     alloc: Global,
     session: &mut Session,
@@ -72,6 +73,7 @@ pub(crate) fn play<O: Watcher + Drop>(
     text: &[u8],
     first: u32,
     watcher: O,
+    kept: &mut Vec<Call>,
 ) -> Result<Body<O>, ReplayFault>
     requires stands { StandsForAll session.old [] }
     requires setup { session.old.setup ≡ setup.now }
@@ -84,7 +86,7 @@ pub(crate) fn play<O: Watcher + Drop>(
     ensures kept { (session.new.code ≡ session.old.code) × (session.new.setup ≡ setup.now) }
     ensures refused { (t : Program)
         → StandsFor session.old.code t
-        → IfErr result (IsBodyRefusal t version setup.now text.now first) }
+        → IfErr result (IsBodyRefusal t version setup.now text.now first kept.new.items) }
 {
     setup.is_in_range();
     let mut played = Played {
@@ -102,7 +104,13 @@ pub(crate) fn play<O: Watcher + Drop>(
         let Some(more) = found else {
             return Ok(Body { played, size, line });
         };
-        judge_line(session, calls.as_slice(), line, &mut played)?;
+        match judge_line(session, calls.as_slice(), line, &mut played) {
+            Ok(()) => {}
+            Err(fault) => {
+                *kept = played.history;
+                return Err(fault);
+            }
+        }
         size += more;
         line += 1;
     }

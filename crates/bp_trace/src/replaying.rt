@@ -1,21 +1,24 @@
 //! Replaying a trace: a text that is one of a legal history, or is refused by the first thing in it
 //! that is not as expected.
-ghost use Rattle.std.specs.Prelude.{◌≡◌, None, MatchResult};
+ghost use Rattle.std.specs.Prelude.{◌≡◌, [], IfOk, None, MatchResult};
 ghost use Rattle.bp_tree.specs.Ast.{Program};
 ghost use Rattle.bp_flat.specs.StandsFor.{StandsFor};
+ghost use Rattle.bp_machine.specs.Sessions.{StandsForAll};
 ghost use Rattle.bp_machine.specs.Setups.{setup_fault, IsSetupRefusal};
+ghost use Rattle.bp_trace.specs.Accepted.{HasNoCalls};
 ghost use Rattle.bp_trace.specs.HeadReading.{setup_of_head};
-ghost use Rattle.bp_trace.specs.Judging.{replay_fault_of_setup};
+ghost use Rattle.bp_trace.specs.Judging.{replay_fault_of_setup, ArePlayed, FitsText, IsOpened, IsPlayedTrace, IsRefusedOpened, WatchesAll};
 ghost use Rattle.bp_trace.specs.Replayed.{IsReplayed, IsWatched};
 ghost use Rattle.bp_trace.specs.Replays.{IsReplayRefusal};
 
 use crate::end_lines::judge_end;
 use crate::heads::{Head, read_head};
-use crate::judging::Printed;
+use crate::judging::{Played, Printed};
 use crate::limits::MAX_TRACE;
 use crate::playing::play;
 use crate::replay_faults::ReplayFault;
 use crate::schedules::text_from;
+use crate::versions::Version;
 use crate::watchers::{Unwatched, Watcher};
 use bp_flat::Code;
 use bp_machine::{Call, Report, Session, Setup, SetupFault};
@@ -51,6 +54,15 @@ pub struct Watched<O: Watcher + Drop> {
     pub watcher: O,
 }
 
+/// The head of a trace: the version, the setup, and how many bytes and lines it has.
+#[derive(Drop)]
+pub(crate) struct Opened {
+    pub(crate) version: Version,
+    pub(crate) setup: Setup,
+    pub(crate) size: usize,
+    pub(crate) lines: u32,
+}
+
 /// The setup of the head of a trace.
 fn setup_of_head(alloc: Global, code: &Code, head: &Head<'_>) -> Result<Setup, SetupFault>
     ensures { (t : Program)
@@ -70,6 +82,71 @@ fn setup_of_head(alloc: Global, code: &Code, head: &Head<'_>) -> Result<Setup, S
     )
 }
 
+/// Reads the head of a trace, of a setup that the program takes.
+pub(crate) fn open(alloc: Global, code: &Code, text: &[u8]) -> Result<Opened, ReplayFault>
+    ensures fits { IfOk result (FitsText text.now) }
+    ensures judged { (t : Program)
+        → StandsFor code.now t
+        → MatchResult result
+        (λ o. IsOpened text.now o × (setup_fault t o.setup ≡ None))
+        (λ f. IsReplayRefusal t text.now f × HasNoCalls f) }
+{
+    if text.len() > MAX_TRACE {
+        return Err(ReplayFault::TooLong);
+    }
+    code.is_of_a_program();
+    let head = read_head(alloc, text)?;
+    match setup_of_head(alloc, code, &head) {
+        Ok(setup) => Ok(Opened {
+            version: head.version,
+            setup,
+            size: head.size,
+            lines: head.lines,
+        }),
+        Err(fault) => Err(replay_fault_of_setup(fault)),
+    }
+}
+
+/// Plays what follows the head of a trace, and judges its end. The calls that were played before a
+/// refusal are kept.
+pub(crate) fn play_opened<O: Watcher + Drop>(
+    alloc: Global,
+    session: &mut Session,
+    opened: &Opened,
+    text: &[u8],
+    watcher: O,
+    kept: &mut Vec<Call>,
+) -> Result<(Played<O>, Report), ReplayFault>
+    requires fits { FitsText text.now opened.now }
+    requires stands { StandsForAll session.old [] }
+    requires setup { session.old.setup ≡ opened.now.setup }
+    ensures played { IfOk result (λ p. ArePlayed session.new p.0) }
+    ensures watched { (t : Program)
+        → StandsFor session.old.code t
+        → IfOk result (λ p. WatchesAll O.sees t opened.now.setup watcher p.0) }
+    ensures kept { (session.new.code ≡ session.old.code) × (session.new.setup ≡ opened.now.setup) }
+    ensures judged { (t : Program)
+        → StandsFor session.old.code t
+        → IsOpened text.now opened.now
+        → setup_fault t opened.now.setup ≡ None
+        → MatchResult result
+        (λ p. IsPlayedTrace t text.now opened.now p.0.history.items p.1)
+        (IsRefusedOpened t text.now opened.now kept.new.items) }
+{
+    let rest = text_from(text, opened.size);
+    let (setup, version, first) = (&opened.setup, opened.version, opened.lines + 1);
+    let body = play(alloc, session, setup, version, rest, first, watcher, kept)?;
+    let report = session.report();
+    let end = text_from(rest, body.size);
+    match judge_end(end, report.calls, report.left_open, body.line) {
+        Ok(()) => Ok((body.played, report)),
+        Err(fault) => {
+            *kept = body.played.history;
+            Err(fault)
+        }
+    }
+}
+
 /// Replays a text without threads: it is the trace of a legal history of the program, in either
 /// version, or it is refused by the first thing that is not as expected. The watcher makes the
 /// calls.
@@ -85,41 +162,21 @@ pub fn replay_watched<O: Watcher + Drop>(
         (IsWatched (O.sees watcher) t text.now)
         (IsReplayRefusal t text.now) }
 {
-    if text.len() > MAX_TRACE {
-        return Err(ReplayFault::TooLong);
-    }
-    code.is_of_a_program();
-    let head = read_head(alloc, text)?;
-    let setup = match setup_of_head(alloc, code, &head) {
-        Ok(setup) => setup,
-        Err(fault) => return Err(replay_fault_of_setup(fault)),
-    };
+    let opened = open(alloc, code, text)?;
     let mut watcher = watcher;
-    watcher.begin(&setup)?;
-    let mut session = Session::new(alloc, code, &setup)?;
-    let rest = text_from(text, head.size);
-    let first = head.lines + 1;
-    let body = play(
-        alloc,
-        &mut session,
-        &setup,
-        head.version,
-        rest,
-        first,
-        watcher,
-    )?;
-    let report = session.report();
-    let end = text_from(rest, body.size);
-    judge_end(end, report.calls, report.left_open, body.line)?;
+    watcher.begin(&opened.setup)?;
+    let mut session = Session::new(alloc, code, &opened.setup)?;
+    let mut kept = Vec::new(alloc);
+    let (played, report) = play_opened(alloc, &mut session, &opened, text, watcher, &mut kept)?;
     Ok(Watched {
         replayed: Replayed {
-            setup,
-            history: body.played.history,
-            printed: body.played.printed,
+            setup: opened.setup,
+            history: played.history,
+            printed: played.printed,
             report,
         },
         session,
-        watcher: body.played.watcher,
+        watcher: played.watcher,
     })
 }
 

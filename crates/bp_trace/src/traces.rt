@@ -173,7 +173,7 @@ fn write_history<W: Write>(
 }
 
 /// Writes the trace of a history with this many open lines, in this version.
-pub(crate) fn write_with_open_lines<W: Write>(
+pub fn write_with_open_lines<W: Write>(
     version: Version,
     setup: &Setup,
     history: &[Call],

@@ -1,6 +1,7 @@
 pub mod AllContexts
 pub mod BegunViews
 pub mod CallsBefore
+pub mod CopiedOptions
 pub mod CutLines
 pub mod JoinedTexts
 pub mod KeptFronts

@@ -158,7 +158,8 @@ module _
   IsViewRefusal (NoThread i) = (new ≡ old) × HasNoThread i
   IsViewRefusal (NoVariable n) = (new ≡ old) × HasNoVariable n
   IsViewRefusal f =
-      IsStopped (λ view. (report : Report) × IsViewOfTrace t text trace o file view report) old new f
+      IsStopped (λ view. (report : Report) × IsViewOfTrace t text trace o file view report)
+      old new f
 
 -- A device: thread i is to be shown alone, and is none of n threads.
 abbrev pub IsMissing : Option ℕ → (n : ℕ) → ViewFault → Type 0

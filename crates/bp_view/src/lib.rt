@@ -30,5 +30,6 @@ pub use bp_facts::{
 pub use bp_tasks::{ViewFormat, ViewOptions};
 pub use contexts::contexts_of;
 pub use laws::views_are_single;
+pub use outcomes::{outcome_text, waits_text};
 pub use states::state_at;
 pub use views::view;

@@ -57,8 +57,8 @@ fn clean_text(format: ViewFormat, deadlocked: bool) -> &'static [u8]
     }
 }
 
-/// The text of the outcome.
-fn outcome_text(
+/// The text of the outcome. In a view for people, the place of a failure is in this file.
+pub fn outcome_text(
     alloc: Global,
     format: ViewFormat,
     file: &str,
@@ -103,8 +103,9 @@ fn push_wait(
     }
 }
 
-/// The text of the threads that wait.
-fn waits_text(
+/// The text of the threads that wait, each after a line feed or a comma. In a view for people,
+/// their places are in this file.
+pub fn waits_text(
     alloc: Global,
     format: ViewFormat,
     file: &str,

@@ -2,10 +2,9 @@
 use Rattle.std.specs.Prelude.{ℕ, Bool, List, Option}
 use Rattle.bp_commands.specs.Checks.{checks}
 use Rattle.bp_commands.specs.Commands.{Command}
-use Rattle.bp_commands.specs.Confirms.{confirms_by_names, of_confirm}
 use Rattle.bp_commands.specs.Drives.{drives_by_names}
 use Rattle.bp_commands.specs.declared.explanations.SecondInput.TheVariants.{Schedule, Steps, Trace}
-use Rattle.bp_commands.specs.RunEnds.{never, of_report, of_run}
+use Rattle.bp_commands.specs.RunEnds.{done, of_report, of_run}
 use Rattle.bp_tasks.specs.declared.fault_formats.FaultFormat.{FaultFormat}
 use Rattle.bp_commands.specs.Given.{Pair}
 use Rattle.bp_commands.specs.Jobs.{on_bundle, on_file, on_files, Job}
@@ -14,11 +13,14 @@ use Rattle.bp_commands.specs.Runs.{runs_by_names}
 use Rattle.bp_commands.specs.Shrinks.{shrinks}
 use Rattle.bp_commands.specs.Tests.{of_test, tests_by_names}
 use Rattle.bp_commands.specs.Traces.{migrates, replays}
+use Rattle.bp_show.specs.Confirms.{confirms_by_names, of_confirm}
 use Rattle.bp_show.specs.Shows.{shows_as}
+use Rattle.bp_show.specs.declared.confirming.VerdictForm.{VerdictForm}
 use Rattle.bp_machine.specs.declared.reports.Report.{Report}
 use Rattle.bp_messages.specs.declared.test_reports.TestReport.{TestReport}
 use Rattle.bp_trace.specs.declared.limits.TheConstants.{MAX_SCHEDULE, MAX_TRACE}
 use Rattle.bp_tasks.specs.FaultFormats.{fault_format}
+use Rattle.bp_tasks.specs.declared.tasks.ConfirmTask.{ConfirmTask}
 use Rattle.bp_tasks.specs.declared.tasks.ShowTask.{ShowTask}
 use Rattle.bp_tasks.specs.declared.tasks.Task.{Task}
 use Rattle.bp_tasks.specs.declared.tasks.Task.TheVariants.{Bundle, Check, Code, Drive, Confirm, Run, Test, Replay, Show, Migrate, Shrink}
@@ -40,6 +42,10 @@ test_asked task =
     let file = task.program.now in
     tests_by_names task.start task.named task.options file task.unreached task.json
 
+-- how the verdict is told that a task asks for
+abbrev pub form_asked : ConfirmTask → VerdictForm
+form_asked task = record { expected = task.expected; json = task.json }
+
 -- The files have these bytes by their paths. Lines are shown so on standard output, and faults are
 -- reported in this format.
 module _ (bytes : List ℕ → Option (List ℕ)) (screen : Screen) (format : FaultFormat) where
@@ -60,15 +66,15 @@ module _ (bytes : List ℕ → Option (List ℕ)) (screen : Screen) (format : Fa
   abbrev pub job_in : (input : Option (List ℕ)) → Task → Job
   job_in input Bundle = on_bundle input
   job_in input (Check task) =
-      on_file bytes format (checks task.json) never task.program.now
+      on_file bytes format (checks task.json) done task.program.now
   job_in input (Code task) =
-      on_file bytes format (lists task.form) never task.program.now
+      on_file bytes format (lists task.form) done task.program.now
   job_in input (Drive task) =
       let command = drives_by_names task.start task.named in
       let schedule = task.schedule.now in
       on_files bytes format command of_report MAX_SCHEDULE Schedule task.program.now schedule
   job_in input (Confirm task) =
-      let command = confirms_by_names task.start task.named task.bound in
+      let command = confirms_by_names task.start task.named task.bound (form_asked task) in
       let steps = task.steps.now in
       on_files bytes format command of_confirm MAX_SCHEDULE Steps task.program.now steps
   job_in input (Run task) =

@@ -1,18 +1,18 @@
 //! What each task does, over any files and streams.
 ghost use Rattle.std.specs.Io.Buffered.{writer_contents};
-ghost use Rattle.std.specs.Prelude.{◌≡◌};
+ghost use Rattle.std.specs.Prelude.{◌≡◌, is_some};
 ghost use Rattle.bp_commands.specs.Jobs.{held, IsRun};
-ghost use Rattle.btrun.specs.Tasks.{job_of, on_screen, show_job};
+ghost use Rattle.btrun.specs.Tasks.{form_asked, job_of, on_screen, show_job};
 
 use bp_commands::{
-    Check, Confirm, Drive, Files, Io, ListCode, Migrate, Replay, Run, RunEnd, Shrink, Streams,
-    Test, run_by_workers, run_on_bundle, run_on_pair, run_on_program,
+    Check, Drive, Files, Io, ListCode, Migrate, Replay, Run, RunEnd, Shrink, Streams, Test,
+    run_by_workers, run_on_bundle, run_on_pair, run_on_program,
 };
 use bp_init::{NamedBits, NamedStart};
 use bp_machine::Start;
 use bp_run::Spread;
-use bp_show::{Show, ShowContexts, ShowState, ShowSteps};
-use bp_tasks::{RunTask, ShowTask, Task, TestTask, ViewOptions};
+use bp_show::{Confirm, Show, ShowContexts, ShowState, ShowSteps, VerdictForm};
+use bp_tasks::{ConfirmTask, RunTask, ShowTask, Task, TestTask, ViewOptions};
 use bp_test::Progress;
 use std::alloc::Global;
 use std::io::{BufWriter, Read, Write};
@@ -74,8 +74,27 @@ fn test_of<'a, F, T, P>(host: Host<'a, F, T, P>, task: &'a TestTask<'a>) -> Test
     }
 }
 
+/// The steps that a task asks to be confirmed.
+fn confirm_of<'a>(task: &'a ConfirmTask<'a>) -> Confirm<'a>
+    ensures start { result.start.start.now ≡ task.now.start }
+    ensures named { result.start.named.now ≡ task.now.named }
+    ensures bound { result.bound ≡ task.now.bound }
+    ensures form { result.form ≡ form_asked task.now }
+{
+    Confirm {
+        start: start_of(&task.start, &task.named),
+        bound: task.bound,
+        form: VerdictForm {
+            expected: task.expected,
+            json: task.json,
+        },
+    }
+}
+
 /// The gate that draws who takes each turn, where that is asked for.
-fn gate_of(task: &RunTask<'_>) -> Option<Spread> {
+fn gate_of(task: &RunTask<'_>) -> Option<Spread>
+    ensures { is_some result ≡ task.now.spread }
+{
     if task.spread {
         let options = &task.options;
         Some(Spread::new(options.seed, options.start.entries.len()))
@@ -166,8 +185,7 @@ pub fn carry_out<
             run_on_pair(io, &Drive { start }, task.program, task.schedule, streams)
         }
         Task::Confirm(task) => {
-            let (start, bound) = (start_of(&task.start, &task.named), task.bound);
-            let confirm = Confirm { start, bound };
+            let confirm = confirm_of(task);
             run_on_pair(io, &confirm, task.program, task.steps, streams)
         }
         Task::Run(task) => {

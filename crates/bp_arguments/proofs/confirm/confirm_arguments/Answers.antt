@@ -16,6 +16,7 @@ returns c = record {
   bound = c.context_bound.ensures;
   contexts = c.number.ensures;
   calls = c.number-2.ensures;
+  expected = c.expected_verdict.ensures;
   json = c.is_given.ensures;
   explain = c.explaining.ensures;
 }

@@ -1,29 +1,22 @@
-use Rattle.std.proofs.Common.{[], ap, sym, ◌∙◌, option_map}
+use Rattle.std.proofs.Common.{[], ap, sym, ◌∙◌, option_map, subst}
+use Rattle.std.specs.Prelude.{MatchBool}
 use Rattle.bp_confirm.specs.EffectBits.{bit_of_effects, splits}
+use Rattle.bp_confirm.specs.Inferred.{IsAmbiguous, IsClear}
 use Rattle.bp_confirm.specs.Places.{place_of}
-use Rattle.bp_confirm.proofs.BitsOfEffects.{bit_is, split_is}
+use Rattle.bp_confirm.proofs.BitsOfEffects.{bit_is, split_is, tells_clear}
 use Rattle.bp_confirm.proofs.PointsOfInstructions.{numbers_are}
 use Rattle.bp_confirm.proofs.choices.inferred_bit.Goals as goal
-
-pub returns-then-splits : goal.returns-then-splits
-returns-then-splits c = λ text t p left does are.
-    let zero = c.effect-zero.ensures [] in
-    let one = c.effect-one.ensures [] in
-    let at = ap (λ n. splits n c.effect-zero.result c.effect-one.result) (numbers_are text t c.args.points.now c.args.next are) in
-    (split_is t p (option_map (place_of text) c.args.next) c.args.follow c.args.store c.effect-zero.result
-    c.effect-one.result left c.args.instr.now does zero one).split
-    (sym at ∙ sym c.splits.ensures ∙ c.if-splits.true)
 
 pub returns : goal.returns
 returns c = λ text t p left does are.
     let zero = c.effect-zero.ensures [] in
     let one = c.effect-one.ensures [] in
+    let place = option_map (place_of text) c.args.next in
     let numbers = numbers_are text t c.args.points.now c.args.next are in
-    let at = ap (λ n. splits n c.effect-zero.result c.effect-one.result) numbers in
-    let place = option_map (place_of text) c.args.next in (
+    let at = c.splits.ensures ∙ ap (λ n. splits n c.effect-zero.result c.effect-one.result) numbers in
+    let split = split_is t p place c.args.follow c.args.store c.effect-zero.result c.effect-one.result left c.args.instr.now does zero one in (
       c.bit_of_effects.ensures
           ∙ ap (λ n. bit_of_effects n c.args.follow c.effect-zero.result c.effect-one.result) numbers
           ∙ bit_is t p place c.args.follow c.args.store c.effect-zero.result c.effect-one.result left c.args.instr.now does zero one,
-      (split_is t p place c.args.follow c.args.store c.effect-zero.result c.effect-one.result left c.args.instr.now does zero one).no
-          (sym at ∙ sym c.splits.ensures ∙ c.if-splits.false),
+      tells_clear c.splits.result _ at (IsClear left place) (IsAmbiguous t left place) split,
     )

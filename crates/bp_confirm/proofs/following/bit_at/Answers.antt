@@ -1,4 +1,4 @@
-use Rattle.std.proofs.Common.{◌∙◌, Some, ap, refl, sym}
+use Rattle.std.proofs.Common.{◌∙◌, true, ap, refl, sym}
 use Rattle.std.specs.Prelude.{slice_get, option_map}
 use Rattle.bp_machine.specs.Histories.{configuration_after}
 use Rattle.bp_confirm.specs.Inferred.{some_follow}
@@ -22,5 +22,5 @@ returns-in-Some-plain_bit c = λ text t h x later stands are tells top.
     let next = next_place x.thread later in
     inferred_here t session.code (configuration_after t session.setup h) x.thread c.args.top later stands top
     c.get.result c.in-Some.instr c.in-Some.is (c.get.ensures ∙ ap (λ k. slice_get k.instructions c.args.top.number) c.code.ensures)
-    next (some_follow later) (Some c.in-Some-plain_bit.bit) refl refl
+    next (some_follow later) (record { bit = c.in-Some-plain_bit.bit; is_clear = true }) refl refl
     (λ p left does. c.in-Some-plain_bit.ensures t p left next (some_follow later) does)

@@ -21,7 +21,7 @@ returns c = λ text k i are is.
     let t = c.args.checked.now in
     let procs_are = c.procs.ensures.value ∙ ap (λ x. x.procedures) c.tree.ensures.value in
     let found = got_item c.get.result c.procs.result.now c.in-Some-procedure_of.procedure c.get.ensures.lookup.0 c.get.ensures.lookup.1 in
-    c.local_value.ensures
+    c.own_value.ensures
     ∙ locals_found text t c.args.points.now c.args.top c.in-Some.top c.in-Some.is k i are is
     c.procedure_of.result c.procedure_of.ensures c.in-Some-procedure_of.procedure c.in-Some-procedure_of.is
     c.procs.result.now procs_are c.get.result found c.in-Some-get.proc c.args.name.now c.in-Some-get.is

@@ -1,7 +1,7 @@
 use Rattle.std.proofs.Common.{◌≡◌, ◌∙◌, ◌<◌, ◌&&◌, true, [], length, map, get_or, ap, ap₂, sym, arith}
 use Rattle.std.proofs.lemmas.List.{length-map, get_or-map}
 use Rattle.std.proofs.lemmas.List.Folds.{list_all_more}
-use Rattle.bp_facts.specs.Watches.{declares}
+use Rattle.bp_source.specs.VariableNames.{declares}
 use Rattle.bp_facts.proofs.watches.undeclared.Goals as goal
 
 pub loop-n-preserved : goal.loop-n-preserved

@@ -14,7 +14,7 @@ returns-in_err-judge-clause-refused g c = λ t is.
     let stands = (before.played t is_kept).0 in
     let playable = playable_of t c.loop-call.session c.args.session.now.setup c.loop-call.played.history.items before.setup stands in
     let refused = rw before.setup at (c.in_err-judge.ensures.refused t c.loop-call.played.history.items is_kept stands refl) in
-    rw (p.1, p.2) (line_refused t c.args.session.now.setup c.args.played.now.history.items
+    rw (p.1, p.2, c.in_err-judge.ensures.unkept) (line_refused t c.args.session.now.setup c.args.played.now.history.items
     c.loop-call.played.history.items c.args.calls.now c.loop-call.call-index _ c.loop-call-test.true before.history
     c.args.n c.in_err-judge.field-0.0 playable refused)
 

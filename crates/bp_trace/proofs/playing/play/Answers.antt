@@ -1,7 +1,6 @@
 use Rattle.std.proofs.lemmas.Grind.{common_steps}
 use Rattle.std.proofs.Common.{arith}
 use Rattle.std.proofs.Common.{◌∙◌, sym, subst, refl}
-use Rattle.std.proofs.lemmas.Result.{err_from_is_err_and}
 use Rattle.bp_flat.specs.StandsFor.{StandsFor}
 use Rattle.bp_trace.proofs.LineThread.{line_below}
 use Rattle.bp_trace.proofs.PlayedCalls.{playable_of, next_within, next_parts, next_number, next_few, body_refused}
@@ -31,33 +30,32 @@ judge_line-requires-clause-threads g c =
     let below = line_below c.args.version _ _ at.line c.body_line_at.new.calls.items at.is_line in
     rw (sym (c.loop-calls.invariant.setup ∙ c.requires.setup), sym c.as_slice-in-loop-calls.ensures.value) at below
 
-pub returns-in_err-judge_line-clause-refused : goal.returns-in_err-judge_line-clause-refused
-returns-in_err-judge_line-clause-refused g c = λ t is.
+pub returns-in-Err-clause-refused : goal.returns-in-Err-clause-refused
+returns-in-Err-clause-refused g c = λ t is.
     let before = c.loop-calls.invariant in
-    let p = err_from_is_err_and c.from_residual-in_err-judge_line.result c.from_residual-in_err-judge_line.ensures.1 in
     let at = rw (c.in-Some.is, c.threads.ensures, c.last_thread-last.ensures, c.as_slice.ensures.value, c.text_from-rest.ensures) at c.in_ok-found.ensures in
     let is_kept = subst (λ k. StandsFor k t) (sym before.code) is in
     let same = before.setup ∙ c.requires.setup in
     let playable = playable_of t c.loop-calls.session c.args.setup.now c.loop-calls.played.history.items same (before.played t is_kept).0 in
-    let refused = rw (same, c.as_slice-in-loop-calls.ensures.value) at (c.in_err-judge_line.ensures.refused t is_kept) in
-    rw (p.1, p.2) (body_refused c.args.version _ c.args.first c.args.text.now c.loop-calls.played.history.items
+    let refused = rw (same, c.as_slice-in-loop-calls.ensures.value) at (c.in-Err.ensures.refused t is_kept) in
+    body_refused c.args.version _ c.args.first c.args.text.now c.loop-calls.played.history.items
     c.loop-calls.size c.loop-calls.line before.within before.parts before.number
-    t c.args.setup.now refl playable c.body_line_at.new.calls.items c.in-Some.more at c.in_err-judge_line.field-0.0 refused)
+    t c.args.setup.now refl playable c.body_line_at.new.calls.items c.in-Some.more at c.judge_line.new.played.history.items c.in-Err.fault refused
 
 pub loop-calls-preserved : goal.loop-calls-preserved
 loop-calls-preserved g c =
     let before = c.loop-calls.invariant in
     let at = rw (c.in-Some.is, c.threads.ensures, c.last_thread-last.ensures, c.as_slice.ensures.value, c.text_from-rest.ensures) at c.in_ok-found.ensures in
-    let after = rw c.as_slice-in-loop-calls.ensures.value at c.in_ok-judge_line.ensures.history in
+    let after = rw c.as_slice-in-loop-calls.ensures.value at c.in-Ok.ensures.history in
     let new = c.judge_line.new.played.history.items in
     let old = c.loop-calls.played.history.items in
     let calls = c.body_line_at.new.calls.items in
     record {
-      played = c.in_ok-judge_line.ensures.played;
+      played = c.in-Ok.ensures.played;
       watched = λ t is first begun.
           let is_kept = subst (λ k. StandsFor k t) (sym before.code) is in
           let same = before.setup ∙ c.requires.setup in
-          let seen = rw same at (c.in_ok-judge_line.ensures.watched t is_kept first) in
+          let seen = rw same at (c.in-Ok.ensures.watched t is_kept first) in
           seen (before.watched t is first begun);
       within =
           next_within c.args.version _ c.args.first c.args.text.now old c.loop-calls.size c.loop-calls.line

@@ -1,4 +1,4 @@
-use Rattle.std.proofs.Common.{◌++◌, flat_map, subst, sym, ◌≡◌, ap, ◌∙◌}
+use Rattle.std.proofs.Common.{◌++◌, flat_map}
 use Rattle.std.specs.List.{concat}
 use Rattle.std.proofs.lemmas.Result.{err_from_is_err_and}
 use Rattle.bp_trace.specs.TraceText.{entry_line, init_line, limit_lines}

@@ -1,13 +1,9 @@
-use Rattle.std.proofs.Common.{◌≡◌, ◌∙◌, Option, None, Some, Bor, ap, refl}
-use Rattle.std.specs.Option.{option_copied}
+use Rattle.std.proofs.Common.{◌∙◌, ap}
 use Rattle.std.specs.Prelude.{option_map}
 use Rattle.std.proofs.lemmas.Result.{IfOk-weaker}
 use Rattle.bp_facts.specs.FootFacts.{condition_in, foot_in}
+use Rattle.bp_view.proofs.CopiedOptions.{copied}
 use Rattle.bp_view.proofs.outcomes.foot_of.Goals as goal
-
-copied : {A B : Type 0} (f : A → B) (x : Option (Bor A)) → option_map (λ r. f r.now) x ≡ option_map f (option_copied x)
-copied f None = refl
-copied f (Some r) = refl
 
 pub returns : goal.returns
 returns c = λ t text h set code stands outcome.

@@ -1,0 +1,12 @@
+use Rattle.std.proofs.Common.{refl}
+use Rattle.bp_trace.proofs.ReplayedTexts.{head_fits, head_opened}
+use Rattle.bp_trace.proofs.replaying.open.Goals as goal
+
+pub returns-in-Ok-clause-fits : goal.returns-in-Ok-clause-fits
+returns-in-Ok-clause-fits c =
+    head_fits c.args.text.now c.in_ok-head.head _ c.in_ok-head.ensures refl refl c.if-text-gt-MAX_TRACE.false
+
+pub returns-in-Ok-clause-judged : goal.returns-in-Ok-clause-judged
+returns-in-Ok-clause-judged c = λ t is.
+    let made = c.in-Ok.ensures t is in
+    (head_opened c.args.text.now c.in_ok-head.head _ c.in_ok-head.ensures refl refl refl made.0, made.1)
