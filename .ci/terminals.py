@@ -137,13 +137,18 @@ def test_columns(report, words, bare):
     """Looks at how wide the line of a call is."""
     def call(text):
         return next(line for line in text.split("\n") if line.startswith("    1 "))
+def narrow_line():
+    """The same in 40 columns: the statement and the place are gone, and the note is cut."""
+    return "    1      0       1 .. left_of_the_br.."
+
+
 
     for told, text, wanted in (
         ("on a terminal", shown_on_terminal(words, bare), wide_line(60)),
         ("of 200 columns", shown_on_terminal(words, {**bare, "COLUMNS": "200"}), wide_line(60)),
-        ("of 100 columns", shown_on_terminal(words, {**bare, "COLUMNS": "100"}), wide_line(50)[:98] + ".."),
-        ("of 80 columns", shown_on_terminal(words, {**bare, "COLUMNS": "80"}), wide_line(30)[:78] + ".."),
-        ("of 40 columns", shown_on_terminal(words, {**bare, "COLUMNS": "40"}), wide_line(12)[:38] + ".."),
+        ("of 100 columns", shown_on_terminal(words, {**bare, "COLUMNS": "100"}), wide_line(29)),
+        ("of 80 columns", shown_on_terminal(words, {**bare, "COLUMNS": "80"}), wide_line(9)),
+        ("of 40 columns", shown_on_terminal(words, {**bare, "COLUMNS": "40"}), narrow_line()),
         ("of too few columns", shown_on_terminal(words, {**bare, "COLUMNS": "39"}), wide_line(60)),
         ("of a text", shown_on_terminal(words, {**bare, "COLUMNS": "8x"}), wide_line(60)),
         ("off a terminal of 80 columns", shown(words, {**bare, "COLUMNS": "80"}), wide_line(60)),

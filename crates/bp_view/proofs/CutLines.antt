@@ -1,8 +1,8 @@
 -- What is after the first bytes of a line, cut.
-use Rattle.std.proofs.Common.{if◌then◌else◌, ◌≡◌, ◌∙◌, ◌+◌, ◌-◌, ◌<◌, ◌≤◌, ◌++◌, ℕ, zero, suc, true, List, [], ◌∷◌, Option, codes, nat_lt, take, drop, length, length-drop, ap, ap₂, refl, sym, arith}
+use Rattle.std.proofs.Common.{if◌then◌else◌, ◌≡◌, ◌∙◌, ◌+◌, ◌-◌, ◌<◌, ◌≤◌, ◌++◌, ℕ, zero, suc, true, List, [], ◌∷◌, codes, nat_lt, take, drop, length, length-drop, ap, ap₂, refl, sym, arith}
 use Rattle.std.proofs.lemmas.Bool.Decides.{nat_tests}
 use Rattle.bp_text.proofs.GrownLists.{both_added}
-use Rattle.bp_view.specs.StatementColumns.{shortened, within}
+use Rattle.bp_view.specs.StatementColumns.{shortened}
 
 abbrev nothing : List ℕ
 nothing = []
@@ -52,8 +52,8 @@ uncut columns start line few = whole
         both start line ∙ ap (λ b. take start line ++ (if b then take (columns - 2) rest ++ codes ".." else rest)) (sym short)
 
 -- what was added to a line is cut
-pub added_cut : (columns : Option ℕ) (first more line : List ℕ) (start : ℕ) → start ≡ length first → line ≡ first ++ more
-    → take start line ++ within columns (drop start line) ≡ first ++ within columns more
+pub added_cut : (columns : ℕ) (first more line : List ℕ) (start : ℕ) → start ≡ length first → line ≡ first ++ more
+    → take start line ++ shortened columns (drop start line) ≡ first ++ shortened columns more
 added_cut columns first more line start begins is =
-    ap₂ (λ n y. take n y ++ within columns (drop n y)) begins is
-    ∙ ap₂ (λ a b. a ++ within columns b) (taken first more) (dropped first more)
+    ap₂ (λ n y. take n y ++ shortened columns (drop n y)) begins is
+    ∙ ap₂ (λ a b. a ++ shortened columns b) (taken first more) (dropped first more)

@@ -10,7 +10,7 @@ use Rattle.bp_tasks.specs.declared.view_options.ViewFormat.TheVariants.{Columns}
 use Rattle.bp_view.specs.declared.view_contexts.TheConstants.{MAX_INDENTS}
 use Rattle.bp_view.specs.declared.view_contexts.Widths.{Widths}
 use Rattle.bp_view.specs.Colours.{closing, colour_of, opening}
-use Rattle.bp_view.specs.StatementColumns.{shortened, within}
+use Rattle.bp_view.specs.StatementColumns.{shortened}
 use Rattle.bp_view.specs.Variables.{entries_text}
 
 -- what is said of a reply
@@ -72,6 +72,14 @@ abbrev pub after_room : ℕ → List ℕ → List ℕ
 after_room room [] = []
 after_room room (b ∷ bs) = concat (spaces room ∷ (b ∷ bs) ∷ [])
 
+-- the place in its column, and the statement
+abbrev pub standing_text : Widths → ShownCall → List ℕ
+standing_text w f =
+    concat (
+    at_left w.place f.next.place
+    ∷ indented w.statement f.next.depth f.next.text
+    ∷ [])
+
 -- the fields, the place, the statement, and after its column the note
 abbrev pub call_text : Widths → ShownCall → (calls : ℕ) → List ℕ
 call_text w f calls =
@@ -83,12 +91,31 @@ call_text w f calls =
     ∷ after_room (w.notes - length statement) (note_text f calls)
     ∷ [])
 
--- a line of at most this many columns, in a colour
+-- The same in at most this many columns. The place and the statement have those that the fields
+-- and the note leave, and are cut at their end: the statement first, and then the place. Only
+-- what has no room even so is cut from the note.
+abbrev pub narrow_text : (columns : ℕ) → Widths → ShownCall → (calls : ℕ) → List ℕ
+narrow_text columns w f calls =
+    let fields = concat (field_texts w f) in
+    let note = note_text f calls in
+    let room = columns - length fields - length note in
+    shortened columns (
+    concat (fields ∷ at_left room (shortened room (standing_text w f)) ∷ note ∷ []))
+
+-- the text of a call, in at most this many columns
+abbrev pub fitted_text : Option ℕ → Widths → ShownCall → (calls : ℕ) → List ℕ
+fitted_text None w f calls = call_text w f calls
+fitted_text (Some columns) w f calls =
+    if nat_lt columns (length (call_text w f calls))
+    then narrow_text columns w f calls
+    else call_text w f calls
+
+-- the line of a call, in a colour
 abbrev pub line_text : Widths → Colour → ShownCall → (calls : ℕ) → List ℕ
 line_text w colour f calls =
     concat (
     opening colour
-    ∷ within w.line (call_text w f calls)
+    ∷ fitted_text w.line w f calls
     ∷ closing colour
     ∷ codes "\n" ∷ [])
 

@@ -1,4 +1,4 @@
--- How many columns a line and a statement in it have.
+-- How many columns a statement has, and how a text is cut.
 use Rattle.std.specs.Prelude.{if◌then◌else◌, ◌++◌, ◌-◌, ℕ, List, Option, None, Some, codes, length, max, min, nat_lt, take}
 use Rattle.bp_view.specs.declared.statement_columns.TheConstants.{LEAST_STATEMENT, MAX_STATEMENT, OTHER_COLUMNS}
 
@@ -12,8 +12,3 @@ statement_room (Some columns) = max LEAST_STATEMENT (min MAX_STATEMENT (columns 
 abbrev pub shortened : (room : ℕ) → List ℕ → List ℕ
 shortened room statement =
     if nat_lt room (length statement) then take (room - 2) statement ++ codes ".." else statement
-
--- a line of at most this many columns
-abbrev pub within : Option ℕ → List ℕ → List ℕ
-within None line = line
-within (Some columns) line = shortened columns line

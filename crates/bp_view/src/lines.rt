@@ -5,7 +5,7 @@ ghost use Rattle.bp_text.specs.Columns.{at_left, spaces};
 ghost use Rattle.bp_facts.specs.CallFacts.{facts_in, next_in};
 ghost use Rattle.bp_facts.specs.ChangeFacts.{entry_of};
 ghost use Rattle.bp_view.specs.Colours.{closing};
-ghost use Rattle.bp_view.specs.Lines.{after_room, call_text, choice_text, column_line, field_texts, indented, mark_text, note_text, reply_note, times_text};
+ghost use Rattle.bp_view.specs.Lines.{after_room, call_text, choice_text, column_line, field_texts, fitted_text, indented, mark_text, narrow_text, note_text, reply_note, times_text};
 ghost use Rattle.bp_view.specs.Variables.{entries_text};
 
 use crate::colours::Colour;
@@ -184,6 +184,58 @@ fn push_call(
     push_note_after(line, widths.notes.saturating_sub(size), facts, calls)
 }
 
+/// Adds a call in at most this many columns: its note, and before it as much of the place and the
+/// statement as there is room for.
+fn push_narrow_call(
+    line: &mut Vec<u8>,
+    front: &mut Front,
+    widths: &Widths,
+    columns: usize,
+    facts: &CallFacts<'_>,
+    calls: usize,
+) -> Result<(), AllocError>
+    ensures { let text = narrow_text columns widths.now (facts_in facts.now) calls in
+        OnOk result (line.new.items ≡ line.old.items ++ text) }
+{
+    let mut note = Vec::new(*line.allocator());
+    push_note(&mut note, facts, calls)?;
+    let start = line.len();
+    push_fields(line, front, widths, facts)?;
+    let fields = line.len();
+    push_statement(line, widths, &facts.next)?;
+    let room = columns
+        .saturating_sub(fields - start)
+        .saturating_sub(note.len());
+    cut_after(line, fields, room)?;
+    let padding = room.saturating_sub(line.len() - fields);
+    push_two(line, Spaces(padding), Bytes(&note))?;
+    cut_after(line, start, columns)
+}
+
+/// Adds a call, narrowed if lines may have fewer columns than it needs.
+fn push_fitted_call(
+    line: &mut Vec<u8>,
+    front: &mut Front,
+    widths: &Widths,
+    facts: &CallFacts<'_>,
+    calls: usize,
+) -> Result<(), AllocError>
+    ensures { let widths = widths.now in
+        let text = fitted_text widths.line widths (facts_in facts.now) calls in
+        OnOk result (line.new.items ≡ line.old.items ++ text) }
+{
+    let start = line.len();
+    push_call(line, front, widths, facts, calls)?;
+    let Some(columns) = widths.line else {
+        return Ok(());
+    };
+    if line.len() - start <= columns {
+        return Ok(());
+    }
+    line.truncate(start);
+    push_narrow_call(line, front, widths, columns, facts, calls)
+}
+
 /// Ends a line in this colour.
 fn push_end(line: &mut Vec<u8>, colour: Colour) -> Result<(), AllocError>
     ensures { let end = concat (closing colour ∷ codes "\n" ∷ []) in
@@ -210,8 +262,6 @@ pub(crate) fn push_line(
 {
     let colour = Colour::of(has_colour, facts.call.reply, facts.is_switch);
     push_piece(line, Bytes(colour.opening()))?;
-    let start = line.len();
-    push_call(line, front, widths, facts, calls)?;
-    cut_after(line, start, widths.line)?;
+    push_fitted_call(line, front, widths, facts, calls)?;
     push_end(line, colour)
 }

@@ -1,6 +1,6 @@
-//! How many columns a line and a statement in it have.
+//! How many columns a statement has, and how a text is cut.
 ghost use Rattle.std.specs.Prelude.{◌≡◌, ◌++◌, ◌≤◌, ◌<◌, drop, length, take, OnOk};
-ghost use Rattle.bp_view.specs.StatementColumns.{shortened, statement_room, within};
+ghost use Rattle.bp_view.specs.StatementColumns.{shortened, statement_room};
 
 use bp_text::{part_before, push_bytes};
 use std::alloc::AllocError;
@@ -42,22 +42,15 @@ pub(crate) fn in_column(room: usize, statement: &[u8]) -> (&[u8], &[u8])
     (statement, b"")
 }
 
-/// Cuts a line that has more than `columns` bytes after its first `start` bytes.
-pub(crate) fn cut_after(
-    line: &mut Vec<u8>,
-    start: usize,
-    columns: Option<usize>,
-) -> Result<(), AllocError>
+/// Cuts a line that has more than `room` bytes after its first `start` bytes.
+pub(crate) fn cut_after(line: &mut Vec<u8>, start: usize, room: usize) -> Result<(), AllocError>
     requires { start ≤ length line.now.items }
     ensures { let old = line.old.items in
-        OnOk result (line.new.items ≡ take start old ++ within columns (drop start old)) }
+        OnOk result (line.new.items ≡ take start old ++ shortened room (drop start old)) }
 {
-    let Some(columns) = columns else {
-        return Ok(());
-    };
-    if line.len() - start <= columns {
+    if line.len() - start <= room {
         return Ok(());
     }
-    line.truncate(start + columns.saturating_sub(CUT.len()));
+    line.truncate(start + room.saturating_sub(CUT.len()));
     push_bytes(line, CUT)
 }

@@ -1,11 +1,9 @@
-use Rattle.std.proofs.Common.{◌≡◌, ◌∙◌, ◌++◌, [], ◌∷◌, codes, length, sym, arith}
+use Rattle.std.proofs.Common.{◌∙◌, ◌++◌, [], ◌∷◌, codes, sym}
 use Rattle.bp_text.proofs.PiecesInTurn.{all_added}
 use Rattle.bp_source.proofs.JoinedPieces.{when_ok}
 use Rattle.bp_facts.specs.CallFacts.{facts_in}
 use Rattle.bp_view.specs.Colours.{closing, colour_of, opening}
-use Rattle.bp_view.specs.Lines.{call_text}
-use Rattle.bp_view.specs.StatementColumns.{within}
-use Rattle.bp_view.proofs.CutLines.{added_cut}
+use Rattle.bp_view.specs.Lines.{fitted_text}
 use Rattle.bp_view.proofs.lines.push_line.Goals as goal
 
 pub returns : goal.returns
@@ -13,15 +11,10 @@ returns c =
     let f = facts_in c.args.facts.now in
     let w = c.args.widths.now in
     let colour = colour_of c.args.has_colour f.call.reply f.switch in
-    let opened = c.push_piece.new.line.items in
-    let begins : c.len-start.result ≡ length opened = omega arith in
-    let called = c.push_call.new.line.items in
-    let added = added_cut w.line opened (call_text w f c.args.calls) called c.len-start.result begins c.in_ok-push_call.ensures in
-    let cut = c.in_ok-cut_after.ensures ∙ added in
     let old = c.args.line.now.items in
-    let text = within w.line (call_text w f c.args.calls) in
+    let text = fitted_text w.line w f c.args.calls in
     let end = closing colour ∷ codes "\n" ∷ [] in
     when_ok c.push_end.result c.push_end.ensures (λ closed.
-    rw (closed, cut, c.in_ok-push_piece.ensures)
+    rw (closed, c.in_ok-push_fitted_call.ensures, c.in_ok-push_piece.ensures)
     (rw (c.opening.ensures, c.of-colour.ensures)
     (sym (all_added (old ++ opening colour ++ text) end) ∙ all_added old (opening colour ∷ text ∷ end))))
