@@ -24,9 +24,11 @@ ExplainsSyntax file text at e =
     (place : ℕ) × ((place ≡ at) ⊎ MissesSemicolon text at place)
     × ExplainsPlace file text (Some place) e
 
--- the explanation of a fault of a program's text: none of refused memory
+-- the explanation of a fault of a program's text: none of refused memory, and of a text that is too
+-- long, which was not read whole
 abbrev pub ExplainsProgram : List ℕ → List ℕ → ProgramFault → Explanation → Type 0
 ExplainsProgram file text (Read read.Memory) e = ⊥
+ExplainsProgram file text (Read read.TooLong) e = ⊥
 ExplainsProgram file text (Read (read.Syntax at)) e = ExplainsSyntax file text at e
 ExplainsProgram file text (Check check.Memory at) e = ⊥
 ExplainsProgram file text fault e = ExplainsPlace file text (program_fault_place fault) e

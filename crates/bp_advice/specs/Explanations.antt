@@ -28,10 +28,6 @@ place_of text (Some at) = At (position_at text at)
 abbrev pub ExplainsPlace : List ℕ → List ℕ → Option ℕ → Explanation → Type 0
 ExplainsPlace file text at e = IsExplanation file (place_of text at) (excerpt_of_fault text at) e
 
--- the explanation says that a text is too long, and shows none of it
-abbrev pub ExplainsLength : List ℕ → Explanation → Type 0
-ExplainsLength file e = IsExplanation file Whole [] e
-
 -- the explanation names this line of the text, and shows it
 abbrev pub ExplainsLine : List ℕ → List ℕ → ℕ → Explanation → Type 0
 ExplainsLine file text n e = IsExplanation file (Line n) (excerpt_of_line text n) e

@@ -1,9 +1,7 @@
 //! Explanations of faults: where in a file, what is wrong there, and the lines that show the place.
 ghost use Rattle.std.specs.Prelude.{◌≡◌, [], IfOk};
-ghost use Rattle.bp_advice.specs.Explanations.{ExplainsLength, ExplainsLine, ExplainsPlace, IsExplanation, place_of};
+ghost use Rattle.bp_advice.specs.Explanations.{ExplainsLine, ExplainsPlace, IsExplanation, place_of};
 
-use crate::sentences::Part::{Number, Words};
-use crate::sentences::push_parts;
 use bp_text::{Position, excerpt_of, first_line, position_of, push_line};
 use std::alloc::{AllocError, Global};
 
@@ -101,28 +99,4 @@ pub fn about_line<'a>(
     let mut excerpt = Vec::new(alloc);
     push_line(&mut excerpt, text, number)?;
     about_excerpt(alloc, file, number, excerpt, sentence)
-}
-
-/// Explains that a text of this kind is longer than the limit.
-pub fn explain_too_long<'a>(
-    alloc: Global,
-    file: &'a str,
-    kind: &[u8],
-    limit: usize,
-) -> Result<Explanation<'a>, AllocError>
-    ensures { IfOk result (λ e. ExplainsLength file.now e) }
-{
-    let mut sentence = Vec::new(alloc);
-    push_parts(
-        &mut sentence,
-        &[
-            Words(b"a "),
-            Words(kind),
-            Words(b" has at most "),
-            Number(limit),
-            Words(b" bytes"),
-        ],
-    )?;
-    let nothing = Vec::new(alloc);
-    explained(alloc, file, Place::Whole, nothing, sentence.as_slice())
 }

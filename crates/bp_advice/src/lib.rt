@@ -22,7 +22,7 @@ mod syntax_sentences;
 mod tokens_at;
 
 pub use declared::{first_procedure, tree_of};
-pub use explanations::{Explanation, Place, about_excerpt, about_line, explain_too_long};
+pub use explanations::{Explanation, Place, about_excerpt, about_line};
 pub use guesses::{push_near_entry, push_near_global, push_near_name};
 pub use numbers::number_at_front;
 pub use other_texts::{ENDS_IN_CR_LF, ends_in_cr_lf};

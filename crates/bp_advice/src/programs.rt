@@ -13,8 +13,8 @@ use bp_syntax::ReadFault;
 use std::alloc::{AllocError, Global};
 
 /// Explains this fault of a program's text, at its line and column. A missing semicolon is placed
-/// at the end of the statement before. A fault without a place is one of the whole text. Nothing
-/// explains refused memory. The only error is refused memory.
+/// at the end of the statement before. Nothing explains a text that is too long, or refused memory,
+/// which is also the only error.
 pub fn explain_program<'a>(
     alloc: Global,
     file: &'a str,
@@ -25,7 +25,7 @@ pub fn explain_program<'a>(
         IfOk result (IsExplanationOf Explains) }
 {
     let explanation = match fault {
-        ProgramFault::Read(ReadFault::Memory) => return Ok(None),
+        ProgramFault::Read(ReadFault::Memory | ReadFault::TooLong) => return Ok(None),
         ProgramFault::Read(ReadFault::Syntax(at)) => explain_syntax(alloc, file, text, *at)?,
         ProgramFault::Read(fault) => explain_read(alloc, file, text, fault)?,
         ProgramFault::Check(CheckFault::Memory, _) => return Ok(None),

@@ -8,21 +8,10 @@ use crate::explanations::{Explanation, about_place};
 use crate::other_texts::other_than_program;
 use crate::sentences::Part::{Number, Quoted, Words};
 use crate::sentences::{push_all, push_parts};
-use bp_language::limits::{NESTING_LIMIT, SUCCESSION_LIMIT, TEXT_LIMIT};
+use bp_language::limits::{NESTING_LIMIT, SUCCESSION_LIMIT};
 use bp_syntax::ReadFault;
 use bp_text::{last_line, part_before};
 use std::alloc::{AllocError, Global};
-
-fn push_too_long(out: &mut Vec<u8>) -> Result<(), AllocError> {
-    push_parts(
-        out,
-        &[
-            Words(b"a program has at most "),
-            Number(TEXT_LIMIT),
-            Words(b" bytes"),
-        ],
-    )
-}
 
 /// What a writer may have meant by a byte that begins no token.
 fn hint(byte: u8) -> &'static [u8] {
@@ -136,12 +125,11 @@ fn push_too_many(out: &mut Vec<u8>) -> Result<(), AllocError> {
 /// Adds the sentence on a fault that is not a token out of place.
 fn push_sentence(out: &mut Vec<u8>, text: &[u8], fault: &ReadFault) -> Result<(), AllocError> {
     match fault {
-        ReadFault::TooLong => push_too_long(out),
         ReadFault::BadByte(at) => push_bad_byte(out, text, *at as usize),
         ReadFault::OpenName(_) => push_open_name(out),
         ReadFault::TooNested(_) => push_too_nested(out),
         ReadFault::TooManyTokens(_) => push_too_many(out),
-        ReadFault::Syntax(_) | ReadFault::Memory => Ok(()),
+        ReadFault::TooLong | ReadFault::Syntax(_) | ReadFault::Memory => Ok(()),
     }
 }
 

@@ -3,8 +3,6 @@
 use Rattle.std.specs.Prelude.{if◌then◌else◌, ◌≡◌, ◌⊎◌, ℕ, Bool, List, [], ◌∷◌, ◌++◌, Option, None, Some, Result, Ok, Err, IsErr, IsErrAnd, Vec}
 use Rattle.std.specs.declared.alloc.AllocError.{AllocError}
 use Rattle.std.specs.declared.alloc.Global.{Global}
-use Rattle.bp_syntax.specs.declared.faults.ReadFault.TheVariants as read
-use Rattle.bp_code.specs.declared.texts.ProgramFault.TheVariants.{Read}
 use Rattle.bp_text.specs.OneLine.{IsOneLine}
 use Rattle.bp_text.specs.Writing.{Writes}
 use Rattle.bp_trace.specs.declared.replay_faults.ReplayFault.TheVariants as replay
@@ -22,10 +20,8 @@ use Rattle.bp_tasks.specs.declared.fault_formats.FaultFormat.{FaultFormat}
 use Rattle.bp_tasks.specs.declared.fault_formats.FaultFormat.TheVariants as format
 use Rattle.bp_commands.specs.Given.{Inputs, Pair}
 
--- this explains a fault of the program's text in the file of this name: nothing explains that the
--- text is too long, since it was not read whole
+-- this explains a fault of the program's text in the file of this name
 abbrev pub ExplainsText : List ℕ → List ℕ → Fault → Explanation → Type 0
-ExplainsText name text (Program (Read read.TooLong)) e = ⊥
 ExplainsText name text (Program f) e = ExplainsProgram name text f e
 ExplainsText name text f e = ⊥
 

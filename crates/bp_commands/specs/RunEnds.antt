@@ -1,10 +1,9 @@
 -- How a run ends: its exit status, and what it leaves on standard error.
-use Rattle.std.specs.Prelude.{◌≡◌, ℕ, List, [], ◌∷◌, Option, None, Result, Ok, Err, Bool, true, false}
+use Rattle.std.specs.Prelude.{◌≡◌, ℕ, List, [], ◌∷◌, Option, None, Result, Ok, Err, Bool, false}
 use Rattle.bp_text.specs.Writing.{Writes}
 use Rattle.bp_text.specs.declared.writing.WriteFault.{WriteFault}
-use Rattle.bp_machine.specs.declared.reports.Outcome.{Outcome}
-use Rattle.bp_machine.specs.declared.reports.Outcome.TheVariants.{Clean, Failed}
 use Rattle.bp_machine.specs.declared.reports.Report.{Report}
+use Rattle.bp_machine.specs.Reports.{is_failure}
 use Rattle.bp_run.specs.declared.answers.RunReport.{RunReport}
 use Rattle.bp_commands.specs.declared.run_ends.Explained.{Explained}
 use Rattle.bp_commands.specs.declared.run_ends.RunEnd.{RunEnd}
@@ -12,12 +11,8 @@ use Rattle.bp_messages.specs.declared.faults.Fault.{Fault}
 use Rattle.bp_messages.specs.FaultTable.{exit_status, fault_line, status_of}
 
 -- an assertion failed
-abbrev pub has_failed : Outcome → Bool
-has_failed Clean = false
-has_failed (Failed thread) = true
-
 abbrev pub report_failed : Report → Bool
-report_failed r = has_failed r.outcome
+report_failed r = is_failure r.outcome
 
 -- what a command's answers say: the exit status, and what a user reads on standard error
 pub record AnswerRule (T : Type 0) : Type 0 where

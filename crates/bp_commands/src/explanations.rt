@@ -10,12 +10,10 @@ use crate::messages::shown_sentence;
 use crate::named_starts::start_of_run;
 use crate::run_ends::Explained;
 use bp_advice::{Explanation, explain_program};
-use bp_code::ProgramFault;
 use bp_explain::{explain_schedule, explain_steps, explain_trace};
 use bp_init::{NamedBits, NamedStart};
 use bp_machine::Start;
 use bp_messages::Fault;
-use bp_syntax::ReadFault;
 use bp_text::Piece::Bytes;
 use bp_text::{WriteFault, first_line, put, put_pieces};
 use bp_trace::ReplayFault;
@@ -47,8 +45,6 @@ pub(crate) fn of_program<'a>(
         IfOk result (IsExplanationOf (Explains fault.now)) }
 {
     match fault {
-        // Such a text was not read whole.
-        Fault::Program(ProgramFault::Read(ReadFault::TooLong)) => Ok(None),
         Fault::Program(fault) => explain_program(alloc, program.name, program.text, fault),
         _ => Ok(None),
     }

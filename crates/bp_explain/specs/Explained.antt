@@ -11,7 +11,7 @@ use Rattle.bp_trace.specs.declared.replay_faults.ReplayFault.{ReplayFault}
 use Rattle.bp_trace.specs.declared.replay_faults.ReplayFault.TheVariants as replay
 use Rattle.bp_advice.specs.declared.explanations.Explanation.{Explanation}
 use Rattle.bp_advice.specs.declared.explanations.Place.TheVariants.{Line}
-use Rattle.bp_advice.specs.Explanations.{ExplainsLength, ExplainsLine, IsAt, IsExplanation}
+use Rattle.bp_advice.specs.Explanations.{ExplainsLine, IsAt, IsExplanation}
 use Rattle.bp_explain.specs.TraceParts.{IsSetupLine, IsWrongByte}
 
 -- this byte of the text is on this line
@@ -45,9 +45,9 @@ abbrev pub ExplainsNoEnd : List ℕ → List ℕ → Explanation → Type 0
 ExplainsNoEnd file trace e =
     let last = position_at trace (length trace) in IsExplanation file (Line last.line) [] e
 
--- the explanation of a fault of a trace: none of refused memory
+-- the explanation of a fault of a trace: none of refused memory, and of a trace that is too long
 abbrev pub ExplainsTrace : List ℕ → List ℕ → ReplayFault → Explanation → Type 0
-ExplainsTrace file trace replay.TooLong e = ExplainsLength file e
+ExplainsTrace file trace replay.TooLong e = ⊥
 ExplainsTrace file trace replay.Memory e = ⊥
 ExplainsTrace file trace (replay.Setup fault) e = ExplainsSetup file trace fault e
 ExplainsTrace file trace (replay.NoEnd counts) e = ExplainsNoEnd file trace e
@@ -59,17 +59,19 @@ ExplainsTrace file trace (replay.AfterFinish n made) e =
 ExplainsTrace file trace (replay.Bit n due) e = ExplainsCall file trace n (replay.Bit n due) e
 ExplainsTrace file trace (replay.Reply n due) e = ExplainsCall file trace n (replay.Reply n due) e
 
--- the explanation of a fault of a schedule: none of refused memory and of an output that failed
+-- the explanation of a fault of a schedule: none of refused memory, of an output that failed, and of
+-- a schedule that is too long
 abbrev pub ExplainsSchedule : List ℕ → List ℕ → DriveFault → Explanation → Type 0
-ExplainsSchedule file schedule drive.TooLong e = ExplainsLength file e
+ExplainsSchedule file schedule drive.TooLong e = ⊥
 ExplainsSchedule file schedule (drive.Line n) e = ExplainsLine file schedule n e
 ExplainsSchedule file schedule (drive.AfterFinish n) e = ExplainsLine file schedule n e
 ExplainsSchedule file schedule drive.Memory e = ⊥
 ExplainsSchedule file schedule drive.Write e = ⊥
 
--- the explanation of a fault of reported steps: none of refused memory
+-- the explanation of a fault of reported steps: none of refused memory, and of steps that are too
+-- long
 abbrev pub ExplainsSteps : List ℕ → List ℕ → ConfirmFault → Explanation → Type 0
-ExplainsSteps file steps confirm.TooLong e = ExplainsLength file e
+ExplainsSteps file steps confirm.TooLong e = ⊥
 ExplainsSteps file steps confirm.NoSteps e = IsExplanation file (Line 1) [] e
 ExplainsSteps file steps (confirm.Line n) e = ExplainsLine file steps n e
 ExplainsSteps file steps (confirm.NoThread n thread) e = ExplainsLine file steps n e

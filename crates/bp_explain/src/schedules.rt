@@ -6,13 +6,11 @@ ghost use Rattle.bp_advice.specs.Explanations.{ExplainsLine, IsExplanationOf};
 use crate::last_calls::{last_call, push_last_call};
 use bp_advice::Part::{Number, Words};
 use bp_advice::{
-    ENDS_IN_CR_LF, Explanation, about_line, ends_in_cr_lf, explain_too_long, number_at_front,
-    push_all, push_parts,
+    ENDS_IN_CR_LF, Explanation, about_line, ends_in_cr_lf, number_at_front, push_all, push_parts,
 };
 use bp_machine::Start;
 use bp_text::{Line, line_of};
 use bp_trace::DriveFault;
-use bp_trace::limits::MAX_SCHEDULE;
 use std::alloc::{AllocError, Global};
 
 /// Adds that no entry makes a thread of this number.
@@ -90,9 +88,9 @@ fn explain_finished<'a>(
 }
 
 /// Explains this fault of a schedule of the program of a text, which runs from this start, at its
-/// line. For a thread that has made its last call the schedule is played up to that line. A
-/// schedule that is too long is explained as a whole. Nothing explains refused memory and an output
-/// that failed. The only error is refused memory.
+/// line. For a thread that has made its last call the schedule is played up to that line. Nothing
+/// explains a schedule that is too long, refused memory, or an output that failed. The only error
+/// is refused memory.
 pub fn explain_schedule<'a>(
     alloc: Global,
     program: &[u8],
@@ -105,12 +103,11 @@ pub fn explain_schedule<'a>(
         IfOk result (IsExplanationOf Explains) }
 {
     let explanation = match fault {
-        DriveFault::TooLong => explain_too_long(alloc, file, b"schedule", MAX_SCHEDULE)?,
         DriveFault::Line(number) => explain_line(alloc, file, schedule, *number)?,
         DriveFault::AfterFinish(number) => {
             explain_finished(alloc, program, start, file, schedule, *number)?
         }
-        DriveFault::Memory | DriveFault::Write => return Ok(None),
+        DriveFault::TooLong | DriveFault::Memory | DriveFault::Write => return Ok(None),
     };
     Ok(Some(explanation))
 }

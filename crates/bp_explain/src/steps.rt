@@ -9,11 +9,10 @@ use crate::step_sentences::push_refusal;
 use crate::steps_before::push_run_before;
 use crate::tried_steps::Confirming;
 use bp_advice::Part::{Quoted, Words};
-use bp_advice::{Explanation, about_excerpt, about_line, explain_too_long, push_all, push_parts};
+use bp_advice::{Explanation, about_excerpt, about_line, push_all, push_parts};
 use bp_confirm::{ConfirmFault, StepRefusal, value_on_line};
 use bp_machine::Start;
 use bp_text::line_of;
-use bp_trace::limits::MAX_SCHEDULE;
 use std::alloc::{AllocError, Global};
 
 /// Explains that this line is no step.
@@ -84,8 +83,9 @@ fn explain_refusal<'a>(
 }
 
 /// Explains this fault of the reported steps of the program of a text, which run from this start,
-/// at its line. The files are those of the program and of the steps. Steps that are too long or
-/// none are explained as a whole. Nothing explains refused memory, which is also the only error.
+/// at its line, and a list without a step at its first. The files are those of the program and of
+/// the steps. Nothing explains steps that are too long, or refused memory, which is also the only
+/// error.
 pub fn explain_steps<'a>(
     alloc: Global,
     program_file: &str,
@@ -99,7 +99,6 @@ pub fn explain_steps<'a>(
         IfOk result (IsExplanationOf Explains) }
 {
     let explanation = match *fault {
-        ConfirmFault::TooLong => explain_too_long(alloc, file, b"list of steps", MAX_SCHEDULE)?,
         ConfirmFault::NoSteps => {
             let sentence = b"the list has no step, so there is nothing to confirm";
             about_excerpt(alloc, file, 1, Vec::new(alloc), sentence)?
@@ -120,7 +119,7 @@ pub fn explain_steps<'a>(
             };
             explain_refusal(alloc, file, texts, refusal)?
         }
-        ConfirmFault::Memory => return Ok(None),
+        ConfirmFault::TooLong | ConfirmFault::Memory => return Ok(None),
     };
     Ok(Some(explanation))
 }

@@ -10,10 +10,9 @@ use crate::head_sentences::push_head;
 use crate::line_sentences::push_body_line;
 use crate::reply_sentences::push_other_reply;
 use crate::setup_sentences::{line_of_setup, push_setup};
-use bp_advice::{Explanation, about_excerpt, about_line, explain_too_long, tree_of};
+use bp_advice::{Explanation, about_excerpt, about_line, tree_of};
 use bp_machine::SetupFault;
 use bp_text::position_of;
-use bp_trace::limits::MAX_TRACE;
 use bp_trace::{EndCounts, ReplayFault};
 use std::alloc::{AllocError, Global};
 
@@ -113,8 +112,8 @@ fn explain_call<'a>(
 }
 
 /// Explains this fault of a trace of the program of a text, at its line, with a caret below the
-/// place in a call that is not the machine's own. A trace that is too long is explained as a whole.
-/// Nothing explains refused memory. The only error is refused memory.
+/// place in a call that is not the machine's own. Nothing explains a trace that is too long, or
+/// refused memory, which is also the only error.
 pub fn explain_trace<'a>(
     alloc: Global,
     program: &[u8],
@@ -126,7 +125,6 @@ pub fn explain_trace<'a>(
         IfOk result (IsExplanationOf Explains) }
 {
     let explanation = match fault {
-        ReplayFault::TooLong => explain_too_long(alloc, file, b"trace", MAX_TRACE)?,
         ReplayFault::Setup(fault) => explain_setup(alloc, program, file, trace, *fault)?,
         ReplayFault::NoEnd(counts) => explain_no_end(alloc, program, file, trace, *counts)?,
         ReplayFault::Head(line) | ReplayFault::Line(line) | ReplayFault::EndCount(line, _) => {
@@ -135,7 +133,7 @@ pub fn explain_trace<'a>(
         ReplayFault::AfterFinish(line, _)
         | ReplayFault::Bit(line, _)
         | ReplayFault::Reply(line, _) => explain_call(alloc, program, file, trace, fault, *line)?,
-        ReplayFault::Memory => return Ok(None),
+        ReplayFault::TooLong | ReplayFault::Memory => return Ok(None),
     };
     Ok(Some(explanation))
 }

@@ -1,16 +1,12 @@
 -- The lines that show a replay.
-use Rattle.std.specs.Prelude.{ℕ, Bool, true, false, List, [], ◌∷◌, ◌++◌, codes, decimal, flat_map}
+use Rattle.std.specs.Prelude.{ℕ, List, [], ◌∷◌, ◌++◌, codes, decimal, flat_map}
 use Rattle.std.specs.List.{concat}
+use Rattle.bp_text.specs.Pieces.{bit_text}
 use Rattle.bp_machine.specs.PrintedRows.{PrintedRow}
 use Rattle.bp_machine.specs.declared.reports.Outcome.{Outcome}
 use Rattle.bp_machine.specs.declared.reports.Outcome.TheVariants.{Clean, Failed}
 use Rattle.bp_trace.specs.declared.judging.Printed.{Printed}
 use Rattle.bp_trace.specs.Replayed.{row_of}
-
--- the digit of a value
-abbrev pub bit_text : Bool → List ℕ
-bit_text false = codes "0"
-bit_text true = codes "1"
 
 -- `print`, the thread, and a digit for each value
 abbrev pub row_head : ℕ → List ℕ

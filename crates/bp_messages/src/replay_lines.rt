@@ -1,21 +1,15 @@
 //! The lines that show a replay.
 ghost use Rattle.std.specs.Prelude.{◌≡◌, flat_map, map};
+ghost use Rattle.bp_text.specs.Pieces.{bit_text};
 ghost use Rattle.bp_text.specs.Writing.{Writes};
 ghost use Rattle.bp_trace.specs.Replayed.{row_of};
-ghost use Rattle.bp_messages.specs.ReplayLines.{bit_text, outcome_line, printed_line, row_line, shown_text};
+ghost use Rattle.bp_messages.specs.ReplayLines.{outcome_line, printed_line, row_line, shown_text};
 
 use bp_machine::Outcome;
-use bp_text::Piece::{Bytes, Number};
+use bp_text::Piece::{Bit, Bytes, Number};
 use bp_text::{WriteFault, put, put_pieces};
 use bp_trace::{Printed, Replayed};
 use std::io::Write;
-
-/// The digit of a value.
-fn bit_text(value: bool) -> &'static [u8]
-    ensures { result.now ≡ bit_text value }
-{
-    if value { b"1" } else { b"0" }
-}
 
 /// Writes the digit of each value.
 fn put_values<W: Write>(values: &[bool], out: &mut W) -> Result<(), WriteFault>
@@ -23,7 +17,7 @@ fn put_values<W: Write>(values: &[bool], out: &mut W) -> Result<(), WriteFault>
         (flat_map bit_text values.now) result }
 {
     for value in values {
-        put(out, bit_text(*value))?;
+        put_pieces(out, &[Bit(*value)])?;
     }
     Ok(())
 }

@@ -1,7 +1,8 @@
 use Rattle.std.proofs.Common.{codes, ◌++◌, flat_map}
 use Rattle.std.proofs.lemmas.Result.{err_from_is_err_and}
 use Rattle.bp_text.proofs.Appends.{part_first, part_then, writes_then}
-use Rattle.bp_messages.specs.ReplayLines.{bit_text, row_head}
+use Rattle.bp_text.specs.Pieces.{bit_text}
+use Rattle.bp_messages.specs.ReplayLines.{row_head}
 use Rattle.bp_messages.proofs.replay_lines.put_row.Goals as goal
 
 pub returns-in_err-put_pieces : goal.returns-in_err-put_pieces

@@ -1,6 +1,6 @@
 use Rattle.std.proofs.Common.{flat_map, take}
 use Rattle.std.specs.Io.KnownBytes.{Appends}
-use Rattle.bp_messages.specs.ReplayLines.{bit_text}
+use Rattle.bp_text.specs.Pieces.{bit_text}
 use Rattle.bp_messages.proofs.replay_lines.put_values.Given as goal
 
 abbrev pub invariant-loop-value : goal.invariant-loop-value
