@@ -119,11 +119,15 @@ def test_waiting(report, program):
     """Looks at what is said where a terminal is to give a bundle. Control-D ends it, and an empty program has no `main`."""
     line = "btrun: waiting for a bundle on standard input; 'btrun --help' shows the commands\n"
     fault = "btrun: 32 UnknownEntry thread 0\n"
+    reads = "without a command btrun reads a program, a line '%' and a schedule"
+    explained = fault + "standard input has no program; %s ('btrun --help' shows the commands)\n" % reads
     said = shown_on_terminal([program], os.environ, b"\x04")
-    is_told = line in said and said.endswith(fault)
+    is_told = line in said and said.endswith(explained)
     report.tell("waiting on a terminal", "" if is_told else "said %r" % said)
     told = harness.run([program]).stderr.decode()
     report.tell("waiting off a terminal", "" if told == fault else "said %r" % told)
+    told = harness.run([program], env={**os.environ, "BTRUN_EXPLAIN": "1"}).stderr.decode()
+    report.tell("nothing with BTRUN_EXPLAIN", "" if told == explained else "said %r" % told)
 
 
 def wide_line(room):
@@ -133,15 +137,15 @@ def wide_line(room):
     return "    1      0       1 2:14   " + statement[: room - 2] + ".." + note
 
 
-def test_columns(report, words, bare):
-    """Looks at how wide the line of a call is."""
-    def call(text):
-        return next(line for line in text.split("\n") if line.startswith("    1 "))
 def narrow_line():
     """The same in 40 columns: the statement and the place are gone, and the note is cut."""
     return "    1      0       1 .. left_of_the_br.."
 
 
+def test_columns(report, words, bare):
+    """Looks at how wide the line of a call is."""
+    def call(text):
+        return next(line for line in text.split("\n") if line.startswith("    1 "))
 
     for told, text, wanted in (
         ("on a terminal", shown_on_terminal(words, bare), wide_line(60)),

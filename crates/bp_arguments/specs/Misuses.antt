@@ -8,10 +8,9 @@ use Rattle.clap.specs.declared.error.kind.ErrorKind.{ErrorKind}
 use Rattle.clap.specs.declared.error.kind.ErrorKind.TheVariants.{ArgumentConflict, InvalidValue}
 use Rattle.clap.specs.declared.parser.matches.ValueSource.{ValueSource}
 use Rattle.clap.specs.declared.parser.matches.ValueSource.TheVariants.{CommandLine, DefaultValue}
-use Rattle.bp_tasks.specs.declared.limits.TheConstants.{MAX_JOBS}
 use Rattle.bp_arguments.specs.Values.{has_bad_init, has_bad_verdict, number_in}
 use Rattle.bp_arguments.specs.declared.misuses.Misuse.{Misuse}
-use Rattle.bp_arguments.specs.declared.misuses.Misuse.TheVariants.{BadInit, BadVerdict, ManyJobs, Together, Backwards}
+use Rattle.bp_arguments.specs.declared.misuses.Misuse.TheVariants.{BadInit, BadVerdict, Together, Backwards}
 use Rattle.bp_arguments.specs.declared.misuses.OptionName.{OptionName}
 use Rattle.bp_arguments.specs.declared.misuses.OptionName.TheVariants as option
 
@@ -76,13 +75,6 @@ clashes =
 abbrev pub clash_in : List Row → Option (OptionName × OptionName)
 clash_in rows = find (are_on_line rows) clashes
 
-abbrev pub are_many : Option ℕ → Bool
-are_many None = false
-are_many (Some jobs) = nat_lt MAX_JOBS jobs
-
-abbrev pub has_many_jobs : List Row → Bool
-has_many_jobs rows = are_many (number_in 32 (one_of (codes "jobs") rows))
-
 -- the numbers where the first is the greater one
 abbrev pub descending : Option ℕ → Option ℕ → Option (ℕ × ℕ)
 descending (Some m) (Some n) = if nat_lt n m then Some (m, n) else None
@@ -103,7 +95,6 @@ abbrev pub misuse_in : List Row → Option Misuse
 misuse_in rows =
     if has_bad_init rows then Some BadInit
     else if has_bad_verdict rows then Some BadVerdict
-    else if has_many_jobs rows then Some ManyJobs
     else pair_misuse (clash_in rows) (backwards_in rows)
 
 abbrev pub misuse_of : Option (Text × List Row) → Option Misuse

@@ -1,10 +1,9 @@
 //! What is wrong with options that `clap` takes one by one.
 ghost use Rattle.std.specs.Prelude.{◌≡◌};
 ghost use Rattle.clap.specs.Words.{found_of, kind_of, rows_of, subcommand_rows_of};
-ghost use Rattle.bp_arguments.specs.Misuses.{are_on_line, are_many, backwards_in, clash_in, descending, has_many_jobs, is_from_line, is_on_line, misuse_in, misuse_kind, misuse_of, option_name};
+ghost use Rattle.bp_arguments.specs.Misuses.{are_on_line, backwards_in, clash_in, descending, is_from_line, is_on_line, misuse_in, misuse_kind, misuse_of, option_name};
 
-use crate::values::{given_long_number, given_number, has_bad_init, has_bad_verdict};
-use bp_tasks::limits::MAX_JOBS;
+use crate::values::{given_long_number, has_bad_init, has_bad_verdict};
 use clap::ArgMatches;
 use clap::error::ErrorKind;
 use clap::parser::ValueSource;
@@ -36,8 +35,6 @@ pub enum Misuse {
     BadInit,
     /// What is expected is no verdict.
     BadVerdict,
-    /// More blocks of runs are to be made side by side than there may be.
-    ManyJobs,
     /// Beside the first of these options, the second has no effect.
     Together(OptionName, OptionName),
     /// The first call that is to be shown, this one, comes after the last, that one.
@@ -136,22 +133,6 @@ fn clash_in(arguments: &ArgMatches<'_>) -> Option<(OptionName, OptionName)>
     None
 }
 
-fn are_many(jobs: Option<u32>) -> bool
-    ensures { result ≡ are_many jobs }
-{
-    match jobs {
-        Some(jobs) => jobs > MAX_JOBS,
-        None => false,
-    }
-}
-
-/// Whether more blocks of runs are to be made side by side than there may be.
-fn has_many_jobs(arguments: &ArgMatches<'_>) -> bool
-    ensures { result ≡ has_many_jobs (rows_of (found_of arguments.now)) }
-{
-    are_many(given_number(arguments, "jobs"))
-}
-
 /// The numbers, where the first is the greater one.
 fn descending(from: Option<u64>, to: Option<u64>) -> Option<(u64, u64)>
     ensures { result ≡ descending from to }
@@ -181,9 +162,6 @@ fn misuse_in(arguments: &ArgMatches<'_>) -> Option<Misuse>
     }
     if has_bad_verdict(arguments) {
         return Some(Misuse::BadVerdict);
-    }
-    if has_many_jobs(arguments) {
-        return Some(Misuse::ManyJobs);
     }
     if let Some((first, second)) = clash_in(arguments) {
         return Some(Misuse::Together(first, second));
@@ -222,7 +200,6 @@ pub fn misuse_text(alloc: Global, misuse: Misuse) -> Result<String, AllocError> 
             )
         }
         Misuse::BadVerdict => format!(in alloc; "--expect takes failure, deadlock or run"),
-        Misuse::ManyJobs => format!(in alloc; "--jobs takes 0 to {MAX_JOBS}"),
         Misuse::Together(first, second) => {
             let (first, second) = (option_name(first), option_name(second));
             format!(in alloc; "--{first} and --{second} cannot be used together")

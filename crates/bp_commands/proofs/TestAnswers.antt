@@ -1,5 +1,5 @@
 -- What testing a program says of the command `test`.
-use Rattle.std.proofs.Common.{◌≡◌, ◌∙◌, refl, sym, subst, inl, inr, ℕ, ◌<◌, ◌^◌, length, Bool, List, [], ◌∷◌, ◌++◌, Option, None, Some, map}
+use Rattle.std.proofs.Common.{◌≡◌, ◌∙◌, refl, sym, subst, inl, inr, ℕ, ◌<◌, ◌≤◌, ◌^◌, length, Bool, List, [], ◌∷◌, ◌++◌, Option, None, Some, map}
 use Rattle.std.specs.Io.KnownBytes.{Appends, Keeps}
 use Rattle.std.proofs.KnownBytes.{Appends-nil, Keeps-refl}
 use Rattle.bp_tree.specs.Ast.{Program}
@@ -9,11 +9,13 @@ use Rattle.bp_text.specs.Writing.{AppendsAll}
 use Rattle.bp_machine.specs.declared.calls.Call.{Call}
 use Rattle.bp_machine.specs.declared.reports.Report.{Report}
 use Rattle.bp_machine.specs.declared.setup_faults.SetupFault.{SetupFault}
+use Rattle.bp_machine.specs.declared.setup_faults.SetupFault.TheVariants.{OutOfRange}
 use Rattle.bp_machine.specs.Setups.{SetupOf, setup_fault, IsSetupRefusal}
 use Rattle.bp_machine.specs.Starts.{StartOf, setup_from}
 use Rattle.bp_trace.specs.TraceText.{trace_text}
 use Rattle.bp_test.specs.declared.faults.TestFault.{TestFault}
 use Rattle.bp_test.specs.declared.faults.TestFault.TheVariants as fault
+use Rattle.bp_tasks.specs.declared.limits.TheConstants.{MAX_JOBS}
 use Rattle.bp_tasks.specs.declared.test_options.TestOptions.{TestOptions}
 use Rattle.bp_test.specs.declared.testing.Found.{Found}
 use Rattle.bp_test.specs.declared.testing.Found.TheVariants.{Nothing, Failed, Deadlock}
@@ -33,12 +35,12 @@ use Rattle.bp_source.specs.StatementLines.{positions_of}
 
 module _ (start : StartOf) (x : TestOptions) (file : List ℕ) (unreached json : Bool) (text : List ℕ) (t : Program) (lawful : IsLawfulText text t) where
   -- the program takes this setup
-  module _ (s : SetupOf) (setup : s ≡ setup_from start None t) (fine : setup_fault t (setup_from start None t) ≡ None) (old new : Option (List ℕ)) where
+  module _ (s : SetupOf) (setup : s ≡ setup_from start None t) (fine : setup_fault t (setup_from start None t) ≡ None) (few : x.jobs ≤ MAX_JOBS) (old new : Option (List ℕ)) where
     abbrev taken : SetupOf
     taken = setup_from start None t
 
     abbrev testable : IsTestable start x file unreached json text
-    testable = record { program = t; lawful = lawful; fine = fine }
+    testable = record { program = t; lawful = lawful; fine = fine; few = few }
 
     written_alone : (Holds : SetupOf → List Call → Type 0) (run : ℕ) (r : Report) (runs : List MadeRun) (is : IsWrittenRun t taken x old new Holds run r runs)
         → IsWrittenRun t taken x (Some []) (Some (trace_text (setup_of_run taken x.seed run) is.history)) Holds run r runs
@@ -116,7 +118,7 @@ module _ (start : StartOf) (x : TestOptions) (file : List ℕ) (unreached json :
 
     refused_of : (f : TestFault) → IsTestRefusal t taken x old new f → IsRefusedWith (tests start x file unreached json) old new text (fault_of_test f)
     refused_of fault.Memory same =
-        inl (subst (Keeps old) (sym same) (Keeps-refl old), inr (inr (refl, testable)))
+        inl (subst (Keeps old) (sym same) (Keeps-refl old), inr (inr (inr (refl, testable))))
     refused_of fault.Write cut = inr (inl (
       refl,
       record {
@@ -148,7 +150,21 @@ module _ (start : StartOf) (x : TestOptions) (file : List ℕ) (unreached json :
     refused f is = refused_of f (subst (λ y. IsTestRefusal t y x old new f) setup is)
 
     pub lacks_memory : (out : Option (List ℕ)) → IsRefusedWith (tests start x file unreached json) out out text Memory
-    lacks_memory out = inl (Keeps-refl out, inr (inr (refl, testable)))
+    lacks_memory out = inl (Keeps-refl out, inr (inr (inr (refl, testable))))
+
+  -- the program takes the setup, but there may not be so many jobs
+  pub many_jobs : (out : Option (List ℕ)) → setup_fault t (setup_from start None t) ≡ None → MAX_JOBS < x.jobs
+      → IsRefusedWith (tests start x file unreached json) out out text (fault_of_setup OutOfRange)
+  many_jobs out fine many = inl (
+    Keeps-refl out,
+    inr (inr (inl (record {
+      program = t;
+      lawful = lawful;
+      fine = fine;
+      many = many;
+      is = refl;
+    }))),
+  )
 
   -- the program does not take the setup, and nothing is written
   pub setup_refused : (out : Option (List ℕ)) (cause : SetupFault) → IsSetupRefusal t (setup_from start None t) cause

@@ -82,9 +82,12 @@ on_pair kind name input_name = record {
       IsObjectIn (IsFileOfPair kind name input_name) given Explains;
 }
 
--- nothing is explained, and no fault has an object
-abbrev pub on_nothing : {X : Type 0} → FaultReport X
-on_nothing = record { Explains = λ _ _ _. ⊥; IsObject = λ _ _ _ _. ⊥ }
+-- a fault of a bundle is told in a sentence alone, and is in no file
+abbrev pub on_bytes : FaultReport (List ℕ)
+on_bytes = record {
+  Explains = λ _ _ _. ⊥;
+  IsObject = λ bytes. IsObjectIn (λ _ file. file ≡ None) (text_alone_of bytes) (λ _ _. ⊥);
+}
 
 -- the object of a fault, of the inputs that were read or of why they were not
 module _

@@ -6,14 +6,13 @@ use Rattle.bp_commands.specs.Commands.{Command, Answers}
 use Rattle.bp_commands.specs.declared.run_ends.RunEnd.{RunEnd}
 use Rattle.bp_commands.specs.declared.explanations.SecondInput.{SecondInput}
 use Rattle.bp_tasks.specs.declared.fault_formats.FaultFormat.{FaultFormat}
-use Rattle.bp_tasks.specs.declared.fault_formats.FaultFormat.TheVariants.{Line}
 use Rattle.bp_messages.specs.declared.faults.Fault.{Fault}
 use Rattle.bp_commands.specs.RunEnds.{of_report, AnswerRule}
 use Rattle.bp_commands.specs.Explanations.{IsSaidOfRead}
 use Rattle.bp_commands.specs.Files.{pair_of_files}
 use Rattle.bp_commands.specs.Flushes.{IsFlushed}
 use Rattle.bp_commands.specs.Given.{bundle_alone, text_alone, Inputs, Pair}
-use Rattle.bp_commands.specs.FaultReports.{FaultReport, on_nothing, on_pair, on_text, IsConcluded, IsObjectRead}
+use Rattle.bp_commands.specs.FaultReports.{FaultReport, on_bytes, on_pair, on_text, IsConcluded, IsObjectRead}
 
 -- a command on the inputs that it may leave unread in part, how it ends, what is told of faults of
 -- the inputs, and in which format
@@ -80,14 +79,14 @@ module _ (bytes : List ℕ → Option (List ℕ)) (format : FaultFormat) where
   }
 
 -- the bundle of a reader that has these bytes
-abbrev pub on_bundle : Option (List ℕ) → Job
-on_bundle bytes = record {
+abbrev pub on_bundle : FaultFormat → Option (List ℕ) → Job
+on_bundle format bytes = record {
   Left = Option (List ℕ);
   Given = List ℕ;
   Answer = Report;
   command = bundles;
   rule = of_report;
   inputs = bundle_alone bytes;
-  report = on_nothing;
-  format = Line;
+  report = on_bytes;
+  format = format;
 }

@@ -1,12 +1,14 @@
 -- The command `test`.
-use Rattle.std.specs.Prelude.{if◌then◌else◌, ◌≡◌, ◌⊎◌, ℕ, Bool, true, false, List, [], None, Some, map}
+use Rattle.std.specs.Prelude.{if◌then◌else◌, ◌≡◌, ◌<◌, ◌≤◌, ◌⊎◌, ℕ, Bool, true, false, List, [], None, Some, map}
 use Rattle.bp_tree.specs.Ast.{Program}
 use Rattle.bp_code.specs.LawfulTexts.{IsLawfulText}
 use Rattle.bp_flat.specs.StandsFor.{places_of}
 use Rattle.bp_machine.specs.declared.reports.Report.{Report}
 use Rattle.bp_machine.specs.declared.setup_faults.SetupFault.{SetupFault}
+use Rattle.bp_machine.specs.declared.setup_faults.SetupFault.TheVariants.{OutOfRange}
 use Rattle.bp_machine.specs.Setups.{setup_fault, IsSetupRefusal}
 use Rattle.bp_machine.specs.Starts.{StartOf, setup_from}
+use Rattle.bp_tasks.specs.declared.limits.TheConstants.{MAX_JOBS}
 use Rattle.bp_tasks.specs.declared.test_options.TestOptions.{TestOptions}
 use Rattle.bp_test.specs.Counts.{AreCounts}
 use Rattle.bp_test.specs.Distinct.{AreDistinctRuns}
@@ -48,11 +50,13 @@ AreListed true true file text t lines = AreUnreachedObjects file text t lines
 module _
     (start : StartOf) (x : TestOptions) (file : List ℕ) (unreached json : Bool)
     (text : List ℕ) where
-  -- the text is that of a lawful program that takes the setup
+  -- the text is that of a lawful program that takes the setup, and no more jobs are asked for than
+  -- there may be
   pub record IsTestable : Type 0 where
     pub program : Program
     pub lawful : IsLawfulText text program
     pub fine : setup_fault program (setup_from start None program) ≡ None
+    pub few : x.jobs ≤ MAX_JOBS
 
   -- the trace of the first run that the test looks for
   pub record IsOfTest (written : List ℕ) : Type 0 where
@@ -104,12 +108,20 @@ module _
     pub why : IsSetupRefusal program (setup_from start None program) cause
     pub is : f ≡ fault_of_setup cause
 
+  -- the text is that of a lawful program that takes the setup, but there may not be so many jobs
+  pub record HasManyJobs (f : Fault) : Type 0 where
+    pub program : Program
+    pub lawful : IsLawfulText text program
+    pub fine : setup_fault program (setup_from start None program) ≡ None
+    pub many : MAX_JOBS < x.jobs
+    pub is : f ≡ fault_of_setup OutOfRange
+
   -- memory was refused to a test of the program
   abbrev pub LacksMemory : Fault → Type 0
   LacksMemory f = (f ≡ Memory) × IsTestable
 
   abbrev pub IsTestRefused : Fault → Type 0
-  IsTestRefused f = HasNoCode text f ⊎ (IsStartRefused f ⊎ LacksMemory f)
+  IsTestRefused f = HasNoCode text f ⊎ (IsStartRefused f ⊎ (HasManyJobs f ⊎ LacksMemory f))
 
 -- It writes the trace of the first run that the test looks for, or nothing. The statements that no
 -- run reached are listed or not, and the summary is JSON or not.

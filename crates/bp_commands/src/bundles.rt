@@ -1,6 +1,7 @@
 //! The command without a name: it drives a bundle.
 ghost use Rattle.bp_commands.specs.Bundles.{bundles};
 ghost use Rattle.bp_commands.specs.Commands.{Answers};
+ghost use Rattle.bp_commands.specs.Explanations.{AreReadOr};
 ghost use Rattle.bp_commands.specs.Given.{bundle_alone};
 
 use crate::bundle_parts::parts;
@@ -23,9 +24,12 @@ pub fn drive_bundle<R: Read, W: Write>(
     bundle: &mut Source<R>,
     out: &mut W,
 ) -> Result<Report, BundleFault>
-    ensures { let inputs = bundle_alone
+    ensures answers { let inputs = bundle_alone
         (R.remaining bundle.old.reader) (R.remaining bundle.new.reader) in
         Answers bundles inputs (W.contents out.old) (W.contents out.new) result }
+    ensures holds { let inputs = bundle_alone
+        (R.remaining bundle.old.reader) (R.remaining bundle.new.reader) in
+        AreReadOr inputs bundle.new.bytes.items result }
 {
     read_input(alloc, MAX_BUNDLE, bundle)?;
     let start = Start::defaults(alloc)?;

@@ -41,6 +41,11 @@ pub trait ProgramCommand {
     fn start(&self) -> Option<NamedStart<'_>> {
         None
     }
+
+    /// How many jobs make the runs of a test, if it is one.
+    fn jobs(&self) -> Option<u32> {
+        None
+    }
 }
 
 /// A command on a program and an input beside it.

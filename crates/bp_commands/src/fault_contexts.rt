@@ -12,6 +12,7 @@ use bp_machine::{SetupFault, Start};
 use bp_messages::Fault;
 use bp_syntax::ReadFault;
 use bp_tasks::RunOptions;
+use bp_tasks::limits::MAX_JOBS;
 use std::alloc::Global;
 
 /// The numbers among the options of a command that have a range.
@@ -21,15 +22,17 @@ pub(crate) struct OptionNumbers {
     calls: u32,
     turn: Option<u32>,
     ring: Option<u32>,
+    jobs: Option<u32>,
 }
 
 impl OptionNumbers {
-    pub(crate) fn of_start(start: &Start) -> OptionNumbers {
+    pub(crate) fn of_start(start: &Start, jobs: Option<u32>) -> OptionNumbers {
         OptionNumbers {
             contexts: start.contexts,
             calls: start.calls,
             turn: None,
             ring: None,
+            jobs,
         }
     }
 
@@ -37,7 +40,7 @@ impl OptionNumbers {
         OptionNumbers {
             turn: Some(options.turn),
             ring: Some(options.ring),
-            ..OptionNumbers::of_start(&options.start)
+            ..OptionNumbers::of_start(&options.start, None)
         }
     }
 }
@@ -77,12 +80,24 @@ fn of_run(alloc: Global, numbers: OptionNumbers) -> Option<String> {
     None
 }
 
+/// How many jobs a test has, if these are more than it may have.
+fn of_test(alloc: Global, numbers: OptionNumbers) -> Option<String> {
+    let jobs = numbers.jobs?;
+    if jobs > MAX_JOBS {
+        return format!(in alloc; "--jobs {jobs}: at most {MAX_JOBS} are allowed").ok();
+    }
+    None
+}
+
 /// The option whose number is out of its range, and that range.
 fn of_numbers(alloc: Global, numbers: Option<OptionNumbers>) -> Option<String> {
     let numbers = numbers?;
-    match of_setup(alloc, numbers) {
+    if let Some(sentence) = of_setup(alloc, numbers) {
+        return Some(sentence);
+    }
+    match of_run(alloc, numbers) {
         Some(sentence) => Some(sentence),
-        None => of_run(alloc, numbers),
+        None => of_test(alloc, numbers),
     }
 }
 
@@ -160,6 +175,10 @@ fn of_name(alloc: Global, asked: Asked<'_, '_>, number: u64) -> Option<Vec<u8>> 
     }
 }
 
+/// What is said of a bundle without a program.
+const EMPTY_BUNDLE: &str = "standard input has no program; without a command btrun reads a \
+    program, a line '%' and a schedule ('btrun --help' shows the commands)";
+
 /// What is known of the command line of a run.
 #[derive(Clone, Copy)]
 pub(crate) struct FaultContext<'a, 't> {
@@ -169,6 +188,8 @@ pub(crate) struct FaultContext<'a, 't> {
     /// The file of the program, and that of the input beside it.
     pub(crate) program: &'a str,
     pub(crate) input: Option<Limited<'a>>,
+    /// Whether the program is that of a bundle.
+    pub(crate) is_bundle: bool,
 }
 
 impl FaultContext<'_, '_> {
@@ -200,6 +221,9 @@ impl FaultContext<'_, '_> {
             return bytes_of(alloc, sentence.as_str());
         }
         match fault {
+            Fault::Setup(_) if self.is_bundle && self.asked.program.is_empty() => {
+                bytes_of(alloc, EMPTY_BUNDLE)
+            }
             Fault::Setup(fault) => of_start(alloc, self.asked, *fault),
             Fault::NoVariable(number) => of_name(alloc, self.asked, *number),
             _ => None,

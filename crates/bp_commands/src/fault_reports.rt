@@ -1,5 +1,5 @@
 //! What is told of the faults of the texts that a command was given.
-ghost use Rattle.std.specs.Prelude.{◌≡◌, ℕ, List, Option, Result, IfOk};
+ghost use Rattle.std.specs.Prelude.{◌≡◌, ℕ, List, Option, None, Result, IfOk};
 ghost use Rattle.bp_text.specs.Writing.{Writes};
 ghost use Rattle.bp_commands.specs.RunEnds.{IsEndOf};
 ghost use Rattle.bp_advice.specs.declared.explanations.Explanation.{Explanation};
@@ -139,6 +139,40 @@ impl Texts for NamedPair<'_> {
 
     fn input(&self) -> &[u8] {
         self.input.text
+    }
+}
+
+/// A bundle that was read. Its faults are told in sentences.
+#[derive(Clone, Copy)]
+pub(crate) struct ReadBundle<'a> {
+    pub(crate) bytes: &'a [u8],
+}
+
+impl Texts for ReadBundle<'_> {
+    ghost explains = { λ _ _ _. ⊥ };
+
+    ghost is_in = { λ _ _ file. file ≡ None };
+
+    ghost given = { λ t. text_alone_of t.bytes.now };
+
+    fn explanation(
+        &self,
+        _alloc: Global,
+        _fault: &Fault,
+    ) -> Result<Option<Explanation<'_>>, AllocError> {
+        Ok(None)
+    }
+
+    fn file(&self, _fault: &Fault, _context: FaultContext<'_, '_>) -> Option<&str> {
+        None
+    }
+
+    fn program(&self) -> &[u8] {
+        self.bytes
+    }
+
+    fn input(&self) -> &[u8] {
+        b""
     }
 }
 

@@ -4,15 +4,17 @@ ghost use Rattle.bp_commands.specs.RunEnds.{of_run};
 ghost use Rattle.bp_commands.specs.Jobs.{held, on_bundle, on_file, on_files, IsRun};
 ghost use Rattle.bp_commands.specs.Runs.{runs_by_names};
 
+use crate::bundle_parts::parts;
 use crate::bundles::drive_bundle;
 use crate::commands::{PairCommand, ProgramCommand, do_on_pair, do_on_program};
 use crate::explanations::NamedText;
 use crate::fault_contexts::{Asked, FailedFile, FaultContext, Limited, OptionNumbers};
-use crate::fault_reports::{NamedPair, conclude};
+use crate::fault_reports::{NamedPair, ReadBundle, conclude};
 use crate::files::{Files, InputFile};
 use crate::flushes::flushed;
 use crate::inputs::Source;
-use crate::run_ends::{RunEnd, end};
+use crate::limits::MAX_BUNDLE;
+use crate::run_ends::RunEnd;
 use crate::running::{Run, run_program};
 use bp_init::NamedStart;
 use bp_run::Gate;
@@ -38,10 +40,10 @@ pub struct Streams<O: Write + Drop, E: Write + Drop> {
     pub errors: E,
 }
 
-/// The numbers of what a run starts from, where there is such a start.
-fn numbers_of(asked: Option<NamedStart<'_>>) -> Option<OptionNumbers> {
+/// The numbers of what a run starts from, if there is such a start, and of a test's jobs.
+fn numbers_of(asked: Option<NamedStart<'_>>, jobs: Option<u32>) -> Option<OptionNumbers> {
     let asked = asked?;
-    Some(OptionNumbers::of_start(asked.start))
+    Some(OptionNumbers::of_start(asked.start, jobs))
 }
 
 /// What is known of the command line of a run on a program alone.
@@ -61,6 +63,7 @@ fn hints_on<'a>(
         },
         program: program.name,
         input: None,
+        is_bundle: false,
     }
 }
 
@@ -92,7 +95,7 @@ pub fn run_on_program<'a, C: ProgramCommand, F: Files, W: Write + Drop, E: Write
         text: &program.bytes,
     };
     let start = command.start();
-    let context = hints_on(given, unread, numbers_of(start), start);
+    let context = hints_on(given, unread, numbers_of(start, command.jobs()), start);
     let end = conclude(io.alloc, io.format, &given, &done, context, &mut errors);
     (end, Streams { output, errors })
 }
@@ -178,7 +181,7 @@ pub fn run_on_pair<'a, C: PairCommand, F: Files, W: Write + Drop, E: Write + Dro
     };
     let context = FaultContext {
         unread,
-        numbers: numbers_of(command.start()),
+        numbers: numbers_of(command.start(), None),
         asked: Asked {
             program: given.program.text,
             start: command.start(),
@@ -189,21 +192,46 @@ pub fn run_on_pair<'a, C: PairCommand, F: Files, W: Write + Drop, E: Write + Dro
             name: input_path,
             limit: command.limit(),
         }),
+        is_bundle: false,
     };
     let end = conclude(io.alloc, io.format, &given, &done, context, &mut errors);
     (end, Streams { output, errors })
 }
 
-/// Drives the bundle of a reader, and answers how it ends and the streams.
+/// What a sentence calls the input of a bundle.
+const STANDARD_INPUT: &str = "standard input";
+
+/// What is known of the command line of a run on a bundle.
+fn hints_on_bundle(bytes: &[u8]) -> FaultContext<'_, '_> {
+    FaultContext {
+        unread: None,
+        numbers: None,
+        asked: Asked {
+            program: parts(bytes).0,
+            start: None,
+            watch: None,
+        },
+        program: STANDARD_INPUT,
+        input: Some(Limited {
+            name: STANDARD_INPUT,
+            limit: MAX_BUNDLE,
+        }),
+        is_bundle: true,
+    }
+}
+
+/// Drives the bundle of a reader, with a refusal in this format, and answers how it ends and the
+/// streams.
 pub fn run_on_bundle<R: Read + Drop, W: Write + Drop, E: Write + Drop>(
     alloc: Global,
+    format: FaultFormat,
     reader: R,
     streams: Streams<BufWriter<W>, E>,
 ) -> (RunEnd, Streams<W, E>)
     ensures { let before =
         held (writer_contents W.contents streams.output) (E.contents streams.errors) in
         let after = held (W.contents result.1.output) (E.contents result.1.errors) in
-        IsRun (on_bundle (R.remaining reader)) before after result.0 }
+        IsRun (on_bundle format (R.remaining reader)) before after result.0 }
 {
     let Streams {
         output: mut out,
@@ -212,6 +240,10 @@ pub fn run_on_bundle<R: Read + Drop, W: Write + Drop, E: Write + Drop>(
     let mut bundle = Source::new(alloc, reader);
     let done = drive_bundle(alloc, &mut bundle, &mut out);
     let (done, output) = flushed(done, out);
-    let end = end(&done, &mut errors);
+    let given = ReadBundle {
+        bytes: &bundle.bytes,
+    };
+    let context = hints_on_bundle(&bundle.bytes);
+    let end = conclude(alloc, format, &given, &done, context, &mut errors);
     (end, Streams { output, errors })
 }

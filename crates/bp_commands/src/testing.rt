@@ -13,9 +13,10 @@ use crate::programs::program_of;
 use crate::run_ends::CommandAnswer;
 use bp_check::Checked;
 use bp_init::NamedStart;
-use bp_machine::Start;
+use bp_machine::{SetupFault, Start};
 use bp_messages::{Fault, TestReport, exit_status, put_summary, put_summary_objects};
 use bp_source::{statement_lines, statement_positions, statement_texts, unreached_objects};
+use bp_tasks::limits::MAX_JOBS;
 use bp_test::{
     Counts, Distinct, Found, Progress, Runtimes, Tally, TestOptions, Waiting, distinct_of, test,
 };
@@ -142,6 +143,9 @@ fn test_from<R: Threads + Sync, P: Progress, W: Write>(
 {
     let (checked, code) = program_of(alloc, text)?;
     let setup = start.setup(alloc, &code, None)?;
+    if asked.options.jobs > MAX_JOBS {
+        return Err(Fault::Setup(SetupFault::OutOfRange));
+    }
     let (unreached, json) = (asked.unreached, asked.json);
     let described = description_of(alloc, unreached, json, asked.file, text, &checked)?;
     let options = asked.options;
@@ -202,5 +206,9 @@ impl<R: Threads + Sync, P: Progress> ProgramCommand for Test<'_, R, P> {
 
     fn start(&self) -> Option<NamedStart<'_>> {
         Some(self.start)
+    }
+
+    fn jobs(&self) -> Option<u32> {
+        Some(self.options.jobs)
     }
 }

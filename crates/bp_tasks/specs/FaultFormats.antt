@@ -35,7 +35,7 @@ is_viewed_in_json view.Columns = false
 
 -- whether a task reports its faults as JSON, and when it explains them
 abbrev pub reporting : Task → Bool × Explaining
-reporting Bundle = (false, record { always = false; never = true })
+reporting Bundle = (false, on_terminals)
 reporting (Check task) = (task.json, task.explain)
 reporting (Code task) = (is_listed_in_json task.form, task.explain)
 reporting (Drive task) = (false, task.explain)

@@ -150,8 +150,8 @@ pub enum Task<'a> {
     Shrink(TraceTask<'a>),
 }
 
-/// Explanations of a task that explains nothing.
-const NEVER: Explaining = Explaining {
+/// Explanations on terminals alone.
+const ON_TERMINALS: Explaining = Explaining {
     always: false,
     never: true,
 };
@@ -162,7 +162,7 @@ impl Task<'_> {
         ensures { result ≡ reporting self.now }
     {
         match self {
-            Task::Bundle => (false, NEVER),
+            Task::Bundle => (false, ON_TERMINALS),
             Task::Check(task) => (task.json, task.explain),
             Task::Code(task) => (matches!(task.form, ListingForm::Json), task.explain),
             Task::Drive(task) => (false, task.explain),

@@ -64,7 +64,7 @@ module _ (bytes : List ℕ → Option (List ℕ)) (screen : Screen) (format : Fa
 
   -- what a task asks for; standard input has these bytes
   abbrev pub job_in : (input : Option (List ℕ)) → Task → Job
-  job_in input Bundle = on_bundle input
+  job_in input Bundle = on_bundle format input
   job_in input (Check task) =
       on_file bytes format (checks task.json) done task.program.now
   job_in input (Code task) =

@@ -171,7 +171,7 @@ pub fn carry_out<
         format: task.fault_format(host.on_terminal),
     };
     match task {
-        Task::Bundle => run_on_bundle(host.alloc, input, streams),
+        Task::Bundle => run_on_bundle(host.alloc, io.format, input, streams),
         Task::Check(task) => {
             let json = task.json;
             run_on_program(io, &Check { json }, task.program, streams)

@@ -1,0 +1,27 @@
+use Rattle.std.proofs.Common.{◌≡◌, None}
+use Rattle.std.specs.Io.Buffered.{writer_contents}
+use Rattle.bp_commands.specs.RunEnds.{of_report}
+use Rattle.bp_commands.specs.Explanations.{AreReadOr}
+use Rattle.bp_commands.specs.Given.{bundle_alone, text_alone_of}
+use Rattle.bp_commands.specs.FaultReports.{IsObjectIn}
+use Rattle.bp_commands.proofs.ConcludedReads.{concluded_read}
+use Rattle.bp_commands.proofs.runs.run_on_bundle.Goals as goal
+
+pub returns : goal.returns
+returns g c =
+    let bytes = c.drive_bundle-done.new.bundle.bytes.items in
+    let left = g.R.Read.remaining c.drive_bundle-done.new.bundle.reader in
+    let inputs = bundle_alone (g.R.Read.remaining c.args.reader) left in
+    let holds : AreReadOr inputs bytes c.drive_bundle-done.result = rw (← c.new-bundle.ensures) c.drive_bundle-done.ensures.holds in
+    record {
+      left = left;
+      buffered = writer_contents g.W.Write.contents c.drive_bundle-done.new.out;
+      done = c.drive_bundle-done.result;
+      answers = rw (← c.new-bundle.ensures) c.drive_bundle-done.ensures.answers;
+      final = c.flushed-done.result.0;
+      flushed = c.flushed-done.ensures;
+      concluded =
+          concluded_read inputs bytes (λ t. IsObjectIn (λ _ file. file ≡ None) (text_alone_of t) (λ _ _. ⊥)) (λ _ _ _. ⊥)
+          of_report c.args.format c.drive_bundle-done.result c.flushed-done.result.0 _ _ c.conclude-end.result _ _
+          holds c.flushed-done.ensures (rw c.deref.ensures.value at c.conclude-end.ensures);
+    }
