@@ -50,7 +50,7 @@ _btrun_options() {
         confirm) echo "$common $start --expect --json" ;;
         run) echo "$common $start --seed --turn --ring --spread" ;;
         test) echo "$common $start --seed --runs --time --jobs --deadlock --unreached --json" ;;
-        show) echo "$common --thread --last --from --to --watch --fold --state --brief --at --contexts --steps --json" ;;
+        show) echo "$common --thread --last --from --to --watch --fold --state --brief --valid --at --contexts --steps --json" ;;
     esac
 }
 

@@ -97,6 +97,7 @@ complete -c btrun -n '__fish_seen_subcommand_from show' -x -l watch -a '(__btrun
 complete -c btrun -n '__fish_seen_subcommand_from show' -l fold -d 'Show equal waits as one line'
 complete -c btrun -n '__fish_seen_subcommand_from show' -l state -d 'Show the state after the last call too'
 complete -c btrun -n '__fish_seen_subcommand_from show' -l brief -d 'Leave out the setup'
+complete -c btrun -n '__fish_seen_subcommand_from show' -l valid -d 'Show the accepted calls of a refused trace'
 complete -c btrun -n '__fish_seen_subcommand_from show' -x -l at -d 'Show the state after this call'
 complete -c btrun -n '__fish_seen_subcommand_from show' -l contexts -d 'Show a line for each context'
 complete -c btrun -n '__fish_seen_subcommand_from show' -l steps -d 'Show only the steps'

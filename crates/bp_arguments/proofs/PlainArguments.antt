@@ -97,7 +97,7 @@ plain_rows Test files = on_one files (codes "deadlock" ∷ codes "unreached" ∷
 plain_rows Drive files = on_two (codes "SCHEDULE") files []
 plain_rows Confirm files = on_two (codes "STEPS") files (codes "json" ∷ [])
 plain_rows Replay files = on_two (codes "TRACE") files []
-plain_rows Show files = on_two (codes "TRACE") files (codes "fold" ∷ codes "state" ∷ codes "brief" ∷ codes "contexts" ∷ codes "steps" ∷ codes "json" ∷ [])
+plain_rows Show files = on_two (codes "TRACE") files (codes "fold" ∷ codes "state" ∷ codes "brief" ∷ codes "valid" ∷ codes "contexts" ∷ codes "steps" ∷ codes "json" ∷ [])
 plain_rows Migrate files = on_two (codes "TRACE") files []
 plain_rows Shrink files = on_two (codes "TRACE") files []
 
@@ -331,6 +331,7 @@ asks Confirm files task (t, is, of) = (
   start_is t.start of.entries of.init of.contexts of.calls,
   of.named,
   used_bound files t.bound of.bound,
+  of.expected,
   of.json.1 refl,
   unasked t.explain (of.explain.always.1 refl) (of.explain.never.1 refl),
 )
@@ -362,6 +363,7 @@ asks Show files task (t, is, of) = (
   of.at,
   of.contexts.1 refl,
   of.steps.1 refl,
+  of.valid.1 refl,
   view_is files t.options of.options,
   unasked t.explain (of.explain.always.1 refl) (of.explain.never.1 refl),
 )

@@ -155,7 +155,7 @@ abbrev pub trace_rules : List Rule
 trace_rules = required_rule (codes "TRACE") ∷ []
 
 -- `TRACE [--thread N] [--last N] [--from N] [--to N] [--watch NAMES] [--fold] [--state] [--brief]
--- [--at N] [--contexts] [--steps] [--json]`
+-- [--valid] [--at N] [--contexts] [--steps] [--json]`
 abbrev pub show_rules : List Rule
 show_rules =
     required_rule (codes "TRACE")
@@ -167,6 +167,7 @@ show_rules =
     ∷ flag_rule (codes "fold")
     ∷ flag_rule (codes "state")
     ∷ flag_rule (codes "brief")
+    ∷ flag_rule (codes "valid")
     ∷ long_number_rule (codes "at")
     ∷ flag_rule (codes "contexts")
     ∷ flag_rule (codes "steps")

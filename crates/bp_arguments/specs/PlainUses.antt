@@ -118,6 +118,7 @@ IsPlainTask Confirm files task =
     × (t.start ≡ default_start)
     × (t.named ≡ [])
     × (t.bound ≡ AsUsed)
+    × (t.expected ≡ None)
     × (t.json ≡ false)
     × (t.explain ≡ on_terminals)
 IsPlainTask Run files task =
@@ -143,6 +144,7 @@ IsPlainTask Show files task =
     × (t.at ≡ None)
     × (t.contexts ≡ false)
     × (t.steps ≡ false)
+    × (t.valid ≡ false)
     × (t.options ≡ all_calls)
     × (t.explain ≡ on_terminals)
 IsPlainTask Replay files task = (t : TraceTask) × (task ≡ asked.Replay t) × IsOnTrace files t

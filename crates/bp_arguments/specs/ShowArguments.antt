@@ -34,5 +34,6 @@ pub record IsShowOf (rows : List Row) (task : ShowTask) : Type 0 where
   pub at : IsNumberIn 64 (one_of (codes "at") rows) task.at
   pub contexts : IsFlagOf (one_of (codes "contexts") rows) task.contexts
   pub steps : IsFlagOf (one_of (codes "steps") rows) task.steps
+  pub valid : IsFlagOf (one_of (codes "valid") rows) task.valid
   pub options : IsViewOf rows task.options
   pub explain : IsExplainingOf rows task.explain

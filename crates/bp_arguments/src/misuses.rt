@@ -15,6 +15,7 @@ pub enum OptionName {
     At,
     Contexts,
     Steps,
+    Valid,
     Thread,
     Last,
     From,
@@ -42,7 +43,7 @@ pub enum Misuse {
 }
 
 /// How many pairs of options are refused.
-const PAIRS: usize = 29;
+const PAIRS: usize = 30;
 
 /// The options that clash: beside the first of a pair, the second has no effect. Earlier pairs are
 /// reported first.
@@ -74,6 +75,7 @@ pub const CLASHES: [(OptionName, OptionName); PAIRS] = [
     (OptionName::Steps, OptionName::Fold),
     (OptionName::Steps, OptionName::State),
     (OptionName::Steps, OptionName::Brief),
+    (OptionName::Steps, OptionName::Valid),
     (OptionName::Json, OptionName::Fold),
     (OptionName::Explain, OptionName::NoExplain),
 ];
@@ -86,6 +88,7 @@ fn option_name(option: OptionName) -> &'static str
         OptionName::At => "at",
         OptionName::Contexts => "contexts",
         OptionName::Steps => "steps",
+        OptionName::Valid => "valid",
         OptionName::Thread => "thread",
         OptionName::Last => "last",
         OptionName::From => "from",

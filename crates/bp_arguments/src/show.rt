@@ -26,7 +26,7 @@ pub const NOTES: &str = "\
     2  an input was refused, or the arguments were\n  3  memory, a device or the output failed";
 
 /// The arguments of the command after its file.
-pub static ROWS: [Row<'static>; 13] = [
+pub static ROWS: [Row<'static>; 14] = [
     TRACE,
     Row {
         name: "thread",
@@ -67,6 +67,11 @@ pub static ROWS: [Row<'static>; 13] = [
         name: "brief",
         takes: Takes::Nothing,
         help: "Leave out the setup",
+    },
+    Row {
+        name: "valid",
+        takes: Takes::Nothing,
+        help: "Show the accepted calls of a trace that is refused",
     },
     Row {
         name: "at",
@@ -131,6 +136,7 @@ pub fn show_arguments<'a>(arguments: &ArgMatches<'a>) -> ShowTask<'a>
         at: given_long_number(arguments, "at"),
         contexts: is_given(arguments, "contexts"),
         steps: is_given(arguments, "steps"),
+        valid: is_given(arguments, "valid"),
         options: view_options(arguments),
         explain: explaining(arguments),
     }

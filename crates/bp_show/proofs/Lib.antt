@@ -1,2 +1,3 @@
 mod ConfirmedSteps
+mod ValidParts
 mod ViewedTraces

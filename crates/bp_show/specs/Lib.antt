@@ -1,2 +1,3 @@
 pub mod Confirms
 pub mod Shows
+pub mod ValidCalls

@@ -118,6 +118,8 @@ pub struct ShowTask<'a> {
     pub contexts: bool,
     /// Whether the steps are shown as `confirm` takes them.
     pub steps: bool,
+    /// Whether the accepted calls are shown of a trace that is refused.
+    pub valid: bool,
     /// Which calls are shown, and how. In JSON a fault is an object too.
     pub options: ViewOptions<'a>,
     pub explain: Explaining,
@@ -153,7 +155,7 @@ pub enum Task<'a> {
 /// Explanations on terminals alone.
 const ON_TERMINALS: Explaining = Explaining {
     always: false,
-    never: true,
+    never: false,
 };
 
 impl Task<'_> {

@@ -1,5 +1,5 @@
 -- What a run does, by its task.
-use Rattle.std.specs.Prelude.{ℕ, Bool, List, Option}
+use Rattle.std.specs.Prelude.{ℕ, Bool, true, false, List, Option}
 use Rattle.bp_commands.specs.Checks.{checks}
 use Rattle.bp_commands.specs.Commands.{Command}
 use Rattle.bp_commands.specs.Drives.{drives_by_names}
@@ -15,6 +15,7 @@ use Rattle.bp_commands.specs.Tests.{of_test, tests_by_names}
 use Rattle.bp_commands.specs.Traces.{migrates, replays}
 use Rattle.bp_show.specs.Confirms.{confirms_by_names, of_confirm}
 use Rattle.bp_show.specs.Shows.{shows_as}
+use Rattle.bp_show.specs.ValidCalls.{on_valid_calls}
 use Rattle.bp_show.specs.declared.confirming.VerdictForm.{VerdictForm}
 use Rattle.bp_machine.specs.declared.reports.Report.{Report}
 use Rattle.bp_messages.specs.declared.test_reports.TestReport.{TestReport}
@@ -25,6 +26,7 @@ use Rattle.bp_tasks.specs.declared.tasks.ShowTask.{ShowTask}
 use Rattle.bp_tasks.specs.declared.tasks.Task.{Task}
 use Rattle.bp_tasks.specs.declared.tasks.Task.TheVariants.{Bundle, Check, Code, Drive, Confirm, Run, Test, Replay, Show, Migrate, Shrink}
 use Rattle.bp_tasks.specs.declared.tasks.TestTask.{TestTask}
+use Rattle.bp_tasks.specs.declared.view_options.ViewFormat.{ViewFormat}
 use Rattle.bp_tasks.specs.declared.view_options.ViewOptions.{ViewOptions}
 use Rattle.btrun.specs.declared.tasks.Screen.{Screen}
 
@@ -46,21 +48,30 @@ test_asked task =
 abbrev pub form_asked : ConfirmTask → VerdictForm
 form_asked task = record { expected = task.expected; json = task.json }
 
+-- a command on a trace, or on its accepted calls
+abbrev pub valid_if : (valid : Bool) → ViewFormat → Command Pair Report → Command Pair Report
+valid_if true format command = on_valid_calls format command
+valid_if false format command = command
+
+-- a command on the program of a file and a trace of it; the files have these bytes by their paths,
+-- and faults are reported in this format
+abbrev pub on_trace
+    : (bytes : List ℕ → Option (List ℕ)) → FaultFormat → Command Pair Report
+    → (program trace : List ℕ) → Job
+on_trace bytes format command program trace =
+    on_files bytes format command of_report MAX_TRACE Trace program trace
+
 -- The files have these bytes by their paths. Lines are shown so on standard output, and faults are
 -- reported in this format.
 module _ (bytes : List ℕ → Option (List ℕ)) (screen : Screen) (format : FaultFormat) where
-  -- a command on the program of a file and a trace of it
-  abbrev pub on_trace : Command Pair Report → (program trace : List ℕ) → Job
-  on_trace command program trace =
-      on_files bytes format command of_report MAX_TRACE Trace program trace
-
   -- the trace of a file is shown as a task asks for
   abbrev pub show_job : ShowTask → Job
   show_job task =
       let options = on_screen task.options screen in
       let file = task.program.now in
       let command = shows_as options file task.contexts task.steps task.at in
-      on_trace command task.program.now task.trace.now
+      let shown = valid_if task.valid task.options.format command in
+      on_trace bytes format shown file task.trace.now
 
   -- what a task asks for; standard input has these bytes
   abbrev pub job_in : (input : Option (List ℕ)) → Task → Job
@@ -84,11 +95,11 @@ module _ (bytes : List ℕ → Option (List ℕ)) (screen : Screen) (format : Fa
       on_file bytes format (test_asked task) of_test task.program.now
   job_in input (Show task) = show_job task
   job_in input (Replay task) =
-      on_trace replays task.program.now task.trace.now
+      on_trace bytes format replays task.program.now task.trace.now
   job_in input (Migrate task) =
-      on_trace migrates task.program.now task.trace.now
+      on_trace bytes format migrates task.program.now task.trace.now
   job_in input (Shrink task) =
-      on_trace shrinks task.program.now task.trace.now
+      on_trace bytes format shrinks task.program.now task.trace.now
 
 -- the same, where standard error is a terminal or not
 abbrev pub job_of

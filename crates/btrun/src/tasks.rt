@@ -2,16 +2,16 @@
 ghost use Rattle.std.specs.Io.Buffered.{writer_contents};
 ghost use Rattle.std.specs.Prelude.{◌≡◌, is_some};
 ghost use Rattle.bp_commands.specs.Jobs.{held, IsRun};
-ghost use Rattle.btrun.specs.Tasks.{form_asked, job_of, on_screen, show_job};
+ghost use Rattle.btrun.specs.Tasks.{form_asked, job_of, on_screen, on_trace, show_job, valid_if};
 
 use bp_commands::{
     Check, Drive, Files, Io, ListCode, Migrate, Replay, Run, RunEnd, Shrink, Streams, Test,
-    run_by_workers, run_on_bundle, run_on_pair, run_on_program,
+    TraceCommand, run_by_workers, run_on_bundle, run_on_pair, run_on_program,
 };
 use bp_init::{NamedBits, NamedStart};
 use bp_machine::Start;
 use bp_run::Spread;
-use bp_show::{Confirm, Show, ShowContexts, ShowState, ShowSteps, VerdictForm};
+use bp_show::{Confirm, Show, ShowContexts, ShowState, ShowSteps, ShowValid, VerdictForm};
 use bp_tasks::{ConfirmTask, RunTask, ShowTask, Task, TestTask, ViewOptions};
 use bp_test::Progress;
 use std::alloc::Global;
@@ -114,6 +114,30 @@ fn on_screen<'a>(options: ViewOptions<'a>, screen: Screen) -> ViewOptions<'a>
     }
 }
 
+/// Does a command on the trace of a file, or on its accepted calls.
+fn show_trace<F: Files, C: TraceCommand, W: Write + Drop, E: Write + Drop>(
+    io: Io<'_, F>,
+    command: &C,
+    task: &ShowTask<'_>,
+    streams: Streams<BufWriter<W>, E>,
+) -> (RunEnd, Streams<W, E>)
+    ensures { let before =
+        held (writer_contents W.contents streams.output) (E.contents streams.errors) in
+        let after = held (W.contents result.1.output) (E.contents result.1.errors) in
+        let command = valid_if task.now.valid task.now.options.format (C.command command.now) in
+        let bytes = F.bytes io.entry.files.now in
+        let program = task.now.program.now in
+        IsRun (on_trace bytes io.entry.format command program task.now.trace.now)
+        before after result.0 }
+{
+    if task.valid {
+        let format = task.options.format;
+        let valid = ShowValid { command, format };
+        return run_on_pair(io, &valid, task.program, task.trace, streams);
+    }
+    run_on_pair(io, command, task.program, task.trace, streams)
+}
+
 /// Shows the trace of a file: the state after a number of calls, its contexts, its steps, or its
 /// calls, by the first of these that is asked for.
 fn show<F: Files, W: Write + Drop, E: Write + Drop>(
@@ -128,18 +152,17 @@ fn show<F: Files, W: Write + Drop, E: Write + Drop>(
         let job = show_job (F.bytes io.entry.files.now) screen io.entry.format task.now in
         IsRun job before after result.0 }
 {
-    let (path, trace, format) = (task.program, task.trace, task.options.format);
+    let format = task.options.format;
     match task.at {
-        Some(number) => run_on_pair(io, &ShowState { number, format }, path, trace, streams),
-        None if task.contexts => { run_on_pair(io, &ShowContexts { format }, path, trace, streams) }
-        None if task.steps => run_on_pair(io, &ShowSteps, path, trace, streams),
+        Some(number) => show_trace(io, &ShowState { number, format }, task, streams),
+        None if task.contexts => show_trace(io, &ShowContexts { format }, task, streams),
+        None if task.steps => show_trace(io, &ShowSteps, task, streams),
         None => {
-            let options = on_screen(task.options, screen);
             let show = Show {
-                options,
-                file: path,
+                options: on_screen(task.options, screen),
+                file: task.program,
             };
-            run_on_pair(io, &show, path, trace, streams)
+            show_trace(io, &show, task, streams)
         }
     }
 }

@@ -13,6 +13,7 @@ returns c = record {
   at = c.given_long_number.ensures;
   contexts = c.is_given.ensures;
   steps = c.is_given-2.ensures;
+  valid = c.is_given-3.ensures;
   options = c.view_options.ensures;
   explain = c.explaining.ensures;
 }
