@@ -36,4 +36,5 @@ pub mod OneInstruction
 pub mod OneReason
 pub mod OneStepRefusal
 pub mod OneTextRefusal
+pub mod OwnTextConfirmed
 pub mod LinesKept

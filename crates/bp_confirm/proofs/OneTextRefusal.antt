@@ -49,17 +49,17 @@ module _ (t : Program) (s : SetupOf) where
         ]
       ]
 
-  abbrev IsStray : (StepLineOf → Type 0) → Type 0
+  abbrev pub IsStray : (StepLineOf → Type 0) → Type 0
   IsStray Is = (x : StepLineOf) → Is x → IsDeclared t s x → ⊥
 
-  no_thread : (i : ℕ) → IsStray (IsOfNoThread s i)
+  pub no_thread : (i : ℕ) → IsStray (IsOfNoThread s i)
   no_thread i x is declared = omega (arith, is.is, is.none, declared.thread)
 
-  no_variable : (n : ℕ) → IsStray (IsOfNoVariable t s n)
+  pub no_variable : (n : ℕ) → IsStray (IsOfNoVariable t s n)
   no_variable n x is declared = not_both x.values n is.variable declared.variables
 
   module _ (lines : List StepLineOf) where
-    stray_alone : (n : ℕ) (Is : StepLineOf → Type 0) → IsStray Is → IsFirstStray t s lines n Is → AreDeclaredLines t s lines → ⊥
+    pub stray_alone : (n : ℕ) (Is : StepLineOf → Type 0) → IsStray Is → IsFirstStray t s lines n Is → AreDeclaredLines t s lines → ⊥
     stray_alone n Is stray p all = stray p.line p.is (all_here (IsDeclared t s) p.before p.line p.later (subst (AreDeclaredLines t s) p.parts all))
 
     one_stray : (m n : ℕ) (Is Are : StepLineOf → Type 0) → IsStray Is → IsStray Are → (p : IsFirstStray t s lines m Is) → (q : IsFirstStray t s lines n Are)

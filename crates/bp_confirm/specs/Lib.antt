@@ -22,5 +22,6 @@ pub mod ContextBounds
 pub mod Reading
 pub mod OwnLines
 pub mod OwnSteps
+pub mod OwnTexts
 pub mod OneRefusal
 pub mod KeptLines

@@ -27,16 +27,16 @@ step_of text x = record {
 abbrev pub steps_of : List ℕ → List StepLineOf → List StepOf
 steps_of text xs = map (step_of text) xs
 
--- A device: the location of thread i before its next step.
+-- the location of thread i before its next step
 abbrev pub next_location : ℕ → List StepLineOf → Option Location
 next_location i [] = None
 next_location i (x ∷ xs) = if x.thread == i then Some x.location else next_location i xs
 
--- A device: the location of the line of this number, from 0, if there is one.
+-- the location of the line of this number, from 0, if there is one
 abbrev pub location_in : List StepLineOf → ℕ → Option Location
 location_in xs n = option_map (λ x. x.location) (slice_get xs n)
 
--- A device: for each line the location of its thread before the thread's next step.
+-- for each line the location of its thread before the thread's next step
 abbrev pub next_locations : List StepLineOf → List (Option Location)
 next_locations [] = []
 next_locations (x ∷ xs) = next_location x.thread xs ∷ next_locations xs

@@ -25,7 +25,6 @@ mod step_lines;
 mod step_texts;
 mod values;
 
-pub use bp_tasks::ContextBound;
 pub use confirming::{ConfirmFault, confirm};
 pub use faults::{Difference, StepReason, StepRefusal};
 pub use histories::Confirmed;
@@ -38,4 +37,4 @@ pub use locations::Location;
 pub use noted_steps::{OwnStep, OwnSteps, own_steps};
 pub use own_step_texts::put_steps;
 pub use stands::Stand;
-pub use step_lines::{SeenValue, StepLine};
+pub use step_lines::SeenValue;

@@ -2,8 +2,9 @@
 
 use crate::sources::program_of;
 use bp_code::compile;
-use bp_confirm::{ConfirmFault, ContextBound, StepRefusal, confirm};
+use bp_confirm::{ConfirmFault, StepRefusal, confirm};
 use bp_machine::{Call, Setup, SetupFault, Start};
+use bp_tasks::ContextBound;
 use bp_text::{part_before, text_from_line};
 use bp_trace::write_trace;
 use std::alloc::{AllocError, Global};

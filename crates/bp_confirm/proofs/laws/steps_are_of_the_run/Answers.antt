@@ -1,4 +1,5 @@
 use Rattle.bp_confirm.proofs.OwnStepsMade.{steps_of_the_run, text_of_lines}
+use Rattle.bp_confirm.proofs.OwnTextConfirmed.{own_text_confirmed}
 use Rattle.bp_confirm.proofs.laws.steps_are_of_the_run.Goals as goal
 
 pub returns-clause-run : goal.returns-clause-run
@@ -6,3 +7,6 @@ returns-clause-run c = steps_of_the_run
 
 pub returns-clause-text : goal.returns-clause-text
 returns-clause-text c = text_of_lines
+
+pub returns-clause-confirmed : goal.returns-clause-confirmed
+returns-clause-confirmed c = own_text_confirmed c.runs_are_histories.ensures.each c.runs_are_histories.ensures.back

@@ -1,0 +1,161 @@
+-- The text of a run's own steps is read as their lines, which are declared and are not refused.
+use Rattle.std.proofs.Common.{◌≡◌, ◌∙◌, ◌≤◌, ℕ, Bool, true, false, cond, List, [], ◌∷◌, ◌++◌, Option, None, Some, map, length, take, refl, ap, sym, subst, arith}
+use Rattle.std.specs.Prelude.{nat_lt}
+use Rattle.std.specs.List.{AllByRecursion}
+use Rattle.std.proofs.lemmas.Bool.Decides.{nat_tests}
+use Rattle.std.proofs.lemmas.List.{length-take}
+use Rattle.bp_text.proofs.PositionsOfParts.{column_within, line_within}
+use Rattle.bp_tree.specs.Ast.{Program}
+use Rattle.bp_flat.specs.Configurations.{Configuration}
+use Rattle.bp_language.specs.declared.limits.TheConstants.{TEXT_LIMIT}
+use Rattle.bp_language.specs.Texts.{IsTextOf}
+use Rattle.bp_machine.specs.declared.calls.Call.{Call}
+use Rattle.bp_machine.specs.declared.limits.TheConstants.{MAX_CONTEXTS, MAX_THREADS}
+use Rattle.bp_machine.specs.Answers.{configuration_after_call, stack_of}
+use Rattle.bp_machine.specs.BoundedRuns.{IsBoundedRun}
+use Rattle.bp_machine.specs.Contexts.{IsWithin}
+use Rattle.bp_machine.specs.Histories.{configuration_after, granted_calls, IsLegalAfter}
+use Rattle.bp_machine.specs.Laws.{HistoriesAreRuns, RunsAreHistories}
+use Rattle.bp_machine.specs.Replies.{is_granted}
+use Rattle.bp_machine.specs.Setups.{SetupOf, start, threads}
+use Rattle.bp_tasks.specs.declared.context_bounds.ContextBound.{ContextBound}
+use Rattle.bp_tasks.specs.declared.context_bounds.ContextBound.TheVariants.{AsUsed, Kept}
+use Rattle.bp_confirm.specs.declared.confirming.ConfirmFault.{ConfirmFault}
+use Rattle.bp_confirm.specs.declared.confirming.ConfirmFault.TheVariants.{Line, Memory, NoSteps, NoThread, NoVariable, Step, TooLong}
+use Rattle.bp_confirm.specs.declared.faults.StepRefusal.{StepRefusal}
+use Rattle.bp_confirm.specs.declared.noted_steps.OwnStep.{OwnStep}
+use Rattle.bp_confirm.specs.Confirms.{IsStepRefusal}
+use Rattle.bp_confirm.specs.ConfirmedTexts.{HasFitLength, IsStepsRefusal}
+use Rattle.bp_confirm.specs.ContextBounds.{IsSetupFor, contexts_allowed, thread_of}
+use Rattle.bp_confirm.specs.DeclaredLines.{AreDeclaredLines, IsFirstStray, IsOfNoThread, IsOfNoVariable}
+use Rattle.bp_confirm.specs.OwnLines.{AreOwnLines, exact_location, next_start}
+use Rattle.bp_confirm.specs.OwnSteps.{lines_of_steps, own_step, own_steps, own_steps_from, own_steps_text}
+use Rattle.bp_confirm.specs.OwnTexts.{OwnTextIsConfirmed}
+use Rattle.bp_confirm.specs.StepLines.{StepLineOf}
+use Rattle.bp_confirm.specs.StepTexts.{AreNamed, HasLine, HasLines, IsBadLine, IsShortLocation}
+use Rattle.bp_confirm.proofs.OneReading.{bad_begins, one_reading}
+use Rattle.bp_confirm.proofs.OneTextRefusal.{IsStray, no_thread, no_variable, stray_alone}
+use Rattle.bp_confirm.proofs.OwnLinesTaken.{own_lines_confirmed}
+use Rattle.bp_confirm.proofs.OwnStepsMade.{steps_of_the_run, text_of_lines}
+
+-- the lines are of threads of the setup, and have no values
+module _ (text : List ℕ) (t : Program) (s : SetupOf) where
+  declared_from : (h calls : List Call) (c : Configuration) → IsLegalAfter t s h calls
+      → AreDeclaredLines t s (lines_of_steps (own_steps_from text t c calls))
+  declared_from h [] c legal = tt
+  declared_from h (x ∷ xs) c (allowed, rest) = by_reply (is_granted x.reply) (declared_from (h ++ x ∷ []) xs next rest)
+    where
+      next : Configuration
+      next = configuration_after_call t c x.thread x.bit x.reply
+
+      by_reply : (b : Bool) → AreDeclaredLines t s (lines_of_steps (own_steps_from text t next xs))
+          → AreDeclaredLines t s (lines_of_steps (cond b (own_step text c x ∷ own_steps_from text t next xs) (own_steps_from text t next xs)))
+      by_reply true more = (record { thread = allowed.thread; variables = tt }, more)
+      by_reply false more = more
+
+-- and they can be written, since their places are in a short text
+module _ (text : List ℕ) (few : length text ≤ TEXT_LIMIT) where
+  short_location : (begin : Option ℕ) → IsShortLocation (exact_location text begin)
+  short_location None = tt
+  short_location (Some at) = (
+    omega (arith, few, length-take at text, line_within (take at text)),
+    omega (arith, few, length-take at text, column_within (take at text)),
+  )
+
+  module _ (t : Program) (s : SetupOf) (small : threads s ≤ MAX_THREADS) where
+    each_line : (c : Configuration) (calls : List Call) (lines : List StepLineOf) → AreOwnLines text t c calls lines
+        → AreDeclaredLines t s lines → AllByRecursion HasLine lines
+    each_line c [] [] own all = tt
+    each_line c [] (x ∷ xs) own all = absurd own
+    each_line c (call ∷ calls) [] own all = absurd own
+    each_line c (call ∷ calls) (x ∷ xs) (here, (next, move, rest)) (declared, others) = (
+      record {
+        thread = omega (arith, small, declared.thread);
+        location = subst IsShortLocation (sym here.location) (short_location (next_start (stack_of c call.thread)));
+        values = subst AreNamed (sym here.values) tt;
+      },
+      each_line next calls xs rest others,
+    )
+
+same_threads : (text : List ℕ) (t : Program) (c : Configuration) (calls : List Call) (lines : List StepLineOf) → AreOwnLines text t c calls lines
+    → map (λ x. x.thread) calls ≡ map thread_of lines
+same_threads text t c [] [] own = refl
+same_threads text t c [] (x ∷ xs) own = absurd own
+same_threads text t c (call ∷ calls) [] own = absurd own
+same_threads text t c (call ∷ calls) (x ∷ xs) (here, (next, move, rest)) =
+    let more = same_threads text t next calls xs rest in
+    λ i. sym here.thread i ∷ more i
+
+allowed_as_used : (used : ℕ) → used ≤ MAX_CONTEXTS → contexts_allowed used ≡ used
+allowed_as_used used within = ap (λ b. cond b MAX_CONTEXTS used) (let none : nat_lt MAX_CONTEXTS used ≡ false = grind (arith, nat_tests, within) in none)
+
+-- no step of a run's own lines is refused, in the setup for them
+module _ (each : RunsAreHistories) (text : List ℕ) (t : Program) (s : SetupOf) (is : IsTextOf text t) (calls : List Call) (last : Configuration)
+    (run : IsBoundedRun t s calls last) (lines : List StepLineOf) (own : AreOwnLines text t (start t s) calls lines) where
+  none_within : (k : ℕ) (r : StepRefusal) → IsWithin k (map thread_of lines) → IsStepRefusal text t (record s { contexts = k }) lines r → ⊥
+  none_within k r within refused = own_lines_confirmed each text t (record s { contexts = k }) calls last lines r is bounded own refused
+    where
+      bounded : IsBoundedRun t (record s { contexts = k }) calls last
+      bounded = record {
+        run = run.run;
+        contexts = subst (IsWithin k) (sym (same_threads text t (start t s) calls lines own)) within;
+        calls = run.calls;
+        room = run.room;
+      }
+
+  own_within : IsWithin s.contexts (map thread_of lines)
+  own_within = subst (IsWithin s.contexts) (same_threads text t (start t s) calls lines own) run.contexts
+
+  none_refused : (bound : ContextBound) (setup : SetupOf) (r : StepRefusal) → (bound ≡ AsUsed → s.contexts ≤ MAX_CONTEXTS)
+      → IsSetupFor s lines bound setup → IsStepRefusal text t setup lines r → ⊥
+  none_refused Kept setup r few allows refused = none_within s.contexts r own_within (subst (λ z. IsStepRefusal text t z lines r) allows refused)
+  none_refused AsUsed setup r few allows refused =
+      let within : allows.used ≤ MAX_CONTEXTS = omega (arith, allows.least.least s.contexts own_within, few refl) in
+      let kept = subst (λ k. IsWithin k (map thread_of lines)) (sym (allowed_as_used allows.used within)) allows.least.within in
+      none_within (contexts_allowed allows.used) r kept (subst (λ z. IsStepRefusal text t z lines r) allows.is refused)
+
+-- a text of these lines, which are declared and have no refused step, is refused for memory alone
+module _ (text : List ℕ) (t : Program) (s : SetupOf) (steps : List ℕ) (bound : ContextBound) (lines : List StepLineOf) (fit : HasFitLength t s steps)
+    (has : HasLines steps lines) (declared : AreDeclaredLines t s lines)
+    (taken : (setup : SetupOf) (r : StepRefusal) → IsSetupFor s lines bound setup → IsStepRefusal text t setup lines r → ⊥) where
+  same_lines : (others : List StepLineOf) → HasLines steps others → others ≡ lines
+  same_lines others p = one_reading others lines p.each has.each (sym p.is ∙ has.is)
+
+  no_bad : (n : ℕ) → IsBadLine steps n → ⊥
+  no_bad n bad = bad_begins lines bad.before bad.rest has.each bad.each (sym has.is ∙ bad.whole) bad.some bad.bad
+
+  no_stray : (others : List StepLineOf) (n : ℕ) (Is : StepLineOf → Type 0) → IsStray t s Is → HasLines steps others → IsFirstStray t s others n Is → ⊥
+  no_stray others n Is stray p first =
+      stray_alone t s lines n Is stray (subst (λ xs. IsFirstStray t s xs n Is) (same_lines others p) first) declared
+
+  not_refused : (r : StepRefusal) → IsStepsRefusal t s steps text bound (Step r) → ⊥
+  not_refused r p =
+      let same = same_lines p.lines p.told.read.has in
+      taken p.setup r (subst (λ xs. IsSetupFor s xs bound p.setup) same p.allows) (subst (λ xs. IsStepRefusal text t p.setup xs r) same p.refused)
+
+  only_memory : (f : ConfirmFault) → IsStepsRefusal t s steps text bound f → f ≡ Memory
+  only_memory TooLong p = absurd (omega (arith, p, fit.1))
+  only_memory NoSteps p = absurd (omega (arith, p, fit.0))
+  only_memory (Line n) p = absurd (no_bad n p.1)
+  only_memory (NoThread n i) p = absurd (no_stray p.lines n (IsOfNoThread s i) (no_thread t s i) p.read.has p.stray)
+  only_memory (NoVariable n k) p = absurd (no_stray p.lines n (IsOfNoVariable t s k) (no_variable t s k) p.read.has p.stray)
+  only_memory (Step r) p = absurd (not_refused r p)
+  only_memory Memory p = refl
+
+pub own_text_confirmed : RunsAreHistories → HistoriesAreRuns → OwnTextIsConfirmed
+own_text_confirmed each back text t s h bound f is small few legal fit refusal =
+    only_memory text t s (own_steps_text made) bound lines fit
+    (record { each = each_line text is.short t s small (start t s) (granted_calls h) lines own declared; is = text_of_lines made })
+    declared (λ setup r. none_refused each text t s is (granted_calls h) (configuration_after t s h) (back t s h legal).run lines own bound setup r few) f refusal
+  where
+    made : List OwnStep
+    made = own_steps text t s h
+
+    lines : List StepLineOf
+    lines = lines_of_steps made
+
+    own : AreOwnLines text t (start t s) (granted_calls h) lines
+    own = steps_of_the_run text t s h legal
+
+    declared : AreDeclaredLines t s lines
+    declared = declared_from text t s [] h (start t s) legal

@@ -1,0 +1,30 @@
+-- Law: the text of a run's own steps is confirmed, if it is neither empty nor too long.
+use Rattle.std.specs.Prelude.{◌≡◌, ◌≤◌, ℕ, List}
+use Rattle.bp_tree.specs.Ast.{Program}
+use Rattle.bp_language.specs.Texts.{IsTextOf}
+use Rattle.bp_machine.specs.declared.calls.Call.{Call}
+use Rattle.bp_machine.specs.declared.limits.TheConstants.{MAX_CONTEXTS, MAX_THREADS}
+use Rattle.bp_machine.specs.Histories.{IsLegal}
+use Rattle.bp_machine.specs.Setups.{SetupOf, threads}
+use Rattle.bp_tasks.specs.declared.context_bounds.ContextBound.{ContextBound}
+use Rattle.bp_tasks.specs.declared.context_bounds.ContextBound.TheVariants.{AsUsed}
+use Rattle.bp_confirm.specs.declared.confirming.ConfirmFault.{ConfirmFault}
+use Rattle.bp_confirm.specs.declared.confirming.ConfirmFault.TheVariants.{Memory}
+use Rattle.bp_confirm.specs.ConfirmedTexts.{HasFitLength, IsStepsRefusal}
+use Rattle.bp_confirm.specs.OwnSteps.{own_steps, own_steps_text}
+
+-- The text of the steps of a legal history is refused for memory alone, if it is neither empty nor
+-- too long. The setup keeps the limit of threads; and where the trace allows as many contexts as
+-- the steps use, it keeps that of contexts too.
+abbrev pub OwnTextIsConfirmed : Type 0
+OwnTextIsConfirmed =
+    (text : List ℕ) (t : Program) (s : SetupOf) (h : List Call) (bound : ContextBound)
+    (f : ConfirmFault)
+    → IsTextOf text t
+    → threads s ≤ MAX_THREADS
+    → (bound ≡ AsUsed → s.contexts ≤ MAX_CONTEXTS)
+    → IsLegal t s h
+    → let steps = own_steps_text (own_steps text t s h) in
+    HasFitLength t s steps
+    → IsStepsRefusal t s steps text bound f
+    → f ≡ Memory
