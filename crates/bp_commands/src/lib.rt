@@ -40,7 +40,7 @@ pub use named_starts::start_by_names;
 pub use programs::program_of;
 pub use replaying::Replay;
 pub use run_ends::{CommandAnswer, Explained, RunEnd, end};
-pub use running::{Run, run_program, run_text};
+pub use running::{Run, run_program};
 pub use runs::{Io, Streams, run_by_workers, run_on_bundle, run_on_pair, run_on_program};
 pub use shrinking::Shrink;
 pub use testing::Test;

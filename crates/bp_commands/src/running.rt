@@ -46,7 +46,7 @@ fn run_under<T: Threads + Wait + Clock + Sync, G: Gate, W: Write>(
 
 /// Runs the program of a text as it is asked. The trace of the history that the workers make is
 /// written while it grows.
-pub fn run_text<T: Threads + Wait + Clock + Sync, G: Gate, W: Write>(
+fn run_text<T: Threads + Wait + Clock + Sync, G: Gate, W: Write>(
     alloc: Global,
     asked: &Run<'_, T, G>,
     text: &[u8],

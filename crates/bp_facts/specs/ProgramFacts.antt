@@ -1,4 +1,4 @@
--- A device: what facts show of a program and its text.
+-- What facts show of a program and its text.
 use Rattle.std.specs.Prelude.{◌≡◌, ℕ, List}
 use Rattle.bp_tree.specs.Ast.{Program}
 use Rattle.bp_source.specs.SourceStatements.{AreSourceStatements}

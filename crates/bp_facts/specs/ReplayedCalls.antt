@@ -1,4 +1,4 @@
--- A device: a call of a history with the tops of its thread's stack before and after it.
+-- A call of a history with its context and the tops of its thread's stack before and after it.
 use Rattle.std.specs.Prelude.{◌≡◌, ◌==◌, ◌&&◌, not, ℕ, suc, Bool, false, List, [], ◌∷◌, ◌++◌, Option, None, Some, MatchOption, length}
 use Rattle.bp_tree.specs.Ast.{Program}
 use Rattle.bp_flat.specs.Configurations.{Configuration}
@@ -27,8 +27,8 @@ IsContext h x None = is_granted x.reply ≡ false
 IsContext h x (Some n) =
     (is_granted x.reply ≡ Bool.true) × IsLeastWithin n (granted_threads (h ++ x ∷ []))
 
--- A device: a call of thread i leads from one configuration to the other, and these are the tops of
--- its stack before and after it.
+-- A call of thread i leads from one configuration to the other, and these are the tops of its stack
+-- before and after it.
 pub record Leads (t : Program) (c d : Configuration) (i : ℕ) (m : ReplayedCall) : Type 0 where
   pub before : MatchOption m.before (stack_of c i ≡ []) (IsTop t c i)
   pub after : MatchOption m.after (stack_of d i ≡ []) (IsTop t d i)

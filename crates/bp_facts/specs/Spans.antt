@@ -1,4 +1,4 @@
--- A device: the contexts of a history, as the code collects them step by step.
+-- The contexts of a history, with where each begins and ends.
 use Rattle.std.specs.Prelude.{if◌then◌else◌, ◌≡◌, ◌==◌, ℕ, suc, List, [], ◌∷◌, MatchOption, length, map, take}
 use Rattle.bp_tree.specs.Ast.{Program}
 use Rattle.bp_flat.specs.Bits.{bits_of}

@@ -23,11 +23,6 @@ mod view_contexts;
 mod views;
 mod writers;
 
-pub use bp_facts::{
-    ViewFault, changes_replay, lines_stand_for_each_call_once, listed_names_are_watched,
-    watched_names,
-};
-pub use bp_tasks::{ViewFormat, ViewOptions};
 pub use contexts::contexts_of;
 pub use laws::views_are_single;
 pub use outcomes::{outcome_text, waits_text};
