@@ -1,7 +1,6 @@
 -- Where a test may mislead: what it did not look at, and what it was not asked for.
-use Rattle.std.specs.Prelude.{if◌then◌else◌, ◌+◌, ◌*◌, ℕ, Bool, true, false, not, ◌&&◌, ◌==◌, nat_le, nat_lt, List, [], ◌∷◌, codes, decimal}
+use Rattle.std.specs.Prelude.{if◌then◌else◌, ◌*◌, ℕ, Bool, true, false, not, ◌&&◌, ◌==◌, nat_le, nat_lt, List, [], ◌∷◌, codes, decimal}
 use Rattle.std.specs.List.{concat}
-use Rattle.bp_test.specs.declared.tallies.Ends.{Ends}
 use Rattle.bp_test.specs.declared.testing.Found.{Found}
 use Rattle.bp_test.specs.declared.testing.Found.TheVariants.{Nothing, Failed, Deadlock}
 use Rattle.bp_test.specs.Tallies.{capped}
@@ -21,10 +20,6 @@ has_found (Deadlock run report) = true
 abbrev pub are_many : (count runs : ℕ) → Bool
 are_many count runs = nat_lt 0 count && nat_le runs (capped (count * NOTED_SHARE))
 
--- how many runs might have gone on with more contexts
-abbrev pub lacking_contexts : Ends → ℕ
-lacking_contexts x = capped (x.out_of_contexts + x.starved)
-
 -- A test which does not look for deadlocks may mislead by those it met, and one that found nothing
 -- by the rest: its bounds, that it made no run, or that there was nothing to find.
 abbrev pub notes_of : TestReport → Notes
@@ -40,8 +35,9 @@ notes_of x =
       no_assertion = is_clean && (is_of_assertions && (assertions.all == 0));
       no_assertion_reached =
           is_clean && (nat_lt 0 runs && (nat_lt 0 assertions.all && (assertions.reached == 0)));
-      out_of_contexts = is_clean && are_many (lacking_contexts x.counts.ends) runs;
-      cut_off = is_clean && are_many x.counts.ends.cut_off runs;
+      out_of_contexts = is_clean && are_many x.counts.ends.lacking_contexts runs;
+      cut_off = is_clean && are_many x.counts.ends.lacking_calls runs;
+      full_stack = is_clean && are_many x.counts.ends.lacking_frames runs;
     }
 
 -- how many of the runs came to this
@@ -70,10 +66,13 @@ notes_text tested =
     (count_note x.ends.deadlocked x.runs
     (codes "ended in a deadlock; --deadlock stops at the first\n"))
     ∷ note_if notes.out_of_contexts
-    (count_note (lacking_contexts x.ends) x.runs
-    (codes "ran out of contexts or starved; raise --contexts\n"))
+    (count_note x.ends.lacking_contexts x.runs
+    (codes "ran out of contexts; raise --contexts\n"))
     ∷ note_if notes.cut_off
-    (count_note x.ends.cut_off x.runs (codes "were cut off; raise --calls\n"))
+    (count_note x.ends.lacking_calls x.runs (codes "ran out of calls; raise --calls\n"))
+    ∷ note_if notes.full_stack
+    (count_note x.ends.lacking_frames x.runs
+    (codes "ended with a full stack of 1,024 frames\n"))
     ∷ [])
 
 -- which notes apply, as the last member of an object
@@ -87,4 +86,5 @@ notes_members x =
     ∷ key_text (codes "deadlocked") ∷ truth_text x.deadlocked
     ∷ key_text (codes "out_of_contexts") ∷ truth_text x.out_of_contexts
     ∷ key_text (codes "cut_off") ∷ truth_text x.cut_off
+    ∷ key_text (codes "full_stack") ∷ truth_text x.full_stack
     ∷ codes "}}\n" ∷ [])

@@ -31,7 +31,7 @@ found_run (Deadlock run report) = Some run
 abbrev pub finding_members : Found → List ℕ
 finding_members found =
     concat (
-    codes "{\"kind\":\"test\",\"version\":3"
+    codes "{\"kind\":\"test\",\"version\":4"
     ∷ key_text (codes "found") ∷ string_text (found_name found)
     ∷ key_text (codes "run") ∷ number_or_null (found_run found) ∷ [])
 
@@ -47,6 +47,9 @@ counts_members x =
     ∷ key_text (codes "cut_off") ∷ decimal x.ends.cut_off
     ∷ key_text (codes "starved") ∷ decimal x.ends.starved
     ∷ key_text (codes "deadlocked") ∷ decimal x.ends.deadlocked
+    ∷ codes "},\"lacked\":{\"contexts\":" ∷ decimal x.ends.lacking_contexts
+    ∷ key_text (codes "calls") ∷ decimal x.ends.lacking_calls
+    ∷ key_text (codes "frames") ∷ decimal x.ends.lacking_frames
     ∷ codes "},\"contexts\":{\"least\":" ∷ decimal x.contexts.least
     ∷ key_text (codes "middle") ∷ decimal x.contexts.middle
     ∷ key_text (codes "most") ∷ decimal x.contexts.most

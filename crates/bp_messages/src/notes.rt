@@ -2,12 +2,11 @@
 ghost use Rattle.std.specs.Prelude.{◌≡◌, flat_map};
 ghost use Rattle.bp_text.specs.Pieces.{piece_text};
 ghost use Rattle.bp_text.specs.Writing.{Writes};
-ghost use Rattle.bp_messages.specs.Notes.{are_many, count_note, lacking_contexts, note_if, notes_members, notes_of, notes_text};
+ghost use Rattle.bp_messages.specs.Notes.{are_many, count_note, note_if, notes_members, notes_of, notes_text};
 
 use crate::limits::NOTED_SHARE;
 use crate::novelty::novelty_note;
 use crate::test_reports::TestReport;
-use bp_test::Ends;
 use bp_text::Piece::{Bytes, Key, Number, Truth};
 use bp_text::{Piece, WriteFault, put_pieces};
 use std::io::Write;
@@ -25,10 +24,12 @@ struct Notes {
     no_assertion: bool,
     /// The program has assertions, there were runs, and none reached one.
     no_assertion_reached: bool,
-    /// Many runs ran out of contexts or starved.
+    /// Many runs ended too early for want of contexts.
     out_of_contexts: bool,
-    /// Many runs were cut off.
+    /// Many runs did for want of calls.
     cut_off: bool,
+    /// Many runs did since a stack was full.
+    full_stack: bool,
 }
 
 const FEW_CONTEXTS: &[u8] = b"note: fewer contexts than threads; raise --contexts\n";
@@ -41,22 +42,17 @@ const NO_ASSERTION_REACHED: &[u8] = b"note: no run reached an assertion\n";
 
 const DEADLOCKED: &[u8] = b"ended in a deadlock; --deadlock stops at the first\n";
 
-const OUT_OF_CONTEXTS: &[u8] = b"ran out of contexts or starved; raise --contexts\n";
+const OUT_OF_CONTEXTS: &[u8] = b"ran out of contexts; raise --contexts\n";
 
-const CUT_OFF: &[u8] = b"were cut off; raise --calls\n";
+const CUT_OFF: &[u8] = b"ran out of calls; raise --calls\n";
+
+const FULL_STACK: &[u8] = b"ended with a full stack of 1,024 frames\n";
 
 /// Returns whether enough of the runs ended this way for a note to give their number.
 fn are_many(count: u64, runs: u64) -> bool
     ensures { result ≡ are_many count runs }
 {
     0 < count && runs <= count.saturating_mul(NOTED_SHARE)
-}
-
-/// How many runs might have gone on with more contexts.
-fn lacking_contexts(ends: &Ends) -> u64
-    ensures { result ≡ lacking_contexts ends.now }
-{
-    ends.out_of_contexts.saturating_add(ends.starved)
 }
 
 /// Where a test may mislead.
@@ -73,8 +69,9 @@ fn notes_of(tested: &TestReport) -> Notes
         no_run: is_clean && runs == 0,
         no_assertion: is_clean && is_of_assertions && assertions.all == 0,
         no_assertion_reached: is_clean && 0 < runs && 0 < assertions.all && assertions.reached == 0,
-        out_of_contexts: is_clean && are_many(lacking_contexts(&counts.ends), runs),
-        cut_off: is_clean && are_many(counts.ends.cut_off, runs),
+        out_of_contexts: is_clean && are_many(counts.ends.lacking_contexts, runs),
+        cut_off: is_clean && are_many(counts.ends.lacking_calls, runs),
+        full_stack: is_clean && are_many(counts.ends.lacking_frames, runs),
     }
 }
 
@@ -120,8 +117,9 @@ pub(crate) fn put_notes<W: Write>(tested: &TestReport, out: &mut W) -> Result<()
     let (runs, ends) = (tested.counts.runs, &tested.counts.ends);
     let novelty = novelty_note(tested.distinct);
     let deadlocked = count_note(ends.deadlocked, runs, DEADLOCKED);
-    let out_of_contexts = count_note(lacking_contexts(ends), runs, OUT_OF_CONTEXTS);
-    let cut_off = count_note(ends.cut_off, runs, CUT_OFF);
+    let out_of_contexts = count_note(ends.lacking_contexts, runs, OUT_OF_CONTEXTS);
+    let cut_off = count_note(ends.lacking_calls, runs, CUT_OFF);
+    let full_stack = count_note(ends.lacking_frames, runs, FULL_STACK);
     put_each(
         &[
             note_if(!tested.has_found(), &novelty),
@@ -132,6 +130,7 @@ pub(crate) fn put_notes<W: Write>(tested: &TestReport, out: &mut W) -> Result<()
             note_if(notes.deadlocked, &deadlocked),
             note_if(notes.out_of_contexts, &out_of_contexts),
             note_if(notes.cut_off, &cut_off),
+            note_if(notes.full_stack, &full_stack),
         ],
         out,
     )
@@ -163,6 +162,8 @@ pub(crate) fn put_notes_members<W: Write>(
             Truth(notes.out_of_contexts),
             Key(b"cut_off"),
             Truth(notes.cut_off),
+            Key(b"full_stack"),
+            Truth(notes.full_stack),
             Bytes(b"}}\n"),
         ],
     )

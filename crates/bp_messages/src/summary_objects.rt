@@ -45,7 +45,7 @@ fn put_finding_members<W: Write>(found: Found, out: &mut W) -> Result<(), WriteF
     put_pieces(
         out,
         &[
-            Bytes(b"{\"kind\":\"test\",\"version\":3"),
+            Bytes(b"{\"kind\":\"test\",\"version\":4"),
             Key(b"found"),
             Text(found_name(found)),
             Key(b"run"),
@@ -78,6 +78,12 @@ fn put_counts_members<W: Write>(counts: &Counts, out: &mut W) -> Result<(), Writ
             Number(counts.ends.starved),
             Key(b"deadlocked"),
             Number(counts.ends.deadlocked),
+            Bytes(b"},\"lacked\":{\"contexts\":"),
+            Number(counts.ends.lacking_contexts),
+            Key(b"calls"),
+            Number(counts.ends.lacking_calls),
+            Key(b"frames"),
+            Number(counts.ends.lacking_frames),
             Bytes(b"},\"contexts\":{\"least\":"),
             Number(counts.contexts.least),
             Key(b"middle"),

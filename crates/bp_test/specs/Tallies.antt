@@ -1,8 +1,11 @@
 -- What the runs of a test came to, counted.
-use Rattle.std.specs.Prelude.{◌≡◌, ◌==◌, ◌^◌, ◌+◌, ◌-◌, if◌then◌else◌, ℕ, min, max, Bool, not, ◌&&◌, nat_le, List, [], ◌∷◌, Some, length, take, fold, count_by, sum_by, slice_index_or, Any}
+use Rattle.std.specs.Prelude.{◌≡◌, ◌==◌, ◌^◌, ◌+◌, ◌-◌, if◌then◌else◌, ℕ, min, max, Bool, true, false, not, ◌&&◌, nat_le, List, [], ◌∷◌, Some, length, take, fold, count_by, sum_by, slice_index_or, Any}
 use Rattle.bp_tree.specs.Ast.{Program}
 use Rattle.bp_flat.specs.StandsFor.{places_of}
+use Rattle.std.specs.List.{list_any}
 use Rattle.bp_machine.specs.declared.calls.Call.{Call}
+use Rattle.bp_machine.specs.declared.calls.Reply.{Reply}
+use Rattle.bp_machine.specs.declared.calls.Reply.TheVariants.{Full}
 use Rattle.bp_machine.specs.declared.reports.Report.{Report}
 use Rattle.bp_machine.specs.Reports.{is_failure}
 use Rattle.bp_machine.specs.Setups.{SetupOf, threads}
@@ -61,7 +64,29 @@ abbrev pub is_cut_off : MadeRun → Bool
 is_cut_off r =
     lives r && (not (leaves_open r) && (not (lacks_contexts r) && not r.returned))
 
--- how many runs ended in each way
+-- the stack of a thread was full
+abbrev pub is_full : Reply → Bool
+is_full Full = true
+is_full r = false
+
+abbrev pub has_full_stack : List Call → Bool
+has_full_stack h = list_any (λ x. is_full x.reply) h
+
+-- What a run lacked that ended too early, which is neither deadlocked nor finished: the first of
+-- contexts, room on a stack, and calls.
+abbrev pub is_early : MadeRun → Bool
+is_early r = lives r && not (is_finished_run r)
+
+abbrev pub is_without_contexts : MadeRun → Bool
+is_without_contexts r = is_early r && lacks_contexts r
+
+abbrev pub is_without_frames : MadeRun → Bool
+is_without_frames r = is_early r && (not (lacks_contexts r) && has_full_stack r.history)
+
+abbrev pub is_without_calls : MadeRun → Bool
+is_without_calls r = is_early r && (not (lacks_contexts r) && not (has_full_stack r.history))
+
+-- how many runs ended in each way, and how many of them lacked what
 abbrev pub ends_of : List MadeRun → Ends
 ends_of runs =
     record {
@@ -70,6 +95,9 @@ ends_of runs =
       cut_off = capped (count_by is_cut_off runs);
       starved = capped (count_by is_starved runs);
       deadlocked = capped (count_by is_deadlocked_run runs);
+      lacking_contexts = capped (count_by is_without_contexts runs);
+      lacking_frames = capped (count_by is_without_frames runs);
+      lacking_calls = capped (count_by is_without_calls runs);
     }
 
 -- how many calls a run made
@@ -125,7 +153,16 @@ ends_sum a b =
       cut_off = capped (a.cut_off + b.cut_off);
       starved = capped (a.starved + b.starved);
       deadlocked = capped (a.deadlocked + b.deadlocked);
+      lacking_contexts = capped (a.lacking_contexts + b.lacking_contexts);
+      lacking_frames = capped (a.lacking_frames + b.lacking_frames);
+      lacking_calls = capped (a.lacking_calls + b.lacking_calls);
     }
+
+-- the counts with what one more run lacked
+abbrev pub with_lack : (refused full : Bool) → Ends → Ends
+with_lack true full x = record x { lacking_contexts = capped (x.lacking_contexts + 1) }
+with_lack false true x = record x { lacking_frames = capped (x.lacking_frames + 1) }
+with_lack false false x = record x { lacking_calls = capped (x.lacking_calls + 1) }
 
 -- count k after this many runs used some number of contexts
 abbrev pub count_with : (used runs : ℕ) → List ℕ → ℕ → ℕ

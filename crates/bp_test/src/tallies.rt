@@ -3,13 +3,12 @@ ghost use Rattle.std.specs.Prelude.{◌≡◌, ◌<◌, ◌^◌, ◌++◌, ◌�
 ghost use Rattle.std.specs.Prelude.{length, take, slice_set, slice_index_or, IfOk, OnOk};
 ghost use Rattle.bp_tree.specs.Ast.{Program};
 ghost use Rattle.bp_flat.specs.StandsFor.{StandsFor};
-ghost use Rattle.bp_machine.specs.declared.calls.Call.{Call as Answered};
 ghost use Rattle.bp_machine.specs.Replies.{is_granted};
 ghost use Rattle.bp_machine.specs.Setups.{SetupOf};
 ghost use Rattle.bp_test.specs.Counts.{contexts_with, AreContextsUsed};
 ghost use Rattle.bp_test.specs.declared.limits.TheConstants.{MAX_KEYS};
 ghost use Rattle.bp_test.specs.Reached.{has_refusal, is_marked, HasStep, MarksGrow};
-ghost use Rattle.bp_test.specs.Tallies.{MadeRun, made, ends_of, ends_sum, count_with};
+ghost use Rattle.bp_test.specs.Tallies.{MadeRun, made, ends_of, ends_sum, count_with, has_full_stack, with_lack};
 ghost use Rattle.bp_test.specs.Tallies.{IsCounted, IsTally};
 
 use crate::keys::{push_key, push_keys};
@@ -18,7 +17,8 @@ use bp_flat::Code;
 use bp_machine::{Call, Outcome, Reply, Report, Setup};
 use std::alloc::{AllocError, Global};
 
-/// How many runs ended in each way. A run in which an assertion failed is not among them.
+/// How many runs ended in each way, and what those lacked that ended too early: out of contexts, cut
+/// off or starved. A run in which an assertion failed is not among them.
 #[derive(Clone, Copy, Debug, PartialEq, Eq)]
 pub struct Ends {
     /// Each thread came to the end of its program.
@@ -32,6 +32,12 @@ pub struct Ends {
     pub starved: u64,
     /// Some threads had not ended, and each of those waits for ever.
     pub deadlocked: u64,
+    /// Of the runs that ended too early: a thread was refused a context.
+    pub lacking_contexts: u64,
+    /// Of the others of them: a stack was full.
+    pub lacking_frames: u64,
+    /// The rest of them: a thread made all calls that it may make.
+    pub lacking_calls: u64,
 }
 
 /// What runs of a test came to. No count is greater than the greatest number of 64 bits.
@@ -121,6 +127,13 @@ pub(crate) fn is_step(call: &Call) -> bool
     matches!(call.reply, Reply::Stepped | Reply::Failed)
 }
 
+/// Whether the stack of a thread was full.
+fn has_full_stack(history: &[Call]) -> bool
+    ensures { result ≡ has_full_stack history.now }
+{
+    history.iter().any(|call| matches!(call.reply, Reply::Full))
+}
+
 /// Whether all places are marked.
 fn are_all_marked(marks: &[bool]) -> bool
     ensures { result ≡ true → (n : ℕ) → n < length marks.now → is_marked marks.now n ≡ true }
@@ -155,21 +168,39 @@ impl Ends {
         cut_off: 0,
         starved: 0,
         deadlocked: 0,
+        lacking_contexts: 0,
+        lacking_frames: 0,
+        lacking_calls: 0,
     };
+
+    /// Counts what a run lacked that ended too early. It is known whether a call was refused a
+    /// context.
+    fn add_lack(&mut self, history: &[Call], was_refused: bool)
+        ensures { self.new ≡ with_lack was_refused (has_full_stack history.now) self.old }
+    {
+        if was_refused {
+            self.lacking_contexts = self.lacking_contexts.saturating_add(1);
+        } else if has_full_stack(history) {
+            self.lacking_frames = self.lacking_frames.saturating_add(1);
+        } else {
+            self.lacking_calls = self.lacking_calls.saturating_add(1);
+        }
+    }
 
     /// Counts a run, where no assertion failed in it. It is known whether each thread came to the
     /// end of its program, and whether a call was refused a context.
     fn add_run(
         &mut self,
+        history: &[Call],
         report: &Report,
         is_deadlocked: bool,
         has_returned: bool,
         was_refused: bool,
     )
-        ensures { (h : List Answered) (runs : List MadeRun)
-            → was_refused ≡ has_refusal h
+        requires { was_refused ≡ has_refusal history.now }
+        ensures { (runs : List MadeRun)
             → self.old ≡ ends_of runs
-            → let run = made h report.now is_deadlocked has_returned in
+            → let run = made history.now report.now is_deadlocked has_returned in
             self.new ≡ ends_of (runs ++ run ∷ []) }
     {
         if matches!(report.outcome, Outcome::Failed { .. }) {
@@ -179,12 +210,15 @@ impl Ends {
             self.deadlocked = self.deadlocked.saturating_add(1);
         } else if report.left_open > 0 {
             self.starved = self.starved.saturating_add(1);
+            self.add_lack(history, was_refused);
         } else if was_refused {
             self.out_of_contexts = self.out_of_contexts.saturating_add(1);
+            self.add_lack(history, was_refused);
         } else if has_returned {
             self.finished = self.finished.saturating_add(1);
         } else {
             self.cut_off = self.cut_off.saturating_add(1);
+            self.add_lack(history, was_refused);
         }
     }
 
@@ -197,6 +231,9 @@ impl Ends {
         self.cut_off = self.cut_off.saturating_add(other.cut_off);
         self.starved = self.starved.saturating_add(other.starved);
         self.deadlocked = self.deadlocked.saturating_add(other.deadlocked);
+        self.lacking_contexts = self.lacking_contexts.saturating_add(other.lacking_contexts);
+        self.lacking_frames = self.lacking_frames.saturating_add(other.lacking_frames);
+        self.lacking_calls = self.lacking_calls.saturating_add(other.lacking_calls);
     }
 }
 
@@ -268,7 +305,7 @@ impl Tally {
         self.longest = self.longest.max(report.calls);
         let was_refused = followed.was_refused;
         self.ends
-            .add_run(report, is_deadlocked, has_returned, was_refused);
+            .add_run(history, report, is_deadlocked, has_returned, was_refused);
         note_steps(&mut self.stepped, history);
         push_key(&mut self.keys, followed.key)?;
         count_contexts(&mut self.contexts, report.contexts as usize, 1)

@@ -10,6 +10,6 @@ returns-clause-counted c = on_ok_weaker c.count_contexts.result (λ contexts s r
     c.saturating_add-self.ensures
     c.saturating_add-self-2.ensures
     c.max-self.ensures
-    (c.add_run.ensures c.args.history.now runs c.requires was.ends)
+    (c.add_run.ensures runs was.ends)
     contexts
     c.note_steps.ensures) c.count_contexts.ensures
