@@ -1,4 +1,4 @@
-use Rattle.std.proofs.Common.{◌≡◌, ◌∙◌, ◌+◌, ◌-◌, ◌++◌, [], ◌∷◌, length, length-append, ap, arith}
+use Rattle.std.proofs.Common.{◌≡◌, ◌∙◌, ◌-◌, ◌++◌, [], ◌∷◌, length, length-append, ap, arith}
 use Rattle.std.specs.List.{concat}
 use Rattle.bp_text.specs.Columns.{at_left}
 use Rattle.bp_text.proofs.GrownLists.{regrouped}
