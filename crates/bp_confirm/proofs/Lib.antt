@@ -38,3 +38,4 @@ pub mod OneStepRefusal
 pub mod OneTextRefusal
 pub mod OwnTextConfirmed
 pub mod LinesKept
+pub mod KnownNames

@@ -81,7 +81,7 @@ fn told_lines<'a>(
         Err(StepsFault::Line(line)) => return Err(ConfirmFault::Line(line)),
         Err(StepsFault::Memory) => return Err(ConfirmFault::Memory),
     };
-    if let Err((line, stray)) = check_lines(checked, setup, &lines) {
+    if let Err((line, stray)) = check_lines(alloc, checked, setup, &lines) {
         return Err(fault_of_stray(line, stray));
     }
     Ok(lines)

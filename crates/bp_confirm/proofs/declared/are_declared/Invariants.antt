@@ -1,7 +1,11 @@
 use Rattle.std.proofs.Common.{take}
 use Rattle.bp_confirm.specs.DeclaredLines.{AreDeclaredLines}
 use Rattle.bp_confirm.specs.KeptLines.{kept_lines}
+use Rattle.bp_confirm.specs.StrayLines.{AreKnown}
 use Rattle.bp_confirm.proofs.declared.are_declared.Given as goal
 
 abbrev pub invariant-loop-line : goal.invariant-loop-line
-invariant-loop-line l = AreDeclaredLines l.checked l.setup (kept_lines (take l.line-index l.kept))
+invariant-loop-line l = record {
+  lines : AreDeclaredLines l.checked l.setup (kept_lines (take l.line-index l.kept));
+  known : AreKnown l.checked l.known.items;
+}

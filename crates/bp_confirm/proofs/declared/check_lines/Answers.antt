@@ -11,7 +11,7 @@ returns-then-are_declared c =
     let s = c.args.setup.now in
     subst (AreDeclaredLines t s) c.lines.view_is
     (all_at (IsDeclared t s) (kept_lines c.lines.inside.kept.items) c.lines.inside.places.items
-    (subst (λ xs. AreDeclaredLines t s (kept_lines xs)) c.as_slice.ensures.value (c.are_declared.ensures c.if-are_declared.true)) c.lines.invariant)
+    (subst (λ xs. AreDeclaredLines t s (kept_lines xs)) c.as_slice.ensures.value (c.are_declared.ensures.lines c.if-are_declared.true)) c.lines.invariant)
 
 pub returns-then-line-threads : goal.returns-then-line-threads
 returns-then-line-threads c =
@@ -20,7 +20,7 @@ returns-then-line-threads c =
     let x = c.at-line.result.now in
     let thread : x.thread ≡ c.line.inside.thread = sym (ap (λ z. z.thread) c.line.view_is) in
     first_stray t s c.args.lines.now c.loop-n.n x x (omega (arith, c.loop-n-test.true, c.len.ensures))
-    c.loop-n.invariant.1 c.at-line.ensures (IsOfNoThread s c.line.inside.thread)
+    c.loop-n.invariant.declared c.at-line.ensures (IsOfNoThread s c.line.inside.thread)
     (record { is = thread; none = omega (arith, c.if-line-threads.true, c.threads.ensures, thread) })
 
 pub returns-in-Some : goal.returns-in-Some
@@ -31,10 +31,10 @@ returns-in-Some c =
     let value = c.in-Some.value in
     let thread : x.thread ≡ c.line.inside.thread = sym (ap (λ z. z.thread) c.line.view_is) in
     first_stray t s c.args.lines.now c.loop-n.n x x (omega (arith, c.loop-n-test.true, c.len.ensures))
-    c.loop-n.invariant.1 c.at-line.ensures (IsOfNoVariable t s value)
+    c.loop-n.invariant.declared c.at-line.ensures (IsOfNoVariable t s value)
     (record {
       thread = omega (arith, c.if-line-threads.false, c.threads.ensures, thread);
       variable =
           subst (λ z. IsFirstUndeclared t z.values value) c.line.view_is
-          c.in-Some.ensures;
+          c.in-Some.ensures.first;
     })

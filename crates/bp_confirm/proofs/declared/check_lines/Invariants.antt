@@ -1,9 +1,14 @@
 use Rattle.std.proofs.Common.{◌≤◌, ◌-◌, length, take}
 use Rattle.bp_confirm.specs.DeclaredLines.{AreDeclaredLines}
+use Rattle.bp_confirm.specs.StrayLines.{AreKnown}
 use Rattle.bp_confirm.proofs.declared.check_lines.Given as goal
 
 abbrev pub invariant-loop-n : goal.invariant-loop-n
-invariant-loop-n l = (l.n ≤ length l.lines) × AreDeclaredLines l.checked l.setup (take l.n l.lines)
+invariant-loop-n l = record {
+  few : l.n ≤ length l.lines;
+  declared : AreDeclaredLines l.checked l.setup (take l.n l.lines);
+  known : AreKnown l.checked l.known.items;
+}
 
 abbrev pub decreases-loop-n : goal.decreases-loop-n
 decreases-loop-n l = length l.lines - l.n

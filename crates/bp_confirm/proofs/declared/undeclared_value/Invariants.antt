@@ -1,5 +1,6 @@
 use Rattle.std.proofs.Common.{length, take}
 use Rattle.bp_confirm.specs.DeclaredLines.{AreDeclared}
+use Rattle.bp_confirm.specs.StrayLines.{AreKnown}
 use Rattle.bp_confirm.specs.ValuesIn.{values_in}
 use Rattle.bp_confirm.proofs.ValuesOnLines.{AreReadTo}
 use Rattle.bp_confirm.proofs.declared.undeclared_value.Given as goal
@@ -8,6 +9,7 @@ abbrev pub invariant-loop-value : goal.invariant-loop-value
 invariant-loop-value l = record {
   read : AreReadTo l.values l.rest l.n;
   first : AreDeclared l.checked (take l.n (values_in l.values));
+  known : AreKnown l.checked l.known.items;
 }
 
 abbrev pub decreases-loop-value : goal.decreases-loop-value
