@@ -43,7 +43,7 @@ module _ (t : Program) (s : SetupOf) where
   front h (z ∷ zs) x later (a ∷ g) taking = let rest = front (h ++ a ∷ []) zs x later g taking.1 in (a ∷ rest.0, (taking.0, rest.1))
 
 pub one_confirmed : OneConfirmed
-one_confirmed t s steps h g p q = one_history t s [] steps [] h g p.follows q.follows
+one_confirmed t s steps h g p q = one_history t s [] steps [] h g p q
 
 module _ (text : List ℕ) (t : Program) (s : SetupOf) (lines : List StepLineOf) (r : StepRefusal) (refused : IsStepRefusal text t s lines r) where
   -- what takes all lines takes those up to the refused one

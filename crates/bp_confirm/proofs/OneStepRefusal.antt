@@ -121,7 +121,7 @@ module _ (text : List ℕ) (t : Program) (is : IsLawfulText text t) (s : SetupOf
       let whole : steps_of text lines ≡ steps_of text refused.before ++ step_of text refused.step ∷ steps_of text refused.later =
       ap (steps_of text) refused.whole ∙ map-append (step_of text) refused.before (refused.step ∷ refused.later) in
       never_followed (steps_of text refused.later) [] h (append-nil (steps_of text refused.later))
-      (subst (λ xs. FollowAfter t s [] xs [] h) whole confirmed.follows)
+      (subst (λ xs. FollowAfter t s [] xs [] h) whole confirmed)
 
   -- another one of the same steps is not of a later step
   module _ (q : StepRefusal) (other : IsStepRefusal text t s lines q) where

@@ -71,7 +71,7 @@ module _ (text : List ℕ) (t : Program) (s : SetupOf) (lines : List StepLineOf)
       subst (λ xs. FollowAfter t s [] xs (steps_of text (drop (n + 1) lines)) new) (sym front)
       (subst (λ k. FollowAfter t s [] (steps_of text (take n lines) ++ step_of text x ∷ []) (steps_of text (drop (n + 1) lines)) k) (sym is) after)
 
-  module _ (d : StepLineOf) (h : List Call) (within : n < length lines) (legal : IsLegal t s h)
+  module _ (d : StepLineOf) (h : List Call) (within : n < length lines)
       (follow : FollowAfter t s [] (steps_of text (take n lines)) (steps_of text (drop n lines)) h) where
     rest_is : drop n lines ≡ get_or lines n d ∷ drop (n + 1) lines
     rest_is = let one : suc n ≡ n + 1 = omega arith in drop-cons lines n d within ∙ ap (λ k. get_or lines n d ∷ drop k lines) one
@@ -104,8 +104,6 @@ module _ (text : List ℕ) (t : Program) (s : SetupOf) (lines : List StepLineOf)
       thread = here.thread;
       location = here.location;
       history = h;
-      legal = legal;
-      takes = taken t s [] (steps_of text (take n lines)) (steps_of text (drop n lines)) h follow;
       follows = subst (λ ys. FollowAfter t s [] (steps_of text (take n lines)) ys h) (ap (steps_of text) rest_is) follow;
       number = here.number;
       stand = here.stand;
@@ -120,14 +118,13 @@ module _ (text : List ℕ) (t : Program) (s : SetupOf) (lines : List StepLineOf)
     not_confirmed (fault.Refusal r) here = step_refused r here
     not_confirmed fault.Memory here = tt
 
-  pub confirmed : (h : List Call) → length lines ≤ n → IsLegal t s h
+  pub confirmed : (h : List Call) → length lines ≤ n
       → FollowAfter t s [] (steps_of text (take n lines)) (steps_of text (drop n lines)) h
       → IsConfirmed t s (steps_of text lines) h
-  confirmed h past legal follow =
+  confirmed h past follow =
       let steps = steps_of text lines in
       let none = subst (λ ys. FollowAfter t s [] (steps_of text (take n lines)) (steps_of text ys) h) (drop_of_length-le lines past) follow in
-      let follows : FollowAfter t s [] steps [] h = subst (λ xs. FollowAfter t s [] (steps_of text xs) [] h) (take_all n lines past) none in
-      record { legal = legal; takes = taken t s [] steps [] h follows; follows = follows }
+      subst (λ xs. FollowAfter t s [] (steps_of text xs) [] h) (take_all n lines past) none
 
 -- a value that is not seen is one of those that are wanted
 pub unseen_not : (c : Configuration) (i : ℕ) (vs : Valuation) (n : ℕ) (seen : Option Bool) → IsFirstUnseen c i vs n seen → SeesValues c i vs → ⊥

@@ -8,7 +8,7 @@ use Rattle.bp_flat.specs.Configurations.{Configuration}
 use Rattle.bp_machine.specs.declared.tops.Top.{Top}
 use Rattle.bp_machine.specs.Answers.{stack_of}
 use Rattle.bp_machine.specs.Tops.{IsTop}
-use Rattle.bp_machine.specs.Histories.{configuration_after, is_finished, IsAllowed, IsLegal}
+use Rattle.bp_machine.specs.Histories.{configuration_after, is_finished, IsAllowed}
 use Rattle.bp_machine.specs.Replies.{is_granted}
 use Rattle.bp_machine.specs.Setups.{SetupOf, threads}
 use Rattle.bp_confirm.specs.declared.faults.Difference.{Difference}
@@ -24,12 +24,10 @@ use Rattle.bp_confirm.specs.Steps.{StepOf, IsStepOf, Takes}
 use Rattle.bp_confirm.specs.StepLines.{StepLineOf, step_of, steps_of}
 use Rattle.bp_confirm.specs.Inferred.{IsAmbiguousOnStack, FollowAfter}
 
--- the legal history takes the steps, one call for each, with the bits that are inferred
-pub record IsConfirmed (t : Program) (s : SetupOf) (steps : List StepOf) (h : List Call)
-    : Type 0 where
-  pub legal : IsLegal t s h
-  pub takes : Takes t s steps h
-  pub follows : FollowAfter t s [] steps [] h
+-- the history takes the steps, one call for each, with the bits that are inferred; each call is
+-- allowed, so the history is legal
+abbrev pub IsConfirmed : Program → SetupOf → List StepOf → List Call → Type 0
+IsConfirmed t s steps h = FollowAfter t s [] steps [] h
 
 -- thread i goes on at the instruction of this number, or has no frame
 abbrev pub GoesOnAt : Program → Configuration → ℕ → Option ℕ → Type 0
@@ -79,8 +77,8 @@ abbrev pub ForStuck : StepReason → Type 0 → Type 0
 ForStuck Ambiguous P = Unit {0}
 ForStuck reason P = P
 
--- Why the steps of these lines are not confirmed: the legal history with the inferred bits takes
--- those before line n; after it this is the first reason against the step of line n, whose thread
+-- Why the steps of these lines are not confirmed: the history takes those before line n, with the
+-- inferred bits; after it this is the first reason against the step of line n, whose thread
 -- goes on at the instruction of this number, which is there in the text; and no history of the
 -- program in its setup takes the first n steps, whatever its choice bits.
 pub record IsStepRefusal
@@ -94,8 +92,6 @@ pub record IsStepRefusal
   pub thread : r.thread ≡ step.thread
   pub location : r.location ≡ step.location
   pub history : List Call
-  pub legal : IsLegal t s history
-  pub takes : Takes t s (steps_of text before) history
   pub follows : FollowAfter t s [] (steps_of text before) (steps_of text (step ∷ later)) history
   pub number : GoesOnAt t (configuration_after t s history) r.thread r.number
   pub stand : r.stand ≡ stand_of text t r.number

@@ -32,7 +32,6 @@ returns-in_err-call-clause-refused c = λ text are.
     let p = err_from_is_err_and c.from_residual-in_err-call.result c.from_residual-in_err-call.ensures.1 in
     rw (p.1, p.2)
     (not_confirmed text t s lines n x c.loop-n.history.items within
-    (subst (λ z. IsLegal t z c.loop-n.history.items) inv.setup inv.stands.state.legal)
     (inv.follow text are) c.in_err-call.field-0.0
     (subst (λ z. IsNotTaken text t s c.loop-n.history.items z later (n + 1) c.in_err-call.field-0.0) is
     (subst (λ z. IsNotTaken text t z c.loop-n.history.items x later (n + 1) c.in_err-call.field-0.0) inv.setup here)))
@@ -72,4 +71,4 @@ returns-clause-confirmed c = λ text are.
     let t = c.args.checked.now in
     let inv = c.loop-n.invariant in
     confirmed text t c.args.session.now.setup c.args.lines.now c.loop-n.n c.loop-n.history.items (omega arith)
-    (subst (λ z. IsLegal t z c.loop-n.history.items) inv.setup inv.stands.state.legal) (inv.follow text are)
+    (inv.follow text are)
