@@ -14,7 +14,7 @@ use Rattle.bp_machine.specs.declared.ask_faults.AskFault.{AskFault}
 use Rattle.bp_machine.specs.declared.ask_faults.AskFault.TheVariants as refused
 use Rattle.bp_machine.specs.declared.calls.Call.{Call}
 use Rattle.bp_machine.specs.Answers.{stack_of}
-use Rattle.bp_machine.specs.Histories.{configuration_after, is_finished, IsAllowed, IsLegal}
+use Rattle.bp_machine.specs.Histories.{configuration_after, is_finished, IsAllowed}
 use Rattle.bp_machine.specs.Replies.{is_granted}
 use Rattle.bp_machine.specs.Sessions.{IsAskRefusal}
 use Rattle.bp_machine.specs.Setups.{SetupOf, threads}

@@ -1,5 +1,4 @@
-use Rattle.std.proofs.Common.{[], ap, sym, ◌∙◌, option_map, subst}
-use Rattle.std.specs.Prelude.{MatchBool}
+use Rattle.std.proofs.Common.{[], ap, ◌∙◌, option_map}
 use Rattle.bp_confirm.specs.EffectBits.{bit_of_effects, splits}
 use Rattle.bp_confirm.specs.Inferred.{IsAmbiguous, IsClear}
 use Rattle.bp_confirm.specs.Places.{place_of}

@@ -1,6 +1,5 @@
 use Rattle.std.proofs.Common.{◌∙◌, ◌+◌, ◌++◌, ◌∷◌, [], ◌<◌, length, drop, ap, refl, sym, subst, arith, length-append}
 use Rattle.std.proofs.lemmas.Result.{err_from_is_err_and}
-use Rattle.bp_machine.specs.Histories.{IsLegal}
 use Rattle.bp_machine.specs.Sessions.{Stands}
 use Rattle.bp_confirm.specs.Inferred.{Follows}
 use Rattle.bp_confirm.specs.StepLines.{step_of, steps_of}

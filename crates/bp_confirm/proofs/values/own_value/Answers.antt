@@ -1,7 +1,6 @@
-use Rattle.std.proofs.Common.{◌≡◌, ◌≢◌, ◌∙◌, List, ℕ, None, ap, sym, subst}
+use Rattle.std.proofs.Common.{◌≡◌, ◌≢◌, ◌∙◌, List, ℕ, ap, sym, subst}
 use Rattle.bp_flat.specs.Bits.{bits_of}
 use Rattle.bp_flat.specs.StandsFor.{valuation_of, variables}
-use Rattle.bp_flat.specs.Values.{lookup}
 use Rattle.bp_source.specs.VariableNames.{qualified}
 use Rattle.bp_confirm.proofs.OwnValues.{by_no_name, by_own_name, by_qualified_name}
 use Rattle.bp_confirm.proofs.values.own_value.Goals as goal
