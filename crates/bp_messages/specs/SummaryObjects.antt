@@ -35,9 +35,9 @@ finding_members found =
     ∷ key_text (codes "found") ∷ string_text (found_name found)
     ∷ key_text (codes "run") ∷ number_or_null (found_run found) ∷ [])
 
--- how many runs were made, how they ended, how many contexts they used, and what they reached
-abbrev pub counts_members : Counts → List ℕ
-counts_members x =
+-- how many runs were made, how they ended, and what those lacked that ended too early
+abbrev pub ends_members : Counts → List ℕ
+ends_members x =
     concat (
     key_text (codes "runs") ∷ decimal x.runs
     ∷ key_text (codes "calls") ∷ decimal x.calls
@@ -50,7 +50,13 @@ counts_members x =
     ∷ codes "},\"lacked\":{\"contexts\":" ∷ decimal x.ends.lacking_contexts
     ∷ key_text (codes "calls") ∷ decimal x.ends.lacking_calls
     ∷ key_text (codes "frames") ∷ decimal x.ends.lacking_frames
-    ∷ codes "},\"contexts\":{\"least\":" ∷ decimal x.contexts.least
+    ∷ codes "}" ∷ [])
+
+-- how many contexts the runs used, and what they reached
+abbrev pub reach_members : Counts → List ℕ
+reach_members x =
+    concat (
+    codes ",\"contexts\":{\"least\":" ∷ decimal x.contexts.least
     ∷ key_text (codes "middle") ∷ decimal x.contexts.middle
     ∷ key_text (codes "most") ∷ decimal x.contexts.most
     ∷ codes "},\"statements\":{\"reached\":" ∷ decimal x.statements.reached
@@ -60,6 +66,9 @@ counts_members x =
     ∷ codes "},\"threads\":{\"reached\":" ∷ decimal x.threads.reached
     ∷ key_text (codes "all") ∷ decimal x.threads.all
     ∷ codes "}" ∷ [])
+
+abbrev pub counts_members : Counts → List ℕ
+counts_members x = ends_members x ++ reach_members x
 
 -- what was asked for, and what the runs came to
 abbrev pub runs_members : TestReport → List ℕ

@@ -2,7 +2,7 @@
 //! for each statement that no run reached. It is written without memory.
 ghost use Rattle.std.specs.Prelude.{◌≡◌};
 ghost use Rattle.bp_text.specs.Writing.{Writes};
-ghost use Rattle.bp_messages.specs.SummaryObjects.{counts_members, distinct_member, finding_members, found_name, found_run, runs_members, summary_object, summary_objects};
+ghost use Rattle.bp_messages.specs.SummaryObjects.{counts_members, distinct_member, ends_members, finding_members, found_name, found_run, reach_members, runs_members, summary_object, summary_objects};
 
 use crate::asked_tests::put_asked_member;
 use crate::failures::{failed_assertion, put_failure_member, statement_of};
@@ -54,9 +54,9 @@ fn put_finding_members<W: Write>(found: Found, out: &mut W) -> Result<(), WriteF
     )
 }
 
-/// Writes how many runs were made, how they ended, and what they reached.
-fn put_counts_members<W: Write>(counts: &Counts, out: &mut W) -> Result<(), WriteFault>
-    ensures { let text = counts_members counts.now in
+/// Writes how many runs were made, how they ended, and what those lacked that ended too early.
+fn put_ends_members<W: Write>(counts: &Counts, out: &mut W) -> Result<(), WriteFault>
+    ensures { let text = ends_members counts.now in
         Writes (W.contents out.old) (W.contents out.new) text result }
 {
     put_pieces(
@@ -84,7 +84,20 @@ fn put_counts_members<W: Write>(counts: &Counts, out: &mut W) -> Result<(), Writ
             Number(counts.ends.lacking_calls),
             Key(b"frames"),
             Number(counts.ends.lacking_frames),
-            Bytes(b"},\"contexts\":{\"least\":"),
+            Bytes(b"}"),
+        ],
+    )
+}
+
+/// Writes how many contexts the runs used, and what they reached.
+fn put_reach_members<W: Write>(counts: &Counts, out: &mut W) -> Result<(), WriteFault>
+    ensures { let text = reach_members counts.now in
+        Writes (W.contents out.old) (W.contents out.new) text result }
+{
+    put_pieces(
+        out,
+        &[
+            Bytes(b",\"contexts\":{\"least\":"),
             Number(counts.contexts.least),
             Key(b"middle"),
             Number(counts.contexts.middle),
@@ -105,6 +118,15 @@ fn put_counts_members<W: Write>(counts: &Counts, out: &mut W) -> Result<(), Writ
             Bytes(b"}"),
         ],
     )
+}
+
+/// Writes what the runs came to.
+fn put_counts_members<W: Write>(counts: &Counts, out: &mut W) -> Result<(), WriteFault>
+    ensures { let text = counts_members counts.now in
+        Writes (W.contents out.old) (W.contents out.new) text result }
+{
+    put_ends_members(counts, out)?;
+    put_reach_members(counts, out)
 }
 
 /// Writes what was asked for, and what the runs came to.
