@@ -59,8 +59,8 @@ ExplainsTrace file trace (replay.AfterFinish n made) e =
 ExplainsTrace file trace (replay.Bit n due) e = ExplainsCall file trace n (replay.Bit n due) e
 ExplainsTrace file trace (replay.Reply n due) e = ExplainsCall file trace n (replay.Reply n due) e
 
--- the explanation of a fault of a schedule: none of refused memory, of an output that failed, and of
--- a schedule that is too long
+-- the explanation of a fault of a schedule: none of refused memory, of an output that failed, or
+-- of a schedule that is too long
 abbrev pub ExplainsSchedule : List ℕ → List ℕ → DriveFault → Explanation → Type 0
 ExplainsSchedule file schedule drive.TooLong e = ⊥
 ExplainsSchedule file schedule (drive.Line n) e = ExplainsLine file schedule n e

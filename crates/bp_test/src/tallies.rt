@@ -17,8 +17,8 @@ use bp_flat::Code;
 use bp_machine::{Call, Outcome, Reply, Report, Setup};
 use std::alloc::{AllocError, Global};
 
-/// How many runs ended in each way, and what those lacked that ended too early: out of contexts, cut
-/// off or starved. A run in which an assertion failed is not among them.
+/// How many runs ended in each way, and what the runs lacked that ended too early: those that were
+/// out of contexts, cut off or starved. A run in which an assertion failed is not counted.
 #[derive(Clone, Copy, Debug, PartialEq, Eq)]
 pub struct Ends {
     /// Each thread came to the end of its program.
