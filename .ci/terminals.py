@@ -95,6 +95,11 @@ def test_progress(report, words, bare):
         said = shown_on_terminal([*words, *runs, "--time", "1"], bare)
         left = [int(seconds) for seconds in re.findall(CLEARED + r"\d+%s runs, \d+ a second, (\d+) s left" % of, said)]
         report.tell("progress with --time" + of, "" if left and max(left) <= 1 else "said %r" % said[-200:])
+    exploring = [words[0], "explore", *words[2:]]
+    shown = re.compile("(?:%swithin [12] contexts: [13] states, \\d+ a second){2}%s" % (CLEARED, CLEARED))
+    said, told = shown_on_terminal(exploring, bare), harness.run(exploring, env=bare).stderr.decode()
+    found = shown.match(said)
+    report.tell("progress of an exploration", "" if found and said[found.end() :] == told else "said %r" % said)
 
 
 def test_explanations(report, words):

@@ -50,6 +50,7 @@ _btrun_options() {
         confirm) echo "$common $start --expect --json" ;;
         run) echo "$common $start --seed --turn --ring --spread" ;;
         test) echo "$common $start --seed --runs --time --jobs --deadlock --unreached --json" ;;
+        explore) echo "$common --contexts --init --states --time --deadlock --through --json" ;;
         show) echo "$common --thread --last --from --to --watch --fold --state --brief --valid --at --contexts --steps --json" ;;
     esac
 }
@@ -62,7 +63,7 @@ _btrun_offer_part() {
 
 _btrun() {
     local word=${COMP_WORDS[COMP_CWORD]} before=${COMP_WORDS[COMP_CWORD - 1]} words files
-    local commands="check code drive confirm run test replay show migrate shrink"
+    local commands="check code drive confirm run test explore replay show migrate shrink"
     mapfile -t files < <(_btrun_files)
     case ${COMP_WORDS[1]}$before in
         show--contexts) ;;
@@ -76,7 +77,7 @@ _btrun() {
             if _btrun_in_init; then _btrun_offer_part "$word" "$(_btrun_bits "${files[0]}")"; fi
             return
             ;;
-        *--contexts | *--calls | *--seed | *--turn | *--ring | *--runs | *--time | *--jobs | *--thread | *--last | *--from | *--to | *--at) return ;;
+        *--contexts | *--calls | *--seed | *--turn | *--ring | *--runs | *--states | *--time | *--jobs | *--thread | *--last | *--from | *--to | *--at) return ;;
     esac
     if ((COMP_CWORD == 1)); then
         words="$commands help --help --version"
@@ -84,7 +85,7 @@ _btrun() {
         words=$(_btrun_options "${COMP_WORDS[1]}")
     elif [[ ${COMP_WORDS[1]} == help ]]; then
         words=$commands
-    elif [[ ${COMP_WORDS[1]}${#files[@]} == @(run1|test1|drive2|confirm2) ]]; then
+    elif [[ ${COMP_WORDS[1]}${#files[@]} == @(run1|test1|explore1|drive2|confirm2) ]]; then
         words=$(_btrun_entries "${files[0]}")
     else
         mapfile -t COMPREPLY < <(compgen -f -- "$word")

@@ -11,7 +11,7 @@ end
 function __btrun_takes_entry
     set -l command (commandline -opc)[2]
     set -l files (count (__btrun_files))
-    contains $command$files run1 test1 drive2 confirm2
+    contains $command$files run1 test1 explore1 drive2 confirm2
 end
 
 # The procedures of a program that take no arguments, as `check --json` has them.
@@ -51,13 +51,14 @@ complete -c btrun -n __fish_use_subcommand -f -a drive -d 'Drive it by a schedul
 complete -c btrun -n __fish_use_subcommand -f -a confirm -d 'Confirm the steps that another tool reports'
 complete -c btrun -n __fish_use_subcommand -f -a run -d 'Run it by one worker for each thread'
 complete -c btrun -n __fish_use_subcommand -f -a test -d 'Test it by runs whose schedules are drawn'
+complete -c btrun -n __fish_use_subcommand -f -a explore -d 'Look through all its runs'
 complete -c btrun -n __fish_use_subcommand -f -a replay -d 'Replay a trace'
 complete -c btrun -n __fish_use_subcommand -f -a show -d 'Show a trace call by call'
 complete -c btrun -n __fish_use_subcommand -f -a migrate -d 'Print the trace of version 2'
 complete -c btrun -n __fish_use_subcommand -f -a shrink -d 'Make the trace of a failure or deadlock smaller'
 complete -c btrun -n __fish_use_subcommand -f -a help -d 'Print help'
 
-set -l all check code drive confirm run test replay show migrate shrink
+set -l all check code drive confirm run test explore replay show migrate shrink
 complete -c btrun -n '__fish_seen_subcommand_from help' -f -a "$all"
 complete -c btrun -n "__fish_seen_subcommand_from $all" -l explain -d 'Explain a fault on further lines'
 complete -c btrun -n "__fish_seen_subcommand_from $all" -l no-explain -d 'Explain no fault'
@@ -88,6 +89,14 @@ complete -c btrun -n '__fish_seen_subcommand_from test' -x -l jobs -d 'How many 
 complete -c btrun -n '__fish_seen_subcommand_from test' -l deadlock -d 'Also stop at a run that ends in a deadlock'
 complete -c btrun -n '__fish_seen_subcommand_from test' -l unreached -d 'List the statements that no run reached'
 complete -c btrun -n '__fish_seen_subcommand_from test' -l json -d 'Write the summary as JSON objects'
+
+complete -c btrun -n '__fish_seen_subcommand_from explore' -x -l contexts -d 'Look through runs within N contexts'
+complete -c btrun -n '__fish_seen_subcommand_from explore' -x -l init -a '(__btrun_bits)' -d 'The initial bits of the globals'
+complete -c btrun -n '__fish_seen_subcommand_from explore' -x -l states -d 'Keep at most N states'
+complete -c btrun -n '__fish_seen_subcommand_from explore' -x -l time -d 'Stop after N seconds'
+complete -c btrun -n '__fish_seen_subcommand_from explore' -l deadlock -d 'Also look for a run that ends in a deadlock'
+complete -c btrun -n '__fish_seen_subcommand_from explore' -r -l through -d 'Look for a run that makes the steps of this file'
+complete -c btrun -n '__fish_seen_subcommand_from explore' -l json -d 'Write the summary as a JSON object'
 
 complete -c btrun -n '__fish_seen_subcommand_from show' -x -l thread -d 'Show the calls of this thread alone'
 complete -c btrun -n '__fish_seen_subcommand_from show' -x -l last -d 'Show the last calls alone'

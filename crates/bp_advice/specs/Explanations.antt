@@ -1,7 +1,8 @@
 -- The parts of an explanation, and the lines that show it.
 use Rattle.std.specs.Prelude.{if◌then◌else◌, ◌≡◌, ◌==◌, ◌||◌, ◌&&◌, nat_le, ℕ, Bool, true, List, [], ◌∷◌, ◌++◌, Option, None, Some, All, map, decimal}
 use Rattle.bp_text.specs.Excerpts.{excerpt_of_fault, excerpt_of_line}
-use Rattle.bp_text.specs.OneLine.{IsOneLine, on_one_line}
+use Rattle.bp_text.specs.Displayed.{displayed}
+use Rattle.bp_text.specs.OneLine.{IsOneLine}
 use Rattle.bp_text.specs.Positions.{position_at}
 use Rattle.bp_advice.specs.declared.explanations.Explanation.{Explanation}
 use Rattle.bp_advice.specs.declared.explanations.Place.{Place}
@@ -69,7 +70,7 @@ separator = 58 ∷ 32 ∷ []
 
 -- the head that names a file and a place in it
 abbrev pub head_of : List ℕ → Place → List ℕ
-head_of file place = map on_one_line file ++ numbers_of place ++ separator
+head_of file place = displayed file ++ numbers_of place ++ separator
 
 -- the sentence of an explanation, as it is shown
 abbrev pub sentence_of : Explanation → List ℕ

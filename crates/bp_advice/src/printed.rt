@@ -4,7 +4,7 @@ ghost use Rattle.std.specs.Prelude.{◌≡◌, ◌++◌, map, IfOk, OnOk};
 ghost use Rattle.bp_advice.specs.Explanations.{after_colon, head_of, is_plain, lines_of, numbers_of, sentence_of, shown, IsPlain};
 
 use crate::explanations::{Explanation, Place};
-use bp_text::push_on_one_line;
+use bp_text::push_displayed;
 use itoa::Buffer;
 use std::alloc::{AllocError, Global};
 
@@ -70,7 +70,7 @@ fn head_of(alloc: Global, file: &str, place: Place) -> Result<Vec<u8>, AllocErro
     ensures { IfOk result (λ v. v.items ≡ head_of file.now place) }
 {
     let mut head = Vec::new(alloc);
-    push_on_one_line(&mut head, file.as_bytes())?;
+    push_displayed(&mut head, file.as_bytes())?;
     push_numbers(&mut head, place)?;
     head.extend_from_slice(SEPARATOR)?;
     Ok(head)

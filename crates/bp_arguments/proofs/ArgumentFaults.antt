@@ -8,12 +8,10 @@ use Rattle.clap.specs.Walk.{Row, Text}
 use Rattle.clap.specs.Values.{kind_of}
 use Rattle.clap.specs.declared.builder.command.Command.{Command}
 use Rattle.clap.specs.declared.error.Error.{Error}
-use Rattle.clap.specs.declared.error.kind.ErrorKind.TheVariants.{OutOfMemory}
 use Rattle.clap.specs.declared.parser.matches.ArgMatches.{ArgMatches}
 use Rattle.bp_arguments.specs.Commands.{btrun_app, arguments_fault}
 use Rattle.bp_arguments.specs.Misuses.{misuse_fault, misuse_kind, misuse_of}
 use Rattle.bp_arguments.specs.declared.misuses.Misuse.{Misuse}
-use Rattle.bp_arguments.proofs.PlainArguments.{only_memory}
 
 is_exact : is_simple_and_free btrun_app ≡ true
 is_exact = refl
@@ -36,12 +34,6 @@ module _ (command : Command) (arguments : List Text) (is : app_of command ≡ bt
   refused e kinds =
       either_kind (fault_of btrun_app arguments) _ e (subst (λ a. HasKind (fault_of a arguments) e) is (kinds (ap is_simple_and_free is ∙ is_exact)))
 
-  -- arguments without a fault are refused for want of memory alone
-  pub refused_for_memory : (e : Error)
-      → (is_simple_and_free (app_of command) ≡ true → HasKind (fault_of (app_of command) arguments) e)
-      → arguments_fault arguments ≡ [] → kind_of e ≡ OutOfMemory
-  refused_for_memory e kinds none = only_memory (arguments_fault arguments) e none (refused e kinds)
-
 abbrev kinds_of : Option Misuse → Kinds
 kinds_of m = option_map_or (λ m. misuse_kind m ∷ []) m []
 
@@ -55,12 +47,3 @@ module _ (arguments : List Text) (command : Option (Text × List Row)) (clean : 
 
   pub fine_faulty : misuse_of command ≡ None → arguments_fault arguments ≡ []
   fine_faulty fine = faulty ∙ ap kinds_of fine
-
-  -- arguments that have no fault have no misuse
-  pub not_misused : (m : Misuse) → misuse_of command ≡ Some m → arguments_fault arguments ≡ [] → ⊥
-  not_misused m bad none =
-      let some : misuse_kind m ∷ [] ≡ [] = sym (faulty ∙ ap kinds_of bad) ∙ none in
-      no_kind some
-    where
-      no_kind : misuse_kind m ∷ [] ≡ [] → ⊥
-      no_kind same = cc

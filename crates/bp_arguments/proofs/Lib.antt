@@ -5,5 +5,4 @@ mod NoTaskKinds
 mod NumberGiven
 mod NumberTexts
 mod OptionsGiven
-mod PlainArguments
 mod ArgumentFaults

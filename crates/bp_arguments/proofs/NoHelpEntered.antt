@@ -144,10 +144,13 @@ entered_ours (Some p) fine =
               (
                 inr (name.Test, refl),
                 (
-                  inr (name.Replay, refl),
+                  inr (name.Explore, refl),
                   (
-                    inr (name.Show, refl),
-                    (inr (name.Migrate, refl), (inr (name.Shrink, refl), (inl (other_way p.0 (codes "help") fine), tt))),
+                    inr (name.Replay, refl),
+                    (
+                      inr (name.Show, refl),
+                      (inr (name.Migrate, refl), (inr (name.Shrink, refl), (inl (other_way p.0 (codes "help") fine), tt))),
+                    ),
                   ),
                 ),
               ),

@@ -12,7 +12,7 @@ of_one [] k none is of = is
 of_one (x ∷ xs) k none (inl is) of = inl (subst (λ y. IsOfKind y none) is of)
 of_one (x ∷ xs) k none (inr is) of = inr (of_one xs k none is of)
 
-pub of_memory : (k : ErrorKind) (none : NoTask) → k ≡ OutOfMemory → (none ≡ Memory) ⊎ IsOfKind k none → none ≡ Memory
+of_memory : (k : ErrorKind) (none : NoTask) → k ≡ OutOfMemory → (none ≡ Memory) ⊎ IsOfKind k none → none ≡ Memory
 of_memory k none is (inl memory) = memory
 of_memory k none is (inr of) = subst (λ y. IsOfKind y none) is of
 

@@ -20,6 +20,7 @@ use Rattle.bp_arguments.specs.CheckArguments.{IsCheckArgumentsOf}
 use Rattle.bp_arguments.specs.CodeArguments.{IsCodeArgumentsOf}
 use Rattle.bp_arguments.specs.ConfirmArguments.{IsConfirmOf}
 use Rattle.bp_arguments.specs.DriveArguments.{IsDriveOf}
+use Rattle.bp_arguments.specs.ExploreArguments.{IsExploreOf}
 use Rattle.bp_arguments.specs.RunArguments.{IsRunOf}
 use Rattle.bp_arguments.specs.ShowArguments.{IsShowOf}
 use Rattle.bp_arguments.specs.TestArguments.{IsTestOf}
@@ -28,10 +29,11 @@ use Rattle.bp_tasks.specs.declared.tasks.CheckTask.{CheckTask}
 use Rattle.bp_tasks.specs.declared.tasks.CodeTask.{CodeTask}
 use Rattle.bp_tasks.specs.declared.tasks.ConfirmTask.{ConfirmTask}
 use Rattle.bp_tasks.specs.declared.tasks.DriveTask.{DriveTask}
+use Rattle.bp_tasks.specs.declared.tasks.ExploreTask.{ExploreTask}
 use Rattle.bp_tasks.specs.declared.tasks.RunTask.{RunTask}
 use Rattle.bp_tasks.specs.declared.tasks.ShowTask.{ShowTask}
 use Rattle.bp_tasks.specs.declared.tasks.Task.{Task}
-use Rattle.bp_tasks.specs.declared.tasks.Task.TheVariants.{Bundle, Check, Code, Drive, Confirm, Run, Test, Replay, Show, Migrate, Shrink}
+use Rattle.bp_tasks.specs.declared.tasks.Task.TheVariants.{Bundle, Check, Code, Drive, Confirm, Run, Test, Explore, Replay, Show, Migrate, Shrink}
 use Rattle.bp_tasks.specs.declared.tasks.TestTask.{TestTask}
 use Rattle.bp_tasks.specs.declared.tasks.TraceTask.{TraceTask}
 
@@ -150,6 +152,20 @@ test_rules =
     ∷ flag_rule (codes "json")
     ∷ []
 
+-- `[ENTRY].. [--contexts N] [--init BITS] [--states N] [--time N] [--deadlock]
+-- [--through STEPS] [--json]`
+abbrev pub explore_rules : List Rule
+explore_rules =
+    values_rule (codes "ENTRY")
+    ∷ number_rule (codes "contexts")
+    ∷ option_rule (codes "init")
+    ∷ long_number_rule (codes "states")
+    ∷ long_number_rule (codes "time")
+    ∷ flag_rule (codes "deadlock")
+    ∷ option_rule (codes "through")
+    ∷ flag_rule (codes "json")
+    ∷ []
+
 -- `TRACE`
 abbrev pub trace_rules : List Rule
 trace_rules = required_rule (codes "TRACE") ∷ []
@@ -182,6 +198,7 @@ command_rules name.Drive = drive_rules
 command_rules name.Confirm = confirm_rules
 command_rules name.Run = run_rules
 command_rules name.Test = test_rules
+command_rules name.Explore = explore_rules
 command_rules name.Replay = trace_rules
 command_rules name.Show = show_rules
 command_rules name.Migrate = trace_rules
@@ -236,6 +253,8 @@ IsTaskOfCommand name.Confirm rows task =
     (t : ConfirmTask) × (task ≡ Confirm t) × IsConfirmOf rows t
 IsTaskOfCommand name.Run rows task = (t : RunTask) × (task ≡ Run t) × IsRunOf rows t
 IsTaskOfCommand name.Test rows task = (t : TestTask) × (task ≡ Test t) × IsTestOf rows t
+IsTaskOfCommand name.Explore rows task =
+    (t : ExploreTask) × (task ≡ Explore t) × IsExploreOf rows t
 IsTaskOfCommand name.Show rows task = (t : ShowTask) × (task ≡ Show t) × IsShowOf rows t
 IsTaskOfCommand name.Replay rows task =
     (t : TraceTask) × (task ≡ Replay t) × IsTraceArgumentsOf rows t

@@ -8,7 +8,7 @@ use Rattle.bp_tasks.specs.declared.context_bounds.ContextBound.{ContextBound}
 use Rattle.bp_tasks.specs.declared.context_bounds.ContextBound.TheVariants.{AsUsed, Kept}
 use Rattle.bp_tasks.specs.declared.tasks.ConfirmTask.{ConfirmTask}
 
--- as many contexts as the steps use are allowed, unless a number is given
+-- as many contexts as are used are allowed, unless a number is given
 abbrev pub IsBoundOf : List Row → ContextBound → Type 0
 IsBoundOf rows AsUsed = IsNumberIn 32 (one_of (codes "contexts") rows) None
 IsBoundOf rows Kept = (n : ℕ) × IsNumberIn 32 (one_of (codes "contexts") rows) (Some n)

@@ -4,10 +4,10 @@ pub mod Commands
 pub mod ConfirmArguments
 pub mod DriveArguments
 pub mod Explains
+pub mod ExploreArguments
 pub mod Misuses
 pub mod Names
 pub mod NoTasks
-pub mod PlainUses
 pub mod RunArguments
 pub mod ShowArguments
 pub mod TestArguments

@@ -19,6 +19,8 @@ option_name option.At = codes "at"
 option_name option.Contexts = codes "contexts"
 option_name option.Steps = codes "steps"
 option_name option.Valid = codes "valid"
+option_name option.Through = codes "through"
+option_name option.Deadlock = codes "deadlock"
 option_name option.Thread = codes "thread"
 option_name option.Last = codes "last"
 option_name option.From = codes "from"
@@ -63,13 +65,14 @@ pairs_of first others = map (λ other. (first, other)) others
 
 -- Beside the first option of a pair, the second has no effect. A view in place of the calls clashes
 -- with other views, and with the options on calls. Steps have no line that says that a trace is
--- refused.
+-- refused. A run through steps need not end in a deadlock.
 abbrev pub clashes : List (OptionName × OptionName)
 clashes =
     pairs_of option.At (option.Contexts ∷ option.Steps ∷ on_calls)
     ++ pairs_of option.Contexts (option.Steps ∷ on_calls)
     ++ pairs_of option.Steps on_calls
     ++ (option.Steps, option.Valid)
+    ∷ (option.Through, option.Deadlock)
     ∷ (option.Json, option.Fold)
     ∷ (option.Explain, option.NoExplain)
     ∷ []

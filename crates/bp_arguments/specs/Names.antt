@@ -2,7 +2,7 @@
 use Rattle.std.specs.Prelude.{◌≡◌, codes}
 use Rattle.clap.specs.Walk.{Text}
 use Rattle.bp_arguments.specs.declared.names.Named.{Named}
-use Rattle.bp_arguments.specs.declared.names.Named.TheVariants.{Check, Code, Drive, Confirm, Run, Test, Replay, Show, Migrate, Shrink}
+use Rattle.bp_arguments.specs.declared.names.Named.TheVariants.{Check, Code, Drive, Confirm, Run, Test, Explore, Replay, Show, Migrate, Shrink}
 
 abbrev pub command_name : Named → Text
 command_name Check = codes "check"
@@ -11,6 +11,7 @@ command_name Drive = codes "drive"
 command_name Confirm = codes "confirm"
 command_name Run = codes "run"
 command_name Test = codes "test"
+command_name Explore = codes "explore"
 command_name Replay = codes "replay"
 command_name Show = codes "show"
 command_name Migrate = codes "migrate"

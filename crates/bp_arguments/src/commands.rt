@@ -3,12 +3,12 @@ ghost use Rattle.std.specs.Prelude.{◌≡◌, false, ℕ, List, ◌∷◌, map,
 ghost use Rattle.clap.specs.Words.{FailsBy, app_of, found_of, kind_of, rows_of, subcommand_of, subcommand_rows_of};
 ghost use Rattle.bp_arguments.specs.Commands.{btrun_app, program_app, arguments_fault, IsOurs, IsTaskOf, IsTaskOfCommand};
 ghost use Rattle.bp_arguments.specs.Misuses.{misuse_kind};
-ghost use Rattle.bp_arguments.specs.PlainUses.{PlainUse, arguments_of, HasPlainFiles, IsAskedBy};
 
 use crate::check::check_arguments;
 use crate::code::code_arguments;
 use crate::confirm::confirm_arguments;
 use crate::drive::drive_arguments;
+use crate::explore::explore_arguments;
 use crate::misuses::{Misuse, misuse_kind, misuse_of, misuse_text};
 use crate::names::{NAMED, Named, command_named};
 use crate::run::run_arguments;
@@ -29,7 +29,7 @@ const NOTES: &str = "\
     1000 calls are allowed. The trace of the run is printed. A FILE '-' is standard input.\n\n\
     Examples:\n  btrun < FILE\n  btrun check FILE\n  btrun code FILE\n  \
     btrun drive FILE SCHEDULE\n  btrun confirm FILE STEPS\n  btrun run FILE\n  btrun test FILE\n  \
-    btrun replay FILE TRACE\n  btrun show FILE TRACE\n  \
+    btrun explore FILE\n  btrun replay FILE TRACE\n  btrun show FILE TRACE\n  \
     btrun migrate FILE TRACE\n  btrun shrink FILE TRACE\n\n\
     Exit status:\n  0  done, and no assertion failed\n  1  an assertion failed\n  \
     2  the input or the arguments were refused\n  3  memory, a device or the output failed";
@@ -75,6 +75,7 @@ fn task_named<'a>(
         Named::Confirm => Ok(Task::Confirm(confirm_arguments(alloc, arguments)?)),
         Named::Run => Ok(Task::Run(run_arguments(alloc, arguments)?)),
         Named::Test => Ok(Task::Test(test_arguments(alloc, arguments)?)),
+        Named::Explore => Ok(Task::Explore(explore_arguments(alloc, arguments)?)),
         Named::Replay => Ok(Task::Replay(trace_arguments(arguments))),
         Named::Show => Ok(Task::Show(show_arguments(arguments))),
         Named::Migrate => Ok(Task::Migrate(trace_arguments(arguments))),
@@ -105,10 +106,6 @@ pub(crate) fn task_of_arguments<'a>(
     ensures task { IfOk result
         (λ t. IsTaskOf (subcommand_of btrun_app (map string_bytes arguments.now)) t) }
     ensures refusal { FailsBy (arguments_fault (map string_bytes arguments.now)) result }
-    ensures plain { (usage : PlainUse) (program : List ℕ)
-        → HasPlainFiles usage
-        → map string_bytes arguments.now ≡ program ∷ arguments_of usage
-        → MatchResult result (IsAskedBy usage) (λ e. kind_of e ≡ ErrorKind.OutOfMemory) }
 {
     let command = command(alloc)?;
     let matches = command.try_get_matches_from(arguments)?;

@@ -57,8 +57,8 @@ pub static ROWS: [Row<'static>; 7] = [
     },
 ];
 
-/// How many contexts are allowed: as many as the steps use, unless a number is given.
-fn context_bound(arguments: &ArgMatches<'_>) -> ContextBound
+/// How many contexts are allowed: as many as are used, unless a number is given.
+pub fn context_bound(arguments: &ArgMatches<'_>) -> ContextBound
     ensures { IsBoundOf (rows_of (found_of arguments.now)) result }
 {
     match given_number(arguments, "contexts") {

@@ -41,12 +41,18 @@ pub fn error_on_lines(alloc: Global, arguments: &[String], error: Error) -> Erro
     error
 }
 
-/// A text with its control characters escaped, so that they have no effect on a terminal. Line
-/// feeds stay, since a text has lines; `error_on_lines` escapes those of arguments.
+/// Whether a character turns the direction of the text around it.
+fn is_turning(character: char) -> bool {
+    matches!(character, '\u{202a}'..='\u{202e}' | '\u{2066}'..='\u{2069}')
+}
+
+/// A text with its control characters escaped, and those that turn its direction, so that they have
+/// no effect on a terminal. Line feeds stay, since a text has lines; `error_on_lines` escapes those
+/// of arguments.
 pub fn escaped(alloc: Global, text: &str) -> Result<String, AllocError> {
     let mut plain = String::new(alloc);
     for character in text.chars() {
-        if character.is_control() && character != '\n' {
+        if character.is_control() && character != '\n' || is_turning(character) {
             let escape = format!(in alloc; "{}", character.escape_default())?;
             plain.push_str(escape.as_str())?;
         } else {

@@ -9,6 +9,7 @@ mod confirm;
 mod drive;
 mod echoes;
 mod explain;
+mod explore;
 mod files;
 mod meant;
 mod misuses;

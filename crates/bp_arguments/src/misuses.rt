@@ -16,6 +16,8 @@ pub enum OptionName {
     Contexts,
     Steps,
     Valid,
+    Through,
+    Deadlock,
     Thread,
     Last,
     From,
@@ -43,7 +45,7 @@ pub enum Misuse {
 }
 
 /// How many pairs of options are refused.
-const PAIRS: usize = 30;
+const PAIRS: usize = 31;
 
 /// The options that clash: beside the first of a pair, the second has no effect. Earlier pairs are
 /// reported first.
@@ -76,6 +78,7 @@ pub const CLASHES: [(OptionName, OptionName); PAIRS] = [
     (OptionName::Steps, OptionName::State),
     (OptionName::Steps, OptionName::Brief),
     (OptionName::Steps, OptionName::Valid),
+    (OptionName::Through, OptionName::Deadlock),
     (OptionName::Json, OptionName::Fold),
     (OptionName::Explain, OptionName::NoExplain),
 ];
@@ -89,6 +92,8 @@ fn option_name(option: OptionName) -> &'static str
         OptionName::Contexts => "contexts",
         OptionName::Steps => "steps",
         OptionName::Valid => "valid",
+        OptionName::Through => "through",
+        OptionName::Deadlock => "deadlock",
         OptionName::Thread => "thread",
         OptionName::Last => "last",
         OptionName::From => "from",

@@ -12,6 +12,7 @@ pub enum Named {
     Confirm,
     Run,
     Test,
+    Explore,
     Replay,
     Show,
     Migrate,
@@ -19,7 +20,7 @@ pub enum Named {
 }
 
 /// How many commands have a name.
-const COMMANDS: usize = 10;
+const COMMANDS: usize = 11;
 
 /// The commands that have a name, in the order of the help.
 pub const NAMED: [Named; COMMANDS] = [
@@ -29,6 +30,7 @@ pub const NAMED: [Named; COMMANDS] = [
     Named::Confirm,
     Named::Run,
     Named::Test,
+    Named::Explore,
     Named::Replay,
     Named::Show,
     Named::Migrate,
@@ -46,6 +48,7 @@ pub fn name_of<'a>(command: Named) -> &'a str
         Named::Confirm => "confirm",
         Named::Run => "run",
         Named::Test => "test",
+        Named::Explore => "explore",
         Named::Replay => "replay",
         Named::Show => "show",
         Named::Migrate => "migrate",

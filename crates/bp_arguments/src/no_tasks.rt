@@ -3,7 +3,6 @@ ghost use Rattle.std.specs.Prelude.{◌≡◌, ◌⊎◌, ℕ, List, ◌∷◌, 
 ghost use Rattle.clap.specs.Words.{kind_of, subcommand_of};
 ghost use Rattle.bp_arguments.specs.Commands.{btrun_app, arguments_fault, IsTaskOf};
 ghost use Rattle.bp_arguments.specs.NoTasks.{EndsBy, IsOfKind, IsPrinted, IsRefused};
-ghost use Rattle.bp_arguments.specs.PlainUses.{PlainUse, arguments_of, HasPlainFiles, IsAskedBy};
 
 use crate::commands::{not_utf8_error, task_of_arguments};
 use crate::echoes::{error_on_lines, escaped};
@@ -95,10 +94,6 @@ pub fn read_arguments<'a>(alloc: Global, arguments: &'a [String]) -> Result<Task
     ensures task { IfOk result
         (λ t. IsTaskOf (subcommand_of btrun_app (map string_bytes arguments.now)) t) }
     ensures refusal { EndsBy (arguments_fault (map string_bytes arguments.now)) result }
-    ensures plain { (usage : PlainUse) (program : List ℕ)
-        → HasPlainFiles usage
-        → map string_bytes arguments.now ≡ program ∷ arguments_of usage
-        → MatchResult result (IsAskedBy usage) (λ none. none ≡ NoTask.Memory) }
 {
     match task_of_arguments(alloc, arguments) {
         Ok(task) => Ok(task),

@@ -7,7 +7,7 @@ ghost use Rattle.bp_arguments.specs.Commands.{advanced_rules, command_app, comma
 use crate::arguments::{Row, with_rows};
 use crate::files::file_command;
 use crate::names::{Named, name_of};
-use crate::{check, code, confirm, drive, run, show, test, trace};
+use crate::{check, code, confirm, drive, explore, run, show, test, trace};
 use clap::Command;
 use std::alloc::{AllocError, Global};
 
@@ -28,6 +28,7 @@ fn help_of<'a>(command: Named) -> Help<'a> {
         Named::Confirm => (confirm::ABOUT, confirm::NOTES),
         Named::Run => (run::ABOUT, run::NOTES),
         Named::Test => (test::ABOUT, test::NOTES),
+        Named::Explore => (explore::ABOUT, explore::NOTES),
         Named::Replay => (trace::REPLAY_ABOUT, trace::REPLAY_NOTES),
         Named::Show => (show::ABOUT, show::NOTES),
         Named::Migrate => (trace::MIGRATE_ABOUT, trace::MIGRATE_NOTES),
@@ -47,6 +48,7 @@ fn rows_of<'a>(command: Named) -> &'a [Row<'a>]
         Named::Confirm => &confirm::ROWS,
         Named::Run => &run::ROWS,
         Named::Test => &test::ROWS,
+        Named::Explore => &explore::ROWS,
         Named::Show => &show::ROWS,
         Named::Replay | Named::Migrate | Named::Shrink => &trace::ROWS,
     }

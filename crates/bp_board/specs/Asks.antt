@@ -18,6 +18,10 @@ abbrev pub IsSendRefusal : Program → SetupOf → List Call → ℕ → AskFaul
 IsSendRefusal t s h i fault.Busy = HasOpenLine s h i
 IsSendRefusal t s h i f = IsAskRefusal t s h i None f
 
+-- nothing is changed, but more places may be known to be free
+abbrev pub IsUnchanged : DeskOf → DeskOf → Type 0
+IsUnchanged old new = (new ≡ record old { free = new.free }) × (old.free ≤ new.free)
+
 -- One call of the seat's thread was sent: the one that the machine makes next, with the bit of the
 -- seed and this reply. It takes one free place at most. The seat counts it, and is open where the
 -- line is; it has counted no more calls than were sent.

@@ -1,10 +1,10 @@
 //! The desk: the machine, and the end of the ring to which its history is sent.
-ghost use Rattle.std.specs.Prelude.{◌≡◌, ◌≤◌, ◌<◌, ◌⊎◌, ◌↔◌, [], true, None, is_some, IfOk, OnErr, MatchResult};
+ghost use Rattle.std.specs.Prelude.{◌≡◌, ◌≤◌, ◌<◌, ◌↔◌, [], true, None, is_some, IfOk, OnErr, MatchResult};
 ghost use Rattle.bp_tree.specs.Ast.{Program};
 ghost use Rattle.bp_flat.specs.StandsFor.{StandsFor};
 ghost use Rattle.bp_machine.specs.Setups.{threads, FitsCode};
 ghost use Rattle.bp_board.specs.declared.limits.TheConstants.{MAX_TURN};
-ghost use Rattle.bp_board.specs.Asks.{IsAsked, IsShut, IsDeskRefusal};
+ghost use Rattle.bp_board.specs.Asks.{IsAsked, IsShut, IsDeskRefusal, IsUnchanged};
 ghost use Rattle.bp_board.specs.Desks.{IsLegalDesk, IsNewDesk};
 ghost use Rattle.bp_board.specs.Kits.{IsNamed};
 ghost use Rattle.bp_board.specs.Seats.{AreNewSeats};
@@ -110,14 +110,14 @@ impl<C: Calls, O: Ledger> Desk<C, O> {
     }
 
     /// Makes one call of the seat's thread, and sends it. At a refusal nothing is changed, and no
-    /// choice bit is used: where the thread's line is finished, where memory is refused, or where
-    /// the ring is full, which it is not while a place is known to be free.
+    /// choice bit is used: if the thread's line is finished, if the ring is full, which it is not
+    /// while a place is known to be free, or if memory is refused.
     pub fn ask(&mut self, seat: &mut Seat<C, O>) -> Result<Reply, AskFault>
         ensures answer { MatchResult result
             (IsAsked self.old self.new seat.old seat.new)
-            (IsDeskRefusal self.old seat.old) }
+            (IsDeskRefusal self.new seat.new) }
         ensures finished { (result ≡ Err AskFault.Finished) ↔ IsShut self.old seat.old }
-        ensures same { OnErr result ((self.new ≡ self.old) × (seat.new ≡ seat.old)) }
+        ensures same { OnErr result (IsUnchanged self.old self.new × (seat.new ≡ seat.old)) }
         ensures kept { (self.new.code ≡ self.old.code) × (self.new.setup ≡ self.old.setup) }
     {
         self.session.code().is_of_a_program();

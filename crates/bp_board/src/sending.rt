@@ -1,13 +1,14 @@
 //! A call is made and sent, or neither.
-ghost use Rattle.std.specs.Prelude.{◌≡◌, ◌≤◌, ◌+◌, [], ◌∷◌, ◌++◌, None, IfOk, OnErr, MatchResult};
+ghost use Rattle.std.specs.Prelude.{◌≡◌, ◌≤◌, ◌<◌, ◌+◌, [], ◌∷◌, ◌++◌, None, IfOk, OnErr, MatchResult};
 ghost use Rattle.bp_tree.specs.Ast.{Program};
 ghost use Rattle.bp_flat.specs.StandsFor.{StandsFor};
 ghost use Rattle.bp_machine.specs.Sessions.{Stands, IsNextCall};
+ghost use Rattle.bp_machine.specs.Setups.{threads};
 ghost use Rattle.rtrb.specs.Ring.{sent, known_free, SameProducer};
 ghost use Rattle.bp_board.specs.Asks.{IsSendRefusal};
 
 use bp_machine::{AskFault, Call, Session};
-use rtrb::{Producer, PushError};
+use rtrb::Producer;
 
 /// Makes the next call of a thread with the seed's bit, and sends it. At a refusal neither is done:
 /// where the machine refuses the call, or where the ring is full, which it is not while a place is
@@ -17,6 +18,7 @@ pub(crate) fn send(
     to: &mut Producer<Call>,
     thread: u32,
 ) -> Result<Call, AskFault>
+    requires { thread < threads session.old.setup }
     ensures answer { (t : Program)
         → StandsFor session.old.code t
         → Stands t session.old (sent to.old)
@@ -28,30 +30,27 @@ pub(crate) fn send(
         → StandsFor session.old.code t
         → Stands t session.old (sent to.old)
         → IfOk result (λ c. Stands t session.new (sent to.old ++ c ∷ [])) }
-    ensures stays { (t : Program)
-        → Stands t session.old (sent to.old)
-        → OnErr result (Stands t session.new (sent to.old)) }
     ensures kept { (session.new.code ≡ session.old.code) × (session.new.setup ≡ session.old.setup) }
+    ensures same { OnErr result (session.new ≡ session.old) }
     ensures ring { SameProducer to.old to.new }
     ensures sent { IfOk result (λ c.
         (sent to.new ≡ sent to.old ++ c ∷ []) × (known_free to.old ≤ known_free to.new + 1)) }
     ensures unsent { OnErr result
-        ((sent to.new ≡ sent to.old) × (known_free to.new ≡ known_free to.old)) }
+        ((sent to.new ≡ sent to.old) × (known_free to.old ≤ known_free to.new)) }
     ensures full { (t : Program)
         → StandsFor session.old.code t
         → Stands t session.old (sent to.old)
         → result ≡ Err AskFault.Busy
-        → known_free to.old ≡ 0 }
+        → known_free to.new ≡ 0 }
 {
-    if to.cached_slots() > 0 {
-        let call = session.ask(thread)?;
-        to.push_reserved(call);
-        return Ok(call);
+    if to.is_full() {
+        return Err(if session.is_finished(thread) {
+            AskFault::Finished
+        } else {
+            AskFault::Busy
+        });
     }
-    let call = session.prepare(thread)?;
-    if let Err(PushError::Full(_)) = to.push(call) {
-        return Err(AskFault::Busy);
-    }
-    session.commit(&call);
+    let call = session.ask(thread)?;
+    to.push_reserved(call);
     Ok(call)
 }

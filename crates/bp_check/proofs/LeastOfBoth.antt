@@ -18,9 +18,6 @@ then f h g at (inl x) (inr y) = inl (omega arith)
 then f h g at (inr x) (inl y) = inl (omega arith)
 then f h g at (inr x) (inr y) = inr (omega arith, omega arith)
 
-itself : (f : Found) → IsNotAfter f.fault f.at f.fault f.at
-itself f = inr (refl, omega arith)
-
 module _ (S T : CheckFault → ℕ → Type 0) where
   chosen : (f h : Found) (b : Bool) → is_not_after f h ≡ b → IsLeast S f.fault f.at → IsLeast T h.fault h.at
       → Finds (λ g at. S g at ⊎ T g at) (cond b (Some f) (Some h))

@@ -1,5 +1,5 @@
 -- The faults of a list of things are those of each of them.
-use Rattle.std.proofs.Common.{◌≡◌, ◌⊎◌, ℕ, List, [], ◌∷◌, ◌++◌, Option, None, refl, sym, subst, inl, inr}
+use Rattle.std.proofs.Common.{◌≡◌, ◌⊎◌, ℕ, List, [], ◌∷◌, ◌++◌, Option, refl, sym, subst, inl, inr}
 use Rattle.bp_language.specs.declared.faults.CheckFault.{CheckFault}
 use Rattle.bp_check.specs.declared.found.Found.{Found}
 use Rattle.bp_language.specs.Scopes.{Among}
@@ -10,9 +10,6 @@ use Rattle.bp_language.proofs.AmongAppend.{Among-front, Among-back, Among-split}
 module _ {X : Type 0} (Is : X → CheckFault → ℕ → Type 0) where
   abbrev pub OfSome : List X → CheckFault → ℕ → Type 0
   OfSome xs g at = (x : X) × Among xs x × Is x g at
-
-  pub none_of : Finds (OfSome []) None
-  none_of g at x = x.1
 
   pub one_of_more : (xs : List X) (x : X) (a b : Option Found) → Finds (OfSome xs) a → Finds (Is x) b → Finds (OfSome (xs ++ x ∷ [])) (least_of a b)
   one_of_more xs x a b h k =

@@ -69,9 +69,6 @@ module _ (ns : List Name) (fault : CheckFault) where
       finds_same _ _ best (λ g at x. (x.0, (x.1.0, x.1.1, x.1.3, x.1.4)))
       (λ g at x. (x.0, (x.1.0, x.1.1, rw e (slice_get_within ns x.1.0 x.1.1 x.1.2.stands), x.1.2, x.1.3)))
 
-  pub none_below : Finds (Only fault (Below 0)) None
-  none_below g at x = absurd (omega (arith, x.1.2))
-
 -- the name past a limit
 pub finds_past : (ns : List Name) (limit : ℕ) (n : Name) → slice_get ns limit ≡ Some n
     → Finds (Only Limit (IsPast limit ns)) (Some (record { fault = Limit; at = n.at }))

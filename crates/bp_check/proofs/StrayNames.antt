@@ -1,30 +1,21 @@
 -- Uses of names that are not declared.
-use Rattle.std.proofs.Common.{◌≡◌, ◌⊎◌, ℕ, ◌+◌, ◌<◌, true, false, List, [], ◌∷◌, ◌++◌, length, get_or, take, map, Option, None, Some, refl, ap, sym, ◌∙◌, inl, inr, subst}
+use Rattle.std.proofs.Common.{◌≡◌, ◌⊎◌, ℕ, ◌+◌, ◌<◌, true, List, [], ◌∷◌, ◌++◌, length, get_or, take, map, Option, None, refl, ap, sym, ◌∙◌, inl, inr, subst}
 use Rattle.std.proofs.lemmas.List.{take_more}
 use Rattle.std.proofs.lemmas.List.{map-append}
 use Rattle.bp_tree.specs.Ast.{Name}
 use Rattle.bp_tree.specs.declared.exprs.Expr.{Expr}
 use Rattle.bp_tree.specs.Views.{expression_of}
 use Rattle.bp_language.specs.declared.faults.CheckFault.{CheckFault}
-use Rattle.bp_language.specs.declared.faults.CheckFault.TheVariants.{UnknownVariable}
 use Rattle.bp_check.specs.declared.found.Found.{Found}
 use Rattle.bp_language.specs.Scopes.{has, Among, Uses, SomeUses}
-use Rattle.bp_check.specs.Sets.{Only, IsStray}
+use Rattle.bp_check.specs.Sets.{IsStray}
 use Rattle.bp_check.specs.LeastFound.{Finds, least_of}
 use Rattle.bp_check.proofs.LeastOfBoth.{finds_both, finds_same}
-use Rattle.bp_check.proofs.RepeatedNames.{finds_one}
 use Rattle.bp_language.proofs.AmongAppend.{Among-front, Among-back, Among-split}
 
 module _ (declared : List Name) where
   pub none_stray : (Used : Name → Type 0) → ((n : Name) → Used n → has declared n.text ≡ true) → Finds (IsStray declared Used) None
   none_stray Used all g at (_, (n, used, e, _)) = let h = all n used in cc
-
-  pub one_stray : (n : Name) → has declared n.text ≡ false → Finds (IsStray declared (λ m. n ≡ m)) (Some (record { fault = UnknownVariable; at = n.at }))
-  one_stray n none =
-      finds_same (Only UnknownVariable (λ b. n.at ≡ b)) (IsStray declared (λ m. n ≡ m)) (Some (record { fault = UnknownVariable; at = n.at }))
-      (λ g at x. (x.0, (n, refl, none, x.1)))
-      (λ g at x. (x.0, ap (λ (m : Name). m.at) x.1.1 ∙ x.1.3))
-      (finds_one UnknownVariable n.at)
 
   pub same_stray : (Used Uses : Name → Type 0) (o : Option Found) → ((n : Name) → Used n → Uses n)
       → ((n : Name) → Uses n → Used n) → Finds (IsStray declared Used) o → Finds (IsStray declared Uses) o

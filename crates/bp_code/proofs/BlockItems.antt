@@ -1,6 +1,5 @@
 -- Items of blocks: the i-th statement and those after it, its depth, and the code that it adds.
-use Rattle.std.proofs.Common.{◌≡◌, refl, ap, ℕ, zero, suc, ◌+◌, ◌<◌, ◌≤◌, false, List, [], ◌∷◌, ◌++◌, Option, None, Some, is_some, length, drop, get_or, arith}
-use Rattle.std.specs.Option.{option_or}
+use Rattle.std.proofs.Common.{◌≡◌, refl, ap, ℕ, zero, suc, ◌+◌, ◌<◌, ◌≤◌, List, [], ◌∷◌, ◌++◌, length, drop, get_or, arith}
 use Rattle.bp_text.proofs.GrownLists.{regrouped}
 use Rattle.bp_tree.specs.declared.stmts.Stmt.{Stmt}
 use Rattle.bp_tree.specs.Blocks.{block_of, statement_of}
@@ -26,11 +25,6 @@ item_depth items i s h e =
     drop_depth items zero = omega arith
     drop_depth [] (suc i) = omega arith
     drop_depth (x ∷ items) (suc i) = omega (arith, drop_depth items i)
-
--- the second of two options where the first is none
-pub or_second : {X : Type 0} (x y : Option X) → is_some x ≡ false → option_or x y ≡ y
-or_second None y h = refl
-or_second (Some z) y h = cc
 
 -- where control goes after the j-th statement
 pub first_within : (items : List Stmt) (j after next : ℕ) → j < length items → after ≡ block_entry (block_of (drop j items)) after next

@@ -160,13 +160,6 @@ module _ (table : List Place) (p : Procedure) where
   label_found None (Some left) h is = absurd h
   label_found (Some m) None h is = absurd h
 
-  -- the number exists where the label does
-  pub number_found : (o : Option ℕ) (left : Option Block) → SameLabel o left → IsSome left → IsSome o
-  number_found None None h is = cc
-  number_found (Some m) (Some left) h is = refl
-  number_found None (Some left) h is = absurd h
-  number_found (Some m) None h is = absurd h
-
 -- ---- procedures
 
 chain_done : (l : Block) → chain l Done ≡ l

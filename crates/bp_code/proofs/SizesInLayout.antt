@@ -1,7 +1,7 @@
 -- Where the sizes of statements are in the table of a layout: from a statement to those inside it
 -- and to the next one.
-use Rattle.std.proofs.Common.{◌≡◌, refl, sym, ap, subst, ◌∙◌, ℕ, ◌+◌, ◌<◌, List, [], ◌∷◌, ◌++◌, length, length-append, drop, get_or, append-nil, add-zero, arith}
-use Rattle.std.proofs.lemmas.List.{drop-drop, drop_at, get_or-drop, length-drop}
+use Rattle.std.proofs.Common.{◌≡◌, refl, sym, ap, subst, ◌∙◌, ℕ, ◌+◌, List, [], ◌∷◌, ◌++◌, length, length-append, drop, append-nil, add-zero, arith}
+use Rattle.std.proofs.lemmas.List.{drop-drop, drop_at}
 use Rattle.bp_text.proofs.GrownLists.{regrouped}
 use Rattle.bp_tree.specs.Ast.{Block, Done, Then, Statement, Skips, GoesTo, Returns, Assigns, Branches, Loops, Asserts, Assumes, Prints, Calls}
 use Rattle.bp_tree.specs.Sizes.{block_size, size}
@@ -50,20 +50,6 @@ module _ (table : List ℕ) (start : ℕ) where
     are = sym (drop-drop (length xs) h.index table) ∙ ap (drop (length xs)) (simp regrouped at h.are) ∙ drop_at xs (ys ++ h.rest) (length xs) refl;
   }
 
-  -- a size is within the table, and read there
-  pub size_within : (n x : ℕ) (xs : List ℕ) (h : AreSizesAt table start n (x ∷ xs)) → h.index < length table
-  size_within n x xs h =
-      let long = ap length h.are in
-      let left = length-drop h.index table in
-      omega (arith, long, left)
-
-  pub size_read : (n x d : ℕ) (xs : List ℕ) (h : AreSizesAt table start n (x ∷ xs)) → get_or table h.index d ≡ x
-  size_read n x d xs h =
-      let read = get_or-drop h.index table 0 d in
-      let same = ap (λ ys. get_or ys 0 d) h.are in
-      let here = rw add-zero at read in
-      sym here ∙ same
-
   -- the statements inside a statement, and those behind it
   pub inside : (n m : ℕ) (s : Statement) (t : List ℕ) → AreSizesAt table start n (m ∷ (inner_sizes s ++ t)) → AreSizesAt table start (n + 1) (inner_sizes s)
   inside n m s t h = sizes_left (n + 1) (inner_sizes s) t (sizes_next n m (inner_sizes s ++ t) h)
@@ -73,10 +59,6 @@ module _ (table : List ℕ) (start : ℕ) where
       let one = inner_length s in
       let moved : n + 1 + length (inner_sizes s) ≡ n + size s = omega (arith, one) in
       subst (λ k. AreSizesAt table start k t) moved (sizes_right (n + 1) (inner_sizes s) t (sizes_next n m (inner_sizes s ++ t) h))
-
-  -- the parts of a branch
-  pub first_part : (n : ℕ) (a b : Block) → AreSizesAt table start n (block_sizes a ++ block_sizes b) → AreSizesAt table start n (block_sizes a)
-  first_part n a b h = sizes_left n (block_sizes a) (block_sizes b) h
 
   pub second_part : (n : ℕ) (a b : Block) → AreSizesAt table start n (block_sizes a ++ block_sizes b)
       → AreSizesAt table start (n + block_size a) (block_sizes b)

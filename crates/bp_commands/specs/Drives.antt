@@ -4,9 +4,8 @@ use Rattle.bp_tree.specs.Ast.{Program}
 use Rattle.bp_code.specs.LawfulTexts.{IsLawfulText}
 use Rattle.bp_machine.specs.declared.calls.Call.{Call}
 use Rattle.bp_machine.specs.declared.reports.Report.{Report}
-use Rattle.bp_machine.specs.declared.setup_faults.SetupFault.{SetupFault}
 use Rattle.bp_machine.specs.Reports.{IsReport}
-use Rattle.bp_machine.specs.Setups.{setup_fault, IsSetupRefusal}
+use Rattle.bp_machine.specs.Setups.{setup_fault}
 use Rattle.bp_machine.specs.Starts.{StartOf, setup_from}
 use Rattle.bp_trace.specs.declared.faults.DriveFault.{DriveFault}
 use Rattle.bp_trace.specs.Drives.{IsDriven, IsScheduleRefusal}
@@ -14,10 +13,10 @@ use Rattle.bp_trace.specs.TraceText.{trace_text}
 use Rattle.bp_messages.specs.declared.faults.Fault.{Fault}
 use Rattle.bp_init.specs.NamedBits.{NamedBitOf}
 use Rattle.bp_commands.specs.Commands.{Command}
-use Rattle.bp_messages.specs.Faults.{fault_of_schedule, fault_of_setup}
+use Rattle.bp_messages.specs.Faults.{fault_of_schedule}
 use Rattle.bp_commands.specs.Given.{Pair}
 use Rattle.bp_commands.specs.Listings.{HasNoCode}
-use Rattle.bp_commands.specs.NamedStarts.{by_names}
+use Rattle.bp_commands.specs.NamedStarts.{by_names, IsSetupRefused}
 
 -- The program of a text is driven by a schedule from this start, with the schedule's choice bits.
 module _ (start : StartOf) (given : Pair) where
@@ -35,14 +34,6 @@ module _ (start : StartOf) (given : Pair) where
     pub trace : IsOfSchedule written
     pub reported : IsReport (setup_from start None trace.program) trace.history report
 
-  -- the text is that of a lawful program, which does not take the setup
-  pub record IsSetupRefused (f : Fault) : Type 0 where
-    pub program : Program
-    pub lawful : IsLawfulText given.text program
-    pub cause : SetupFault
-    pub why : IsSetupRefusal program (setup_from start None program) cause
-    pub is : f ≡ fault_of_setup cause
-
   -- the program takes the setup, and the schedule does not drive it
   pub record IsScheduleRefused (f : Fault) : Type 0 where
     pub program : Program
@@ -53,7 +44,9 @@ module _ (start : StartOf) (given : Pair) where
     pub is : f ≡ fault_of_schedule cause
 
   abbrev pub IsDriveRefused : Fault → Type 0
-  IsDriveRefused f = HasNoCode given.text f ⊎ (IsSetupRefused f ⊎ IsScheduleRefused f)
+  IsDriveRefused f =
+      HasNoCode given.text f
+      ⊎ (IsSetupRefused start given.text f ⊎ IsScheduleRefused f)
 
 -- it writes the trace of the history to which the schedule drives the program
 abbrev pub drives : StartOf → Command Pair Report

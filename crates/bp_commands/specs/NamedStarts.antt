@@ -2,13 +2,24 @@
 use Rattle.std.specs.Prelude.{◌≡◌, ◌≢◌, ◌⊎◌, ℕ, List, [], ◌∷◌, Option, None, Some}
 use Rattle.bp_tree.specs.Ast.{Program}
 use Rattle.bp_code.specs.LawfulTexts.{IsLawfulText}
-use Rattle.bp_machine.specs.Starts.{StartOf}
+use Rattle.bp_machine.specs.declared.setup_faults.SetupFault.{SetupFault}
+use Rattle.bp_machine.specs.Setups.{IsSetupRefusal}
+use Rattle.bp_machine.specs.Starts.{StartOf, setup_from}
 use Rattle.bp_init.specs.NamedBits.{NamedBitOf}
 use Rattle.bp_init.specs.Starts.{start_by_names, AreGlobals, IsUnknown}
 use Rattle.bp_messages.specs.declared.faults.Fault.{Fault}
 use Rattle.bp_messages.specs.declared.faults.Fault.TheVariants.{Memory, NoVariable}
+use Rattle.bp_messages.specs.Faults.{fault_of_setup}
 use Rattle.bp_commands.specs.Checks.{IsUnlawful}
 use Rattle.bp_commands.specs.Commands.{Command}
+
+-- the text is that of a lawful program, which does not take the setup of this start
+pub record IsSetupRefused (start : StartOf) (text : List ℕ) (f : Fault) : Type 0 where
+  pub program : Program
+  pub lawful : IsLawfulText text program
+  pub cause : SetupFault
+  pub why : IsSetupRefusal program (setup_from start None program) cause
+  pub is : f ≡ fault_of_setup cause
 
 -- the program of a text is run from this start, in which these globals have their bits by name
 module _ (start : StartOf) (named : List NamedBitOf) (text : List ℕ) where

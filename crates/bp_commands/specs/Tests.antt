@@ -4,9 +4,8 @@ use Rattle.bp_tree.specs.Ast.{Program}
 use Rattle.bp_code.specs.LawfulTexts.{IsLawfulText}
 use Rattle.bp_flat.specs.StandsFor.{places_of}
 use Rattle.bp_machine.specs.declared.reports.Report.{Report}
-use Rattle.bp_machine.specs.declared.setup_faults.SetupFault.{SetupFault}
 use Rattle.bp_machine.specs.declared.setup_faults.SetupFault.TheVariants.{OutOfRange}
-use Rattle.bp_machine.specs.Setups.{setup_fault, IsSetupRefusal}
+use Rattle.bp_machine.specs.Setups.{setup_fault}
 use Rattle.bp_machine.specs.Starts.{StartOf, setup_from}
 use Rattle.bp_tasks.specs.declared.limits.TheConstants.{MAX_JOBS}
 use Rattle.bp_tasks.specs.declared.test_options.TestOptions.{TestOptions}
@@ -22,7 +21,7 @@ use Rattle.bp_commands.specs.Commands.{Command}
 use Rattle.bp_commands.specs.RunEnds.{AnswerRule}
 use Rattle.bp_messages.specs.Faults.{fault_of_setup}
 use Rattle.bp_commands.specs.Listings.{HasNoCode}
-use Rattle.bp_commands.specs.NamedStarts.{by_names}
+use Rattle.bp_commands.specs.NamedStarts.{by_names, IsSetupRefused}
 use Rattle.bp_messages.specs.FaultTable.{exit_status}
 use Rattle.bp_messages.specs.Notes.{has_found}
 use Rattle.bp_messages.specs.Summaries.{summary_text}
@@ -100,14 +99,6 @@ module _
         let lines = map (λ v. v.items) tested.lines.items in
         AreListed unreached json file text testable.program lines
 
-  -- the text is that of a lawful program, which does not take the setup
-  pub record IsStartRefused (f : Fault) : Type 0 where
-    pub program : Program
-    pub lawful : IsLawfulText text program
-    pub cause : SetupFault
-    pub why : IsSetupRefusal program (setup_from start None program) cause
-    pub is : f ≡ fault_of_setup cause
-
   -- the text is that of a lawful program that takes the setup, but there may not be so many jobs
   pub record HasManyJobs (f : Fault) : Type 0 where
     pub program : Program
@@ -121,7 +112,9 @@ module _
   LacksMemory f = (f ≡ Memory) × IsTestable
 
   abbrev pub IsTestRefused : Fault → Type 0
-  IsTestRefused f = HasNoCode text f ⊎ (IsStartRefused f ⊎ (HasManyJobs f ⊎ LacksMemory f))
+  IsTestRefused f =
+      HasNoCode text f
+      ⊎ (IsSetupRefused start text f ⊎ (HasManyJobs f ⊎ LacksMemory f))
 
 -- It writes the trace of the first run that the test looks for, or nothing. The statements that no
 -- run reached are listed or not, and the summary is JSON or not.

@@ -2,7 +2,7 @@
 
 use crate::fault_contexts::FaultContext;
 use bp_messages::Fault;
-use bp_text::push_bytes;
+use bp_text::{push_bytes, push_displayed};
 use std::alloc::{AllocError, Global};
 
 /// The fault in a sentence, which says what is known of the command line.
@@ -20,7 +20,7 @@ pub(crate) fn sentence(
     Ok(sentence)
 }
 
-/// The same sentence for a terminal: a byte that would control it is shown as `?`.
+/// The same sentence for a terminal, with `?` for each byte of a control character.
 pub(crate) fn shown_sentence(
     alloc: Global,
     fault: &Fault,
@@ -28,8 +28,6 @@ pub(crate) fn shown_sentence(
 ) -> Result<Vec<u8>, AllocError> {
     let sentence = sentence(alloc, fault, context)?;
     let mut shown = Vec::new(alloc);
-    for byte in sentence.as_slice() {
-        shown.push(if byte.is_ascii_control() { b'?' } else { *byte })?;
-    }
+    push_displayed(&mut shown, sentence.as_slice())?;
     Ok(shown)
 }

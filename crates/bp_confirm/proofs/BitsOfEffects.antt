@@ -1,6 +1,6 @@
 -- The bit by the effects of an instruction is that of the statement which it stands for.
 use Rattle.std.proofs.Common.{◌≡◌, ◌==◌, ℕ, arith, Bool, true, false, cond, not, ◌&&◌, List, [], Option, None, Some, refl, ap, sym, ◌∙◌, subst, option_map}
-use Rattle.std.specs.Prelude.{slice_get, MatchBool}
+use Rattle.std.specs.Prelude.{slice_get, is_none, MatchBool}
 use Rattle.std.proofs.lemmas.Option.{slice_get-map}
 use Rattle.std.proofs.lemmas.Bool.{false≢true}
 use Rattle.std.proofs.lemmas.Bool.Decides.{nat_tests}
@@ -11,14 +11,14 @@ use Rattle.bp_flat.specs.declared.stores.Store.{Store}
 use Rattle.bp_flat.specs.Bits.{bits_of, store_of}
 use Rattle.bp_flat.specs.Continuations.{chain}
 use Rattle.bp_flat.specs.Effects as effects
-use Rattle.bp_flat.specs.Flat.{Formula, Instruction}
+use Rattle.bp_flat.specs.Flat.{Formula, Instruction, If, While}
 use Rattle.bp_flat.specs.InstrEffects.{effect_of}
 use Rattle.bp_flat.specs.StandsFor.{Place, place, places_of, Remains, Does, IsTestOf}
 use Rattle.bp_flat.specs.Starts.{start_of_block, starts_of}
 use Rattle.bp_flat.specs.Steps.{Bits, Activation, activation, instruction_effect, step_to, test_value}
 use Rattle.bp_confirm.specs.Places as point
 use Rattle.bp_confirm.specs.Inferred.{bit_towards, bit_of_block, IsClearWay, IsClear, AreBothWays, IsAmbiguous}
-use Rattle.bp_confirm.specs.EffectBits.{NextNumbers, bit_towards_number, bit_of_effects, are_both_there, splits}
+use Rattle.bp_confirm.specs.EffectBits.{NextNumbers, bit_towards_number, bit_of_effects, bit_of_instruction, are_both_there, is_fork, is_fork_block, splits}
 
 and_not : (b : Bool) → (b && not b) ≡ false
 and_not true = refl
@@ -135,6 +135,34 @@ abbrev pub numbers_at : List (Option ℕ) → Option point.Place → NextNumbers
 numbers_at starts None = None
 numbers_at starts (Some p) = Some (λ n. start_is_at p (slice_get starts n))
 
+-- the last bit is that of a fork without a next step
+no_fork : (next : Option point.Place) (a b : Bool) → b ≡ cond (is_none next && false) a b
+no_fork None a b = refl
+no_fork (Some q) a b = refl
+
+at_fork : (last : Bool) (next : Option point.Place) (taken other : Block)
+    → bit_towards last next taken other ≡ cond (is_none next && true) last (bit_towards false next taken other)
+at_fork last None taken other = refl
+at_fork last (Some q) taken other = refl
+
+at_last : (left : Block) (next : Option point.Place) (last follow : Bool)
+    → bit_of_block left next last follow ≡ cond (is_none next && is_fork_block left) last (bit_of_block left next false follow)
+at_last Done next last follow = no_fork next last false
+at_last (Then label at Skips r) next last follow = no_fork next last false
+at_last (Then label at (GoesTo x) r) next last follow = no_fork next last false
+at_last (Then label at Returns r) next last follow = no_fork next last false
+at_last (Then label at (Assigns xs es) r) next last follow = no_fork next last false
+at_last (Then label at (Branches Choose a b) r) next last follow = at_fork last next (chain a r) (chain b r)
+at_last (Then label at (Branches (Decide x) a b) r) next last follow = no_fork next last false
+at_last (Then label at (Loops Choose a) r) next last follow = at_fork last next (chain a (Then label at (Loops Choose a) r)) r
+at_last (Then label at (Loops (Decide x) a) r) next last follow = no_fork next last false
+at_last (Then label at (Asserts Choose) r) next last follow = no_fork next last follow
+at_last (Then label at (Asserts (Decide x)) r) next last follow = no_fork next last false
+at_last (Then label at (Assumes Choose) r) next last follow = no_fork next last true
+at_last (Then label at (Assumes (Decide x)) r) next last follow = no_fork next last false
+at_last (Then label at (Prints es) r) next last follow = no_fork next last false
+at_last (Then label at (Calls x es) r) next last follow = no_fork next last false
+
 module _ (t : Program) (p : Procedure) where
   abbrev starts : List (Option ℕ)
   starts = starts_of t
@@ -147,7 +175,7 @@ module _ (t : Program) (p : Procedure) where
       slice_get-map (λ (x : Place). start_of_block x.left) table n ∙ ap (option_map (λ (x : Place). start_of_block x.left)) remains
 
   towards : (next : Option point.Place) (m n : ℕ) (taken other : Block) → Remains table m p taken → Remains table n p other
-      → bit_towards_number (numbers_at starts next) m n ≡ bit_towards next taken other
+      → bit_towards_number (numbers_at starts next) m n ≡ bit_towards false next taken other
   towards None m n taken other one two = refl
   towards (Some q) m n taken other one two = λ j. start_is_at q (there m taken one j) && not (start_is_at q (there n other two j))
 
@@ -160,14 +188,14 @@ module _ (t : Program) (p : Procedure) where
     decided test x is = is.equal (store_of s) false ∙ sym (is.equal (store_of s) true)
 
     split : (m k : ℕ) → GoesOnAt d k → GoesOnAt e m → (taken other : Block) → Remains table m p taken → Remains table k p other
-        → bit_of_effects (numbers_at starts next) follow d e ≡ bit_towards next taken other
+        → bit_of_effects (numbers_at starts next) follow d e ≡ bit_towards false next taken other
     split m k zero_is one_is taken other one two =
         (λ j. bit_of_effects (numbers_at starts next) follow (zero_is.is j) (one_is.is j)) ∙ towards next m k taken other one two
 
     pub bit_is : (left : Block) (i : Instruction) → Does t (places_of t.procedures) p left i
         → effect_of s d [] ≡ instruction_effect i (store_of s) [] false
         → effect_of s e [] ≡ instruction_effect i (store_of s) [] true
-        → bit_of_effects (numbers_at starts next) follow d e ≡ bit_of_block left next follow
+        → bit_of_effects (numbers_at starts next) follow d e ≡ bit_of_block left next false follow
     bit_is Done i is zero_is one_is =
         no_choice (numbers_at starts next) follow s d e
         (zero_is ∙ ap (λ k. instruction_effect k (store_of s) [] false) is
@@ -224,6 +252,48 @@ module _ (t : Program) (p : Procedure) where
         ∙ sym (rw is.is at one_is))
     bit_is (Then label at (Prints es) r) i is zero_is one_is = no_choice (numbers_at starts next) follow s d e (rw is.is at zero_is ∙ sym (rw is.is at one_is))
     bit_is (Then label at (Calls x es) r) i is zero_is one_is = no_choice (numbers_at starts next) follow s d e (rw is.is at zero_is ∙ sym (rw is.is at one_is))
+
+    of_choice : (test : Option Formula) → IsTestOf t p test Choose → is_none test ≡ true
+    of_choice None is = refl
+    of_choice (Some f) is = absurd (false≢true (sym (chosen (Some f) is false) ∙ chosen (Some f) is true))
+
+    of_value : (test : Option Formula) (x : Expression) → IsTestOf t p test (Decide x) → is_none test ≡ false
+    of_value None x is = absurd (false≢true (decided None x is))
+    of_value (Some f) x is = refl
+
+    fork_if : (test : Option Formula) (m k : ℕ) → is_fork (If test m k) ≡ is_none test
+    fork_if None m k = refl
+    fork_if (Some f) m k = refl
+
+    fork_while : (test : Option Formula) (m k : ℕ) → is_fork (While test m k) ≡ is_none test
+    fork_while None m k = refl
+    fork_while (Some f) m k = refl
+
+    none_at : (o : Option point.Place) → is_none (numbers_at starts o) ≡ is_none o
+    none_at None = refl
+    none_at (Some q) = refl
+
+    pub fork_is : (left : Block) (i : Instruction) → Does t (places_of t.procedures) p left i → is_fork i ≡ is_fork_block left
+    fork_is Done i is = ap is_fork is
+    fork_is (Then label at Skips r) i is = ap is_fork is.is
+    fork_is (Then label at (GoesTo x) r) i is = ap is_fork is.is
+    fork_is (Then label at Returns r) i is = ap is_fork is
+    fork_is (Then label at (Assigns xs es) r) i is = ap is_fork is.is
+    fork_is (Then label at (Branches Choose a b) r) i is = ap is_fork is.is ∙ fork_if is.test is.next is.else_next ∙ of_choice is.test is.test_is
+    fork_is (Then label at (Branches (Decide x) a b) r) i is = ap is_fork is.is ∙ fork_if is.test is.next is.else_next ∙ of_value is.test x is.test_is
+    fork_is (Then label at (Loops Choose a) r) i is = ap is_fork is.is ∙ fork_while is.test is.next is.else_next ∙ of_choice is.test is.test_is
+    fork_is (Then label at (Loops (Decide x) a) r) i is = ap is_fork is.is ∙ fork_while is.test is.next is.else_next ∙ of_value is.test x is.test_is
+    fork_is (Then label at (Asserts d) r) i is = ap is_fork is.is
+    fork_is (Then label at (Assumes d) r) i is = ap is_fork is.is
+    fork_is (Then label at (Prints es) r) i is = ap is_fork is.is
+    fork_is (Then label at (Calls x es) r) i is = ap is_fork is.is
+
+    pub bit_at_is : (last : Bool) (left : Block) (i : Instruction) → Does t (places_of t.procedures) p left i
+        → effect_of s d [] ≡ instruction_effect i (store_of s) [] false
+        → effect_of s e [] ≡ instruction_effect i (store_of s) [] true
+        → bit_of_instruction (numbers_at starts next) last follow i d e ≡ bit_of_block left next last follow
+    bit_at_is last left i is zero_is one_is =
+        (λ j. cond (none_at next j && fork_is left i is j) last (bit_is left i is zero_is one_is j)) ∙ sym (at_last left next last follow)
 
     all_true : (a b c : Bool) → (not a && (b && c)) ≡ true → (a ≡ false) × (b ≡ true) × (c ≡ true)
     all_true true b c e = absurd (false≢true e)

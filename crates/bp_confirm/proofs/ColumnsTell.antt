@@ -103,7 +103,7 @@ module _ (text : List ℕ) (t : Program) (is : IsTextOf text t) where
       (subst (IsAmbiguous t stands.frame.left) (next_place_of text i later) here)
 
 pub only_lines : OnlyLinesAreAmbiguous
-only_lines text t s lines r is refused ambiguous =
+only_lines text t s last lines r is refused ambiguous =
     let x = step_of text refused.step in
     let later = steps_of text refused.later in
     let now = configuration_after t s refused.history in

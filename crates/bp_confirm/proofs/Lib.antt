@@ -8,6 +8,7 @@ pub mod PointsOfInstructions
 pub mod StandsOfInstructions
 pub mod NextLocations
 pub mod ValuesSeen
+pub mod ListedValues
 pub mod LastChanges
 pub mod HistoriesAgain
 pub mod FirstDifference
@@ -39,3 +40,9 @@ pub mod OneTextRefusal
 pub mod OwnTextConfirmed
 pub mod LinesKept
 pub mod KnownNames
+pub mod LastBitsAsked
+pub mod LastBitsTaken
+pub mod LastWays
+pub mod WaitTables
+pub mod ChosenBits
+pub mod DeadlocksTaken

@@ -15,7 +15,7 @@ use Rattle.bp_machine.specs.Replies.{is_granted}
 use Rattle.bp_machine.specs.Setups.{SetupOf}
 use Rattle.bp_confirm.specs.Places.{Place}
 use Rattle.bp_confirm.specs.Steps.{StepOf, value_seen, SeesValues, IsStepOf}
-use Rattle.bp_confirm.specs.Inferred.{bit_of_block, bit_of_stack, some_follow}
+use Rattle.bp_confirm.specs.Inferred.{LastBits, bit_of_block, bit_of_stack, some_follow}
 use Rattle.bp_confirm.proofs.StepMoves.{move_of, has_left, has_failed}
 
 pub not_granted : (r q : Reply) → Some q ≡ Some r → is_granted q ≡ true → is_granted r ≡ false → ⊥
@@ -23,27 +23,27 @@ not_granted r q e yes_it no_it = let same : q ≡ r = cc in false≢true (sym no
 
 module _ (ps : List Procedure) (g : Valuation) (f : Frame) (fs : List Frame) (r : Reply) (refused : is_granted r ≡ false) where
   -- a reply that is no step does not depend on the bit
-  by_block : (left : Block) (next : Option Place) (follow : Bool) (a b : Bool) → a ≡ bit_of_block left next follow
+  by_block : (left : Block) (next : Option Place) (last follow : Bool) (a b : Bool) → a ≡ bit_of_block left next last follow
       → reply_to_effect (effect ps left g f fs a) ≡ Some r → reply_to_effect (effect ps left g f fs b) ≡ Some r
-  by_block Done next follow a b e is = is
-  by_block (Then label at Skips q) next follow a b e is = is
-  by_block (Then label at (GoesTo x) q) next follow a b e is = is
-  by_block (Then label at Returns q) next follow a b e is = is
-  by_block (Then label at (Assigns xs es) q) next follow a b e is = is
-  by_block (Then label at (Branches Choose m n) q) next follow a b e is = absurd (not_granted r Stepped is refl refused)
-  by_block (Then label at (Branches (Decide d) m n) q) next follow a b e is = is
-  by_block (Then label at (Loops Choose m) q) next follow a b e is = absurd (not_granted r Stepped is refl refused)
-  by_block (Then label at (Loops (Decide d) m) q) next follow a b e is = is
-  by_block (Then label at (Asserts Choose) q) next follow true b e is = absurd (not_granted r Stepped is refl refused)
-  by_block (Then label at (Asserts Choose) q) next follow false b e is = absurd (not_granted r Failed is refl refused)
-  by_block (Then label at (Asserts (Decide d)) q) next follow a b e is = is
-  by_block (Then label at (Assumes Choose) q) next follow true b e is = absurd (not_granted r Stepped is refl refused)
-  by_block (Then label at (Assumes Choose) q) next follow false b e is = absurd (false≢true e)
-  by_block (Then label at (Assumes (Decide d)) q) next follow a b e is = is
-  by_block (Then label at (Prints es) q) next follow a b e is = is
-  by_block (Then label at (Calls x es) q) next follow a b e is = is
+  by_block Done next last follow a b e is = is
+  by_block (Then label at Skips q) next last follow a b e is = is
+  by_block (Then label at (GoesTo x) q) next last follow a b e is = is
+  by_block (Then label at Returns q) next last follow a b e is = is
+  by_block (Then label at (Assigns xs es) q) next last follow a b e is = is
+  by_block (Then label at (Branches Choose m n) q) next last follow a b e is = absurd (not_granted r Stepped is refl refused)
+  by_block (Then label at (Branches (Decide d) m n) q) next last follow a b e is = is
+  by_block (Then label at (Loops Choose m) q) next last follow a b e is = absurd (not_granted r Stepped is refl refused)
+  by_block (Then label at (Loops (Decide d) m) q) next last follow a b e is = is
+  by_block (Then label at (Asserts Choose) q) next last follow true b e is = absurd (not_granted r Stepped is refl refused)
+  by_block (Then label at (Asserts Choose) q) next last follow false b e is = absurd (not_granted r Failed is refl refused)
+  by_block (Then label at (Asserts (Decide d)) q) next last follow a b e is = is
+  by_block (Then label at (Assumes Choose) q) next last follow true b e is = absurd (not_granted r Stepped is refl refused)
+  by_block (Then label at (Assumes Choose) q) next last follow false b e is = absurd (false≢true e)
+  by_block (Then label at (Assumes (Decide d)) q) next last follow a b e is = is
+  by_block (Then label at (Prints es) q) next last follow a b e is = is
+  by_block (Then label at (Calls x es) q) next last follow a b e is = is
 
-module _ (t : Program) (c : Configuration) (i : ℕ) (later : List StepOf) (r : Reply) (refused : is_granted r ≡ false) (a b : Bool) where
+module _ (t : Program) (c : Configuration) (last : LastBits) (i : ℕ) (later : List StepOf) (r : Reply) (refused : is_granted r ≡ false) (a b : Bool) where
   on_frame : (fits call full : Bool) (m n : Option Reply) → (m ≡ Some r → n ≡ Some r)
       → cond (not fits) (Some NoContexts) (cond (call && full) (Some Full) m) ≡ Some r
       → cond (not fits) (Some NoContexts) (cond (call && full) (Some Full) n) ≡ Some r
@@ -52,16 +52,16 @@ module _ (t : Program) (c : Configuration) (i : ℕ) (later : List StepOf) (r : 
   on_frame true true false m n on e = on e
   on_frame true false full m n on e = on e
 
-  on_stack : (fits : Bool) (S : List Frame) → a ≡ bit_of_stack i later S → reply_on_stack t fits c.globals S a ≡ Some r
+  on_stack : (fits : Bool) (S : List Frame) → a ≡ bit_of_stack last i later S → reply_on_stack t fits c.globals S a ≡ Some r
       → reply_on_stack t fits c.globals S b ≡ Some r
   on_stack fits [] inferred e = e
   on_stack fits (f ∷ fs) inferred e =
       on_frame fits (is_call f.left) (nat_le MAX_FRAMES (length (f ∷ fs)))
       (reply_to_effect (effect t.procedures f.left c.globals f fs a))
       (reply_to_effect (effect t.procedures f.left c.globals f fs b))
-      (by_block t.procedures c.globals f fs r refused f.left _ (some_follow later) a b inferred) e
+      (by_block t.procedures c.globals f fs r refused f.left _ (last i) (some_follow later) a b inferred) e
 
-  by_mark : (failed fits : Bool) → a ≡ bit_of_stack i later (stack_of c i)
+  by_mark : (failed fits : Bool) → a ≡ bit_of_stack last i later (stack_of c i)
       → cond failed (Some Stopped) (reply_on_stack t fits c.globals (stack_of c i) a) ≡ Some r
       → cond failed (Some Stopped) (reply_on_stack t fits c.globals (stack_of c i) b) ≡ Some r
   by_mark true fits inferred e = e
@@ -73,8 +73,8 @@ same_fits W false true f g = f.1 (g.0 refl)
 same_fits W true false f g = sym (g.1 (f.0 refl))
 same_fits W true true f g = refl
 
-module _ (t : Program) (s : SetupOf) (h : List Call) (x : StepOf) (later : List StepOf) (a : Call) (thread : a.thread ≡ x.thread)
-    (bit : a.bit ≡ bit_of_stack x.thread later (stack_of (configuration_after t s h) x.thread)) where
+module _ (t : Program) (s : SetupOf) (last : LastBits) (h : List Call) (x : StepOf) (later : List StepOf) (a : Call) (thread : a.thread ≡ x.thread)
+    (bit : a.bit ≡ bit_of_stack last x.thread later (stack_of (configuration_after t s h) x.thread)) where
   c : Configuration
   c = configuration_after t s h
 
@@ -89,7 +89,7 @@ module _ (t : Program) (s : SetupOf) (h : List Call) (x : StepOf) (later : List 
       subst (λ j. Answers t s.contexts (configuration_after t s h) (granted_threads h) j y.bit y.reply) of_thread other in
       let fits = same_fits _ one.fits two.fits one.decides two.decides in
       let with_other : reply_of t one.fits (configuration_after t s h) x.thread y.bit ≡ Some a.reply =
-      by_mark t (configuration_after t s h) x.thread later a.reply refused a.bit y.bit (configuration_after t s h).failed one.fits bit one.is in
+      by_mark t (configuration_after t s h) last x.thread later a.reply refused a.bit y.bit (configuration_after t s h).failed one.fits bit one.is in
       let both : Some y.reply ≡ Some a.reply = sym two.is ∙ sym (ap (λ f. reply_of t f (configuration_after t s h) x.thread y.bit) fits) ∙ with_other in
       cc
 

@@ -7,7 +7,7 @@ use Rattle.std.proofs.lemmas.Option.{slice_get-get_or, slice_get_past}
 use Rattle.std.proofs.lemmas.List.{length-map}
 use Rattle.std.proofs.Math.Seq.{drop-cons, drop-length}
 use Rattle.bp_confirm.specs.declared.locations.Location.{Location}
-use Rattle.bp_confirm.specs.Inferred.{some_follow}
+use Rattle.bp_confirm.specs.Inferred.{LastBits, some_follow}
 use Rattle.bp_confirm.specs.StepRefusals.{TellsNext}
 use Rattle.bp_machine.specs.declared.limits.TheConstants.{MAX_THREADS}
 use Rattle.bp_confirm.specs.Places.{place_of}
@@ -54,11 +54,11 @@ pub as_many_nexts : (xs : List StepLineOf) (nexts : List ℕ) → map (location_
 as_many_nexts xs nexts are = sym (length-map nexts (location_in xs)) ∙ ap length are ∙ as_many xs
 
 -- what the later lines tell of line n
-pub tells_next : (text : List ℕ) (xs : List StepLineOf) (nexts : List ℕ) (n : ℕ) (d x : StepLineOf) (k : ℕ)
-    (next count : ℕ) → next ≡ get_or nexts n k → count ≡ length xs → map (location_in xs) nexts ≡ next_locations xs
+pub tells_next : (text : List ℕ) (last : LastBits) (xs : List StepLineOf) (nexts : List ℕ) (n : ℕ) (d x : StepLineOf) (k : ℕ)
+    (next count : ℕ) (bit : Bool) → last x.thread ≡ bit → next ≡ get_or nexts n k → count ≡ length xs → map (location_in xs) nexts ≡ next_locations xs
     → n < length xs → x ≡ get_or xs n d
-    → TellsNext text (step_of text x) (steps_of text (drop (n + 1) xs)) xs (record { number = next; follows = nat_lt (n + 1) count })
-tells_next text xs nexts n d x k next count next_is count_is are within is =
+    → TellsNext text last (step_of text x) (steps_of text (drop (n + 1) xs)) xs (record { number = next; follows = nat_lt (n + 1) count; last = bit })
+tells_next text last xs nexts n d x k next count bit bit_is next_is count_is are within is =
     let one : suc n ≡ n + 1 = omega arith in
     let i = (get_or xs n d).thread in
     let there = mapped_at (location_in xs) nexts n k nowhere (omega (arith, within, as_many_nexts xs nexts are)) in
@@ -69,6 +69,7 @@ tells_next text xs nexts n d x k next count next_is count_is are within is =
           ap (λ z. next_place z.thread (steps_of text (drop (n + 1) xs))) is ∙ next_place_of text i (drop (n + 1) xs)
           ∙ ap (option_map (place_of text)) (sym location);
       follows = some_after text (n + 1) xs ∙ ap (nat_lt (n + 1)) (sym count_is);
+      last_is = bit_is;
     }
 
 -- the table of the threads' next steps, from the last line on

@@ -10,8 +10,8 @@ use Rattle.bp_machine.specs.Setups.{SetupOf}
 use Rattle.bp_confirm.specs.declared.faults.StepReason.{StepReason}
 use Rattle.bp_confirm.specs.declared.faults.StepReason.TheVariants.{Elsewhere, Ambiguous, Finished, Refused, Differs}
 use Rattle.bp_confirm.specs.declared.faults.StepRefusal.{StepRefusal}
-use Rattle.bp_confirm.specs.Confirms.{ForStuck, GoesOnAt, IsConfirmed, IsReason, IsStepRefusal}
-use Rattle.bp_confirm.specs.Inferred.{Follows, FollowAfter}
+use Rattle.bp_confirm.specs.Confirms.{ForStuck, GoesOnAt, IsReason, IsStepRefusal}
+use Rattle.bp_confirm.specs.Inferred.{LastBits, Follows, FollowAfter, IsFollowed}
 use Rattle.bp_confirm.specs.Stands.{stand_of}
 use Rattle.bp_confirm.specs.StepLines.{StepLineOf, step_of, steps_of}
 use Rattle.bp_confirm.specs.Steps.{StepOf, Takes}
@@ -48,22 +48,22 @@ module _ {X : Type 0} where
       ]
 
 -- what follows some steps follows those before one of them, and then that one
-module _ (t : Program) (s : SetupOf) where
-  record FollowsTo (h : List Call) (xs : List StepOf) (x : StepOf) (later : List StepOf) : Type 0 where
-    front : List Call
-    before : FollowAfter t s h xs (x ∷ later) front
-    call : Call
-    here : Follows t s (h ++ front) x later call
+module _ (t : Program) (s : SetupOf) (last : LastBits) where
+  pub record FollowsTo (h : List Call) (xs : List StepOf) (x : StepOf) (later : List StepOf) : Type 0 where
+    pub front : List Call
+    pub before : FollowAfter t s last h xs (x ∷ later) front
+    pub call : Call
+    pub here : Follows t s last (h ++ front) x later call
 
-  follow_to : (h : List Call) (xs : List StepOf) (x : StepOf) (ys later : List StepOf) (g : List Call)
-      → FollowAfter t s h (xs ++ x ∷ ys) later g → FollowsTo h xs x (ys ++ later)
+  pub follow_to : (h : List Call) (xs : List StepOf) (x : StepOf) (ys later : List StepOf) (g : List Call)
+      → FollowAfter t s last h (xs ++ x ∷ ys) later g → FollowsTo h xs x (ys ++ later)
   follow_to h [] x ys later [] f = absurd f
   follow_to h [] x ys later (a ∷ g) f =
-      record { front = []; before = tt; call = a; here = subst (λ k. Follows t s k x (ys ++ later) a) (sym (append-nil h)) f.0 }
+      record { front = []; before = tt; call = a; here = subst (λ k. Follows t s last k x (ys ++ later) a) (sym (append-nil h)) f.0 }
   follow_to h (z ∷ zs) x ys later [] f = absurd f
   follow_to h (z ∷ zs) x ys later (m ∷ ms) f =
       let rest = follow_to (h ++ m ∷ []) zs x ys later ms f.1 in
-      let first : Follows t s h z ((zs ++ x ∷ ys) ++ later) m = f.0 in
+      let first : Follows t s last h z ((zs ++ x ∷ ys) ++ later) m = f.0 in
       record {
         front = m ∷ rest.front;
         before = (simp regrouped at first, rest.before);
@@ -71,13 +71,13 @@ module _ (t : Program) (s : SetupOf) where
         here = simp regrouped at rest.here;
       }
 
-module _ (text : List ℕ) (t : Program) (is : IsLawfulText text t) (s : SetupOf) (lines : List StepLineOf)
-    (r : StepRefusal) (refused : IsStepRefusal text t s lines r) where
-  goes_on : GoesOnAt t (configuration_after t s refused.history) (step_of text refused.step).thread r.number
+module _ (text : List ℕ) (t : Program) (is : IsLawfulText text t) (s : SetupOf) (last : LastBits) (lines : List StepLineOf)
+    (r : StepRefusal) (refused : IsStepRefusal text t s last lines r) where
+  pub goes_on : GoesOnAt t (configuration_after t s refused.history) (step_of text refused.step).thread r.number
   goes_on = subst (λ i. GoesOnAt t (configuration_after t s refused.history) i r.number) refused.thread refused.number
 
   -- no call follows the refused step
-  not_followed : (a : Call) → Follows t s refused.history (step_of text refused.step) (steps_of text refused.later) a → ⊥
+  not_followed : (a : Call) → Follows t s last refused.history (step_of text refused.step) (steps_of text refused.later) a → ⊥
   not_followed a follows = by_reason r.reason refused.reason refused.none
     where
       x : StepOf
@@ -89,8 +89,8 @@ module _ (text : List ℕ) (t : Program) (is : IsLawfulText text t) (s : SetupOf
       all_taken : Takes t s (steps_of text (refused.before ++ refused.step ∷ [])) (refused.history ++ a ∷ [])
       all_taken =
           subst (λ xs. Takes t s xs (refused.history ++ a ∷ [])) (sym (map_push (step_of text) refused.before refused.step))
-          (taken t s [] (steps_of text refused.before ++ step_of text refused.step ∷ []) (steps_of text refused.later) (refused.history ++ a ∷ [])
-          (follow_more t s [] (steps_of text refused.before) (step_of text refused.step)
+          (taken t s last [] (steps_of text refused.before ++ step_of text refused.step ∷ []) (steps_of text refused.later) (refused.history ++ a ∷ [])
+          (follow_more t s last [] (steps_of text refused.before) (step_of text refused.step)
           (steps_of text refused.later) refused.history a refused.follows follows))
 
       by_reason : (reason : StepReason) → IsReason t s refused.history (step_of text refused.step) (steps_of text refused.later) reason
@@ -105,26 +105,26 @@ module _ (text : List ℕ) (t : Program) (is : IsLawfulText text t) (s : SetupOf
 
   -- nothing follows it and what comes before it
   never_followed : (ys zs : List StepOf) (g : List Call) → ys ++ zs ≡ steps_of text refused.later
-      → FollowAfter t s [] (steps_of text refused.before ++ step_of text refused.step ∷ ys) zs g → ⊥
+      → FollowAfter t s last [] (steps_of text refused.before ++ step_of text refused.step ∷ ys) zs g → ⊥
   never_followed ys zs g parts follows =
       let x = step_of text refused.step in
-      let found = follow_to t s [] (steps_of text refused.before) x ys zs g follows in
-      let before = subst (λ ws. FollowAfter t s [] (steps_of text refused.before) (step_of text refused.step ∷ ws) found.front) parts found.before in
-      let same = one_history t s [] (steps_of text refused.before)
+      let found = follow_to t s last [] (steps_of text refused.before) x ys zs g follows in
+      let before = subst (λ ws. FollowAfter t s last [] (steps_of text refused.before) (step_of text refused.step ∷ ws) found.front) parts found.before in
+      let same = one_history t s last [] (steps_of text refused.before)
       (step_of text refused.step ∷ steps_of text refused.later) found.front refused.history before refused.follows in
       not_followed found.call
-      (subst (λ ws. Follows t s refused.history (step_of text refused.step) ws found.call) parts
-      (subst (λ k. Follows t s k (step_of text refused.step) (ys ++ zs) found.call) same found.here))
+      (subst (λ ws. Follows t s last refused.history (step_of text refused.step) ws found.call) parts
+      (subst (λ k. Follows t s last k (step_of text refused.step) (ys ++ zs) found.call) same found.here))
 
-  pub not_confirmed_too : (h : List Call) → IsConfirmed t s (steps_of text lines) h → ⊥
-  not_confirmed_too h confirmed =
+  pub not_followed_too : (h : List Call) → IsFollowed t s last (steps_of text lines) h → ⊥
+  not_followed_too h confirmed =
       let whole : steps_of text lines ≡ steps_of text refused.before ++ step_of text refused.step ∷ steps_of text refused.later =
       ap (steps_of text) refused.whole ∙ map-append (step_of text) refused.before (refused.step ∷ refused.later) in
       never_followed (steps_of text refused.later) [] h (append-nil (steps_of text refused.later))
-      (subst (λ xs. FollowAfter t s [] xs [] h) whole confirmed)
+      (subst (λ xs. FollowAfter t s last [] xs [] h) whole confirmed)
 
   -- another one of the same steps is not of a later step
-  module _ (q : StepRefusal) (other : IsStepRefusal text t s lines q) where
+  module _ (q : StepRefusal) (other : IsStepRefusal text t s last lines q) where
     pub not_in_front : IsInFront refused.before refused.step refused.later other.before other.step other.later → ⊥
     not_in_front cut =
         let front : steps_of text other.before ≡ steps_of text refused.before ++ step_of text refused.step ∷ steps_of text cut.middle =
@@ -132,16 +132,16 @@ module _ (text : List ℕ) (t : Program) (is : IsLawfulText text t) (s : SetupOf
         let rest : steps_of text cut.middle ++ steps_of text (other.step ∷ other.later) ≡ steps_of text refused.later =
         sym (map-append (step_of text) cut.middle (other.step ∷ other.later)) ∙ ap (steps_of text) (sym cut.rest) in
         never_followed (steps_of text cut.middle) (steps_of text (other.step ∷ other.later)) other.history rest
-        (subst (λ xs. FollowAfter t s [] xs (steps_of text (other.step ∷ other.later)) other.history) front other.follows)
+        (subst (λ xs. FollowAfter t s last [] xs (steps_of text (other.step ∷ other.later)) other.history) front other.follows)
 
     -- nor does another one of the same step differ
     pub same_refusal : IsSameCut refused.before refused.step refused.later other.before other.step other.later → r ≡ q
     same_refusal cut =
         let follows =
-        subst (λ b. FollowAfter t s [] (steps_of text b) (steps_of text (refused.step ∷ refused.later)) other.history) (sym cut.front)
-        (subst (λ y. FollowAfter t s [] (steps_of text other.before) (steps_of text (y ∷ refused.later)) other.history) (sym cut.here)
-        (subst (λ ys. FollowAfter t s [] (steps_of text other.before) (steps_of text (other.step ∷ ys)) other.history) (sym cut.rest) other.follows)) in
-        let history = one_history t s [] (steps_of text refused.before) (steps_of text (refused.step ∷ refused.later))
+        subst (λ b. FollowAfter t s last [] (steps_of text b) (steps_of text (refused.step ∷ refused.later)) other.history) (sym cut.front)
+        (subst (λ y. FollowAfter t s last [] (steps_of text other.before) (steps_of text (y ∷ refused.later)) other.history) (sym cut.here)
+        (subst (λ ys. FollowAfter t s last [] (steps_of text other.before) (steps_of text (other.step ∷ ys)) other.history) (sym cut.rest) other.follows)) in
+        let history = one_history t s last [] (steps_of text refused.before) (steps_of text (refused.step ∷ refused.later))
         refused.history other.history refused.follows follows in
         let line : r.line ≡ q.line = refused.line ∙ ap (λ b. length b + 1) cut.front ∙ sym other.line in
         let thread : r.thread ≡ q.thread = refused.thread ∙ ap (λ y. y.thread) cut.here ∙ sym other.thread in
@@ -158,13 +158,13 @@ module _ (text : List ℕ) (t : Program) (is : IsLawfulText text t) (s : SetupOf
         (subst (λ ys. IsReason t s other.history (step_of text other.step) (steps_of text ys) q.reason) (sym cut.rest) other.reason))) in
         λ j. record { line = line j; thread = thread j; location = location j; number = number j; stand = stand j; reason = reason j }
 
-pub one_step_refusal : (text : List ℕ) (t : Program) → IsLawfulText text t → (s : SetupOf) (lines : List StepLineOf) (r q : StepRefusal)
-    → IsStepRefusal text t s lines r → IsStepRefusal text t s lines q → r ≡ q
-one_step_refusal text t is s lines r q one two =
+pub one_step_refusal : (text : List ℕ) (t : Program) → IsLawfulText text t → (s : SetupOf) (last : LastBits) (lines : List StepLineOf) (r q : StepRefusal)
+    → IsStepRefusal text t s last lines r → IsStepRefusal text t s last lines q → r ≡ q
+one_step_refusal text t is s last lines r q one two =
     elim (cuts one.before one.step one.later two.before two.step two.later (sym one.whole ∙ two.whole)) [
-      | inl same ↦ same_refusal text t is s lines r one q two same
+      | inl same ↦ same_refusal text t is s last lines r one q two same
       | inr other ↦ elim other [
-        | inl first ↦ absurd (not_in_front text t is s lines r one q two first)
-        | inr second ↦ absurd (not_in_front text t is s lines q two r one second)
+        | inl first ↦ absurd (not_in_front text t is s last lines r one q two first)
+        | inr second ↦ absurd (not_in_front text t is s last lines q two r one second)
       ]
     ]

@@ -14,7 +14,9 @@ use Rattle.bp_confirm.specs.declared.confirming.ConfirmFault.TheVariants.{TooLon
 use Rattle.bp_tasks.specs.declared.context_bounds.ContextBound.{ContextBound}
 use Rattle.bp_tasks.specs.declared.context_bounds.ContextBound.TheVariants.{Kept, AsUsed}
 use Rattle.bp_confirm.specs.declared.faults.StepRefusal.{StepRefusal}
+use Rattle.bp_confirm.specs.declared.last_choices.LastChoice.{LastChoice}
 use Rattle.bp_confirm.specs.Confirms.{IsStepRefusal}
+use Rattle.bp_confirm.specs.Inferred.{zeros}
 use Rattle.bp_confirm.specs.ConfirmedTexts.{AreRead, HasFitLength, IsConfirmedText, IsStepsRefusal}
 use Rattle.bp_confirm.specs.ContextBounds.{IsSetupFor, contexts_allowed}
 use Rattle.bp_confirm.specs.DeclaredLines.{AreDeclared, AreDeclaredLines, IsDeclared, IsFirstStray, IsFirstUndeclared, IsOfNoThread, IsOfNoVariable}
@@ -23,7 +25,7 @@ use Rattle.bp_confirm.specs.OneRefusal.{NoRefusalOfConfirmed, OneRefusal}
 use Rattle.bp_confirm.specs.StepLines.{StepLineOf}
 use Rattle.bp_confirm.specs.StepTexts.{HasLines, IsBadLine}
 use Rattle.bp_confirm.proofs.OneReading.{bad_begins, one_bad, one_reading}
-use Rattle.bp_confirm.proofs.OneStepRefusal.{cuts, not_confirmed_too, one_step_refusal}
+use Rattle.bp_confirm.proofs.OneStepRefusal.{cuts, not_followed_too, one_step_refusal}
 
 all_here : {X : Type 0} (P : X → Type 0) (a : List X) (x : X) (c : List X) → AllByRecursion P (a ++ x ∷ c) → P x
 all_here P [] x c all = all.0
@@ -85,7 +87,7 @@ module _ (text : List ℕ) (t : Program) (is : IsLawfulText text t) (s : SetupOf
     of_no_thread : (n i : ℕ) → IsFirstStray t s lines n (IsOfNoThread s i) → OnLines lines (NoThread n i)
     of_no_variable : (n k : ℕ) → IsFirstStray t s lines n (IsOfNoVariable t s k) → OnLines lines (NoVariable n k)
     of_step : (r : StepRefusal) (setup : SetupOf) → AreDeclaredLines t s lines → IsSetupFor s lines bound setup
-        → IsStepRefusal text t setup lines r → OnLines lines (Step r)
+        → IsStepRefusal text t setup zeros lines r → OnLines lines (Step r)
 
   data OnText : ConfirmFault → Type 0 where
     of_length : MAX_SCHEDULE < length steps → OnText TooLong
@@ -148,7 +150,7 @@ module _ (text : List ℕ) (t : Program) (is : IsLawfulText text t) (s : SetupOf
         absurd (stray_alone t s lines n (IsOfNoVariable t s k) (no_variable t s k) q declared)
     one_on_lines _ _ (of_step r setup declared allows p) (of_step o other as_well permits q) =
         let same = one_setup s lines bound other setup permits allows in
-        ap Step (one_step_refusal text t is setup lines r o p (subst (λ z. IsStepRefusal text t z lines o) same q))
+        ap Step (one_step_refusal text t is setup zeros lines r o p (subst (λ z. IsStepRefusal text t z zeros lines o) same q))
 
   one_sorted : (f g : ConfirmFault) → OnText f → OnText g → f ≡ g
   one_sorted _ _ (of_length long) (of_length more) = refl
@@ -168,13 +170,14 @@ module _ (text : List ℕ) (t : Program) (is : IsLawfulText text t) (s : SetupOf
   one_sorted _ _ (of_lines f lines read on) (of_line n fit bad) = bad_or_read n lines bad read.has
   one_sorted _ _ (of_lines f xs read on) (of_lines g ys also to) = one_on_lines xs f g on (subst (λ zs. OnLines zs g) (same_lines ys xs also read) to)
 
-  module _ (setup : SetupOf) (h : List Call) (confirmed : IsConfirmedText t s steps text bound setup h) where
+  module _ (setup : SetupOf) (h : List Call) (choices : List LastChoice) (confirmed : IsConfirmedText t s steps text bound setup h choices) where
     none_on_lines : (f : ConfirmFault) → OnLines confirmed.lines f → ⊥
     none_on_lines _ (of_no_thread n i p) = stray_alone t s confirmed.lines n (IsOfNoThread s i) (no_thread t s i) p confirmed.told.declared
     none_on_lines _ (of_no_variable n k p) = stray_alone t s confirmed.lines n (IsOfNoVariable t s k) (no_variable t s k) p confirmed.told.declared
     none_on_lines _ (of_step r other declared allows p) =
         let same = one_setup s confirmed.lines bound other setup allows confirmed.allows in
-        not_confirmed_too text t is setup confirmed.lines r (subst (λ z. IsStepRefusal text t z confirmed.lines r) same p) h confirmed.confirmed
+        not_followed_too text t is setup zeros confirmed.lines r (subst (λ z. IsStepRefusal text t z zeros confirmed.lines r) same p)
+        confirmed.confirmed.zeroed confirmed.confirmed.take.by_zeros
 
     none_sorted : (f : ConfirmFault) → OnText f → ⊥
     none_sorted _ (of_length long) = too_long long confirmed.told.read.fit
@@ -196,4 +199,4 @@ one_refusal text t s steps bound f g is one two p q =
     one_sorted text t is s steps bound f g (sorted text t is s steps bound f one p) (sorted text t is s steps bound g two q)
 
 pub no_refusal_of_confirmed : NoRefusalOfConfirmed
-no_refusal_of_confirmed text t s steps bound setup h f is confirmed p = by_fault text t is s steps bound setup h confirmed f p
+no_refusal_of_confirmed text t s steps bound setup h choices f is confirmed p = by_fault text t is s steps bound setup h choices confirmed f p

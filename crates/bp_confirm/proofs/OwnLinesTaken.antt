@@ -8,10 +8,11 @@ use Rattle.bp_text.specs.Positions.{position_at}
 use Rattle.bp_flat.specs.Configurations.{Frame, Configuration}
 use Rattle.bp_flat.specs.Moves.{Moves}
 use Rattle.bp_flat.specs.Starts.{start_of_block}
-use Rattle.bp_machine.specs.declared.calls.Call.{Call}
 use Rattle.bp_machine.specs.Answers.{stack_of}
 use Rattle.bp_machine.specs.Laws.{RunsAreHistories}
-use Rattle.bp_machine.specs.Setups.{start}
+use Rattle.bp_machine.specs.declared.calls.Call.{Call}
+use Rattle.bp_machine.specs.BoundedRuns.{IsBoundedRun}
+use Rattle.bp_machine.specs.Setups.{SetupOf, start}
 use Rattle.bp_confirm.specs.declared.faults.StepReason.{StepReason}
 use Rattle.bp_confirm.specs.declared.faults.StepReason.TheVariants.{Elsewhere, Ambiguous, Finished, Refused, Differs}
 use Rattle.bp_confirm.specs.declared.locations.Location.{Location}
@@ -61,7 +62,7 @@ module _ (text : List ℕ) (t : Program) where
         values = subst (λ vs. SeesValues next x.thread vs) (sym own.values) tt;
       }
 
-  all_moves : (c : Configuration) (calls : List Call) (lines : List StepLineOf) → AreOwnLines text t c calls lines → MovesTake t c (steps_of text lines) calls
+  pub all_moves : (c : Configuration) (calls : List Call) (lines : List StepLineOf) → AreOwnLines text t c calls lines → MovesTake t c (steps_of text lines) calls
   all_moves c [] [] own = tt
   all_moves c [] (x ∷ xs) own = absurd own
   all_moves c (call ∷ calls) [] own = absurd own
@@ -97,11 +98,16 @@ module _ (text : List ℕ) (t : Program) where
       by_test true rest e = let same : x.location ≡ Line n = cc in subst IsExact same all.0
       by_test false rest e = rest e
 
+-- so the run takes the steps of its own lines
+abbrev pub own_run : (text : List ℕ) (t : Program) (s : SetupOf) (calls : List Call) (last : Configuration) (lines : List StepLineOf)
+    → IsBoundedRun t s calls last → AreOwnLines text t (start t s) calls lines → IsRunOfSteps t s (steps_of text lines) calls
+own_run text t s calls last lines run own = record { last = last; run = run; takes = all_moves text t (start t s) calls lines own }
+
 pub own_lines_confirmed : RunsAreHistories → OwnLinesAreConfirmed
-own_lines_confirmed each text t s calls last lines r is run own refused = by_reason r.reason refl (refused_has_no_run each text t s lines r refused)
+own_lines_confirmed each text t s bits calls last lines r is run own refused = by_reason r.reason refl (refused_has_no_run each text t s bits lines r refused)
   where
     taken : IsRunOfSteps t s (steps_of text lines) calls
-    taken = record { last = last; run = run; takes = all_moves text t (start t s) calls lines own }
+    taken = own_run text t s calls last lines run own
 
     exact : AllByRecursion (λ x. IsExact text t x.location) refused.later
     exact =
@@ -110,7 +116,7 @@ own_lines_confirmed each text t s calls last lines r is run own refused = by_rea
 
     by_reason : (reason : StepReason) → r.reason ≡ reason → ForStuck reason ((ys : List Call) → IsRunOfSteps t s (steps_of text lines) ys → ⊥) → ⊥
     by_reason Elsewhere e none = none calls taken
-    by_reason Ambiguous e none = let line = only_lines text t s lines r is refused e in no_line text t r.thread line.0 refused.later exact line.1
+    by_reason Ambiguous e none = let line = only_lines text t s bits lines r is refused e in no_line text t r.thread line.0 refused.later exact line.1
     by_reason Finished e none = none calls taken
     by_reason (Refused q) e none = none calls taken
     by_reason (Differs d) e none = none calls taken

@@ -12,9 +12,10 @@ use Rattle.bp_language.specs.Texts.{IsTextOf}
 use Rattle.bp_machine.specs.declared.calls.Call.{Call}
 use Rattle.bp_machine.specs.declared.limits.TheConstants.{MAX_CONTEXTS, MAX_THREADS}
 use Rattle.bp_machine.specs.Answers.{configuration_after_call, stack_of}
-use Rattle.bp_machine.specs.BoundedRuns.{IsBoundedRun}
+use Rattle.bp_machine.specs.BoundedRuns.{IsBoundedRun, history_of_run}
 use Rattle.bp_machine.specs.Contexts.{IsWithin}
-use Rattle.bp_machine.specs.Histories.{configuration_after, granted_calls, IsLegalAfter}
+use Rattle.bp_machine.specs.Deadlocks.{IsDeadlocked}
+use Rattle.bp_machine.specs.Histories.{configuration_after, granted_calls, IsLegal, IsLegalAfter}
 use Rattle.bp_machine.specs.Laws.{HistoriesAreRuns, RunsAreHistories}
 use Rattle.bp_machine.specs.Replies.{is_granted}
 use Rattle.bp_machine.specs.Setups.{SetupOf, start, threads}
@@ -23,19 +24,23 @@ use Rattle.bp_tasks.specs.declared.context_bounds.ContextBound.TheVariants.{AsUs
 use Rattle.bp_confirm.specs.declared.confirming.ConfirmFault.{ConfirmFault}
 use Rattle.bp_confirm.specs.declared.confirming.ConfirmFault.TheVariants.{Line, Memory, NoSteps, NoThread, NoVariable, Step, TooLong}
 use Rattle.bp_confirm.specs.declared.faults.StepRefusal.{StepRefusal}
-use Rattle.bp_confirm.specs.declared.noted_steps.OwnStep.{OwnStep}
 use Rattle.bp_confirm.specs.Confirms.{IsStepRefusal}
+use Rattle.bp_confirm.specs.Inferred.{zeros}
 use Rattle.bp_confirm.specs.ConfirmedTexts.{HasFitLength, IsStepsRefusal}
 use Rattle.bp_confirm.specs.ContextBounds.{IsSetupFor, contexts_allowed, thread_of}
 use Rattle.bp_confirm.specs.DeclaredLines.{AreDeclaredLines, IsFirstStray, IsOfNoThread, IsOfNoVariable}
 use Rattle.bp_confirm.specs.OwnLines.{AreOwnLines, exact_location, next_start}
 use Rattle.bp_confirm.specs.OwnSteps.{lines_of_steps, own_step, own_steps, own_steps_from, own_steps_text}
-use Rattle.bp_confirm.specs.OwnTexts.{OwnTextIsConfirmed}
-use Rattle.bp_confirm.specs.StepLines.{StepLineOf}
+use Rattle.bp_confirm.specs.OwnTexts.{OwnDeadlockIsConfirmed, OwnTextIsConfirmed}
+use Rattle.bp_confirm.specs.LastChoices.{IsConfirmed}
+use Rattle.bp_confirm.specs.declared.last_choices.LastChoice.{LastChoice}
+use Rattle.bp_confirm.specs.StepLines.{StepLineOf, steps_of}
 use Rattle.bp_confirm.specs.StepTexts.{AreNamed, HasLine, HasLines, IsBadLine, IsShortLocation}
 use Rattle.bp_confirm.proofs.OneReading.{bad_begins, one_reading}
 use Rattle.bp_confirm.proofs.OneTextRefusal.{IsStray, no_thread, no_variable, stray_alone}
-use Rattle.bp_confirm.proofs.OwnLinesTaken.{own_lines_confirmed}
+use Rattle.bp_confirm.proofs.DeadlocksTaken.{deadlock_is_taken}
+use Rattle.bp_confirm.proofs.OwnLinesTaken.{own_lines_confirmed, own_run}
+use Rattle.bp_confirm.proofs.RunsTakeSteps.{run_takes}
 use Rattle.bp_confirm.proofs.OwnStepsMade.{steps_of_the_run, text_of_lines}
 
 -- the lines are of threads of the setup, and have no values
@@ -92,32 +97,53 @@ allowed_as_used used within = ap (λ b. cond b MAX_CONTEXTS used) (let none : na
 -- no step of a run's own lines is refused, in the setup for them
 module _ (each : RunsAreHistories) (text : List ℕ) (t : Program) (s : SetupOf) (is : IsTextOf text t) (calls : List Call) (last : Configuration)
     (run : IsBoundedRun t s calls last) (lines : List StepLineOf) (own : AreOwnLines text t (start t s) calls lines) where
-  none_within : (k : ℕ) (r : StepRefusal) → IsWithin k (map thread_of lines) → IsStepRefusal text t (record s { contexts = k }) lines r → ⊥
-  none_within k r within refused = own_lines_confirmed each text t (record s { contexts = k }) calls last lines r is bounded own refused
-    where
-      bounded : IsBoundedRun t (record s { contexts = k }) calls last
-      bounded = record {
-        run = run.run;
-        contexts = subst (IsWithin k) (sym (same_threads text t (start t s) calls lines own)) within;
-        calls = run.calls;
-        room = run.room;
-      }
+  -- in this setup they are the own lines of a run within its bounds
+  record AreOwnIn (setup : SetupOf) : Type 0 where
+    bounded : IsBoundedRun t setup calls last
+    are : AreOwnLines text t (start t setup) calls lines
+
+  own_in : (k : ℕ) → IsWithin k (map thread_of lines) → AreOwnIn (record s { contexts = k })
+  own_in k within = record {
+    bounded = record {
+      run = run.run;
+      contexts = subst (IsWithin k) (sym (same_threads text t (start t s) calls lines own)) within;
+      calls = run.calls;
+      room = run.room;
+    };
+    are = own;
+  }
 
   own_within : IsWithin s.contexts (map thread_of lines)
   own_within = subst (IsWithin s.contexts) (same_threads text t (start t s) calls lines own) run.contexts
 
-  none_refused : (bound : ContextBound) (setup : SetupOf) (r : StepRefusal) → (bound ≡ AsUsed → s.contexts ≤ MAX_CONTEXTS)
-      → IsSetupFor s lines bound setup → IsStepRefusal text t setup lines r → ⊥
-  none_refused Kept setup r few allows refused = none_within s.contexts r own_within (subst (λ z. IsStepRefusal text t z lines r) allows refused)
-  none_refused AsUsed setup r few allows refused =
+  own_for : (bound : ContextBound) (setup : SetupOf) → (bound ≡ AsUsed → s.contexts ≤ MAX_CONTEXTS) → IsSetupFor s lines bound setup → AreOwnIn setup
+  own_for Kept setup few allows = subst AreOwnIn (sym allows) (own_in s.contexts own_within)
+  own_for AsUsed setup few allows =
       let within : allows.used ≤ MAX_CONTEXTS = omega (arith, allows.least.least s.contexts own_within, few refl) in
       let kept = subst (λ k. IsWithin k (map thread_of lines)) (sym (allowed_as_used allows.used within)) allows.least.within in
-      none_within (contexts_allowed allows.used) r kept (subst (λ z. IsStepRefusal text t z lines r) allows.is refused)
+      subst AreOwnIn (sym allows.is) (own_in (contexts_allowed allows.used) kept)
+
+  none_refused : (bound : ContextBound) (setup : SetupOf) (r : StepRefusal) → (bound ≡ AsUsed → s.contexts ≤ MAX_CONTEXTS)
+      → IsSetupFor s lines bound setup → IsStepRefusal text t setup zeros lines r → ⊥
+  none_refused bound setup r few allows refused =
+      let there = own_for bound setup few allows in
+      own_lines_confirmed each text t setup zeros calls last lines r is there.bounded there.are refused
+
+  -- so what confirms them ends in a deadlock if the run does
+  deadlocked : (bound : ContextBound) (setup : SetupOf) (g : List Call) (choices : List LastChoice) → (bound ≡ AsUsed → s.contexts ≤ MAX_CONTEXTS)
+      → IsSetupFor s lines bound setup → IsConfirmed t setup (steps_of text lines) g choices → last.failed ≡ false → IsDeadlocked t last
+      → (configuration_after t setup g).failed ≡ false → IsDeadlocked t (configuration_after t setup g)
+  deadlocked bound setup g choices few allows confirmed going dead going_g =
+      let there = own_for bound setup few allows in
+      let leads = (each t setup calls last there.bounded).leads in
+      let taken = run_takes t setup each (steps_of text lines) calls (own_run text t setup calls last lines there.bounded there.are) in
+      deadlock_is_taken t setup (steps_of text lines) g (history_of_run calls last.failed) choices confirmed taken
+      (subst (IsDeadlocked t) (sym leads) dead) going_g (ap (λ d. d.failed) leads ∙ going)
 
 -- a text of these lines, which are declared and have no refused step, is refused for memory alone
 module _ (text : List ℕ) (t : Program) (s : SetupOf) (steps : List ℕ) (bound : ContextBound) (lines : List StepLineOf) (fit : HasFitLength t s steps)
     (has : HasLines steps lines) (declared : AreDeclaredLines t s lines)
-    (taken : (setup : SetupOf) (r : StepRefusal) → IsSetupFor s lines bound setup → IsStepRefusal text t setup lines r → ⊥) where
+    (taken : (setup : SetupOf) (r : StepRefusal) → IsSetupFor s lines bound setup → IsStepRefusal text t setup zeros lines r → ⊥) where
   same_lines : (others : List StepLineOf) → HasLines steps others → others ≡ lines
   same_lines others p = one_reading others lines p.each has.each (sym p.is ∙ has.is)
 
@@ -131,7 +157,7 @@ module _ (text : List ℕ) (t : Program) (s : SetupOf) (steps : List ℕ) (bound
   not_refused : (r : StepRefusal) → IsStepsRefusal t s steps text bound (Step r) → ⊥
   not_refused r p =
       let same = same_lines p.lines p.told.read.has in
-      taken p.setup r (subst (λ xs. IsSetupFor s xs bound p.setup) same p.allows) (subst (λ xs. IsStepRefusal text t p.setup xs r) same p.refused)
+      taken p.setup r (subst (λ xs. IsSetupFor s xs bound p.setup) same p.allows) (subst (λ xs. IsStepRefusal text t p.setup zeros xs r) same p.refused)
 
   only_memory : (f : ConfirmFault) → IsStepsRefusal t s steps text bound f → f ≡ Memory
   only_memory TooLong p = absurd (omega (arith, p, fit.1))
@@ -142,20 +168,30 @@ module _ (text : List ℕ) (t : Program) (s : SetupOf) (steps : List ℕ) (bound
   only_memory (Step r) p = absurd (not_refused r p)
   only_memory Memory p = refl
 
+module _ (text : List ℕ) (t : Program) (s : SetupOf) (h : List Call) (legal : IsLegal t s h) where
+  own_of : AreOwnLines text t (start t s) (granted_calls h) (lines_of_steps (own_steps text t s h))
+  own_of = steps_of_the_run text t s h legal
+
+  module _ (is : IsTextOf text t) (small : threads s ≤ MAX_THREADS) where
+    own_has : HasLines (own_steps_text (own_steps text t s h)) (lines_of_steps (own_steps text t s h))
+    own_has = record {
+      each = each_line text is.short t s small (start t s) (granted_calls h) (lines_of_steps (own_steps text t s h)) own_of (declared_from text t s [] h (start t s) legal);
+      is = text_of_lines (own_steps text t s h);
+    }
+
 pub own_text_confirmed : RunsAreHistories → HistoriesAreRuns → OwnTextIsConfirmed
 own_text_confirmed each back text t s h bound f is small few legal fit refusal =
-    only_memory text t s (own_steps_text made) bound lines fit
-    (record { each = each_line text is.short t s small (start t s) (granted_calls h) lines own declared; is = text_of_lines made })
-    declared (λ setup r. none_refused each text t s is (granted_calls h) (configuration_after t s h) (back t s h legal).run lines own bound setup r few) f refusal
-  where
-    made : List OwnStep
-    made = own_steps text t s h
+    only_memory text t s (own_steps_text (own_steps text t s h)) bound (lines_of_steps (own_steps text t s h)) fit (own_has text t s h legal is small)
+    (declared_from text t s [] h (start t s) legal)
+    (λ setup r. none_refused each text t s is (granted_calls h) (configuration_after t s h) (back t s h legal).run
+    (lines_of_steps (own_steps text t s h)) (own_of text t s h legal) bound setup r few) f refusal
 
-    lines : List StepLineOf
-    lines = lines_of_steps made
-
-    own : AreOwnLines text t (start t s) (granted_calls h) lines
-    own = steps_of_the_run text t s h legal
-
-    declared : AreDeclaredLines t s lines
-    declared = declared_from text t s [] h (start t s) legal
+pub own_deadlock_confirmed : RunsAreHistories → HistoriesAreRuns → OwnDeadlockIsConfirmed
+own_deadlock_confirmed each back text t s h bound setup g choices is small few legal going dead confirmed going_g =
+    let lines = lines_of_steps (own_steps text t s h) in
+    let has = own_has text t s h legal is small in
+    let read = confirmed.told.read.has in
+    let same = one_reading confirmed.lines lines read.each has.each (sym read.is ∙ has.is) in
+    deadlocked each text t s is (granted_calls h) (configuration_after t s h) (back t s h legal).run lines (own_of text t s h legal) bound setup g choices few
+    (subst (λ xs. IsSetupFor s xs bound setup) same confirmed.allows)
+    (subst (λ xs. IsConfirmed t setup (steps_of text xs) g choices) same confirmed.confirmed) going dead going_g

@@ -42,12 +42,12 @@ module _ (t : Program) (s : SetupOf) where
         takes_from (p ++ own ∷ []) first.next xs calls failed there rest others,
       )
 
-  run_takes : RunsAreHistories → (steps : List StepOf) (calls : List Call) → IsRunOfSteps t s steps calls → (g : List Call) × Takes t s steps g
-  run_takes each steps calls run =
-      (history_of_run calls run.last.failed, takes_from [] (start t s) steps calls run.last.failed refl (each t s calls run.last run.run).legal run.takes)
+  pub run_takes : RunsAreHistories → (steps : List StepOf) (calls : List Call) (run : IsRunOfSteps t s steps calls)
+      → Takes t s steps (history_of_run calls run.last.failed)
+  run_takes each steps calls run = takes_from [] (start t s) steps calls run.last.failed refl (each t s calls run.last run.run).legal run.takes
 
   none_runs : RunsAreHistories → (steps : List StepOf) → ((g : List Call) → Takes t s steps g → ⊥) → (calls : List Call) → IsRunOfSteps t s steps calls → ⊥
-  none_runs each steps none calls run = let found = run_takes each steps calls run in none found.0 found.1
+  none_runs each steps none calls run = none (history_of_run calls run.last.failed) (run_takes each steps calls run)
 
 module _ (text : List ℕ) (t : Program) (s : SetupOf) (lines : List StepLineOf) (each : RunsAreHistories) where
   by_reason : (reason : StepReason) → ForStuck reason ((g : List Call) → Takes t s (steps_of text lines) g → ⊥)
@@ -59,7 +59,7 @@ module _ (text : List ℕ) (t : Program) (s : SetupOf) (lines : List StepLineOf)
   by_reason (Differs d) none = none_runs t s each (steps_of text lines) none
 
 pub refused_front_has_no_run : RunsAreHistories → RefusedFrontHasNoRun
-refused_front_has_no_run each text t s lines r refused = by_reason text t s (refused.before ++ refused.step ∷ []) each r.reason refused.none
+refused_front_has_no_run each text t s last lines r refused = by_reason text t s (refused.before ++ refused.step ∷ []) each r.reason refused.none
 
 pub refused_has_no_run : RunsAreHistories → RefusedHasNoRun
-refused_has_no_run each text t s lines r refused = by_reason text t s lines each r.reason (refused_is_not_taken text t s lines r refused)
+refused_has_no_run each text t s last lines r refused = by_reason text t s lines each r.reason (refused_is_not_taken text t s last lines r refused)

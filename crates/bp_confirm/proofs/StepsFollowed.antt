@@ -26,9 +26,9 @@ use Rattle.bp_confirm.specs.declared.faults.StepReason.TheVariants.{Elsewhere, A
 use Rattle.bp_confirm.specs.declared.faults.StepRefusal.{StepRefusal}
 use Rattle.bp_confirm.specs.StepLines.{StepLineOf, step_of, steps_of}
 use Rattle.bp_confirm.specs.Steps.{StepOf, value_seen, IsFirstUnseen, SeesValues, IsStepOf, TakeAfter, Takes}
-use Rattle.bp_confirm.specs.Inferred.{bit_of_stack, IsAmbiguousOnStack, Follows, FollowAfter}
+use Rattle.bp_confirm.specs.Inferred.{LastBits, IsFollowed, bit_of_stack, IsAmbiguousOnStack, Follows, FollowAfter}
 use Rattle.bp_confirm.specs.Changes.{IsDifference}
-use Rattle.bp_confirm.specs.Confirms.{GoesOnAt, StandsAtPlace, IsStuck, IsReason, ForStuck, IsStepRefusal, IsNotConfirmed, IsConfirmed}
+use Rattle.bp_confirm.specs.Confirms.{GoesOnAt, StandsAtPlace, IsStuck, IsReason, ForStuck, IsStepRefusal, IsNotFollowed}
 use Rattle.bp_confirm.specs.StepRefusals.{IsRefusedHere, IsNotTaken, refusal_of}
 use Rattle.bp_confirm.specs.declared.source_points.SourcePoint.{SourcePoint}
 use Rattle.bp_confirm.specs.SourcePoints.{source_points_of}
@@ -36,52 +36,52 @@ use Rattle.bp_confirm.proofs.StandsOfInstructions.{stands_as}
 use Rattle.bp_confirm.proofs.LocalRefusals.{same_reply, refused_for_all, other_values}
 use Rattle.bp_confirm.proofs.Transfer.{transfer}
 
-module _ (t : Program) (s : SetupOf) where
+module _ (t : Program) (s : SetupOf) (last : LastBits) where
   -- what is followed is taken
-  pub taken : (h : List Call) (xs later : List StepOf) (calls : List Call) → FollowAfter t s h xs later calls → TakeAfter t s h xs calls
+  pub taken : (h : List Call) (xs later : List StepOf) (calls : List Call) → FollowAfter t s last h xs later calls → TakeAfter t s h xs calls
   taken h [] later [] follow = tt
   taken h [] later (a ∷ more) follow = absurd follow
   taken h (x ∷ xs) later [] follow = absurd follow
   taken h (x ∷ xs) later (a ∷ calls) (here, rest) = (here.takes, taken (h ++ a ∷ []) xs later calls rest)
 
   pub follow_more : (h : List Call) (xs : List StepOf) (x : StepOf) (later : List StepOf) (calls : List Call) (a : Call)
-      → FollowAfter t s h xs (x ∷ later) calls → Follows t s (h ++ calls) x later a → FollowAfter t s h (xs ++ x ∷ []) later (calls ++ a ∷ [])
-  follow_more h [] x later [] a follow next = (subst (λ k. Follows t s k x later a) (append-nil h) next, tt)
+      → FollowAfter t s last h xs (x ∷ later) calls → Follows t s last (h ++ calls) x later a → FollowAfter t s last h (xs ++ x ∷ []) later (calls ++ a ∷ [])
+  follow_more h [] x later [] a follow next = (subst (λ k. Follows t s last k x later a) (append-nil h) next, tt)
   follow_more h [] x later (m ∷ ms) a follow next = absurd follow
   follow_more h (z ∷ zs) x later [] a follow next = absurd follow
   follow_more h (z ∷ zs) x later (m ∷ ms) a (here, rest) next =
-      let grown : Follows t s h z ((zs ++ x ∷ []) ++ later) m = simp regrouped here in
+      let grown : Follows t s last h z ((zs ++ x ∷ []) ++ later) m = simp regrouped here in
       (grown, follow_more (h ++ m ∷ []) zs x later ms a rest (simp regrouped next))
 
 -- the lines of steps, and what they say
-module _ (text : List ℕ) (t : Program) (s : SetupOf) (lines : List StepLineOf) (n : ℕ) where
+module _ (text : List ℕ) (t : Program) (s : SetupOf) (last : LastBits) (lines : List StepLineOf) (n : ℕ) where
   -- the first n of the lines are followed, and then one more
   pub follow_next : (d : StepLineOf) (h new : List Call) (a : Call) → n < length lines → new ≡ h ++ a ∷ []
-      → FollowAfter t s [] (steps_of text (take n lines)) (steps_of text (drop n lines)) h
-      → Follows t s h (step_of text (get_or lines n d)) (steps_of text (drop (n + 1) lines)) a
-      → FollowAfter t s [] (steps_of text (take (n + 1) lines)) (steps_of text (drop (n + 1) lines)) new
+      → FollowAfter t s last [] (steps_of text (take n lines)) (steps_of text (drop n lines)) h
+      → Follows t s last h (step_of text (get_or lines n d)) (steps_of text (drop (n + 1) lines)) a
+      → FollowAfter t s last [] (steps_of text (take (n + 1) lines)) (steps_of text (drop (n + 1) lines)) new
   follow_next d h new a within is follow next =
       let x = get_or lines n d in
       let rest : drop n lines ≡ get_or lines n d ∷ drop (n + 1) lines =
       (let one : suc n ≡ n + 1 = omega arith in drop-cons lines n d within ∙ ap (λ k. get_or lines n d ∷ drop k lines) one) in
       let front : steps_of text (take (n + 1) lines) ≡ steps_of text (take n lines) ++ step_of text x ∷ [] =
       ap (steps_of text) (take_more lines n d within) ∙ map_push (step_of text) (take n lines) x in
-      let before = subst (λ ys. FollowAfter t s [] (steps_of text (take n lines)) ys h) (ap (steps_of text) rest) follow in
-      let after = follow_more t s [] (steps_of text (take n lines)) (step_of text x) (steps_of text (drop (n + 1) lines)) h a before next in
-      subst (λ xs. FollowAfter t s [] xs (steps_of text (drop (n + 1) lines)) new) (sym front)
-      (subst (λ k. FollowAfter t s [] (steps_of text (take n lines) ++ step_of text x ∷ []) (steps_of text (drop (n + 1) lines)) k) (sym is) after)
+      let before = subst (λ ys. FollowAfter t s last [] (steps_of text (take n lines)) ys h) (ap (steps_of text) rest) follow in
+      let after = follow_more t s last [] (steps_of text (take n lines)) (step_of text x) (steps_of text (drop (n + 1) lines)) h a before next in
+      subst (λ xs. FollowAfter t s last [] xs (steps_of text (drop (n + 1) lines)) new) (sym front)
+      (subst (λ k. FollowAfter t s last [] (steps_of text (take n lines) ++ step_of text x ∷ []) (steps_of text (drop (n + 1) lines)) k) (sym is) after)
 
   module _ (d : StepLineOf) (h : List Call) (within : n < length lines)
-      (follow : FollowAfter t s [] (steps_of text (take n lines)) (steps_of text (drop n lines)) h) where
+      (follow : FollowAfter t s last [] (steps_of text (take n lines)) (steps_of text (drop n lines)) h) where
     rest_is : drop n lines ≡ get_or lines n d ∷ drop (n + 1) lines
     rest_is = let one : suc n ≡ n + 1 = omega arith in drop-cons lines n d within ∙ ap (λ k. get_or lines n d ∷ drop k lines) one
 
     none_takes : IsStuck t s h (step_of text (get_or lines n d)) → (g : List Call) → Takes t s (steps_of text (take n lines ++ get_or lines n d ∷ [])) g → ⊥
     none_takes stuck g taking =
         let x = step_of text (get_or lines n d) in
-        let own = subst (λ ys. FollowAfter t s [] (steps_of text (take n lines)) ys h) (ap (steps_of text) rest_is) follow in
+        let own = subst (λ ys. FollowAfter t s last [] (steps_of text (take n lines)) ys h) (ap (steps_of text) rest_is) follow in
         let other = subst (λ xs. Takes t s xs g) (map_push (step_of text) (take n lines) (get_or lines n d)) taking in
-        let found = transfer t s (steps_of text (take n lines)) x (steps_of text (drop (n + 1) lines)) h g own other in
+        let found = transfer t s last (steps_of text (take n lines)) x (steps_of text (drop (n + 1) lines)) h g own other in
         stuck found.0 found.1
 
     for_all : (reason : StepReason) → ForStuck reason (IsStuck t s h (step_of text (get_or lines n d)))
@@ -94,7 +94,7 @@ module _ (text : List ℕ) (t : Program) (s : SetupOf) (lines : List StepLineOf)
 
     step_refused : (r : StepRefusal)
         → IsRefusedHere text t s h (get_or lines n d) (steps_of text (drop (n + 1) lines)) (n + 1) r
-        → IsStepRefusal text t s lines r
+        → IsStepRefusal text t s last lines r
     step_refused r here = record {
       before = take n lines;
       step = get_or lines n d;
@@ -104,7 +104,7 @@ module _ (text : List ℕ) (t : Program) (s : SetupOf) (lines : List StepLineOf)
       thread = here.thread;
       location = here.location;
       history = h;
-      follows = subst (λ ys. FollowAfter t s [] (steps_of text (take n lines)) ys h) (ap (steps_of text) rest_is) follow;
+      follows = subst (λ ys. FollowAfter t s last [] (steps_of text (take n lines)) ys h) (ap (steps_of text) rest_is) follow;
       number = here.number;
       stand = here.stand;
       reason = here.reason;
@@ -112,19 +112,19 @@ module _ (text : List ℕ) (t : Program) (s : SetupOf) (lines : List StepLineOf)
     }
 
     -- the refusal of a step is one of the lines
-    pub not_confirmed : (f : StepFault)
+    pub not_followed : (f : StepFault)
         → IsNotTaken text t s h (get_or lines n d) (steps_of text (drop (n + 1) lines)) (n + 1) f
-        → IsNotConfirmed text t s lines f
-    not_confirmed (fault.Refusal r) here = step_refused r here
-    not_confirmed fault.Memory here = tt
+        → IsNotFollowed text t s last lines f
+    not_followed (fault.Refusal r) here = step_refused r here
+    not_followed fault.Memory here = tt
 
-  pub confirmed : (h : List Call) → length lines ≤ n
-      → FollowAfter t s [] (steps_of text (take n lines)) (steps_of text (drop n lines)) h
-      → IsConfirmed t s (steps_of text lines) h
-  confirmed h past follow =
+  pub followed : (h : List Call) → length lines ≤ n
+      → FollowAfter t s last [] (steps_of text (take n lines)) (steps_of text (drop n lines)) h
+      → IsFollowed t s last (steps_of text lines) h
+  followed h past follow =
       let steps = steps_of text lines in
-      let none = subst (λ ys. FollowAfter t s [] (steps_of text (take n lines)) (steps_of text ys) h) (drop_of_length-le lines past) follow in
-      subst (λ xs. FollowAfter t s [] (steps_of text xs) [] h) (take_all n lines past) none
+      let none = subst (λ ys. FollowAfter t s last [] (steps_of text (take n lines)) (steps_of text ys) h) (drop_of_length-le lines past) follow in
+      subst (λ xs. FollowAfter t s last [] (steps_of text xs) [] h) (take_all n lines past) none
 
 -- a value that is not seen is one of those that are wanted
 pub unseen_not : (c : Configuration) (i : ℕ) (vs : Valuation) (n : ℕ) (seen : Option Bool) → IsFirstUnseen c i vs n seen → SeesValues c i vs → ⊥
@@ -151,7 +151,7 @@ module _ (c : Configuration) (i : ℕ) (v : List ℕ × Bool) where
       subst (λ k. SeesValues c i (take k vs)) one (one_more_seen vs n at sees here)
 
 -- the refusals of the step of one line, whose thread goes on at this instruction
-module _ (text : List ℕ) (t : Program) (s : SetupOf) (h : List Call) (x : StepLineOf) (later : List StepOf) (n : ℕ) (number : Option ℕ)
+module _ (text : List ℕ) (t : Program) (s : SetupOf) (last : LastBits) (h : List Call) (x : StepLineOf) (later : List StepOf) (n : ℕ) (number : Option ℕ)
     (goes_on : GoesOnAt t (configuration_after t s h) x.thread number) (points : List SourcePoint) (are : points ≡ source_points_of text t) where
   abbrev step : StepOf
   step = step_of text x
@@ -178,12 +178,12 @@ module _ (text : List ℕ) (t : Program) (s : SetupOf) (h : List Call) (x : Step
     finished over = refused_for Finished (at, over) (λ y takes. false≢true (sym takes.allowed.unfinished ∙ ap (is_finished s h) takes.thread ∙ over))
 
     module _ (a : Call) (thread : a.thread ≡ x.thread) (allowed : IsAllowed t s h a)
-        (bit : a.bit ≡ bit_of_stack x.thread later (stack_of (configuration_after t s h) x.thread)) where
+        (bit : a.bit ≡ bit_of_stack last x.thread later (stack_of (configuration_after t s h) x.thread)) where
       pub answered : is_granted a.reply ≡ false → IsRefusedFor (Refused a.reply)
       answered none =
           refused_for (Refused a.reply)
-          (at, record { call = a; thread = thread; allowed = allowed; each = same_reply t s h step later a thread bit allowed none; refused = none })
-          (refused_for_all t s h step later a thread bit allowed none)
+          (at, record { call = a; thread = thread; allowed = allowed; each = same_reply t s last h step later a thread bit allowed none; refused = none })
+          (refused_for_all t s last h step later a thread bit allowed none)
 
       module _ (granted : is_granted a.reply ≡ true) where
         bare : IsStepOf t s h (record step { values = [] }) a

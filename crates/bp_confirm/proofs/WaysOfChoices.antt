@@ -53,17 +53,17 @@ module _ (ps : List Procedure) (g : Valuation) (f : Frame) (fs : List Frame) whe
   both_then false b e = inl refl
 
   -- a branch of `?`
-  way : (next : Option Place) (taken other : Block) (a b : Bool) → a ≡ bit_towards next taken other → IsClearWay next taken other
+  way : (last : Bool) (next : Option Place) (taken other : Block) (a b : Bool) → a ≡ bit_towards last next taken other → IsClearWay next taken other
       → AgreeStacks next (with_left f (cond a taken other) ∷ fs) (with_left f (cond b taken other) ∷ fs)
-  way next taken other true true e clear = inl refl
-  way next taken other false false e clear = inl refl
-  way None taken other true false e clear = inr (parted None taken other (λ p is. absurd cc))
-  way None taken other false true e clear = inr (parted None other taken (λ p is. absurd cc))
-  way (Some q) taken other true false e clear =
+  way last next taken other true true e clear = inl refl
+  way last next taken other false false e clear = inl refl
+  way last None taken other true false e clear = inr (parted None taken other (λ p is. absurd cc))
+  way last None taken other false true e clear = inr (parted None other taken (λ p is. absurd cc))
+  way last (Some q) taken other true false e clear =
       inr (parted (Some q) taken other (λ p is. let same : q ≡ p = cc in
       subst (λ (z : Place). z (start_of_block other) ≡ false) same
       (not_other (q (start_of_block taken)) (q (start_of_block other)) e)))
-  way (Some q) taken other false true e clear = by_place (both_then (q (start_of_block taken)) (q (start_of_block other)) e)
+  way last (Some q) taken other false true e clear = by_place (both_then (q (start_of_block taken)) (q (start_of_block other)) e)
     where
       by_place : ((q (start_of_block taken) ≡ false) ⊎ ((q (start_of_block taken) ≡ true) × (q (start_of_block other) ≡ true)))
           → AgreeStacks (Some q) (with_left f other ∷ fs) (with_left f taken ∷ fs)
@@ -87,30 +87,30 @@ module _ (ps : List Procedure) (g : Valuation) (f : Frame) (fs : List Frame) whe
       record { stack = mine; is = ap (λ (v : Valuation). Leaves v mine) globals; agree = subst (λ z. AgreeStacks next mine z) stacks agree }
 
   -- with the inferred bit a step leaves what it leaves with another bit, but for where the thread goes on
-  pub leaves_alike : (left : Block) (next : Option Place) (a b : Bool) (h : Valuation) (S : List Frame)
-      → a ≡ bit_of_block left next true
+  pub leaves_alike : (left : Block) (next : Option Place) (last : Bool) (a b : Bool) (h : Valuation) (S : List Frame)
+      → a ≡ bit_of_block left next last true
       → IsClear left next
       → effect ps left g f fs b ≡ Leaves h S
       → LeavesAlike next (effect ps left g f fs a) h S
-  leaves_alike Done next a b h S e clear is = same next (Leaves g fs) h S is
-  leaves_alike (Then label at Skips r) next a b h S e clear is = same next _ h S is
-  leaves_alike (Then label at (GoesTo x) r) next a b h S e clear is = same next _ h S is
-  leaves_alike (Then label at Returns r) next a b h S e clear is = same next _ h S is
-  leaves_alike (Then label at (Assigns xs es) r) next a b h S e clear is = same next _ h S is
-  leaves_alike (Then label at (Branches Choose yes_part no_part) r) next a b h S e clear is =
-      branch next _ _ h S (way next (chain yes_part r) (chain no_part r) a b e clear) is
-  leaves_alike (Then label at (Branches (Decide d) yes_part no_part) r) next a b h S e clear is = same next _ h S is
-  leaves_alike (Then label at (Loops Choose body) r) next a b h S e clear is =
-      branch next _ _ h S (way next (chain body (Then label at (Loops Choose body) r)) r a b e clear) is
-  leaves_alike (Then label at (Loops (Decide d) body) r) next a b h S e clear is = same next _ h S is
-  leaves_alike (Then label at (Asserts Choose) r) next a true h S e clear is = rw e (same next _ h S is)
-  leaves_alike (Then label at (Asserts Choose) r) next a false h S e clear is = absurd cc
-  leaves_alike (Then label at (Asserts (Decide d)) r) next a b h S e clear is = same next _ h S is
-  leaves_alike (Then label at (Assumes Choose) r) next a true h S e clear is = rw e (same next _ h S is)
-  leaves_alike (Then label at (Assumes Choose) r) next a false h S e clear is = absurd cc
-  leaves_alike (Then label at (Assumes (Decide d)) r) next a b h S e clear is = same next _ h S is
-  leaves_alike (Then label at (Prints es) r) next a b h S e clear is = same next _ h S is
-  leaves_alike (Then label at (Calls x es) r) next a b h S e clear is = same next _ h S is
+  leaves_alike Done next last a b h S e clear is = same next (Leaves g fs) h S is
+  leaves_alike (Then label at Skips r) next last a b h S e clear is = same next _ h S is
+  leaves_alike (Then label at (GoesTo x) r) next last a b h S e clear is = same next _ h S is
+  leaves_alike (Then label at Returns r) next last a b h S e clear is = same next _ h S is
+  leaves_alike (Then label at (Assigns xs es) r) next last a b h S e clear is = same next _ h S is
+  leaves_alike (Then label at (Branches Choose yes_part no_part) r) next last a b h S e clear is =
+      branch next _ _ h S (way last next (chain yes_part r) (chain no_part r) a b e clear) is
+  leaves_alike (Then label at (Branches (Decide d) yes_part no_part) r) next last a b h S e clear is = same next _ h S is
+  leaves_alike (Then label at (Loops Choose body) r) next last a b h S e clear is =
+      branch next _ _ h S (way last next (chain body (Then label at (Loops Choose body) r)) r a b e clear) is
+  leaves_alike (Then label at (Loops (Decide d) body) r) next last a b h S e clear is = same next _ h S is
+  leaves_alike (Then label at (Asserts Choose) r) next last a true h S e clear is = rw e (same next _ h S is)
+  leaves_alike (Then label at (Asserts Choose) r) next last a false h S e clear is = absurd cc
+  leaves_alike (Then label at (Asserts (Decide d)) r) next last a b h S e clear is = same next _ h S is
+  leaves_alike (Then label at (Assumes Choose) r) next last a true h S e clear is = rw e (same next _ h S is)
+  leaves_alike (Then label at (Assumes Choose) r) next last a false h S e clear is = absurd cc
+  leaves_alike (Then label at (Assumes (Decide d)) r) next last a b h S e clear is = same next _ h S is
+  leaves_alike (Then label at (Prints es) r) next last a b h S e clear is = same next _ h S is
+  leaves_alike (Then label at (Calls x es) r) next last a b h S e clear is = same next _ h S is
 
 -- a thread that stands at the place of its next step has the same stack
 pub same_stack : (p : Place) (one other : List Frame) → AgreeStacks (Some p) one other → stands_at p other ≡ true → one ≡ other

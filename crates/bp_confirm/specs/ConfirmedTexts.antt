@@ -1,6 +1,7 @@
 -- When a text of reported steps is confirmed, and how it is refused.
 use Rattle.std.specs.Prelude.{◌≡◌, ◌<◌, ◌≤◌, ℕ, List, length}
 use Rattle.bp_tree.specs.Ast.{Program}
+use Rattle.bp_code.specs.LawfulTexts.{IsLawfulText}
 use Rattle.bp_machine.specs.declared.calls.Call.{Call}
 use Rattle.bp_machine.specs.Sessions.{Stands}
 use Rattle.bp_machine.specs.Setups.{SetupOf}
@@ -14,7 +15,10 @@ use Rattle.bp_confirm.specs.ContextBounds.{IsSetupFor}
 use Rattle.bp_confirm.specs.StepLines.{StepLineOf, steps_of}
 use Rattle.bp_confirm.specs.StepTexts.{HasLines, IsBadLine}
 use Rattle.bp_confirm.specs.DeclaredLines.{AreDeclaredLines, IsFirstStray, IsOfNoThread, IsOfNoVariable}
-use Rattle.bp_confirm.specs.Confirms.{IsConfirmed, IsStepRefusal}
+use Rattle.bp_confirm.specs.Confirms.{IsStepRefusal}
+use Rattle.bp_confirm.specs.Inferred.{zeros}
+use Rattle.bp_confirm.specs.LastChoices.{IsConfirmed, IsTaken}
+use Rattle.bp_confirm.specs.declared.last_choices.LastChoice.{LastChoice}
 
 -- a text of steps, of a program in this setup
 module _ (t : Program) (s : SetupOf) (steps : List ℕ) where
@@ -50,12 +54,20 @@ module _ (t : Program) (s : SetupOf) (steps : List ℕ) where
 
   -- its places are those of the text of the program, and this many contexts are allowed
   module _ (text : List ℕ) (bound : ContextBound) where
-    -- this history takes the steps, in this setup
-    pub record IsConfirmedText (setup : SetupOf) (h : List Call) : Type 0 where
+    -- this history takes the steps, in this setup, and its deadlock depends on these last bits
+    pub record IsConfirmedText (setup : SetupOf) (h : List Call) (choices : List LastChoice)
+        : Type 0 where
       pub lines : List StepLineOf
       pub told : AreTold lines
       pub allows : IsSetupFor s lines bound setup
-      pub confirmed : IsConfirmed t setup (steps_of text lines) h
+      pub confirmed : IsConfirmed t setup (steps_of text lines) h choices
+
+    -- this history takes the steps, in this setup
+    pub record IsTakenText (setup : SetupOf) (h : List Call) : Type 0 where
+      pub lines : List StepLineOf
+      pub told : AreTold lines
+      pub allows : IsSetupFor s lines bound setup
+      pub taken : IsTaken t setup (steps_of text lines) h
 
     -- no history takes the steps up to this one
     pub record IsRefusedText (r : StepRefusal) : Type 0 where
@@ -63,11 +75,15 @@ module _ (t : Program) (s : SetupOf) (steps : List ℕ) where
       pub told : AreTold lines
       pub setup : SetupOf
       pub allows : IsSetupFor s lines bound setup
-      pub refused : IsStepRefusal text t setup lines r
+      pub refused : IsStepRefusal text t setup zeros lines r
 
-    -- this history takes the steps, in the setup of this session, which stands after it
+    -- this history takes the steps, in the setup of this session, which stands after it; in the
+    -- program of a lawful text its last bits are those of a deadlock, if there is one
     pub record ConfirmsTo (x : Confirmed) : Type 0 where
-      pub confirmed : IsConfirmedText x.session.setup x.history.items
+      pub taken : IsTakenText x.session.setup x.history.items
+      pub confirmed :
+          IsLawfulText text t
+          → IsConfirmedText x.session.setup x.history.items x.choices.items
       pub stands : Stands t x.session x.history.items
 
     -- why the steps are not confirmed: the first that applies

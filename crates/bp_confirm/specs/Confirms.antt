@@ -22,12 +22,7 @@ use Rattle.bp_confirm.specs.Places.{stands_at}
 use Rattle.bp_confirm.specs.Stands.{stand_of}
 use Rattle.bp_confirm.specs.Steps.{StepOf, IsStepOf, Takes}
 use Rattle.bp_confirm.specs.StepLines.{StepLineOf, step_of, steps_of}
-use Rattle.bp_confirm.specs.Inferred.{IsAmbiguousOnStack, FollowAfter}
-
--- the history takes the steps, one call for each, with the bits that are inferred; each call is
--- allowed, so the history is legal
-abbrev pub IsConfirmed : Program → SetupOf → List StepOf → List Call → Type 0
-IsConfirmed t s steps h = FollowAfter t s [] steps [] h
+use Rattle.bp_confirm.specs.Inferred.{IsAmbiguousOnStack, LastBits, FollowAfter}
 
 -- thread i goes on at the instruction of this number, or has no frame
 abbrev pub GoesOnAt : Program → Configuration → ℕ → Option ℕ → Type 0
@@ -77,12 +72,13 @@ abbrev pub ForStuck : StepReason → Type 0 → Type 0
 ForStuck Ambiguous P = Unit {0}
 ForStuck reason P = P
 
--- Why the steps of these lines are not confirmed: the history takes those before line n, with the
--- inferred bits; after it this is the first reason against the step of line n, whose thread
--- goes on at the instruction of this number, which is there in the text; and no history of the
--- program in its setup takes the first n steps, whatever its choice bits.
+-- Why the steps of these lines are not followed with these last bits: the history takes those
+-- before line n, with the inferred bits; after it this is the first reason against the step of
+-- line n, whose thread goes on at the instruction of this number, which is there in the text; and
+-- no history of the program in its setup takes the first n steps, whatever its choice bits.
 pub record IsStepRefusal
-    (text : List ℕ) (t : Program) (s : SetupOf) (lines : List StepLineOf) (r : StepRefusal)
+    (text : List ℕ) (t : Program) (s : SetupOf) (last : LastBits) (lines : List StepLineOf)
+    (r : StepRefusal)
     : Type 0 where
   pub before : List StepLineOf
   pub step : StepLineOf
@@ -92,7 +88,8 @@ pub record IsStepRefusal
   pub thread : r.thread ≡ step.thread
   pub location : r.location ≡ step.location
   pub history : List Call
-  pub follows : FollowAfter t s [] (steps_of text before) (steps_of text (step ∷ later)) history
+  pub follows :
+      FollowAfter t s last [] (steps_of text before) (steps_of text (step ∷ later)) history
   pub number : GoesOnAt t (configuration_after t s history) r.thread r.number
   pub stand : r.stand ≡ stand_of text t r.number
   pub reason : IsReason t s history (step_of text step) (steps_of text later) r.reason
@@ -101,10 +98,10 @@ pub record IsStepRefusal
       ((g : List Call) → Takes t s (steps_of text (before ++ step ∷ [])) g → ⊥)
 
 -- the same, or memory was refused
-abbrev pub IsNotConfirmed
-    : List ℕ → Program → SetupOf → List StepLineOf → StepFault → Type 0
-IsNotConfirmed text t s lines (fault.Refusal r) = IsStepRefusal text t s lines r
-IsNotConfirmed text t s lines fault.Memory = Unit {0}
+abbrev pub IsNotFollowed
+    : List ℕ → Program → SetupOf → LastBits → List StepLineOf → StepFault → Type 0
+IsNotFollowed text t s last lines (fault.Refusal r) = IsStepRefusal text t s last lines r
+IsNotFollowed text t s last lines fault.Memory = Unit {0}
 
 -- each line is one of a thread of the setup
 abbrev pub AreOfThreads : SetupOf → List StepLineOf → Type 0

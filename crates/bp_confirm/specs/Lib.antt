@@ -6,6 +6,7 @@ pub mod Stands
 pub mod Steps
 pub mod Changes
 pub mod StepLines
+pub mod ListedLines
 pub mod EffectBits
 pub mod Confirms
 pub mod StepRefusals
@@ -13,6 +14,8 @@ pub mod Confirmations
 pub mod StepRuns
 pub mod StepTexts
 pub mod LineValues
+pub mod LastBits
+pub mod LastChoices
 pub mod LineReading
 pub mod ValuesIn
 pub mod DeclaredLines

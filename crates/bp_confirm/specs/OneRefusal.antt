@@ -7,6 +7,7 @@ use Rattle.bp_machine.specs.Setups.{SetupOf}
 use Rattle.bp_confirm.specs.declared.confirming.ConfirmFault.{ConfirmFault}
 use Rattle.bp_confirm.specs.declared.confirming.ConfirmFault.TheVariants.{Memory}
 use Rattle.bp_tasks.specs.declared.context_bounds.ContextBound.{ContextBound}
+use Rattle.bp_confirm.specs.declared.last_choices.LastChoice.{LastChoice}
 use Rattle.bp_confirm.specs.ConfirmedTexts.{IsConfirmedText, IsStepsRefusal}
 
 -- steps of the lawful program of a text have at most one refusal, memory aside
@@ -25,8 +26,8 @@ OneRefusal =
 abbrev pub NoRefusalOfConfirmed : Type 0
 NoRefusalOfConfirmed =
     (text : List ℕ) (t : Program) (s : SetupOf) (steps : List ℕ) (bound : ContextBound)
-    (setup : SetupOf) (h : List Call) (f : ConfirmFault)
+    (setup : SetupOf) (h : List Call) (choices : List LastChoice) (f : ConfirmFault)
     → IsLawfulText text t
-    → IsConfirmedText t s steps text bound setup h
+    → IsConfirmedText t s steps text bound setup h choices
     → IsStepsRefusal t s steps text bound f
     → f ≡ Memory

@@ -11,7 +11,7 @@ use Rattle.bp_confirm.specs.declared.faults.StepRefusal.{StepRefusal}
 use Rattle.bp_confirm.specs.declared.following.Next.{Next}
 use Rattle.bp_confirm.specs.declared.following.NotCalled.{NotCalled}
 use Rattle.bp_confirm.specs.declared.following.NotCalled.TheVariants as call
-use Rattle.bp_confirm.specs.Inferred.{some_follow}
+use Rattle.bp_confirm.specs.Inferred.{LastBits, some_follow}
 use Rattle.bp_confirm.specs.declared.source_points.SourcePoint.{SourcePoint}
 use Rattle.bp_confirm.specs.Places.{place_of}
 use Rattle.bp_confirm.specs.Stands.{stand_in, stand_of}
@@ -54,9 +54,12 @@ refusal_of points x n number reason = fault.Refusal (record {
   reason = reason;
 })
 
--- what these later steps, which are among these lines, tell of the step x in a text
+-- what these later steps, which are among these lines, tell of the step x in a text, and the last
+-- bit of its thread
 pub record TellsNext
-    (text : List ℕ) (x : StepOf) (later : List StepOf) (lines : List StepLineOf) (next : Next)
+    (text : List ℕ) (last : LastBits) (x : StepOf) (later : List StepOf) (lines : List StepLineOf)
+    (next : Next)
     : Type 0 where
   pub place : next_place x.thread later ≡ option_map (place_of text) (location_in lines next.number)
   pub follows : some_follow later ≡ next.follows
+  pub last_is : last x.thread ≡ next.last

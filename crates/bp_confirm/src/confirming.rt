@@ -59,7 +59,7 @@ fn fault_of_stray(line: u32, stray: Stray) -> ConfirmFault
 }
 
 /// The lines of a text of steps, each of a thread of the setup and of variables of the program.
-fn told_lines<'a>(
+pub(crate) fn told_lines<'a>(
     alloc: Global,
     checked: &Checked,
     setup: &Setup,
@@ -88,7 +88,8 @@ fn told_lines<'a>(
 }
 
 /// Confirms a text of reported steps of the program of a text: the history that takes them, one
-/// call for each step, in the setup of its trace.
+/// call for each step, in the setup of its trace. A thread whose last step is at a `?` takes the
+/// bit of a deadlock, if the threads are deadlocked after such bits, and else 0.
 pub fn confirm(
     alloc: Global,
     text: &[u8],

@@ -12,9 +12,11 @@ ghost use Rattle.bp_machine.specs.Tops.{IsTop};
 ghost use Rattle.bp_trace.specs.Replays.{IsPlayable};
 ghost use Rattle.bp_confirm.specs.declared.faults.StepFault.{StepFault};
 ghost use Rattle.bp_confirm.specs.Changes.{IsDifference};
-ghost use Rattle.bp_confirm.specs.Confirms.{AreOfThreads, GoesOnAt, IsConfirmed, IsNotConfirmed};
-ghost use Rattle.bp_confirm.specs.Inferred.{Follows};
+ghost use Rattle.bp_confirm.specs.Confirms.{AreOfThreads, GoesOnAt, IsNotFollowed};
+ghost use Rattle.bp_confirm.specs.EffectBits.{is_fork_on};
+ghost use Rattle.bp_confirm.specs.Inferred.{LastBits, Follows, IsFollowed};
 ghost use Rattle.bp_confirm.specs.InferredBits.{IsInferredOn};
+ghost use Rattle.bp_confirm.specs.LastBits.{last_bits};
 ghost use Rattle.bp_confirm.specs.Places.{place_of, stands_at};
 ghost use Rattle.bp_confirm.specs.SourcePoints.{source_points_of};
 ghost use Rattle.bp_confirm.specs.StepLines.{location_in, next_locations, step_of, steps_of};
@@ -22,9 +24,10 @@ ghost use Rattle.bp_confirm.specs.StepRefusals.{refusal_of, IsNotCalled, IsNotTa
 ghost use Rattle.bp_confirm.specs.Steps.{StepOf, SeesValues};
 
 use crate::changes::{sight_after, sight_of};
-use crate::choices::{Inferred, inferred_bit, plain_bit};
+use crate::choices::{Inferred, inferred_bit, is_fork, plain_bit};
 use crate::faults::{Difference, StepFault, StepReason, StepRefusal};
 use crate::kept_lines::StepLines;
+use crate::last_choices::{LastBits as GivenBits, last_bit_of};
 use crate::locations::Location;
 use crate::next_steps::location_in;
 use crate::noted_steps::is_granted;
@@ -43,6 +46,16 @@ pub(crate) struct Next {
     /// From 0; that of no step where the thread takes none.
     number: u32,
     follows: bool,
+    /// The bit that the thread takes at a `?` of its last step.
+    last: bool,
+}
+
+/// The history that takes steps.
+#[derive(Drop)]
+pub(crate) struct Followed {
+    pub(crate) history: Vec<Call>,
+    /// Whether some thread took its last bit.
+    pub(crate) asks: bool,
 }
 
 /// Why a thread is not called.
@@ -91,13 +104,14 @@ fn bit_at(
     lines: &StepLines,
     next: Next,
 ) -> Inferred
-    ensures { (text : List ℕ) (t : Program) (h : List Answered) (x : StepOf) (later : List StepOf)
+    ensures { (text : List ℕ) (t : Program) (h : List Answered) (last : LastBits) (x : StepOf)
+        (later : List StepOf)
         → StandsFor session.now.code t
         → points.now ≡ source_points_of text t
-        → TellsNext text x later lines.now next
+        → TellsNext text last x later lines.now next
         → let now = configuration_after t session.now.setup h in
         IsTop t now x.thread top
-        → IsInferredOn t x.thread later (stack_of now x.thread) result }
+        → IsInferredOn t last x.thread later (stack_of now x.thread) result }
 {
     let is_clear = true;
     let Some(instr) = session.code().get(top.number) else {
@@ -112,6 +126,7 @@ fn bit_at(
         top.store,
         points,
         location_in(lines, next.number),
+        next.last,
         next.follows,
     )
 }
@@ -183,7 +198,9 @@ fn first_difference(
         (SeesValues (configuration_after checked.now session.now.setup after) i line.now.values)
         (IsDifference checked.now session.now.setup after i line.now.values)) }
 {
-    let Some(unseen) = first_unseen(checked, points, session, line.thread, line.values) else {
+    let top = session.top(line.thread);
+    let globals = session.globals();
+    let Some(unseen) = first_unseen(checked, points, top, globals, line.values) else {
         return Ok(None);
     };
     let name = unseen.name;
@@ -214,14 +231,14 @@ fn take_step(
     requires stands { Stands checked.now session.old history.now }
     requires short { length history.now + 1 < 2 ^ 32 }
     ensures stands { IfOk result (λ c. Stands checked.now session.new (history.now ++ c ∷ [])) }
-    ensures follows { (text : List ℕ) (later : List StepOf)
+    ensures follows { (text : List ℕ) (last : LastBits) (later : List StepOf)
         → points.now ≡ source_points_of text checked.now
-        → TellsNext text (step_of text line.now) later lines.now next
+        → TellsNext text last (step_of text line.now) later lines.now next
         → IfOk result
-        (Follows checked.now session.old.setup history.now (step_of text line.now) later) }
-    ensures refused { (text : List ℕ) (later : List StepOf)
+        (Follows checked.now session.old.setup last history.now (step_of text line.now) later) }
+    ensures refused { (text : List ℕ) (last : LastBits) (later : List StepOf)
         → points.now ≡ source_points_of text checked.now
-        → TellsNext text (step_of text line.now) later lines.now next
+        → TellsNext text last (step_of text line.now) later lines.now next
         → let n = length history.now + 1 in
         IfErr result
         (IsNotTaken text checked.now session.old.setup history.now line.now later n) }
@@ -258,6 +275,39 @@ fn take_step(
     Ok(call)
 }
 
+/// Whether the next statement of a thread is a branch or a loop of `?`.
+fn is_at_fork(session: &Session, thread: u32) -> bool
+    ensures { (t : Program) (h : List Answered)
+        → StandsFor session.now.code t
+        → Stands t session.now h
+        → result ≡ is_fork_on (stack_of (configuration_after t session.now.setup h) thread) }
+{
+    let Some(top) = session.top(thread) else {
+        return false;
+    };
+    let Some(instr) = session.code().get(top.number) else {
+        return false;
+    };
+    is_fork(instr)
+}
+
+/// Whether some thread took its last bit, or takes it now: its next step is its last one, and at a
+/// branch or a loop of `?`.
+fn asks_now(asks: bool, session: &Session, lines: &StepLines, next: u32, thread: u32) -> bool
+    ensures before { result ≡ false → asks ≡ false }
+    ensures here { (t : Program) (h : List Answered)
+        → StandsFor session.now.code t
+        → Stands t session.now h
+        → result ≡ false
+        → location_in lines.now next ≡ None
+        → is_fork_on (stack_of (configuration_after t session.now.setup h) thread) ≡ false }
+{
+    if asks {
+        return true;
+    }
+    location_in(lines, next).is_none() && is_at_fork(session, thread)
+}
+
 /// Adds a call to a history.
 fn keep(history: &mut Vec<Call>, call: Call) -> Result<(), StepFault>
     ensures kept { OnOk result (history.new.items ≡ history.old.items ++ call ∷ []) }
@@ -269,7 +319,7 @@ fn keep(history: &mut Vec<Call>, call: Call) -> Result<(), StepFault>
     Ok(())
 }
 
-/// Takes the steps of all lines in a session before any call.
+/// Takes the steps of all lines in a session before any call, with these last bits.
 pub(crate) fn take_steps(
     alloc: Global,
     checked: &Checked,
@@ -277,7 +327,8 @@ pub(crate) fn take_steps(
     nexts: &[u32],
     session: &mut Session,
     lines: &StepLines,
-) -> Result<Vec<Call>, StepFault>
+    last: GivenBits<'_>,
+) -> Result<Followed, StepFault>
     requires code { StandsFor session.old.code checked.now }
     requires fits { FitsCode session.old.code session.old.setup }
     requires nexts { map (location_in lines.now) nexts.now ≡ next_locations lines.now }
@@ -285,36 +336,38 @@ pub(crate) fn take_steps(
     requires unseeded { session.old.setup.seed ≡ None }
     requires stands { Stands checked.now session.old [] }
     requires short { length lines.now < 2 ^ 32 }
-    ensures stands { IfOk result (λ h. Stands checked.now session.new h.items) }
-    ensures confirmed { (text : List ℕ)
+    ensures stands { IfOk result (λ f. Stands checked.now session.new f.history.items) }
+    ensures followed { (text : List ℕ)
         → points.now ≡ source_points_of text checked.now
-        → IfOk result (λ h.
-        IsConfirmed checked.now session.old.setup (steps_of text lines.now) h.items) }
+        → let steps = steps_of text lines.now in
+        IfOk result (λ f.
+        IsFollowed checked.now session.old.setup (last_bits last.entry) steps f.history.items) }
+    ensures unasked { (text : List ℕ) (other : LastBits)
+        → points.now ≡ source_points_of text checked.now
+        → let steps = steps_of text lines.now in
+        IfOk result (λ f.
+        f.asks ≡ false → IsFollowed checked.now session.old.setup other steps f.history.items) }
     ensures refused { (text : List ℕ)
         → points.now ≡ source_points_of text checked.now
-        → IfErr result (IsNotConfirmed text checked.now session.old.setup lines.now) }
+        → let s = session.old.setup in
+        IfErr result (IsNotFollowed text checked.now s (last_bits last.entry) lines.now) }
     ensures kept { (session.new.code ≡ session.old.code) × (session.new.setup ≡ session.old.setup) }
 {
     let mut history = Vec::with_capacity(alloc, lines.len())?;
+    let mut asks = false;
     let mut n = 0;
     while n < lines.len() {
+        let line = lines.at(n);
         let next = Next {
             number: nexts[n],
             follows: n + 1 < lines.len(),
+            last: last_bit_of(last, line.thread),
         };
+        asks = asks_now(asks, session, lines, next.number, line.thread);
         let made = history.as_slice();
-        let call = take_step(
-            alloc,
-            checked,
-            points,
-            session,
-            made,
-            lines.at(n),
-            lines,
-            next,
-        )?;
+        let call = take_step(alloc, checked, points, session, made, line, lines, next)?;
         keep(&mut history, call)?;
         n += 1;
     }
-    Ok(history)
+    Ok(Followed { history, asks })
 }

@@ -1,20 +1,28 @@
 //! The history that takes the steps of lines.
-ghost use Rattle.std.specs.Prelude.{◌≡◌, ◌<◌, ◌^◌, None, length, IfOk, MatchResult};
+ghost use Rattle.std.specs.Prelude.{◌≡◌, ◌<◌, ◌^◌, None, List, ℕ, false, length, map, IfErr, IfOk, IfSome, IsSome, MatchResult};
+ghost use Rattle.bp_code.specs.LawfulTexts.{IsLawfulText};
 ghost use Rattle.bp_flat.specs.StandsFor.{StandsFor};
+ghost use Rattle.bp_machine.specs.declared.calls.Call.{Call as Answered};
 ghost use Rattle.bp_machine.specs.Sessions.{Stands};
 ghost use Rattle.bp_machine.specs.Setups.{FitsCode};
-ghost use Rattle.bp_confirm.specs.Confirms.{AreOfThreads, IsConfirmed, IsNotConfirmed};
-ghost use Rattle.bp_confirm.specs.StepLines.{steps_of};
+ghost use Rattle.bp_confirm.specs.Confirms.{AreOfThreads, IsNotFollowed};
+ghost use Rattle.bp_confirm.specs.Inferred.{zeros, IsFollowed};
+ghost use Rattle.bp_confirm.specs.Inferred.{LastBits as AnyBits};
+ghost use Rattle.bp_confirm.specs.LastBits.{last_bits};
+ghost use Rattle.bp_confirm.specs.LastChoices.{IsConfirmed, IsTaken};
+ghost use Rattle.bp_confirm.specs.SourcePoints.{source_points_of};
+ghost use Rattle.bp_confirm.specs.StepLines.{location_in, next_locations, steps_of};
 
 use crate::faults::StepFault;
 use crate::following::take_steps;
 use crate::kept_lines::StepLines;
+use crate::last_choices::{LastBits, LastChoice, deciding, waits_of};
 use crate::next_steps::next_steps;
-use crate::source_points::source_points_of;
+use crate::source_points::{SourcePoint, source_points_of};
 use bp_check::Checked;
 use bp_flat::Code;
 use bp_machine::{Call, Session, Setup};
-use std::alloc::Global;
+use std::alloc::{AllocError, Global};
 
 /// The history that takes reported steps, a call for each.
 #[derive(Drop)]
@@ -22,11 +30,117 @@ pub struct Confirmed {
     pub history: Vec<Call>,
     /// The session after the last call. Its setup is that of the trace.
     pub session: Session,
+    /// The bits of last steps at a `?` on which its deadlock depends, in the order of the threads.
+    pub choices: Vec<LastChoice>,
+}
+
+/// A history that takes the steps, the session after it, and whether some thread took its last bit.
+#[derive(Drop)]
+struct Taken {
+    history: Vec<Call>,
+    session: Session,
+    asks: bool,
+}
+
+/// Takes the steps of these lines in the program, with these last bits.
+fn take_with(
+    alloc: Global,
+    checked: &Checked,
+    code: &Code,
+    setup: &Setup,
+    points: &[SourcePoint],
+    nexts: &[u32],
+    lines: &StepLines,
+    last: LastBits<'_>,
+) -> Result<Taken, StepFault>
+    requires code { StandsFor code.now checked.now }
+    requires fits { FitsCode code.now setup.now }
+    requires nexts { map (location_in lines.now) nexts.now ≡ next_locations lines.now }
+    requires threads { AreOfThreads setup.now lines.now }
+    requires unseeded { setup.now.seed ≡ None }
+    requires short { length lines.now < 2 ^ 32 }
+    ensures followed { (text : List ℕ)
+        → points.now ≡ source_points_of text checked.now
+        → let steps = steps_of text lines.now in
+        IfOk result (λ f.
+        IsFollowed checked.now setup.now (last_bits last.entry) steps f.history.items) }
+    ensures unasked { (text : List ℕ) (other : AnyBits)
+        → points.now ≡ source_points_of text checked.now
+        → let steps = steps_of text lines.now in
+        IfOk result (λ f.
+        f.asks ≡ false → IsFollowed checked.now setup.now other steps f.history.items) }
+    ensures refused { (text : List ℕ)
+        → points.now ≡ source_points_of text checked.now
+        → IfErr result (IsNotFollowed text checked.now setup.now (last_bits last.entry) lines.now) }
+    ensures stands { IfOk result (λ f. Stands checked.now f.session f.history.items) }
+    ensures kept { IfOk result
+        (λ f. (f.session.code ≡ code.now) × (f.session.setup ≡ setup.now)) }
+{
+    let mut session = Session::new(alloc, code, setup)?;
+    let followed = take_steps(alloc, checked, points, nexts, &mut session, lines, last)?;
+    Ok(Taken {
+        history: followed.history,
+        session,
+        asks: followed.asks,
+    })
+}
+
+/// Takes the steps once more, with other last bits. Returns None if a step is refused now, which no
+/// lawful text comes to.
+fn take_again(
+    alloc: Global,
+    checked: &Checked,
+    code: &Code,
+    setup: &Setup,
+    points: &[SourcePoint],
+    nexts: &[u32],
+    lines: &StepLines,
+    last: LastBits<'_>,
+) -> Result<Option<Taken>, AllocError>
+    requires code { StandsFor code.now checked.now }
+    requires fits { FitsCode code.now setup.now }
+    requires nexts { map (location_in lines.now) nexts.now ≡ next_locations lines.now }
+    requires threads { AreOfThreads setup.now lines.now }
+    requires unseeded { setup.now.seed ≡ None }
+    requires short { length lines.now < 2 ^ 32 }
+    ensures followed { (text : List ℕ)
+        → points.now ≡ source_points_of text checked.now
+        → let steps = steps_of text lines.now in
+        IfOk result (λ found. IfSome found (λ f.
+        IsFollowed checked.now setup.now (last_bits last.entry) steps f.history.items)) }
+    ensures refused { (text : List ℕ) (other : AnyBits) (h : List Answered)
+        → points.now ≡ source_points_of text checked.now
+        → IsLawfulText text checked.now
+        → IsFollowed checked.now setup.now other (steps_of text lines.now) h
+        → IfOk result IsSome }
+    ensures stands { IfOk result (λ found.
+        IfSome found (λ f. Stands checked.now f.session f.history.items)) }
+    ensures kept { IfOk result (λ found.
+        IfSome found (λ f. (f.session.code ≡ code.now) × (f.session.setup ≡ setup.now))) }
+{
+    match take_with(alloc, checked, code, setup, points, nexts, lines, last) {
+        Ok(taken) => Ok(Some(taken)),
+        Err(StepFault::Refusal(_)) => Ok(None),
+        Err(StepFault::Memory) => Err(AllocError),
+    }
+}
+
+/// The history that takes the steps, whose deadlock depends on these last bits.
+fn confirmed_with(taken: Taken, choices: Vec<LastChoice>) -> Confirmed
+    ensures { result
+        ≡ record { history = taken.history; session = taken.session; choices = choices } }
+{
+    Confirmed {
+        history: taken.history,
+        session: taken.session,
+        choices,
+    }
 }
 
 /// Confirms the steps of these lines in the program of a text: the history that takes them, one
 /// call for each, with the choice bits that are inferred; or the first line whose step no history
-/// takes after those before it.
+/// takes after those before it. A thread whose last step is at a `?` takes the bit of a deadlock,
+/// if the threads are deadlocked after such bits, and else 0.
 pub(crate) fn confirm_lines(
     alloc: Global,
     text: &[u8],
@@ -41,23 +155,44 @@ pub(crate) fn confirm_lines(
     requires unseeded { setup.now.seed ≡ None }
     requires short { length lines.now < 2 ^ 32 }
     ensures answer { MatchResult result
-        (λ f. IsConfirmed checked.now setup.now (steps_of text.now lines.now) f.history.items)
-        (IsNotConfirmed text.now checked.now setup.now lines.now) }
+        (λ f. IsTaken checked.now setup.now (steps_of text.now lines.now) f.history.items)
+        (IsNotFollowed text.now checked.now setup.now zeros lines.now) }
+    ensures confirmed { IsLawfulText text.now checked.now
+        → IfOk result (λ f.
+        IsConfirmed checked.now setup.now (steps_of text.now lines.now)
+        f.history.items f.choices.items) }
     ensures stands { IfOk result (λ f. Stands checked.now f.session f.history.items) }
     ensures kept { IfOk result
         (λ f. (f.session.code ≡ code.now) × (f.session.setup ≡ setup.now)) }
 {
     setup.is_in_range();
     let points = source_points_of(alloc, text, checked)?;
+    let points = points.as_slice();
     let nexts = next_steps(alloc, lines)?;
-    let mut session = Session::new(alloc, code, setup)?;
-    let history = take_steps(
+    let nexts = nexts.as_slice();
+    let bits = LastBits::Each(false);
+    let zeroed = take_with(alloc, checked, code, setup, points, nexts, lines, bits)?;
+    if !zeroed.asks {
+        return Ok(confirmed_with(zeroed, Vec::new(alloc)));
+    }
+    let after_0 = waits_of(alloc, &zeroed.session)?;
+    let bits = LastBits::Each(true);
+    let Some(oned) = take_again(alloc, checked, code, setup, points, nexts, lines, bits)? else {
+        return Ok(confirmed_with(zeroed, Vec::new(alloc)));
+    };
+    let after_1 = waits_of(alloc, &oned.session)?;
+    let bits = LastBits::Waiting(after_0.as_slice());
+    let Some(waiting) = take_again(alloc, checked, code, setup, points, nexts, lines, bits)? else {
+        return Ok(confirmed_with(zeroed, Vec::new(alloc)));
+    };
+    if !waiting.session.is_deadlocked() {
+        return Ok(confirmed_with(zeroed, Vec::new(alloc)));
+    }
+    let choices = deciding(
         alloc,
-        checked,
-        points.as_slice(),
-        nexts.as_slice(),
-        &mut session,
-        lines,
+        setup.threads(),
+        after_0.as_slice(),
+        after_1.as_slice(),
     )?;
-    Ok(Confirmed { history, session })
+    Ok(confirmed_with(waiting, choices))
 }

@@ -12,8 +12,10 @@ mod fields;
 mod following;
 mod histories;
 mod kept_lines;
+mod last_choices;
 mod laws;
 mod line_values;
+mod listed_lines;
 mod locations;
 mod next_steps;
 mod noted_steps;
@@ -28,11 +30,13 @@ mod values;
 pub use confirming::{ConfirmFault, confirm};
 pub use faults::{Difference, StepReason, StepRefusal};
 pub use histories::Confirmed;
+pub use last_choices::LastChoice;
 pub use laws::{
     refused_steps_are_not_taken, steps_are_of_the_run, steps_have_one_answer,
     texts_are_read_in_one_way,
 };
 pub use line_values::value_on_line;
+pub use listed_lines::{ListedLines, read_listed_lines};
 pub use locations::Location;
 pub use noted_steps::{OwnStep, OwnSteps, own_steps};
 pub use own_step_texts::put_steps;

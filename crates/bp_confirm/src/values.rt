@@ -9,6 +9,7 @@ ghost use Rattle.bp_machine.specs.Histories.{configuration_after};
 ghost use Rattle.bp_machine.specs.Sessions.{Stands};
 ghost use Rattle.bp_machine.specs.Tops.{IsTop};
 ghost use Rattle.bp_confirm.specs.SourcePoints.{source_points_of};
+ghost use Rattle.bp_confirm.specs.ListedLines.{AreShown};
 ghost use Rattle.bp_confirm.specs.Steps.{local_seen, own_value, value_seen, IsFirstUnseen, SeesValues};
 ghost use Rattle.bp_confirm.specs.ValuesIn.{values_in, IsNameIn, SaysValues};
 
@@ -60,7 +61,26 @@ fn local_seen(
     own_value(proc, top.store.locals, name)
 }
 
-/// The value of a variable as a thread sees it: a local hides a global of its name.
+/// The value of a variable as a thread with this top sees it: a local hides a global of its name.
+fn value_at_top(
+    checked: &Checked,
+    points: &[SourcePoint],
+    top: Option<Top>,
+    globals: u128,
+    name: &[u8],
+) -> Option<bool>
+    ensures { (text : List ℕ) (c : Configuration) (i : ℕ)
+        → points.now ≡ source_points_of text checked.now
+        → AreShown checked.now c i top globals
+        → result ≡ value_seen c.globals (stack_of c i) name.now }
+{
+    match local_seen(checked, points, top, name) {
+        Some(bit) => Some(bit),
+        None => global_value(checked.tree().globals(), globals, name),
+    }
+}
+
+/// The value of a variable as a thread sees it.
 pub(crate) fn value_seen(
     checked: &Checked,
     points: &[SourcePoint],
@@ -75,11 +95,13 @@ pub(crate) fn value_seen(
         → let c = configuration_after checked.now session.now.setup h in
         result ≡ value_seen c.globals (stack_of c thread) name.now }
 {
-    let top = session.top(thread);
-    match local_seen(checked, points, top, name) {
-        Some(bit) => Some(bit),
-        None => global_value(checked.tree().globals(), session.globals(), name),
-    }
+    value_at_top(
+        checked,
+        points,
+        session.top(thread),
+        session.globals(),
+        name,
+    )
 }
 
 /// Whether a variable is seen with this value.
@@ -102,30 +124,28 @@ pub(crate) struct Unseen<'a> {
     pub(crate) seen: Option<bool>,
 }
 
-/// The first of the values that a text says that a thread does not see.
+/// The first of the values that a text says that a thread with this top does not see.
 pub(crate) fn first_unseen<'a>(
     checked: &Checked,
     points: &[SourcePoint],
-    session: &Session,
-    thread: u32,
+    top: Option<Top>,
+    globals: u128,
     values: &'a [u8],
 ) -> Option<Unseen<'a>>
     requires { SaysValues values.now }
     ensures name { IfSome result (λ r. IsNameIn values.now r.place r.name.now) }
-    ensures first { (text : List ℕ) (h : List Answered)
-        → StandsFor session.now.code checked.now
+    ensures first { (text : List ℕ) (c : Configuration) (i : ℕ)
         → points.now ≡ source_points_of text checked.now
-        → Stands checked.now session.now h
-        → let c = configuration_after checked.now session.now.setup h in
-        MatchOption result
-        (SeesValues c thread (values_in values.now))
-        (λ r. IsFirstUnseen c thread (values_in values.now) r.place r.seen) }
+        → AreShown checked.now c i top globals
+        → MatchOption result
+        (SeesValues c i (values_in values.now))
+        (λ r. IsFirstUnseen c i (values_in values.now) r.place r.seen) }
 {
     let mut rest = values;
     let mut place: usize = 0;
     while let Some((value, more)) = value_at(rest) {
         let name = value.name;
-        let seen = value_seen(checked, points, session, thread, name);
+        let seen = value_at_top(checked, points, top, globals, name);
         if !is_value(seen, value.bit) {
             return Some(Unseen { place, name, seen });
         }

@@ -2,6 +2,7 @@
 
 use crate::elsewhere_sentences::push_ways_there;
 use crate::last_calls::{LastCall, push_last_call};
+use crate::shell_words::{is_word, push_word};
 use crate::sources::{Source, source_of};
 use crate::stand_sentences::{push_location, push_stand};
 use crate::steps_before::{next_line_of, push_context_lines, steps_before};
@@ -282,4 +283,27 @@ pub(crate) fn push_refusal(
         StepReason::Refused(reply) => push_refused(out, texts, refusal, reply),
         StepReason::Differs(found) => push_differs(out, texts, refusal, found),
     }
+}
+
+/// Adds how to look for a run through steps that a list does not tell whole, if this is a reason for
+/// it and a shell can name the files.
+pub(crate) fn push_exploration(
+    out: &mut Vec<u8>,
+    program_file: &[u8],
+    steps_file: &[u8],
+    reason: StepReason,
+) -> Result<(), AllocError> {
+    let before: &[u8] = match reason {
+        StepReason::Elsewhere => b"; if steps are left out: btrun explore ",
+        StepReason::Ambiguous => b"; either way: btrun explore ",
+        StepReason::Finished | StepReason::Refused(_) | StepReason::Differs(_) => return Ok(()),
+    };
+    if !is_word(program_file) || !is_word(steps_file) {
+        return Ok(());
+    }
+    push_all(out, &[before])?;
+    push_word(out, program_file)?;
+    push_all(out, &[b" --through "])?;
+    push_word(out, steps_file)?;
+    push_all(out, &[b" .."])
 }

@@ -5,7 +5,7 @@ ghost use Rattle.bp_advice.specs.Explanations.{ExplainsLine, IsExplanationOf};
 
 use crate::malformed_steps::push_malformed;
 use crate::schedules::push_no_entry;
-use crate::step_sentences::push_refusal;
+use crate::step_sentences::{push_exploration, push_refusal};
 use crate::steps_before::push_run_before;
 use crate::tried_steps::Confirming;
 use bp_advice::Part::{Quoted, Words};
@@ -64,7 +64,8 @@ fn explain_no_variable<'a>(
     about_line(alloc, file, steps, number as usize, sentence.as_slice())
 }
 
-/// Explains why a step is not taken, and how to see the run up to there.
+/// Explains why a step is not taken, how to see the run up to there, and how to look for a run
+/// through all steps.
 fn explain_refusal<'a>(
     alloc: Global,
     file: &'a str,
@@ -79,6 +80,7 @@ fn explain_refusal<'a>(
     let number = refusal.line as usize;
     let (program_file, steps_file) = (texts.program_file.as_bytes(), file.as_bytes());
     push_run_before(&mut sentence, program_file, steps_file, number)?;
+    push_exploration(&mut sentence, program_file, steps_file, refusal.reason)?;
     about_line(alloc, file, texts.steps, number, sentence.as_slice())
 }
 

@@ -11,7 +11,6 @@ pub mod FailedStatements
 pub mod FilledFacts
 pub mod LastReplies
 pub mod LastSteps
-pub mod ListedNames
 pub mod MappedValues
 pub mod NextConfigurations
 pub mod OneCall

@@ -1,15 +1,12 @@
 -- Laws of facts.
-use Rattle.std.specs.Prelude.{◌≡◌, ℕ, List, [], ◌∷◌, ◌++◌, Some}
-use Rattle.std.specs.Borrow.{Bor}
+use Rattle.std.specs.Prelude.{List, [], ◌∷◌, ◌++◌}
 use Rattle.bp_tree.specs.Ast.{Program}
 use Rattle.bp_language.specs.LawfulPrograms.{HasDistinctNames}
 use Rattle.bp_machine.specs.declared.calls.Call.{Call}
 use Rattle.bp_machine.specs.Histories.{configuration_after}
 use Rattle.bp_machine.specs.Setups.{SetupOf}
 use Rattle.bp_facts.specs.CallFacts.{changes_by}
-use Rattle.bp_facts.specs.NameLists.{IsListOf}
 use Rattle.bp_facts.specs.ReplayedChanges.{AreReplayed}
-use Rattle.bp_facts.specs.Watches.{watched_names}
 
 -- The changes of a call lead from the values before it to those after it, in a program in which no
 -- two names of a kind are spelled alike.
@@ -20,10 +17,3 @@ ChangesReplay =
     → let before = configuration_after t s h in
     let after = configuration_after t s (h ++ x ∷ []) in
     AreReplayed before after x.thread (changes_by t s h x)
-
--- a list of names of the language has these names and no others
-abbrev pub ListedNames : Type 0
-ListedNames =
-    (list : Bor (List ℕ)) (names : List (List ℕ))
-    → IsListOf names list.now
-    → watched_names (Some list) ≡ names

@@ -7,7 +7,6 @@ pub mod Filters
 pub mod FootFacts
 pub mod Laws
 pub mod ReplayedCalls
-pub mod NameLists
 pub mod ProgramFacts
 pub mod ReplayedChanges
 pub mod Spans

@@ -1,6 +1,6 @@
 //! Laws of facts. These functions do nothing: their contracts are the laws.
 ghost use Rattle.bp_facts.specs.Filters.{StandForEachOnce};
-ghost use Rattle.bp_facts.specs.Laws.{ChangesReplay, ListedNames};
+ghost use Rattle.bp_facts.specs.Laws.{ChangesReplay};
 
 /// States that the lines of the calls of a history whose numbers are asked for, folded or not,
 /// stand for these calls, each once.
@@ -15,10 +15,4 @@ pub fn lines_stand_for_each_call_once()
 /// The values of a history begin with those of its setup.
 pub fn changes_replay()
     ensures { ChangesReplay }
-{}
-
-/// Where names of the language are listed, these are watched, in their order. A comma is between
-/// each two, and spaces may be around each. A comma or a space in braces is part of a name.
-pub fn listed_names_are_watched()
-    ensures { ListedNames }
 {}

@@ -25,7 +25,7 @@ pub use context_facts::{ContextFacts, facts_of_context, fill_changes_within};
 pub use faults::ViewFault;
 pub use filters::{CallFilter, calls_to};
 pub use foot_facts::{ConditionFacts, FootFacts, facts_of_foot};
-pub use laws::{changes_replay, lines_stand_for_each_call_once, listed_names_are_watched};
+pub use laws::{changes_replay, lines_stand_for_each_call_once};
 pub use program_facts::{ProgramFacts, facts_of_program};
 pub use replayed_calls::{ReplayedCall, last_step, printed_by, replayed_call};
 pub use spans::{Span, StandingPoint, spans_of};

@@ -5,7 +5,6 @@ pub mod ListItems
 pub mod ProceduresOfPlaces
 pub mod SameAnswer
 pub mod SlotsOfNames
-mod SpelledHeadings
 pub mod StandsForStepsAlike
 mod WithSlots
 mod WordBits

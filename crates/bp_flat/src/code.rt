@@ -6,7 +6,7 @@ ghost use Rattle.bp_flat.specs.Configurations.{procedure_named};
 ghost use Rattle.bp_flat.specs.Flat.{flat};
 ghost use Rattle.bp_flat.specs.Headings.{heading_named};
 ghost use Rattle.bp_flat.specs.StandsFor.{StandsFor, IsEntryOf};
-ghost use Rattle.bp_flat.specs.Programs.{IsOfProgram, HasSpelledHeadings};
+ghost use Rattle.bp_flat.specs.Programs.{IsOfProgram};
 
 use crate::headings::{Heading, find_heading};
 use crate::instrs::Instr;
@@ -130,14 +130,6 @@ impl Code {
     /// The law that every code stands for the lawful program of some text.
     pub fn is_of_a_program(&self)
         ensures { IsOfProgram self.now }
-    {
-        let _ = &self.globals;
-    }
-
-    /// The law that the name of each heading is an identifier that is not reserved, or a braced
-    /// name. So it holds no line feed (`has_names_on_one_line` of `bp_syntax`).
-    pub fn has_spelled_headings(&self)
-        ensures { HasSpelledHeadings self.now }
     {
         let _ = &self.globals;
     }

@@ -16,13 +16,13 @@ pub mod OneCodeOneMeaning
 pub mod OpenLines
 pub mod OutcomeWithCall
 pub mod OwnNames
-pub mod PreparedSessions
 pub mod PrintsAlike
 pub mod RealFailures
 pub mod RepliesToSteps
 pub mod RunsAreHistories
 pub mod SeededWithCall
 pub mod SessionAnswers
+pub mod SessionsInOrder
 pub mod SetupInRange
 pub mod SetupRefusals
 pub mod ShownTops

@@ -16,7 +16,7 @@ use Rattle.bp_machine.specs.declared.threads.Transition.{Transition}
 use Rattle.bp_machine.specs.declared.threads.Transition.TheVariants.{Stays, Fails, Steps}
 use Rattle.bp_machine.specs.declared.ask_faults.AskFault.{AskFault}
 use Rattle.bp_machine.specs.declared.ask_faults.AskFault.TheVariants.{NoThread, Finished, Seeded, Unseeded, Memory, Busy}
-use Rattle.bp_machine.specs.declared.sessions.Prepared.{Prepared}
+use Rattle.bp_machine.specs.declared.sessions.Judged.{Judged}
 use Rattle.bp_machine.specs.ChoiceBits.{ChoicesOf, choice_bit, choice_word}
 use Rattle.bp_machine.specs.SeededHistories.{IsBitOfCall}
 use Rattle.bp_machine.specs.Setups.{SetupOf, threads, IsInRange}
@@ -116,7 +116,7 @@ module _ (t : Program) (x : SessionOf) (h : List Call) (stands : Stands t x h)
         is = is ∙ ap (λ w. bits_of w c.place) at.word ∙ ap (bits_of (choice_word seeded.0 i (length (calls_of_thread i h) / 32))) at.place;
       }
 
-  module _ (alike : StepsAlike x.code t) (p : Prepared) (judged : IsJudged x i given p) where
+  module _ (alike : StepsAlike x.code t) (p : Judged) (judged : IsJudged x i given p) where
     line_of : HasOpenLine s h i
     line_of = let next = judged.transition in has_open_line next.guest next.has next.goes_on
 
@@ -145,7 +145,7 @@ given_bit choices i None bit is = tt
 
 -- the session stands after the history with the call that was made
 module _ (t : Program) (x : SessionOf) (h : List Call) (stands : Stands t x h) (count : length x.choices ≡ choices_of x.setup) (alike : StepsAlike x.code t)
-    (p : Prepared) (given : Option Bool) (judged : IsJudged x p.call.thread given p)
+    (p : Judged) (given : Option Bool) (judged : IsJudged x p.call.thread given p)
     (y : State) (made : y ≡ state_after x.machine.state p.call.thread judged.transition.guest p.transition)
     (choices : List ChoicesOf) (drawn : AreDrawn p.call.thread x.choices choices) where
   abbrev i : ℕ
@@ -169,9 +169,9 @@ module _ (t : Program) (x : SessionOf) (h : List Call) (stands : Stands t x h) (
       let same : is.seed ≡ seed = let a = is.has in let b = e in cc in
       is.is ∙ ap (λ n. choice_bit n i (length (calls_of_thread i h))) same
 
-  pub committed : (machine : MachineOf) → machine.state ≡ y → (ready : Option Call)
-      → Stands t (record { code = x.code; setup = x.setup; machine = machine; choices = choices; ready = ready }) (h ++ p.call ∷ [])
-  committed machine is ready = record {
+  pub stands_with_call : (machine : MachineOf) → machine.state ≡ y
+      → Stands t (record { code = x.code; setup = x.setup; machine = machine; choices = choices }) (h ++ p.call ∷ [])
+  stands_with_call machine is = record {
     state = subst (λ z. StandsAfter t x.setup z (h ++ p.call ∷ [])) (sym is) state_stands;
     seeded = λ seed e.
         seeded-append seed h p.call (stands.seeded seed e) (call_bit seed e given (judged_next t x h stands count i given alike p judged).bit);

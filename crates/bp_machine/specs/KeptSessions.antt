@@ -1,25 +1,22 @@
--- How a session works between its calls, which no public clause names: what it keeps for a call
--- that it is prepared for, and how its choices are drawn.
+-- How a session makes its calls, which no public clause names: how it judges one, and how its
+-- choices are drawn.
 use Rattle.std.specs.Prelude.{◌≡◌, ◌≢◌, ℕ, ◌+◌, Bool, List, Option, None, Some, length, slice_get}
-use Rattle.std.specs.Option.{option_map}
 use Rattle.bp_flat.specs.Flat.{Flat}
 use Rattle.bp_machine.specs.declared.ask_faults.AskFault.{AskFault}
 use Rattle.bp_machine.specs.declared.ask_faults.AskFault.TheVariants.{NoThread, Finished, Seeded, Unseeded, Memory, Busy}
-use Rattle.bp_machine.specs.declared.sessions.Prepared.{Prepared}
+use Rattle.bp_machine.specs.declared.sessions.Judged.{Judged}
 use Rattle.bp_machine.specs.ChoiceBits.{ChoicesOf, IsAt, next_bit}
 use Rattle.bp_machine.specs.Setups.{SetupOf}
 use Rattle.bp_machine.specs.States.{MachineOf}
-use Rattle.bp_machine.specs.Transitions.{IsNextTransition, HasRoom, GoesOn, IsOver, reply_of_transition}
+use Rattle.bp_machine.specs.Transitions.{IsNextTransition, GoesOn, IsOver, reply_of_transition}
 use Rattle.bp_machine.specs.Sessions.{SessionOf, choices_of}
 
-abbrev pub session_of :
-    Flat → SetupOf → MachineOf → List ChoicesOf → Option Prepared → SessionOf
-session_of code setup machine choices prepared = record {
+abbrev pub session_of : Flat → SetupOf → MachineOf → List ChoicesOf → SessionOf
+session_of code setup machine choices = record {
   code = code;
   setup = setup;
   machine = machine;
   choices = choices;
-  ready = option_map (λ p. p.call) prepared;
 }
 
 -- the choices of a setup's threads, none of which is drawn
@@ -59,7 +56,7 @@ IsBitRefusal choices i given Unseeded = (slice_get choices i ≡ None) × (given
 IsBitRefusal choices i given f = ⊥
 
 -- what a call of thread i results in, where this bit or none was handed in
-pub record IsJudged (x : SessionOf) (i : ℕ) (given : Option Bool) (p : Prepared) : Type 0 where
+pub record IsJudged (x : SessionOf) (i : ℕ) (given : Option Bool) (p : Judged) : Type 0 where
   pub thread : p.call.thread ≡ i
   pub bit : IsKeptBit x.choices i given p.call.bit
   pub transition :
@@ -74,13 +71,3 @@ IsKeptRefusal x i given Memory = ⊥
 IsKeptRefusal x i given Busy = ⊥
 IsKeptRefusal x i given f =
     GoesOn x.setup x.machine.state i × IsBitRefusal x.choices i given f
-
--- the call was judged, and there is room for its frame
-pub record IsPrepared (x : SessionOf) (p : Prepared) : Type 0 where
-  pub given : Option Bool
-  pub judged : IsJudged x p.call.thread given p
-  pub room : HasRoom x.machine.rooms p.call.thread p.transition
-
--- where the session is prepared for a call, that is so
-abbrev pub IsReadyFor : SessionOf → Option Prepared → Type 0
-IsReadyFor x prepared = (p : Prepared) → prepared ≡ Some p → IsPrepared x p

@@ -128,16 +128,8 @@ coded_call =
 
 abbrev pub coded_session : Coded SessionOf
 coded_session =
-    code_by ((Flat × SetupOf) × (MachineOf × (List ChoicesOf × Option Call)))
-    (coded×
-    (coded× coded_flat coded_setup)
-    (coded× coded_machine (coded× (coded_list coded_choices) (coded_option coded_call))))
-    (λ x. ((x.code, x.setup), (x.machine, (x.choices, x.ready))))
-    (λ p. record {
-      code = p.0.0;
-      setup = p.0.1;
-      machine = p.1.0;
-      choices = p.1.1.0;
-      ready = p.1.1.1;
-    })
+    code_by ((Flat × SetupOf) × (MachineOf × List ChoicesOf))
+    (coded× (coded× coded_flat coded_setup) (coded× coded_machine (coded_list coded_choices)))
+    (λ x. ((x.code, x.setup), (x.machine, x.choices)))
+    (λ p. record { code = p.0.0; setup = p.0.1; machine = p.1.0; choices = p.1.1 })
     (λ _. refl)

@@ -15,14 +15,12 @@ use Rattle.bp_machine.specs.Answers.{stack_of, Answers}
 use Rattle.bp_machine.specs.Histories.{configuration_after, granted_threads, calls_of_thread, is_finished, IsAllowed}
 use Rattle.bp_machine.specs.States.{MachineOf, StandsAfter}
 
--- a session without memory: its machine, the choices of each thread where the setup has a seed, and
--- the call that it is ready for, where it is prepared for one
+-- a session without memory: its machine, and the choices of each thread where the setup has a seed
 pub record SessionOf : Type 0 where
   pub code : Flat
   pub setup : SetupOf
   pub machine : MachineOf
   pub choices : List ChoicesOf
-  pub ready : Option Call
 
 -- The session stands after the history h of the program t. Where the setup has a seed, the history
 -- has its bits, and the choices of each thread stand before the bit of its next call.

@@ -27,9 +27,12 @@ pub use laws::{
     entries_are_on_one_line, failures_are_real, histories_are_short, one_code_has_one_meaning,
     runs_are_histories, steps_are_a_run, steps_are_within,
 };
+pub use machine::{globals_after, transition_on};
 pub use reports::{Outcome, Report};
 pub use sessions::Session;
 pub use setup_faults::SetupFault;
 pub use setups::Setup;
+pub use stacks::{ActivationRecord, Stack};
 pub use starts::Start;
+pub use threads::Transition;
 pub use tops::Top;

@@ -66,9 +66,10 @@ fn transition_of(effect: Effect, is_full: bool) -> Transition
     }
 }
 
-/// What a call of a thread with this stack results in.
+/// What a call of a thread with this stack results in. `fits` says if one more step is within the
+/// contexts.
 #[inline(always)]
-fn transition_on(code: &Code, globals: u128, fits: bool, stack: &Stack, bit: bool) -> Transition
+pub fn transition_on(code: &Code, globals: u128, fits: bool, stack: &Stack, bit: bool) -> Transition
     ensures { IsTransitionOn code.now.instructions globals bit fits stack.now.frames result }
 {
     let Some(top) = stack.top() else {
@@ -88,7 +89,7 @@ fn transition_on(code: &Code, globals: u128, fits: bool, stack: &Stack, bit: boo
 }
 
 /// The globals after a step.
-fn globals_after(globals: u128, effect: Effect) -> u128
+pub fn globals_after(globals: u128, effect: Effect) -> u128
     ensures { result ≡ globals_after globals (Transition.Steps effect) }
 {
     match effect {

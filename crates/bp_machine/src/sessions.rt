@@ -19,14 +19,14 @@ use crate::choices::Choices;
 use crate::machine::Machine;
 use crate::setups::Setup;
 use crate::threads::{Transition, first_threads};
+use bp_flat::Code;
 use bp_flat::stores::word_of;
-use bp_flat::{Code, steps_alike};
 use std::alloc::{AllocError, Global};
 use std::marker::Model;
 
 /// A call that was judged, and what it results in.
-#[derive(Clone, Copy, PartialEq, Eq)]
-pub(crate) struct Prepared {
+#[derive(Clone, Copy)]
+pub(crate) struct Judged {
     call: Call,
     transition: Transition,
 }
@@ -39,7 +39,6 @@ pub struct Session {
     setup: Setup,
     machine: Machine,
     choices: Vec<Choices>,
-    prepared: Option<Prepared>,
 }
 
 impl Model for Session {
@@ -51,13 +50,11 @@ impl Model for Session {
     ghost coded = { coded_session };
 
     ghost use Rattle.bp_machine.specs.Sessions.{IsInOrder};
-    ghost use Rattle.bp_machine.specs.KeptSessions.{session_of, IsReadyFor};
+    ghost use Rattle.bp_machine.specs.KeptSessions.{session_of};
 
-    ghost view = { λ s. session_of s.code s.setup s.machine s.choices.items s.prepared };
+    ghost view = { λ s. session_of s.code s.setup s.machine s.choices.items };
 
-    ghost invariant = { λ s.
-        let x = session_of s.code s.setup s.machine s.choices.items s.prepared in
-        IsInOrder x × IsReadyFor x s.prepared };
+    ghost invariant = { λ s. IsInOrder (session_of s.code s.setup s.machine s.choices.items) };
 }
 
 /// Starts the choices of each thread of a setup anew with this seed, before any is drawn; without
@@ -106,14 +103,11 @@ pub(crate) fn draw(choices: &mut Vec<Choices>, thread: usize)
 }
 
 impl Session {
-    ghost use Rattle.std.specs.Prelude.{◌≢◌};
-
     /// A session of a code in a setup that fits it, before any call.
     pub fn new(alloc: Global, code: &Code, setup: &Setup) -> Result<Session, AllocError>
         requires { FitsCode code.now setup.now }
         ensures stands { IfOk result (λ x. (t : Program) → StandsFor code.now t → Stands t x []) }
-        ensures kept { IfOk result (λ x.
-            (x.code ≡ code.now) × (x.setup ≡ setup.now) × (x.ready ≡ None)) }
+        ensures kept { IfOk result (λ x. (x.code ≡ code.now) × (x.setup ≡ setup.now)) }
     {
         code.is_of_a_program();
         setup.is_in_range();
@@ -127,7 +121,6 @@ impl Session {
             setup,
             machine,
             choices,
-            prepared: None,
         })
     }
 
@@ -146,7 +139,6 @@ impl Session {
             → StandsFor self.old.code t
             → Stands t self.old h
             → IfOk result (λ c. Stands t self.new (h ++ c ∷ [])) }
-        ensures unready { OnOk result (self.new.ready ≡ None) }
         ensures kept { (self.new.code ≡ self.old.code) × (self.new.setup ≡ self.old.setup) }
         ensures same { OnErr result (self.new ≡ self.old) }
     {
@@ -168,7 +160,6 @@ impl Session {
             → StandsFor self.old.code t
             → Stands t self.old h
             → IfOk result (λ c. Stands t self.new (h ++ c ∷ [])) }
-        ensures unready { OnOk result (self.new.ready ≡ None) }
         ensures kept { (self.new.code ≡ self.old.code) × (self.new.setup ≡ self.old.setup) }
         ensures same { OnErr result (self.new ≡ self.old) }
     {
@@ -193,55 +184,11 @@ impl Session {
             → StandsFor self.old.code t
             → Stands t self.old h
             → IfOk result (λ c. Stands t self.new (h ++ c ∷ [])) }
-        ensures unready { OnOk result (self.new.ready ≡ None) }
         ensures kept { (self.new.code ≡ self.old.code) × (self.new.setup ≡ self.old.setup) }
         ensures same { OnErr result (self.new ≡ self.old) }
     {
         let given = self.given_bit(bit);
         self.make_given(thread, given)
-    }
-
-    /// Takes the memory for the next call of a thread, and answers the call that `ask` would
-    /// answer. The session is then prepared for that call, and no choice bit is used.
-    pub fn prepare(&mut self, thread: u32) -> Result<Call, AskFault>
-        ensures answer { (t : Program) (h : List Answered)
-            → StandsFor self.old.code t
-            → Stands t self.old h
-            → MatchResult result
-            (IsNextCall t self.old.setup h thread None)
-            (IsAskRefusal t self.old.setup h thread None) }
-        ensures asked { IfOk result (λ c. c.thread ≡ thread) }
-        ensures stands { (t : Program) (h : List Answered)
-            → Stands t self.old h
-            → Stands t self.new h }
-        ensures ready { IfOk result (λ c. self.new.ready ≡ Some c) }
-        ensures kept { (self.new.code ≡ self.old.code) × (self.new.setup ≡ self.old.setup) }
-        ensures same { OnErr result (self.new ≡ self.old) }
-    {
-        steps_alike(&self.code);
-        let prepared = self.judged(thread, None)?;
-        self.machine.reserve(thread, prepared.transition)?;
-        self.prepared = Some(prepared);
-        Ok(prepared.call)
-    }
-
-    /// Makes the call that the session is prepared for.
-    pub fn commit(&mut self, call: &Call)
-        requires { self.old.ready ≡ Some call.now }
-        ensures stands { (t : Program) (h : List Answered)
-            → StandsFor self.old.code t
-            → Stands t self.old h
-            → Stands t self.new (h ++ call.now ∷ []) }
-        ensures unready { self.new.ready ≡ None }
-        ensures kept { (self.new.code ≡ self.old.code) × (self.new.setup ≡ self.old.setup) }
-    {
-        steps_alike(&self.code);
-        let Some(prepared) = self.prepared else {
-            return;
-        };
-        self.prepared = None;
-        self.machine.make(call.thread, prepared.transition);
-        draw(&mut self.choices, call.thread as usize);
     }
 
     /// The code whose instructions the threads step through.

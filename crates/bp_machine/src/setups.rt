@@ -65,6 +65,9 @@ fn kept(
 }
 
 impl Setup {
+    ghost use Rattle.std.specs.Prelude.{◌<◌, ◌≤◌};
+    ghost use Rattle.bp_machine.specs.declared.limits.TheConstants.{MAX_CONTEXTS, MAX_CALLS};
+
     pub(crate) fn of_parts(
         entries: Vec<String>,
         init: Vec<bool>,
@@ -124,14 +127,14 @@ impl Setup {
     }
 
     /// The names of the entry procedures, thread 0 first.
-    pub(crate) fn entries(&self) -> &[String]
+    pub fn entries(&self) -> &[String]
         ensures { map string_bytes result.now ≡ self.now.entries }
     {
         self.entries.as_slice()
     }
 
     /// The initial bits of the globals.
-    pub(crate) fn bits(&self) -> &[bool]
+    pub fn bits(&self) -> &[bool]
         ensures { result.now ≡ self.now.init }
     {
         self.init.as_slice()
@@ -187,6 +190,20 @@ impl Setup {
         ensures { result ≡ record self { seed = seed } }
     {
         Setup { seed, ..self }
+    }
+
+    /// The same setup with these bounds on the contexts and on the calls of a thread.
+    pub fn with_bounds(self, contexts: u32, calls: u32) -> Setup
+        requires contexts { contexts ≤ MAX_CONTEXTS }
+        requires one { 0 < calls }
+        requires calls { calls ≤ MAX_CALLS }
+        ensures { result ≡ record self { contexts = contexts; calls = calls } }
+    {
+        Setup {
+            contexts,
+            calls,
+            ..self
+        }
     }
 
     /// Gives the setup this seed, or none.

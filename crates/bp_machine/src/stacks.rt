@@ -16,7 +16,7 @@ pub struct ActivationRecord {
 /// The calls of a thread that have not returned, the topmost last in memory and first in a
 /// contract. There is always memory for one of them, so a stack starts anew in its own.
 #[derive(Drop)]
-pub(crate) struct Stack {
+pub struct Stack {
     frames: Vec<ActivationRecord>,
 }
 
@@ -72,7 +72,7 @@ impl Stack {
     ghost use Rattle.bp_machine.specs.Transitions.{stack_after, FitsIn, IsEntering};
 
     /// The stack of a thread that begins at this instruction, with its locals 0.
-    pub(crate) fn start(alloc: Global, number: u32) -> Result<Stack, AllocError>
+    pub fn start(alloc: Global, number: u32) -> Result<Stack, AllocError>
         ensures { IfOk result (λ s. s.frames ≡ record { number = number; locals = 0 } ∷ []) }
     {
         let mut frames = Vec::new(alloc);
@@ -81,7 +81,7 @@ impl Stack {
     }
 
     /// The same stack, with as much memory of its own.
-    pub(crate) fn try_copy(&self) -> Result<Stack, AllocError>
+    pub fn try_copy(&self) -> Result<Stack, AllocError>
         ensures { IfOk result (λ s. s.frames ≡ self.now.frames) }
     {
         let alloc = *self.frames.allocator();
@@ -117,7 +117,8 @@ impl Stack {
         None
     }
 
-    pub(crate) fn len(&self) -> usize
+    /// How many frames there are.
+    pub fn len(&self) -> usize
         ensures { result ≡ length self.now.frames }
     {
         self.frames.len()
@@ -168,5 +169,37 @@ impl Stack {
             ),
             Effect::Fails | Effect::Blocks => {}
         }
+    }
+
+    /// Makes a step. Without memory for its frame the stack stays.
+    pub fn take_step(&mut self, effect: Effect) -> Result<(), AllocError>
+        ensures ok { OnOk result (self.new.frames ≡ stack_after effect self.old.frames) }
+        ensures same { OnErr result (self.new ≡ self.old) }
+    {
+        self.reserve(effect)?;
+        self.make(effect);
+        Ok(())
+    }
+
+    /// Takes all frames off. The memory stays.
+    pub fn clear(&mut self)
+        ensures { self.new.frames ≡ [] }
+    {
+        self.frames.clear();
+    }
+
+    /// Puts a frame on top.
+    pub fn push(&mut self, frame: ActivationRecord) -> Result<(), AllocError>
+        ensures { OnOk result (self.new.frames ≡ frame ∷ self.old.frames) }
+    {
+        self.frames.push(frame)?;
+        Ok(())
+    }
+
+    /// The frames, the topmost last.
+    pub fn frames(&self) -> &[ActivationRecord]
+        ensures { reverse result.now ≡ self.now.frames }
+    {
+        self.frames.as_slice()
     }
 }

@@ -11,7 +11,7 @@ use std::marker::Model;
 
 /// What a call results in, before it is made.
 #[derive(Clone, Copy, PartialEq, Eq)]
-pub(crate) enum Transition {
+pub enum Transition {
     /// No step: the machine stays, with this reply.
     Stays(Reply),
     /// A failed assertion.

@@ -2,7 +2,7 @@
 use Rattle.std.specs.Prelude.{ℕ, Bool, true, false, List, [], ◌∷◌, ◌++◌, codes, decimal, flat_map, map}
 use Rattle.std.specs.List.{concat}
 use Rattle.bp_text.specs.JsonStrings.{string_text}
-use Rattle.bp_text.specs.OneLine.{on_one_line}
+use Rattle.bp_text.specs.Displayed.{displayed}
 use Rattle.bp_text.specs.Pieces.{bit_text, key_text, number_or_null, truth_text}
 use Rattle.bp_messages.specs.RunLimits.{limit_of}
 use Rattle.bp_messages.specs.declared.test_reports.TestReport.{TestReport}
@@ -46,7 +46,7 @@ settings_text x = codes ", init " ++ (init_text x.setup.init ++ bounds_text x)
 -- the line from which the test can be made again
 abbrev pub asked_line : TestReport → List ℕ
 asked_line x =
-    concat (codes "test of " ∷ map on_one_line x.file.items ∷ codes ": threads" ∷ [])
+    concat (codes "test of " ∷ displayed x.file.items ∷ codes ": threads" ∷ [])
     ++ (names_text false (codes " ") (codes " ") x.setup.entries ++ settings_text x)
 
 -- the same as members of an object, with what else was asked for

@@ -7,7 +7,7 @@ use Rattle.bp_machine.specs.declared.reports.Outcome.TheVariants as outcome
 use Rattle.bp_test.specs.declared.testing.Found.{Found}
 use Rattle.bp_test.specs.declared.testing.Found.TheVariants.{Nothing, Failed, Deadlock}
 use Rattle.bp_text.specs.JsonStrings.{string_text}
-use Rattle.bp_text.specs.OneLine.{on_one_line}
+use Rattle.bp_text.specs.Displayed.{displayed}
 use Rattle.bp_text.specs.Pieces.{key_text}
 use Rattle.bp_text.specs.declared.positions.Position.{Position}
 use Rattle.bp_messages.specs.declared.failures.FailedAssertion.{FailedAssertion}
@@ -59,7 +59,7 @@ failure_text (Some x) statement file run runs =
     codes "an assertion of thread " ∷ decimal x.thread
     ∷ codes " failed in run " ∷ decimal run
     ∷ of_word runs ∷ limit_text runs
-    ∷ codes ", at " ∷ map on_one_line file
+    ∷ codes ", at " ∷ displayed file
     ∷ codes ":" ∷ decimal x.position.line
     ∷ codes ":" ∷ decimal x.position.column
     ∷ codes ": " ∷ statement

@@ -1,4 +1,4 @@
--- What a user reads of a test while it is made, on a terminal.
+-- What a user reads of a test or an exploration while it is made, on a terminal.
 use Rattle.std.specs.Prelude.{ℕ, Option, None, Some, List, [], ◌∷◌, ◌*◌, ◌-◌, ◌/◌, ◌^◌, min, max, codes, decimal}
 use Rattle.std.specs.List.{concat}
 use Rattle.bp_messages.specs.RunLimits.{limit_text, of_word}
@@ -31,3 +31,13 @@ progress_text done runs millis seconds =
     ∷ codes " runs, " ∷ decimal rate
     ∷ codes " a second, " ∷ decimal left
     ∷ codes " s left" ∷ [])
+
+-- the same of an exploration: how many contexts it looks through, and how many states it has
+abbrev pub exploration_progress_text : (contexts states millis : ℕ) → List ℕ
+exploration_progress_text contexts states millis =
+    let rate = rate_of states millis in
+    concat (
+    cleared ∷ codes "within " ∷ decimal contexts
+    ∷ codes " contexts: " ∷ decimal states
+    ∷ codes " states, " ∷ decimal rate
+    ∷ codes " a second" ∷ [])

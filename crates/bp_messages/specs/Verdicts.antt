@@ -6,13 +6,15 @@ use Rattle.bp_text.specs.Pieces.{key_text, list_text, number_or_null}
 use Rattle.bp_messages.specs.declared.verdicts.VerdictFacts.{VerdictFacts}
 
 -- What is said of it: its word, how many steps a run makes, the contexts that they use if all are
--- confirmed, the assertion that failed, and the threads that wait in a deadlock.
+-- confirmed, the assertion that failed, the threads that wait in a deadlock, and the last bits on
+-- which it depends.
 pub record ShownVerdict : Type 0 where
   pub word : List ℕ
   pub steps : ℕ
   pub contexts : Option ℕ
   pub failure : List ℕ
   pub waits : List ℕ
+  pub choices : List ℕ
 
 -- what the values of src/ say
 abbrev pub shown_verdict : VerdictFacts → ShownVerdict
@@ -22,6 +24,7 @@ shown_verdict x = record {
   contexts = x.contexts;
   failure = x.failure.now;
   waits = x.waits.now;
+  choices = x.choices.now;
 }
 
 abbrev pub verdict_object : ShownVerdict → List ℕ
@@ -33,6 +36,7 @@ verdict_object x =
     ∷ key_text (codes "contexts") ∷ number_or_null x.contexts
     ∷ key_text (codes "failure") ∷ x.failure
     ∷ key_text (codes "deadlock") ∷ list_text x.waits
+    ∷ key_text (codes "choices") ∷ list_text x.choices
     ∷ codes "}\n" ∷ [])
 
 -- a run makes this many steps, and no run makes the next one as well
@@ -43,4 +47,5 @@ refuted_after n = record {
   contexts = None;
   failure = codes "null";
   waits = [];
+  choices = [];
 }

@@ -2,7 +2,7 @@
 use Rattle.std.specs.Prelude.{ℕ, List, [], ◌∷◌, ◌++◌, Option, None, Some, codes, decimal, map, option_map, slice_index_or}
 use Rattle.std.specs.List.{concat}
 use Rattle.bp_test.specs.declared.waiting.Waiting.{Waiting}
-use Rattle.bp_text.specs.OneLine.{on_one_line}
+use Rattle.bp_text.specs.Displayed.{displayed}
 use Rattle.bp_text.specs.Pieces.{key_text, number_or_null}
 use Rattle.bp_text.specs.declared.positions.Position.{Position}
 
@@ -22,7 +22,7 @@ wait_text file before verb i (Some p) =
     before
     ∷ decimal i
     ∷ verb
-    ∷ map on_one_line file
+    ∷ displayed file
     ∷ codes ":"
     ∷ decimal p.line
     ∷ codes ":"

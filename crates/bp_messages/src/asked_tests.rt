@@ -9,7 +9,7 @@ ghost use Rattle.bp_messages.specs.AskedTests.{settings_members, settings_text};
 use crate::run_limits::limit_of;
 use crate::test_reports::TestReport;
 use bp_machine::Setup;
-use bp_text::Piece::{Bit, Bytes, Key, Number, NumberOrNull, OneLine, Text, Truth};
+use bp_text::Piece::{Bit, Bytes, Displayed, Key, Number, NumberOrNull, Text, Truth};
 use bp_text::{Piece, WriteFault, put, put_pieces};
 use std::io::Write;
 
@@ -104,7 +104,7 @@ pub(crate) fn put_asked_line<W: Write>(tested: &TestReport, out: &mut W) -> Resu
     ensures { let text = asked_line tested.now in
         Writes (W.contents out.old) (W.contents out.new) text result }
 {
-    let file = OneLine(tested.file.as_slice());
+    let file = Displayed(tested.file.as_slice());
     put_pieces(out, &[Bytes(b"test of "), file, Bytes(b": threads")])?;
     put_entries(false, b" ", b" ", &tested.setup, out)?;
     put_settings(tested, out)

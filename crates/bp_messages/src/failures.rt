@@ -8,7 +8,7 @@ use crate::test_reports::TestReport;
 use crate::waits::position_of;
 use bp_machine::Outcome;
 use bp_test::Found;
-use bp_text::Piece::{Bytes, Key, Number, OneLine, Text};
+use bp_text::Piece::{Bytes, Displayed, Key, Number, Text};
 use bp_text::{Position, WriteFault, put, put_pieces};
 use std::io::Write;
 
@@ -87,7 +87,7 @@ pub(crate) fn put_failure<'a, W: Write>(
                 of_word(runs),
                 limit_piece(runs),
                 Bytes(b", at "),
-                OneLine(file),
+                Displayed(file),
                 Bytes(b":"),
                 Number(failure.position.line as u64),
                 Bytes(b":"),

@@ -27,7 +27,7 @@ pub use fault_objects::put_fault_object;
 pub use fault_table::{Detail, Row, exit_status};
 pub use faults::Fault;
 pub use input_faults::InputFault;
-pub use progress::{clear_progress, put_progress};
+pub use progress::{clear_progress, put_exploration_progress, put_progress};
 pub use replay_lines::show_replay;
 pub use step_objects::value_in;
 pub use summaries::put_summary;

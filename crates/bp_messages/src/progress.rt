@@ -1,7 +1,7 @@
-//! The line of progress of a test.
+//! The line of progress of a test, and of an exploration.
 ghost use Rattle.std.specs.Prelude.{◌≡◌};
 ghost use Rattle.bp_text.specs.Writing.{Writes};
-ghost use Rattle.bp_messages.specs.ProgressTexts.{cleared, progress_text, rate_of, seconds_left, within_time};
+ghost use Rattle.bp_messages.specs.ProgressTexts.{cleared, exploration_progress_text, progress_text, rate_of, seconds_left, within_time};
 
 use crate::run_limits::{limit_piece, of_word};
 use bp_text::Piece::{Bytes, Number};
@@ -65,6 +65,33 @@ pub fn put_progress<W: Write>(
             Bytes(b" a second, "),
             Number(left),
             Bytes(b" s left"),
+        ],
+    )
+}
+
+/// Writes a line over the one before: how many contexts an exploration looks through, how many
+/// states it has, and how many of them it found in a second.
+pub fn put_exploration_progress<W: Write>(
+    contexts: u64,
+    states: u64,
+    millis: u64,
+    out: &mut W,
+) -> Result<(), WriteFault>
+    ensures { let text = exploration_progress_text contexts states millis in
+        Writes (W.contents out.old) (W.contents out.new) text result }
+{
+    let rate = rate_of(states, millis);
+    put_pieces(
+        out,
+        &[
+            Bytes(cleared()),
+            Bytes(b"within "),
+            Number(contexts),
+            Bytes(b" contexts: "),
+            Number(states),
+            Bytes(b" states, "),
+            Number(rate),
+            Bytes(b" a second"),
         ],
     )
 }

@@ -19,6 +19,8 @@ pub struct VerdictFacts<'a> {
     pub failure: &'a [u8],
     /// The objects of the threads that wait in a deadlock, each after a comma.
     pub waits: &'a [u8],
+    /// The objects of the last bits on which the deadlock depends, each after a comma.
+    pub choices: &'a [u8],
 }
 
 /// Writes the object of the verdict on reported steps.
@@ -40,6 +42,8 @@ pub fn put_verdict<'a, W: Write>(facts: VerdictFacts<'a>, out: &mut W) -> Result
             Bytes(facts.failure),
             Key(b"deadlock"),
             List(facts.waits),
+            Key(b"choices"),
+            List(facts.choices),
             Bytes(b"}\n"),
         ],
     )
@@ -57,6 +61,7 @@ pub(crate) fn put_refuted<W: Write>(steps: u64, out: &mut W) -> Result<(), Write
             contexts: None,
             failure: b"null",
             waits: b"",
+            choices: b"",
         },
         out,
     )

@@ -5,7 +5,7 @@ ghost use Rattle.bp_messages.specs.Waits.{position_of, position_of_wait, wait_ob
 ghost use Rattle.bp_messages.specs.Waits.{waits_member, waits_text};
 
 use bp_test::Waiting;
-use bp_text::Piece::{Bytes, Key, Number, NumberOrNull, OneLine};
+use bp_text::Piece::{Bytes, Displayed, Key, Number, NumberOrNull};
 use bp_text::{Position, WriteFault, put, put_pieces};
 use std::io::Write;
 
@@ -46,7 +46,7 @@ fn put_wait<'a, W: Write>(
                 Bytes(before),
                 Number(thread as u64),
                 Bytes(verb),
-                OneLine(file),
+                Displayed(file),
                 Bytes(b":"),
                 Number(position.line as u64),
                 Bytes(b":"),

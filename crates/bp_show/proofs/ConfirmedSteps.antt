@@ -50,19 +50,20 @@ module _ (start : StartOf) (bound : ContextBound) (form : VerdictForm) (given : 
         fine = fine;
         setup = x.session.setup;
         history = x.history.items;
-        confirmed = own.confirmed;
+        choices = x.choices.items;
+        confirmed = own.confirmed lawful;
         is = refl;
       }
 
       pub memory : IsRefusedWith (confirms start bound form) old old given fault.Memory
-      memory = refused Memory own.confirmed.told.read.fit
+      memory = refused Memory own.taken.told.read.fit
 
       pub cut : (new : Option (List ℕ)) → AppendsPart old new (trace_text x.session.setup x.history.items)
           → IsRefusedWith (confirms start bound form) old new given fault.Write
       cut new part = cut_short (confirms start bound form) given old new (trace_text x.session.setup x.history.items) trace part
 
       pub confirmed : (new : Option (List ℕ)) → AppendsAll old new (trace_text x.session.setup x.history.items)
-          → (answer : Confirmation) → IsConfirmation given.text t x.session.setup x.history.items form answer
+          → (answer : Confirmation) → IsConfirmation given.text t x.session.setup x.history.items x.choices.items form answer
           → IsDoneWith (confirms start bound form) old new given answer
       unfolding trace
       confirmed new written answer verdict = record {

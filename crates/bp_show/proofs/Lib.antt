@@ -1,3 +1,5 @@
 mod ConfirmedSteps
+mod ExploredPrograms
+mod ThroughPrograms
 mod ValidParts
 mod ViewedTraces

@@ -1,5 +1,7 @@
 -- The command `confirm`.
-use Rattle.std.specs.Prelude.{if◌then◌else◌, ◌≡◌, ◌⊎◌, ◌++◌, ℕ, Bool, true, false, List, [], Option, None, Some, codes, is_some}
+use Rattle.std.specs.Prelude.{if◌then◌else◌, ◌≡◌, ◌⊎◌, ◌∷◌, ◌++◌, ℕ, Bool, true, false, List, [], Option, None, Some, codes, decimal, drop, flat_map, is_some}
+use Rattle.std.specs.List.{concat}
+use Rattle.bp_text.specs.Pieces.{bit_text}
 use Rattle.bp_tree.specs.Ast.{Program}
 use Rattle.bp_code.specs.LawfulTexts.{IsLawfulText}
 use Rattle.bp_machine.specs.declared.calls.Call.{Call}
@@ -8,6 +10,7 @@ use Rattle.bp_machine.specs.Setups.{SetupOf, setup_fault}
 use Rattle.bp_machine.specs.Starts.{StartOf, setup_from}
 use Rattle.bp_trace.specs.TraceText.{trace_text}
 use Rattle.bp_confirm.specs.declared.confirming.ConfirmFault.{ConfirmFault}
+use Rattle.bp_confirm.specs.declared.last_choices.LastChoice.{LastChoice}
 use Rattle.bp_confirm.specs.ConfirmedTexts.{IsConfirmedText, IsStepsRefusal}
 use Rattle.bp_facts.specs.FootFacts.{AreFootFacts, ShownFoot}
 use Rattle.bp_init.specs.NamedBits.{NamedBitOf}
@@ -21,10 +24,9 @@ use Rattle.bp_messages.specs.FaultTable.{exit_status}
 use Rattle.bp_messages.specs.Faults.{fault_of_steps}
 use Rattle.bp_messages.specs.Verdicts.{verdict_object, ShownVerdict}
 use Rattle.bp_commands.specs.Commands.{Command}
-use Rattle.bp_commands.specs.Drives.{IsSetupRefused}
 use Rattle.bp_commands.specs.Given.{Pair}
 use Rattle.bp_commands.specs.Listings.{HasNoCode}
-use Rattle.bp_commands.specs.NamedStarts.{by_names}
+use Rattle.bp_commands.specs.NamedStarts.{by_names, IsSetupRefused}
 use Rattle.bp_commands.specs.RunEnds.{AnswerRule}
 use Rattle.bp_show.specs.declared.confirming.Confirmation.{Confirmation}
 use Rattle.bp_show.specs.declared.confirming.VerdictForm.{VerdictForm}
@@ -49,19 +51,42 @@ abbrev pub status_of_verdict : (expected : Option Verdict) → Verdict → ℕ
 status_of_verdict None v = exit_status (is_verdict v Failure) None
 status_of_verdict (Some w) v = if is_verdict w v then 0 else 4
 
+-- a last bit on which a deadlock depends, after a comma as an object, else after a word
+abbrev pub choice_text : (json : Bool) → LastChoice → List ℕ
+choice_text true c =
+    concat (
+    codes ",{\"thread\":" ∷ decimal c.thread
+    ∷ codes ",\"bit\":" ∷ bit_text c.bit ∷ codes "}" ∷ [])
+choice_text false c =
+    concat (
+    codes " and ?=" ∷ bit_text c.bit
+    ∷ codes " at the last step of thread " ∷ decimal c.thread ∷ [])
+
+abbrev pub choices_text : (json : Bool) → List LastChoice → List ℕ
+choices_text json choices = flat_map (choice_text json) choices
+
+-- what is said of a deadlock before the last bits on which it depends
+abbrev pub deadlock_lead : (choices : List ℕ) → List ℕ
+deadlock_lead [] = codes "the steps are a run of the program; they end in a deadlock"
+deadlock_lead choices = codes "the steps are a run of the program; they may end in a deadlock, by"
+
+-- the line of a deadlock; no word stands before the first of these bits
+abbrev pub deadlock_line : (choices : List ℕ) → List ℕ
+deadlock_line choices =
+    concat (deadlock_lead choices ∷ drop 4 choices ∷ codes "\n" ∷ [])
+
 -- what a user reads of a verdict
-abbrev pub verdict_line : Verdict → List ℕ
-verdict_line Failure =
+abbrev pub verdict_line : (choices : List ℕ) → Verdict → List ℕ
+verdict_line choices Failure =
     codes "the steps are a run of the program; an assertion fails at the last one\n"
-verdict_line Deadlock =
-    codes "the steps are a run of the program; they end in a deadlock\n"
-verdict_line Run =
+verdict_line choices Deadlock = deadlock_line choices
+verdict_line choices Run =
     codes "the steps are a run of the program; no assertion fails at the last one\n"
 
 -- a failure has a line only if a verdict is expected
-abbrev pub line_as : (expected : Option Verdict) → Verdict → List ℕ
-line_as None Failure = []
-line_as expected v = verdict_line v
+abbrev pub line_as : (expected : Option Verdict) → (choices : List ℕ) → Verdict → List ℕ
+line_as None choices Failure = []
+line_as expected choices v = verdict_line choices v
 
 -- what is said of it to programs
 abbrev pub confirmation_shown : Confirmation → ShownVerdict
@@ -71,12 +96,13 @@ confirmation_shown x = record {
   contexts = Some x.report.contexts;
   failure = x.failure.items;
   waits = x.waits.items;
+  choices = x.choices.items;
 }
 
 abbrev pub confirm_summary : Confirmation → List ℕ
 confirm_summary x =
     if x.form.json then verdict_object (confirmation_shown x)
-    else line_as x.form.expected x.verdict
+    else line_as x.form.expected x.choices.items x.verdict
 
 abbrev pub of_confirm : AnswerRule Confirmation
 of_confirm = record {
@@ -84,10 +110,11 @@ of_confirm = record {
   summary = confirm_summary;
 }
 
--- this is the verdict on the steps of a program, which the history takes, in this form
+-- this is the verdict on the steps of a program, which the history takes, in this form; its
+-- deadlock depends on these last bits
 pub record IsConfirmation
-    (text : List ℕ) (t : Program) (s : SetupOf) (h : List Call) (form : VerdictForm)
-    (x : Confirmation)
+    (text : List ℕ) (t : Program) (s : SetupOf) (h : List Call) (choices : List LastChoice)
+    (form : VerdictForm) (x : Confirmation)
     : Type 0 where
   pub reported : IsReport s h x.report
   pub facts : ShownFoot
@@ -95,6 +122,7 @@ pub record IsConfirmation
   pub verdict : x.verdict ≡ verdict_of facts
   pub failure : x.failure.items ≡ outcome_text Json [] facts.deadlocked facts.failure
   pub waits : x.waits.items ≡ waits_text Json [] facts.waits
+  pub choices_are : x.choices.items ≡ choices_text form.json choices
   pub form_is : x.form ≡ form
 
 -- Reported steps of the program of a text are confirmed from this start, within this bound of
@@ -107,15 +135,17 @@ module _ (start : StartOf) (bound : ContextBound) (form : VerdictForm) (given : 
     pub fine : setup_fault program (setup_from start None program) ≡ None
     pub setup : SetupOf
     pub history : List Call
+    pub choices : List LastChoice
     pub confirmed :
         IsConfirmedText program (setup_from start None program) given.input given.text bound setup
-        history
+        history choices
     pub is : written ≡ trace_text setup history
 
   -- and this is the verdict
   pub record IsStepsReport (written : List ℕ) (answer : Confirmation) : Type 0 where
     pub trace : IsOfSteps written
-    pub verdict : IsConfirmation given.text trace.program trace.setup trace.history form answer
+    pub verdict :
+        IsConfirmation given.text trace.program trace.setup trace.history trace.choices form answer
 
   -- the program takes the setup, and no history is written that takes the steps
   pub record AreStepsRefused (f : Fault) : Type 0 where
@@ -128,7 +158,9 @@ module _ (start : StartOf) (bound : ContextBound) (form : VerdictForm) (given : 
     pub is : f ≡ fault_of_steps cause
 
   abbrev pub IsConfirmRefused : Fault → Type 0
-  IsConfirmRefused f = HasNoCode given.text f ⊎ (IsSetupRefused start given f ⊎ AreStepsRefused f)
+  IsConfirmRefused f =
+      HasNoCode given.text f
+      ⊎ (IsSetupRefused start given.text f ⊎ AreStepsRefused f)
 
 -- it writes the trace of the history that takes the steps
 abbrev pub confirms : StartOf → ContextBound → VerdictForm → Command Pair Confirmation

@@ -1,22 +1,24 @@
 //! The command `confirm`.
-ghost use Rattle.std.specs.Prelude.{◌≡◌, IfOk};
+ghost use Rattle.std.specs.Prelude.{◌≡◌, ◌++◌, IfOk, OnOk};
 ghost use Rattle.bp_commands.specs.Commands.{AnswersOf};
 ghost use Rattle.bp_commands.specs.Given.{Pair};
 ghost use Rattle.bp_facts.specs.FootFacts.{foot_in};
 ghost use Rattle.bp_flat.specs.StandsFor.{StandsFor};
 ghost use Rattle.bp_machine.specs.Sessions.{Stands};
-ghost use Rattle.bp_show.specs.Confirms.{confirms, of_confirm, status_of_verdict, verdict_line, verdict_of, verdict_word, IsConfirmation};
+ghost use Rattle.bp_show.specs.Confirms.{choice_text, choices_text, confirms, deadlock_lead, deadlock_line, of_confirm, status_of_verdict, verdict_line, verdict_of, verdict_word, IsConfirmation};
+ghost use Rattle.bp_text.specs.Writing.{Writes};
 
 use bp_check::Checked;
 use bp_commands::{CommandAnswer, PairCommand, SecondInput, program_of, start_by_names};
-use bp_confirm::{Confirmed, confirm};
+use bp_confirm::{Confirmed, LastChoice, confirm};
 use bp_facts::{FootFacts, facts_of_foot, facts_of_program};
 use bp_init::NamedStart;
 use bp_machine::{Report, Start};
 use bp_messages::{Fault, VerdictFacts, exit_status, put_verdict};
 use bp_source::source_statements_of;
 use bp_tasks::{ContextBound, Verdict, ViewFormat};
-use bp_text::{WriteFault, put};
+use bp_text::Piece::{Bit, Bytes, Number};
+use bp_text::{WriteFault, part_from, push_pieces, put, put_pieces};
 use bp_trace::limits::MAX_SCHEDULE;
 use bp_trace::{Version, write_with_open_lines};
 use bp_view::{outcome_text, waits_text};
@@ -56,6 +58,8 @@ pub struct Confirmation {
     pub failure: Vec<u8>,
     /// The objects of the threads that wait in a deadlock, each after a comma.
     pub waits: Vec<u8>,
+    /// The last bits on which the deadlock depends, each as an object after a comma or in words.
+    pub choices: Vec<u8>,
     pub form: VerdictForm,
 }
 
@@ -84,17 +88,83 @@ fn verdict_word(verdict: Verdict) -> &'static [u8]
     }
 }
 
-/// What a user reads of a verdict.
-fn verdict_line(verdict: Verdict) -> &'static [u8]
-    ensures { result.now ≡ verdict_line verdict }
+/// What is said of a deadlock before the last bits on which it depends.
+fn deadlock_lead(choices: &[u8]) -> &'static [u8]
+    ensures { result.now ≡ deadlock_lead choices.now }
+{
+    if choices.is_empty() {
+        b"the steps are a run of the program; they end in a deadlock"
+    } else {
+        b"the steps are a run of the program; they may end in a deadlock, by"
+    }
+}
+
+/// Writes what a user reads of a deadlock, which depends on these last bits.
+fn put_deadlock<W: Write>(choices: &[u8], out: &mut W) -> Result<(), WriteFault>
+    ensures { let line = deadlock_line choices.now in
+        Writes (W.contents out.old) (W.contents out.new) line result }
+{
+    let lead = Bytes(deadlock_lead(choices));
+    put_pieces(out, &[lead, Bytes(part_from(choices, 4)), Bytes(b"\n")])
+}
+
+/// Writes what a user reads of a verdict.
+fn put_line<W: Write>(choices: &[u8], verdict: Verdict, out: &mut W) -> Result<(), WriteFault>
+    ensures { let line = verdict_line choices.now verdict in
+        Writes (W.contents out.old) (W.contents out.new) line result }
 {
     match verdict {
-        Verdict::Failure => {
-            b"the steps are a run of the program; an assertion fails at the last one\n"
-        }
-        Verdict::Deadlock => b"the steps are a run of the program; they end in a deadlock\n",
-        Verdict::Run => b"the steps are a run of the program; no assertion fails at the last one\n",
+        Verdict::Deadlock => put_deadlock(choices, out),
+        Verdict::Failure => put(
+            out,
+            b"the steps are a run of the program; an assertion fails at the last one\n",
+        ),
+        Verdict::Run => put(
+            out,
+            b"the steps are a run of the program; no assertion fails at the last one\n",
+        ),
     }
+}
+
+/// Adds a last bit on which a deadlock depends.
+fn push_choice(text: &mut Vec<u8>, json: bool, choice: LastChoice) -> Result<(), AllocError>
+    ensures { let more = choice_text json choice in
+        OnOk result (text.new.items ≡ text.old.items ++ more) }
+{
+    let thread = Number(u64::from(choice.thread));
+    let bit = Bit(choice.bit);
+    if json {
+        return push_pieces(
+            text,
+            &[
+                Bytes(b",{\"thread\":"),
+                thread,
+                Bytes(b",\"bit\":"),
+                bit,
+                Bytes(b"}"),
+            ],
+        );
+    }
+    push_pieces(
+        text,
+        &[
+            Bytes(b" and ?="),
+            bit,
+            Bytes(b" at the last step of thread "),
+            thread,
+        ],
+    )
+}
+
+/// The last bits on which a deadlock depends.
+fn choices_text(alloc: Global, json: bool, choices: &[LastChoice]) -> Result<Vec<u8>, AllocError>
+    ensures { IfOk result (λ v. v.items ≡ choices_text json choices.now) }
+{
+    let mut text = Vec::new(alloc);
+    for choice in choices {
+        push_choice(&mut text, json, *choice)?;
+    }
+    Ok(text)
 }
 
 /// The exit status of a verdict: whether an assertion failed, or 0 or 4 if a verdict is expected.
@@ -124,6 +194,7 @@ impl CommandAnswer for Confirmation {
                     contexts: Some(u64::from(self.report.contexts)),
                     failure: &self.failure,
                     waits: &self.waits,
+                    choices: &self.choices,
                 },
                 errors,
             );
@@ -132,7 +203,7 @@ impl CommandAnswer for Confirmation {
         if self.form.expected.is_none() && matches!(self.verdict, Verdict::Failure) {
             return Ok(());
         }
-        put(errors, verdict_line(self.verdict))
+        put_line(&self.choices, self.verdict, errors)
     }
 }
 
@@ -148,7 +219,8 @@ fn confirmation_of(
     ensures { Stands checked.now confirmed.now.session confirmed.now.history.items
         → let setup = confirmed.now.session.setup in
         let history = confirmed.now.history.items in
-        IfOk result (IsConfirmation text.now checked.now setup history form) }
+        let choices = confirmed.now.choices.items in
+        IfOk result (IsConfirmation text.now checked.now setup history choices form) }
 {
     let statements = source_statements_of(alloc, text, checked)?;
     let program = facts_of_program(statements.as_slice(), checked);
@@ -157,11 +229,13 @@ fn confirmation_of(
     let format = ViewFormat::Json;
     let failure = outcome_text(alloc, format, "", foot.deadlocked, foot.failure.as_ref())?;
     let waits = waits_text(alloc, format, "", foot.waits.as_slice())?;
+    let choices = choices_text(alloc, form.json, confirmed.choices.as_slice())?;
     Ok(Confirmation {
         verdict: verdict_of(&foot),
         report,
         failure,
         waits,
+        choices,
         form,
     })
 }

@@ -1,5 +1,5 @@
+pub mod FaultlessSetups
 pub mod GrantedCalls
-pub mod ListParts
 pub mod SameWaits
 pub mod SearchStarts
 pub mod ShrunkHistories

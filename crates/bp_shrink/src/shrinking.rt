@@ -1,17 +1,19 @@
 //! Shrinking a history that fails or ends in a deadlock.
-ghost use Rattle.std.specs.Prelude.{◌≡◌, ◌≤◌, None, IfOk, map};
+ghost use Rattle.std.specs.Prelude.{◌≡◌, ◌≤◌, IfOk};
 ghost use Rattle.bp_tree.specs.Ast.{Program};
 ghost use Rattle.bp_flat.specs.StandsFor.{StandsFor};
 ghost use Rattle.bp_machine.specs.Histories.{granted_calls, IsLegal};
 ghost use Rattle.bp_machine.specs.Reports.{IsReport};
-ghost use Rattle.bp_machine.specs.Setups.{setup_fault, FitsCode};
+ghost use Rattle.bp_machine.specs.Setups.{FitsCode};
 ghost use Rattle.bp_shrink.specs.HistoryEnds.{IsEnd};
 ghost use Rattle.bp_shrink.specs.Shrinks.{budgeted, IsDriven, IsShrunk, IsShrunkOf};
 
 use crate::history_ends::HistoryEnd;
 use crate::searches::{Driven, Search, improve};
 use bp_flat::Code;
-use bp_machine::{Call, Reply, Report, Session, Setup, open_lines, runs_are_histories};
+use bp_machine::{
+    Call, Reply, Report, Session, Setup, open_lines, runs_are_histories, steps_are_within,
+};
 use std::alloc::{AllocError, Global};
 
 /// A history that ends as another one does, and is no larger.
@@ -37,61 +39,20 @@ fn granted(alloc: Global, history: &[Call]) -> Result<Vec<Call>, AllocError>
     Ok(calls)
 }
 
-/// The names of the entry procedures, thread 0 first.
-fn entries_of(alloc: Global, setup: &Setup) -> Result<Vec<&[u8]>, AllocError>
-    ensures { IfOk result (λ v. map (λ n. n.now) v.items ≡ setup.now.entries) }
-{
-    let mut names = Vec::new(alloc);
-    for thread in 0..setup.threads() {
-        if let Some(name) = setup.entry(thread) {
-            names.push(name.as_bytes())?;
-        }
-    }
-    Ok(names)
-}
-
-/// The initial bits of the globals.
-fn init_of(alloc: Global, setup: &Setup) -> Result<Vec<bool>, AllocError>
-    ensures { IfOk result (λ v. v.items ≡ setup.now.init) }
+/// The setup with this many contexts and no seed.
+fn budgeted(setup: &Setup, contexts: u32) -> Result<Setup, AllocError>
+    requires { contexts ≤ setup.now.contexts }
+    ensures { IfOk result (λ x. x ≡ budgeted setup.now contexts) }
 {
     setup.is_in_range();
-    let mut bits = Vec::new(alloc);
-    let mut n = 0;
-    while let Some(bit) = setup.init(n) {
-        bits.push(bit)?;
-        n += 1;
-    }
-    Ok(bits)
-}
-
-/// The setup with this many contexts and no seed.
-fn budgeted(alloc: Global, code: &Code, setup: &Setup, contexts: u32) -> Result<Setup, AllocError>
-    ensures { IfOk result (λ x.
-        (t : Program)
-        → StandsFor code.now t
-        → (x ≡ budgeted setup.now contexts) × (setup_fault t x ≡ None)) }
-{
-    let entries = entries_of(alloc, setup)?;
-    let init = init_of(alloc, setup)?;
-    let (contexts, calls) = (u64::from(contexts), u64::from(setup.calls()));
-    // The setup of a session has no fault, and uses no fewer contexts.
-    match Setup::from_names(
-        alloc,
-        code,
-        entries.as_slice(),
-        init.as_slice(),
-        contexts,
-        calls,
-        None,
-    ) {
-        Ok(setup) => Ok(setup),
-        Err(_) => Err(AllocError),
-    }
+    let unseeded = setup.try_copy()?.with_seed(None);
+    Ok(unseeded.with_bounds(contexts, setup.calls()))
 }
 
 /// The calls of the best history that made a step, in the setup of the contexts that they use.
 fn used(alloc: Global, code: &Code, setup: &Setup, search: &Search) -> Result<Shrunk, AllocError>
-    requires { (t : Program)
+    requires fits { FitsCode code.now setup.now }
+    requires driven { (t : Program)
         → StandsFor code.now t
         → IsDriven t setup.now search.now.end search.now.best }
     ensures { IfOk result (λ g.
@@ -100,9 +61,12 @@ fn used(alloc: Global, code: &Code, setup: &Setup, search: &Search) -> Result<Sh
         → IsShrunkOf t setup.now search.now g) }
 {
     runs_are_histories();
+    steps_are_within();
+    code.is_of_a_program();
     let best = &search.best;
     let history = granted(alloc, best.history.as_slice())?;
-    let setup = budgeted(alloc, code, setup, best.report.contexts)?;
+    let setup = budgeted(setup, best.report.contexts)?;
+    setup.is_in_range();
     let calls = history.as_slice();
     let report = Report {
         calls: calls.len() as u64,

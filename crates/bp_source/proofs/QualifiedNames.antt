@@ -1,17 +1,13 @@
 -- A name after the name of a procedure and a dot.
-use Rattle.std.proofs.Common.{◌≡◌, ◌≢◌, ◌∙◌, ◌==◌, ◌&&◌, ℕ, Bool, true, false, List, [], ◌∷◌, ◌++◌, bytes_eq, codes, ap, refl, sym, subst}
+use Rattle.std.proofs.Common.{◌≡◌, ◌≢◌, ◌∙◌, ◌&&◌, ℕ, Bool, true, false, List, [], ◌∷◌, ◌++◌, bytes_eq, codes, ap, refl}
 use Rattle.std.proofs.lemmas.Bool.{eq-eqb}
 use Rattle.std.proofs.lemmas.Slice.Eq.{bytes_eq-Decides}
-use Rattle.std.proofs.lemmas.List.{append_cancel_left}
 use Rattle.bp_text.proofs.GrownLists.{regrouped}
 use Rattle.bp_source.specs.VariableNames.{qualified}
 
 -- it is the procedure's name, and then a dot and the own name
 pub qualified_parts : (own name : List ℕ) → qualified own name ≡ own ++ (46 ∷ name)
 qualified_parts own name = simp regrouped
-
-pub same_owner : (own a b : List ℕ) → qualified own a ≡ qualified own b → a ≡ b
-same_owner own a b e = append_cancel_left (own ++ codes ".") a b e
 
 same_front : (front a b : List ℕ) → bytes_eq (front ++ a) (front ++ b) ≡ bytes_eq a b
 same_front [] a b = refl
@@ -30,6 +26,3 @@ other_text text own none name = by_test (bytes_eq text (qualified own name)) ref
 -- a text that does not begin with the procedure's name, or not with a dot after it
 pub no_owner : (text own : List ℕ) → ((rest : List ℕ) → text ≢ own ++ rest) → (name : List ℕ) → text ≢ qualified own name
 no_owner text own none name e = none (46 ∷ name) (e ∙ qualified_parts own name)
-
-pub no_dot : (text own rest : List ℕ) → text ≡ own ++ rest → ((name : List ℕ) → rest ≢ 46 ∷ name) → (name : List ℕ) → text ≢ qualified own name
-no_dot text own rest is none name e = none name (append_cancel_left own rest (46 ∷ name) (sym is ∙ e ∙ qualified_parts own name))

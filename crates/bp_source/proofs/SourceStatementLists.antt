@@ -57,26 +57,6 @@ module _ (text : List ℕ) (ps : List Procedure) where
       let found = source_statement_at xs statements n x are.1 has in
       record { statement = found.statement; at = found.at; is = found.is }
 
-  -- the place of the n-th
-  pub record PlaceOf (xs : List Place) (n : ℕ) (statement : SourceStatement) : Type 0 where
-    pub place : Place
-    pub at : slice_get xs n ≡ Some place
-    pub is : IsSourceStatement text ps place statement
-
-  pub place_of : (xs : List Place) (statements : List SourceStatement) (n : ℕ) (statement : SourceStatement) → AreSourceStatementsAt text ps xs statements
-      → slice_get statements n ≡ Some statement → PlaceOf xs n statement
-  place_of [] [] n statement are has = absurd (false≢true (ap is_some has))
-  place_of [] (s ∷ statements) n statement are has = elim are [ ]
-  place_of (y ∷ xs) [] n statement are has = elim are [ ]
-  place_of (y ∷ xs) (s ∷ statements) zero statement are has = record {
-    place = y;
-    at = refl;
-    is = subst (λ o. IsSourceStatement text ps y (unwrap_or o s)) has are.0;
-  }
-  place_of (y ∷ xs) (s ∷ statements) (suc n) statement are has =
-      let found = place_of xs statements n statement are.1 has in
-      record { place = found.place; at = found.at; is = found.is }
-
   pub more_statements : (xs : List Place) (i : ℕ) (x : Place) (statements new : List SourceStatement) (statement : SourceStatement)
       → slice_get xs i ≡ Some x → AreSourceStatementsAt text ps (take i xs) statements
       → new ≡ statements ++ statement ∷ [] → IsSourceStatement text ps x statement → AreSourceStatementsAt text ps (take (i + 1) xs) new

@@ -4,6 +4,7 @@ use Rattle.std.specs.List.{concat}
 use Rattle.bp_tree.specs.Ast.{Program}
 use Rattle.bp_flat.specs.StandsFor.{Place, places_of}
 use Rattle.bp_flat.specs.Starts.{start_of_block}
+use Rattle.bp_text.specs.Displayed.{displayed}
 use Rattle.bp_text.specs.declared.positions.Position.{Position}
 use Rattle.bp_text.specs.Positions.{position_at}
 use Rattle.bp_source.specs.declared.source_statements.SourceStatement.{SourceStatement}
@@ -13,7 +14,7 @@ use Rattle.bp_source.specs.SourceStatements.{AreSourceStatements}
 abbrev pub statement_line : Option ℕ → (file place shown : List ℕ) → List ℕ
 statement_line None file place shown = []
 statement_line (Some at) file place shown =
-    concat (file ∷ codes ":" ∷ place ∷ codes " " ∷ shown ∷ codes "\n" ∷ [])
+    concat (displayed file ∷ codes ":" ∷ place ∷ codes " " ∷ shown ∷ codes "\n" ∷ [])
 
 abbrev pub line_of_statement : List ℕ → SourceStatement → List ℕ
 line_of_statement file statement =

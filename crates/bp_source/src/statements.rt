@@ -8,7 +8,7 @@ ghost use Rattle.bp_source.specs.StatementLines.{line_of_statement, positions_of
 use crate::source_statements::{SourceStatement, source_statements_of};
 use crate::unreached::push_object;
 use bp_check::Checked;
-use bp_text::Piece::Bytes;
+use bp_text::Piece::{Bytes, Displayed};
 use bp_text::{Position, push_bytes, push_pieces};
 use std::alloc::{AllocError, Global};
 
@@ -39,7 +39,7 @@ fn push_line<'a>(
     push_pieces(
         line,
         &[
-            Bytes(file.as_bytes()),
+            Displayed(file.as_bytes()),
             Bytes(b":"),
             Bytes(statement.place.as_slice()),
             Bytes(b" "),

@@ -31,12 +31,6 @@ or_or : (o p : Option ℕ) (x : ℕ) → option_or (option_or o (Some x)) p ≡ 
 or_or None p x = refl
 or_or (Some y) p x = refl
 
-pub starts : (text : List ℕ) → Continues text 0 text [] None
-starts text = record {
-  place = omega arith;
-  goes_on = λ ps c. (ps, c, refl, refl, refl);
-}
-
 -- what is known between two lexemes
 abbrev pub Known : List ℕ → ℕ → List ℕ → List Token → Option ℕ → ℕ → Type 0
 Known text at rest ts brace nameless = Continues text at rest ts brace × IsNameless nameless rest

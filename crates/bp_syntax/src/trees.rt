@@ -1,12 +1,11 @@
 //! Programs as trees.
-ghost use Rattle.std.specs.Prelude.{◌≡◌, ◌≤◌, IfOk};
+ghost use Rattle.std.specs.Prelude.{◌≡◌, ◌≤◌};
 ghost use Rattle.bp_tree.specs.Sizes.{procedures_size};
 ghost use Rattle.bp_language.specs.Texts.{HasText};
 ghost use Rattle.bp_language.specs.NamesIn.{HasShortNames, HasSpelledNames};
 
 use bp_language::limits::TEXT_LIMIT;
 use bp_tree::{Name, Names, Proc, Procs};
-use std::alloc::AllocError;
 use std::marker::Model;
 
 /// The tree of a program text that was read.
@@ -75,14 +74,5 @@ impl Tree {
         ensures { HasText self.now }
     {
         let _ = &self.globals;
-    }
-
-    /// Copies the whole program. Fails only if an allocation fails.
-    pub fn try_copy(&self) -> Result<Tree, AllocError>
-        ensures { IfOk result (λ t. t ≡ self.now) }
-    {
-        let globals = self.globals.try_copy()?;
-        let procs = self.procs.try_copy()?;
-        Ok(Tree { globals, procs })
     }
 }

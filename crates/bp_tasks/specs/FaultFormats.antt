@@ -6,7 +6,7 @@ use Rattle.bp_tasks.specs.declared.fault_formats.FaultFormat.TheVariants as faul
 use Rattle.bp_tasks.specs.declared.listing_forms.ListingForm.{ListingForm}
 use Rattle.bp_tasks.specs.declared.listing_forms.ListingForm.TheVariants as listing
 use Rattle.bp_tasks.specs.declared.tasks.Task.{Task}
-use Rattle.bp_tasks.specs.declared.tasks.Task.TheVariants.{Bundle, Check, Code, Drive, Confirm, Run, Test, Replay, Show, Migrate, Shrink}
+use Rattle.bp_tasks.specs.declared.tasks.Task.TheVariants.{Bundle, Check, Code, Drive, Confirm, Run, Test, Explore, Replay, Show, Migrate, Shrink}
 use Rattle.bp_tasks.specs.declared.view_options.ViewFormat.{ViewFormat}
 use Rattle.bp_tasks.specs.declared.view_options.ViewFormat.TheVariants as view
 
@@ -42,6 +42,7 @@ reporting (Drive task) = (false, task.explain)
 reporting (Confirm task) = (task.json, task.explain)
 reporting (Run task) = (false, task.explain)
 reporting (Test task) = (task.json, task.explain)
+reporting (Explore task) = (task.json, task.explain)
 reporting (Replay task) = (false, task.explain)
 reporting (Show task) = (is_viewed_in_json task.options.format, task.explain)
 reporting (Migrate task) = (false, task.explain)

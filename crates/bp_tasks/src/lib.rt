@@ -3,6 +3,7 @@
 
 mod context_bounds;
 mod explaining;
+mod explore_options;
 mod fault_formats;
 pub mod limits;
 mod listing_forms;
@@ -14,11 +15,13 @@ mod view_options;
 
 pub use context_bounds::ContextBound;
 pub use explaining::Explaining;
+pub use explore_options::ExploreOptions;
 pub use fault_formats::FaultFormat;
 pub use listing_forms::ListingForm;
 pub use run_options::RunOptions;
 pub use tasks::{
-    CheckTask, CodeTask, ConfirmTask, DriveTask, RunTask, ShowTask, Task, TestTask, TraceTask,
+    CheckTask, CodeTask, ConfirmTask, DriveTask, ExploreTask, RunTask, ShowTask, Task, TestTask,
+    TraceTask,
 };
 pub use test_options::TestOptions;
 pub use verdicts::Verdict;

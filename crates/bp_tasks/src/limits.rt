@@ -12,6 +12,9 @@ pub const DEFAULT_RING: u32 = 1024;
 /// How many runs a test has, where no number is given.
 pub const DEFAULT_RUNS: u64 = 10_000;
 
+/// How many states an exploration keeps at most, if no number is given.
+pub const DEFAULT_STATES: u64 = 50_000_000;
+
 /// How many blocks of runs are made side by side, where no number is given.
 pub const DEFAULT_JOBS: u32 = 1;
 

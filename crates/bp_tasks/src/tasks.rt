@@ -4,6 +4,7 @@ ghost use Rattle.bp_tasks.specs.FaultFormats.{fault_format, reporting};
 
 use crate::context_bounds::ContextBound;
 use crate::explaining::Explaining;
+use crate::explore_options::ExploreOptions;
 use crate::fault_formats::FaultFormat;
 use crate::listing_forms::ListingForm;
 use crate::run_options::RunOptions;
@@ -94,6 +95,23 @@ pub struct TestTask<'a> {
     pub explain: Explaining,
 }
 
+/// A program, and how far all its runs are looked through.
+#[derive(Drop)]
+pub struct ExploreTask<'a> {
+    /// The path of the program's text.
+    pub program: &'a str,
+    /// What each run starts from, and the bound on contexts if there is one.
+    pub start: Start,
+    /// The globals whose initial bits are given by name.
+    pub named: NamedBits<'a>,
+    /// The path of the steps that a run is looked for that makes them in their order, if any is.
+    pub through: Option<&'a str>,
+    pub options: ExploreOptions,
+    /// Whether the summary is a JSON object, and a fault too.
+    pub json: bool,
+    pub explain: Explaining,
+}
+
 /// A program and a trace of it.
 #[derive(Drop)]
 pub struct TraceTask<'a> {
@@ -142,6 +160,8 @@ pub enum Task<'a> {
     Run(RunTask<'a>),
     /// `test FILE [ENTRY]..`
     Test(TestTask<'a>),
+    /// `explore FILE [ENTRY]..`
+    Explore(ExploreTask<'a>),
     /// `replay FILE TRACE`
     Replay(TraceTask<'a>),
     /// `show FILE TRACE`
@@ -171,6 +191,7 @@ impl Task<'_> {
             Task::Confirm(task) => (task.json, task.explain),
             Task::Run(task) => (false, task.explain),
             Task::Test(task) => (task.json, task.explain),
+            Task::Explore(task) => (task.json, task.explain),
             Task::Show(task) => (
                 matches!(task.options.format, ViewFormat::Json),
                 task.explain,

@@ -1,11 +1,11 @@
 -- The threads that wait, one after the other.
-use Rattle.std.proofs.Common.{◌≡◌, ◌+◌, ◌&&◌, ℕ, Bool, true, false, List, [], ◌∷◌, ◌++◌, Option, None, Some, is_some, cond, refl, ap, sym, ◌∙◌, add-one}
+use Rattle.std.proofs.Common.{◌≡◌, ◌+◌, ℕ, Bool, true, false, List, [], ◌∷◌, ◌++◌, Option, None, Some, is_some, cond, refl, ap, sym, ◌∙◌, add-one}
 use Rattle.std.proofs.lemmas.List.{map-append}
 use Rattle.std.proofs.lemmas.List.Elements.{All-nil, All-push}
 use Rattle.bp_tree.specs.Ast.{Program}
 use Rattle.bp_flat.specs.Configurations.{Frame, Configuration}
-use Rattle.bp_machine.specs.Answers.{stack_of, reply_on_stack}
-use Rattle.bp_machine.specs.Waiting.{is_blocked, waits}
+use Rattle.bp_machine.specs.Answers.{stack_of}
+use Rattle.bp_machine.specs.Waiting.{waits}
 use Rattle.bp_test.specs.declared.waiting.Waiting.{Waiting}
 use Rattle.bp_test.specs.Reached.{place_on, next_place, IsNumberOf}
 use Rattle.bp_test.specs.Waits.{waiting_below, IsNext, AreWaiting, IsWait}
@@ -13,20 +13,6 @@ use Rattle.bp_test.specs.Waits.{waiting_below, IsNext, AreWaiting, IsWait}
 module _ (t : Program) (c : Configuration) where
   pub none_waiting : AreWaiting t c 0 []
   none_waiting = record { threads = refl; each = All-nil (IsNext t c) }
-
-  on_stack : (i : ℕ) (fs : List Frame) → stack_of c i ≡ fs → place_on fs ≡ None → waits t c i ≡ true → ⊥
-  on_stack i [] is none waiting =
-      let a =
-      ap
-      (λ s. is_blocked (reply_on_stack t true c.globals s false) && is_blocked (reply_on_stack t true c.globals s true))
-      is in
-      let b = waiting in
-      cc
-  on_stack i (f ∷ fs) is none waiting = cc
-
-  -- a thread that has no next place does not wait
-  pub nowhere : (i : ℕ) → next_place c i ≡ None → waits t c i ≡ true → ⊥
-  nowhere i none waiting = on_stack i (stack_of c i) refl none waiting
 
   module _ (n : ℕ) (xs : List Waiting) (was : AreWaiting t c n xs) where
     after : (b : Bool) → waits t c n ≡ b → cond b (waiting_below t c n ++ n ∷ []) (waiting_below t c n) ≡ waiting_below t c (n + 1)

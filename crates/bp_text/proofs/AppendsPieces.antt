@@ -1,6 +1,6 @@
 -- How pieces that were written one after the other add up.
-use Rattle.std.proofs.Common.{◌≡◌, refl, ℕ, ◌+◌, ◌-◌, ◌<◌, ◌≤◌, List, [], ◌∷◌, ◌++◌, Option, length, take, drop, get_or, flat_map, map, sym, subst, arith, add-one, drop-cons, take-append-drop, length-append, length-drop}
-use Rattle.std.proofs.lemmas.List.{map-append, take-append-le}
+use Rattle.std.proofs.Common.{◌≡◌, refl, ℕ, ◌+◌, ◌-◌, ◌<◌, ◌≤◌, List, ◌++◌, Option, length, take, drop, get_or, flat_map, sym, subst, arith, add-one, drop-cons, take-append-drop, length-append, length-drop}
+use Rattle.std.proofs.lemmas.List.{take-append-le}
 use Rattle.std.proofs.Math.Seq.{take-add, take-length, take-append-add}
 use Rattle.std.proofs.lemmas.Grind.{flat_map-append}
 use Rattle.std.proofs.KnownBytes.{Appends-trans}
@@ -37,10 +37,3 @@ pub flat_map_at : {X : Type 0} (f : X → List ℕ) (xs : List X) (i : ℕ) (x :
 flat_map_at f xs i x h =
     subst (λ ys. flat_map f ys ≡ flat_map f (take i xs) ++ (f (get_or xs i x) ++ flat_map f (drop (i + 1) xs))) (take-append-drop i xs)
     (rw (flat_map-append f (take i xs) (drop i xs)) (rw (add-one, drop-cons xs i x) refl))
-
--- the bytes before the i-th, the i-th and the others, each by this rule
-pub map_at : (f : ℕ → ℕ) (xs : List ℕ) (i x : ℕ) → i < length xs
-    → map f xs ≡ map f (take i xs) ++ ((f (get_or xs i x) ∷ []) ++ map f (drop (i + 1) xs))
-map_at f xs i x h =
-    subst (λ ys. map f ys ≡ map f (take i xs) ++ ((f (get_or xs i x) ∷ []) ++ map f (drop (i + 1) xs))) (take-append-drop i xs)
-    (rw (map-append f (take i xs) (drop i xs)) (rw (add-one, drop-cons xs i x) refl))

@@ -1,5 +1,6 @@
 pub mod Appends
 pub mod AppendsPieces
+mod DisplayedTexts
 pub mod FirstLines
 pub mod GrownLists
 pub mod ItemsOfLists

@@ -1,34 +1,16 @@
 -- Texts on one line, one after the other.
-use Rattle.std.proofs.Common.{if◌then◌else◌, ◌≡◌, ◌==◌, ℕ, false, true, Bool, List, [], ◌∷◌, ◌++◌, map, refl, take, zero, suc}
+use Rattle.std.proofs.Common.{if◌then◌else◌, ◌≡◌, ◌==◌, ℕ, false, true, Bool, List, [], ◌∷◌, ◌++◌, map, refl}
 use Rattle.bp_text.specs.OneLine.{IsOneLine, AddsOneLine, on_one_line}
-use Rattle.bp_text.specs.Columns.{spaces}
-use Rattle.bp_text.proofs.GrownLists.{both_added}
 
 pub one_line_append : (xs ys : List ℕ) → IsOneLine xs → IsOneLine ys → IsOneLine (xs ++ ys)
 one_line_append [] ys is second = second
 one_line_append (x ∷ xs) ys is second = (is.0, one_line_append xs ys is.1 second)
-
-pub adds_then : (a b c : List ℕ) → AddsOneLine a b → AddsOneLine b c → AddsOneLine a c
-adds_then a b c first second = record {
-  more = first.more ++ second.more;
-  is = both_added a b c first.more second.more _ second.is first.is refl;
-  one_line = one_line_append first.more second.more first.one_line second.one_line;
-}
 
 pub adds_these : (a b xs : List ℕ) → b ≡ a ++ xs → IsOneLine xs → AddsOneLine a b
 adds_these a b xs is line = record { more = xs; is = is; one_line = line }
 
 pub one_line_after : (a b : List ℕ) → IsOneLine a → AddsOneLine a b → IsOneLine b
 one_line_after a b is adds = rw adds.is (one_line_append a adds.more is adds.one_line)
-
-pub one_line_take : (n : ℕ) (xs : List ℕ) → IsOneLine xs → IsOneLine (take n xs)
-one_line_take zero xs is = tt
-one_line_take (suc n) [] is = tt
-one_line_take (suc n) (x ∷ xs) is = (is.0, one_line_take n xs is.1)
-
-pub one_line_spaces : (n : ℕ) → IsOneLine (spaces n)
-one_line_spaces zero = tt
-one_line_spaces (suc n) = (refl, one_line_spaces n)
 
 no_line_feed : (b : ℕ) (is : Bool) → (b == 10) ≡ is → ((if is then 32 else b) == 10) ≡ false
 no_line_feed b true e = refl

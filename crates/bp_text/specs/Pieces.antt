@@ -1,11 +1,11 @@
 -- What the pieces of a text say.
-use Rattle.std.specs.Prelude.{if◌then◌else◌, ℕ, Bool, List, [], ◌∷◌, Option, None, Some, codes, decimal, drop, map, option_map}
+use Rattle.std.specs.Prelude.{if◌then◌else◌, ℕ, Bool, List, [], ◌∷◌, Option, None, Some, codes, decimal, drop, option_map}
 use Rattle.std.specs.List.{concat}
 use Rattle.bp_text.specs.Columns.{at_left, at_right, spaces}
+use Rattle.bp_text.specs.Displayed.{displayed}
 use Rattle.bp_text.specs.JsonStrings.{string_text}
-use Rattle.bp_text.specs.OneLine.{on_one_line}
 use Rattle.bp_text.specs.declared.pieces.Piece.{Piece}
-use Rattle.bp_text.specs.declared.pieces.Piece.TheVariants.{Bytes, Number, Spaces, Left, Right, NumberRight, OneLine, Key, Text, Letter, NumberOrNull, TextOrNull, Truth, Bit, BitOrNull, List as AsList}
+use Rattle.bp_text.specs.declared.pieces.Piece.TheVariants.{Bytes, Number, Spaces, Left, Right, NumberRight, Displayed, Key, Text, Letter, NumberOrNull, TextOrNull, Truth, Bit, BitOrNull, List as AsList}
 
 abbrev pub string_or_null : Option (List ℕ) → List ℕ
 string_or_null None = codes "null"
@@ -41,7 +41,7 @@ piece_text (Spaces n) = spaces n
 piece_text (Left width bytes) = at_left width bytes.now
 piece_text (Right width bytes) = at_right width bytes.now
 piece_text (NumberRight width n) = at_right width (decimal n)
-piece_text (OneLine bytes) = map on_one_line bytes.now
+piece_text (Displayed bytes) = displayed bytes.now
 piece_text (Key key) = key_text key.now
 piece_text (Text text) = string_text text.now
 piece_text (Letter b) = string_text (b ∷ [])

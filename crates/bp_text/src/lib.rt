@@ -4,6 +4,7 @@
 
 mod columns;
 mod decimals;
+mod displayed;
 mod excerpts;
 mod json_strings;
 mod lines;
@@ -15,6 +16,7 @@ mod writing;
 
 pub use columns::{push_bytes, push_left, push_right, push_spaces};
 pub use decimals::{digits, number_of};
+pub use displayed::{no_control_is_displayed, push_displayed};
 pub use excerpts::{excerpt_of, push_line, push_place};
 pub use json_strings::strings_are_read_back;
 pub use lines::{Line, line_of, take_line, text_from_line};

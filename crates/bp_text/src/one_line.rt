@@ -1,11 +1,8 @@
 //! Texts on one line: a space stands for each line feed.
 ghost use Rattle.std.specs.Prelude.{◌≡◌, ◌++◌, map, OnOk};
 ghost use Rattle.bp_text.specs.OneLine.{on_one_line, AddsOneLine};
-ghost use Rattle.bp_text.specs.Writing.{Writes};
 
-use crate::writing::{WriteFault, put};
 use std::alloc::AllocError;
-use std::io::Write;
 
 /// The byte, or a space for a line feed.
 fn on_one_line(byte: u8) -> u8
@@ -21,17 +18,6 @@ pub fn push_on_one_line(line: &mut Vec<u8>, bytes: &[u8]) -> Result<(), AllocErr
 {
     for byte in bytes {
         line.push(on_one_line(*byte))?;
-    }
-    Ok(())
-}
-
-/// Writes the bytes, with a space for each line feed.
-pub(crate) fn put_on_one_line<W: Write>(bytes: &[u8], out: &mut W) -> Result<(), WriteFault>
-    ensures { let line = map on_one_line bytes.now in
-        Writes (W.contents out.old) (W.contents out.new) line result }
-{
-    for byte in bytes {
-        put(out, &[on_one_line(*byte)])?;
     }
     Ok(())
 }

@@ -6,8 +6,8 @@ ghost use Rattle.bp_text.specs.Writing.{Writes};
 use crate::columns::{
     push_bytes, push_left, push_right, push_spaces, put_left, put_right, put_spaces,
 };
+use crate::displayed::{push_displayed, put_displayed};
 use crate::json_strings::{push_string, put_string};
-use crate::one_line::{push_on_one_line, put_on_one_line};
 use crate::parts::part_from;
 use crate::writing::{WriteFault, put, put_each};
 use itoa::Buffer;
@@ -29,8 +29,8 @@ pub enum Piece<'a> {
     Right(usize, &'a [u8]),
     /// The decimal of a number at the right of a field of this width.
     NumberRight(usize, u64),
-    /// The bytes, with a space for each line feed.
-    OneLine(&'a [u8]),
+    /// The bytes, with `?` for each byte of a control character.
+    Displayed(&'a [u8]),
     /// The key of one more member of an object of JSON, after a comma.
     Key(&'a [u8]),
     /// The bytes as a string of JSON.
@@ -87,7 +87,7 @@ fn put_piece<W: Write>(piece: Piece<'_>, out: &mut W) -> Result<(), WriteFault>
             let mut buffer = Buffer::new();
             put_right(width, buffer.format(number).as_bytes(), out)
         }
-        Piece::OneLine(bytes) => put_on_one_line(bytes, out),
+        Piece::Displayed(bytes) => put_displayed(bytes, out),
         Piece::Key(key) => put_each(out, &[b",\"", key, b"\":"]),
         Piece::Text(text) => put_string(text, out),
         Piece::Letter(letter) => put_string(&[letter], out),
@@ -157,7 +157,7 @@ pub fn push_piece(line: &mut Vec<u8>, piece: Piece<'_>) -> Result<(), AllocError
             let mut buffer = Buffer::new();
             push_right(line, width, buffer.format(number).as_bytes())
         }
-        Piece::OneLine(bytes) => push_on_one_line(line, bytes),
+        Piece::Displayed(bytes) => push_displayed(line, bytes),
         Piece::Key(key) => push_key(line, key),
         Piece::Text(text) => push_string(line, text),
         Piece::Letter(letter) => push_string(line, &[letter]),

@@ -43,9 +43,6 @@ module _ (word text : List ℕ) where
     no_number none = λ n more fits e. none n fits (one_value (decimal n) more (decimal_without 10 (omega arith) n fits) e)
 
 module _ (text : List ℕ) where
-  pub no_entry : HasNoField (codes "entry ") text → HasNoEntry text
-  no_entry none = λ name rest q e. none name rest q.line e
-
   pub no_seed : HasNoField (codes "seed ") text → HasNoSeed text
   no_seed none = λ seed rest fits e. none (seed_word seed) rest (seed_without seed fits) e
 

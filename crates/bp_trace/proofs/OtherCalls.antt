@@ -1,15 +1,13 @@
 -- A call that differs from the machine's own is refused, and so is one where the machine makes none.
-use Rattle.std.proofs.Common.{◌≡◌, ◌<◌, ◌∙◌, ℕ, Bool, List, length, Option, None, Some, is_some, true, refl, sym, ap, subst, inl, inr, arith, cond}
+use Rattle.std.proofs.Common.{◌∙◌, ℕ, List, length, sym, ap, subst, inr}
 use Rattle.bp_tree.specs.Ast.{Program}
 use Rattle.bp_machine.specs.declared.calls.Call.{Call}
-use Rattle.bp_machine.specs.declared.ask_faults.AskFault.{AskFault}
-use Rattle.bp_machine.specs.declared.ask_faults.AskFault.TheVariants as refused
-use Rattle.bp_machine.specs.Setups.{SetupOf, threads}
+use Rattle.bp_machine.specs.Setups.{SetupOf}
 use Rattle.bp_trace.specs.declared.replay_faults.Due.{Due}
 use Rattle.bp_trace.specs.declared.replay_faults.ReplayFault.{ReplayFault}
 use Rattle.bp_trace.specs.declared.replay_faults.ReplayFault.TheVariants as fault
-use Rattle.bp_trace.specs.Judging.{IsDueCall, IsMismatch, IsCallRefusal, replay_fault_of}
-use Rattle.bp_trace.specs.OwnCalls.{IsOwnCall, IsOwnRefusal}
+use Rattle.bp_trace.specs.Judging.{IsDueCall, IsMismatch, IsCallRefusal}
+use Rattle.bp_trace.specs.OwnCalls.{IsOwnCall}
 use Rattle.bp_trace.specs.Replays.{IsDue, IsCallFault}
 
 module _ (t : Program) (s : SetupOf) (h : List Call) (n : ℕ) (x own : Call) (next : IsOwnCall t s h x own) where
@@ -35,21 +33,3 @@ module _ (t : Program) (s : SetupOf) (h : List Call) (n : ℕ) (x own : Call) (n
 
   pub other_call_refused : (f : ReplayFault) → IsMismatch own x n (length h) f → IsCallRefusal t s h n x f
   other_call_refused f is = inr (other_fault f is)
-
--- a recorded bit is handed in exactly where there is no seed
-not_both : (seed : Option ℕ) (bit : Bool) → is_some (cond (is_some seed) None (Some bit)) ≡ true → is_some seed ≡ true → ⊥
-not_both (Some k) bit given has = cc
-not_both None bit given has = cc
-
-not_neither : (seed : Option ℕ) (bit : Bool) → cond (is_some seed) None (Some bit) ≡ None → seed ≡ None → ⊥
-not_neither (Some k) bit given none = cc
-not_neither None bit given none = cc
-
-module _ (t : Program) (s : SetupOf) (h : List Call) (n : ℕ) (x : Call) (there : x.thread < threads s) where
-  pub own_refused : (f : AskFault) → IsOwnRefusal t s h x f → IsCallRefusal t s h n x (replay_fault_of f n (length h))
-  own_refused refused.Memory is = inl refl
-  own_refused refused.Finished is = inr (refl, refl, is.1)
-  own_refused refused.NoThread is = absurd (omega (arith, is, there))
-  own_refused refused.Seeded is = absurd (not_both s.seed x.bit is.1 is.2)
-  own_refused refused.Unseeded is = absurd (not_neither s.seed x.bit is.1 is.2)
-  own_refused refused.Busy is = absurd is

@@ -4,11 +4,9 @@ use Rattle.std.proofs.lemmas.List.{drop_at}
 use Rattle.bp_tree.specs.Ast.{Program}
 use Rattle.bp_machine.specs.declared.calls.Call.{Call}
 use Rattle.bp_machine.specs.declared.reports.Report.{Report}
-use Rattle.bp_machine.specs.declared.setup_faults.SetupFault.{SetupFault}
-use Rattle.bp_machine.specs.declared.setup_faults.SetupFault.TheVariants as setup
 use Rattle.bp_machine.specs.Histories.{open_lines}
 use Rattle.bp_machine.specs.Reports.{IsReport}
-use Rattle.bp_machine.specs.Setups.{SetupOf, setup_fault, IsSetupRefusal}
+use Rattle.bp_machine.specs.Setups.{SetupOf, setup_fault}
 use Rattle.bp_trace.specs.declared.limits.TheConstants.{MAX_TRACE}
 use Rattle.bp_trace.specs.declared.playing.Body.{Body}
 use Rattle.bp_trace.specs.declared.replay_faults.ReplayFault.{ReplayFault}
@@ -20,8 +18,8 @@ use Rattle.bp_trace.specs.declared.heads.Head.{Head}
 use Rattle.bp_trace.specs.HeadReading.{setup_of_head, IsHeadOf}
 use Rattle.bp_trace.specs.Heads.{HasHead}
 use Rattle.bp_trace.specs.declared.replaying.Opened.{Opened}
-use Rattle.bp_trace.specs.Accepted.{HasNoCalls, IsLongestAccepted}
-use Rattle.bp_trace.specs.Judging.{IsBody, IsBodyRefusal, HasRefusedBody, FitsText, IsOpened, replay_fault_of_setup}
+use Rattle.bp_trace.specs.Accepted.{IsLongestAccepted}
+use Rattle.bp_trace.specs.Judging.{IsBody, IsBodyRefusal, HasRefusedBody, FitsText, IsOpened}
 use Rattle.bp_trace.specs.Replays.{counts_of, IsPlayable, IsTrace, line_count, HasOtherEnd, HasMoreAfter, Reaches, IsRestRefused, HasRefusedRest, IsReplayRefusal}
 use Rattle.bp_trace.specs.TraceText.{version_line, entry_line, init_line, head_lines, head_text, calls_text, end_line}
 use Rattle.bp_trace.proofs.HeadTexts.{limits_text, setup_text, head_joined}
@@ -75,23 +73,6 @@ module _ (text : List ℕ) (head : Head) (o : Opened) (at : IsHeadOf text head) 
 
 module _ (t : Program) (text : List ℕ) (short : length text ≤ MAX_TRACE) (v : Version) (s : SetupOf) (rest : List ℕ)
     (has : HasHead s) (parts : text ≡ head_text v s ++ rest) where
-  -- the program does not take the setup
-  pub setup_refused : (f : SetupFault) → IsSetupRefusal t s f → IsReplayRefusal t text (replay_fault_of_setup f)
-  setup_refused setup.Threads r = (short, record { version = v; setup = s; rest = rest; head = has; parts = parts; fault = r })
-  setup_refused (setup.UnknownEntry k) r = (short, record { version = v; setup = s; rest = rest; head = has; parts = parts; fault = r })
-  setup_refused (setup.EntryHasFormals k) r = (short, record { version = v; setup = s; rest = rest; head = has; parts = parts; fault = r })
-  setup_refused setup.InitLength r = (short, record { version = v; setup = s; rest = rest; head = has; parts = parts; fault = r })
-  setup_refused setup.OutOfRange r = (short, record { version = v; setup = s; rest = rest; head = has; parts = parts; fault = r })
-  setup_refused setup.Memory r = short
-
-  pub setup_has_none : (f : SetupFault) → HasNoCalls (replay_fault_of_setup f)
-  setup_has_none setup.Threads = tt
-  setup_has_none (setup.UnknownEntry k) = tt
-  setup_has_none (setup.EntryHasFormals k) = tt
-  setup_has_none setup.InitLength = tt
-  setup_has_none setup.OutOfRange = tt
-  setup_has_none setup.Memory = tt
-
   module _ (fine : setup_fault t s ≡ None) (first : ℕ) (first_is : first ≡ length (head_lines v s) + 1) where
     module _ (h : List Call) (after : List ℕ) (playable : IsPlayable t s h) (body : rest ≡ calls_text v h ++ after) where
       reaches : Reaches t text v s h (first + line_count v h) after

@@ -4,13 +4,7 @@ use Rattle.bp_trace.specs.declared.replay_faults.EndCounts.{EndCounts}
 use Rattle.bp_trace.specs.declared.replay_faults.ReplayFault.{ReplayFault}
 use Rattle.bp_trace.specs.declared.replay_faults.ReplayFault.TheVariants as fault
 use Rattle.bp_trace.specs.TraceText.{end_line}
-use Rattle.bp_trace.specs.Writable.{Without}
 use Rattle.bp_trace.specs.Replays.{IsDecimal, IsEndLine, HasOtherEnd, HasMoreAfter}
-
--- the text is this word, the byte, which the word does not have, and the rest
-pub record IsCutAt (byte : ℕ) (text word rest : List ℕ) : Type 0 where
-  pub word_is : Without byte word
-  pub parts : text ≡ word ++ byte ∷ rest
 
 -- the byte is no decimal digit
 abbrev pub IsNoDigit : ℕ → Type 0

@@ -1,2 +1,1 @@
-pub mod BlockAppend
 pub mod GrownLists

@@ -1,6 +1,6 @@
 //! Expressions, and what decides a branch.
 ghost use Rattle.std.specs.Prelude.{◌≡◌, IfOk, map};
-ghost use Rattle.bp_tree.specs.Views.{expression_of, decision_of};
+ghost use Rattle.bp_tree.specs.Views.{expression_of};
 
 use crate::names::Name;
 use std::alloc::{AllocError, Global};
@@ -75,36 +75,6 @@ impl Sub {
     {
         &self.inner
     }
-
-    /// Copies the expression into a box of its own.
-    #[cycle(expr)]
-    pub fn try_copy(&self) -> Result<Sub, AllocError>
-        ensures { IfOk result (λ s. s ≡ self.now) }
-    {
-        let alloc = *Box::allocator(&self.inner);
-        let expr = self.inner.try_copy()?;
-        Ok(Sub {
-            inner: Box::new(alloc, expr)?,
-        })
-    }
-}
-
-impl Expr {
-    /// Copies an expression with all its operands, one level of calls for each level of the tree.
-    #[cycle(expr)]
-    pub fn try_copy(&self) -> Result<Expr, AllocError>
-        ensures { IfOk result (λ e. expression_of e ≡ expression_of self.now) }
-    {
-        match self {
-            Expr::Const(b) => Ok(Expr::Const(*b)),
-            Expr::Var(name) => Ok(Expr::Var(name.try_copy()?)),
-            Expr::Not(e) => Ok(Expr::Not(e.try_copy()?)),
-            Expr::Binary(op, left, right) => {
-                let left = left.try_copy()?;
-                Ok(Expr::Binary(*op, left, right.try_copy()?))
-            }
-        }
-    }
 }
 
 /// What decides a branch, a loop, an assertion or an assumption.
@@ -114,18 +84,6 @@ pub enum Decider {
     Choice,
     /// The value of an expression.
     Value(Expr),
-}
-
-impl Decider {
-    /// Copies what decides. `?` needs no allocation.
-    pub fn try_copy(&self) -> Result<Decider, AllocError>
-        ensures { IfOk result (λ d. decision_of d ≡ decision_of self.now) }
-    {
-        match self {
-            Decider::Choice => Ok(Decider::Choice),
-            Decider::Value(e) => Ok(Decider::Value(e.try_copy()?)),
-        }
-    }
 }
 
 /// Expressions in order: right sides, arguments or printed values.
@@ -162,16 +120,5 @@ impl Exprs {
         ensures { map expression_of result.now ≡ self.now }
     {
         self.items.as_slice()
-    }
-
-    /// Copies each expression, in order.
-    pub fn try_copy(&self) -> Result<Exprs, AllocError>
-        ensures { IfOk result (λ es. es ≡ self.now) }
-    {
-        let mut items = Vec::new(*self.items.allocator());
-        for expr in self.items.as_slice() {
-            items.push(expr.try_copy()?)?;
-        }
-        Ok(Exprs { items })
     }
 }

@@ -1,5 +1,4 @@
-//! The types of program trees. A contract sees each as data without memory, of `specs/Ast.antt`,
-//! so that a copy equals what it copies.
+//! The types of program trees. A contract sees each as data without memory, of `specs/Ast.antt`.
 #![tactic(auto)]
 
 pub mod exprs;

@@ -1,7 +1,6 @@
 //! Names of variables, procedures and labels.
-ghost use Rattle.std.specs.Prelude.{◌≡◌, IfOk, string_bytes};
+ghost use Rattle.std.specs.Prelude.{◌≡◌, string_bytes};
 
-use std::alloc::AllocError;
 use std::marker::Model;
 
 /// A name as it is spelled, braces included, and its place in the text.
@@ -44,16 +43,6 @@ impl Name {
     {
         self.at
     }
-
-    /// Copies the spelling. The copy names the same place in the text.
-    pub fn try_copy(&self) -> Result<Name, AllocError>
-        ensures { IfOk result (λ n. n ≡ self.now) }
-    {
-        Ok(Name {
-            text: self.text.clone()?,
-            at: self.at,
-        })
-    }
 }
 
 /// Names in order, as a declaration or the left side of an assignment has them.
@@ -88,16 +77,5 @@ impl Names {
         ensures { result.now ≡ self.now }
     {
         self.items.as_slice()
-    }
-
-    /// Copies each name, in order.
-    pub fn try_copy(&self) -> Result<Names, AllocError>
-        ensures { IfOk result (λ n. n ≡ self.now) }
-    {
-        let mut items = Vec::new(*self.items.allocator());
-        for name in self.items.as_slice() {
-            items.push(name.try_copy()?)?;
-        }
-        Ok(Names { items })
     }
 }

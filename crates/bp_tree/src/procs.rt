@@ -1,9 +1,8 @@
 //! Procedures: what a text declares of each, and its statements.
-ghost use Rattle.std.specs.Prelude.{◌≡◌, IfOk};
+ghost use Rattle.std.specs.Prelude.{◌≡◌};
 
 use crate::names::{Name, Names};
 use crate::stmts::{Block, Stmt};
-use std::alloc::AllocError;
 use std::marker::Model;
 
 /// A procedure: its name, its formals, its declared locals and its statements.
@@ -73,21 +72,6 @@ impl Proc {
     {
         self.body.as_slice()
     }
-
-    /// Copies the procedure with all its statements.
-    pub fn try_copy(&self) -> Result<Proc, AllocError>
-        ensures { IfOk result (λ p. p ≡ self.now) }
-    {
-        let name = self.name.try_copy()?;
-        let formals = self.formals.try_copy()?;
-        let locals = self.locals.try_copy()?;
-        Ok(Proc {
-            name,
-            formals,
-            locals,
-            body: self.body.try_copy()?,
-        })
-    }
 }
 
 /// Procedures in order of their text.
@@ -122,16 +106,5 @@ impl Procs {
         ensures { result.now ≡ self.now }
     {
         self.items.as_slice()
-    }
-
-    /// Copies each procedure, in order.
-    pub fn try_copy(&self) -> Result<Procs, AllocError>
-        ensures { IfOk result (λ p. p ≡ self.now) }
-    {
-        let mut items = Vec::new(*self.items.allocator());
-        for proc in self.items.as_slice() {
-            items.push(proc.try_copy()?)?;
-        }
-        Ok(Procs { items })
     }
 }

@@ -1,11 +1,10 @@
 //! Statements, and blocks of them.
-ghost use Rattle.std.specs.Prelude.{◌≡◌, IfOk, [], ◌∷◌};
+ghost use Rattle.std.specs.Prelude.{◌≡◌};
 ghost use Rattle.std.specs.Option.{option_copied};
-ghost use Rattle.bp_tree.specs.Blocks.{statement_of, block_of};
+ghost use Rattle.bp_tree.specs.Blocks.{block_of};
 
 use crate::exprs::{Decider, Exprs};
 use crate::names::{Name, Names};
-use std::alloc::AllocError;
 use std::marker::Model;
 
 /// A statement with its label and its place.
@@ -92,56 +91,6 @@ impl Stmt {
     {
         &self.form
     }
-
-    /// Copies the statement with its label and the blocks inside it.
-    #[cycle(stmt)]
-    pub fn try_copy(&self) -> Result<Stmt, AllocError>
-        ensures { IfOk result (λ s. block_of (s ∷ []) ≡ block_of (self.now ∷ [])) }
-    {
-        let label = match &self.label {
-            None => None,
-            Some(name) => Some(name.try_copy()?),
-        };
-        Ok(Stmt {
-            label,
-            at: self.at,
-            form: self.form.try_copy()?,
-        })
-    }
-}
-
-impl Form {
-    /// Copies the operands and the blocks, one level of calls for each level of nesting.
-    #[cycle(stmt)]
-    pub fn try_copy(&self) -> Result<Form, AllocError>
-        ensures { IfOk result (λ f. statement_of f ≡ statement_of self.now) }
-    {
-        match self {
-            Form::Skip => Ok(Form::Skip),
-            Form::Goto(to) => Ok(Form::Goto(to.try_copy()?)),
-            Form::Return => Ok(Form::Return),
-            Form::Assign(targets, values) => {
-                let targets = targets.try_copy()?;
-                Ok(Form::Assign(targets, values.try_copy()?))
-            }
-            Form::If(d, a, b) => {
-                let d = d.try_copy()?;
-                let a = a.try_copy()?;
-                Ok(Form::If(d, a, b.try_copy()?))
-            }
-            Form::While(d, body) => {
-                let d = d.try_copy()?;
-                Ok(Form::While(d, body.try_copy()?))
-            }
-            Form::Assert(d) => Ok(Form::Assert(d.try_copy()?)),
-            Form::Assume(d) => Ok(Form::Assume(d.try_copy()?)),
-            Form::Print(values) => Ok(Form::Print(values.try_copy()?)),
-            Form::Call(callee, arguments) => {
-                let callee = callee.try_copy()?;
-                Ok(Form::Call(callee, arguments.try_copy()?))
-            }
-        }
-    }
 }
 
 impl Block {
@@ -157,17 +106,5 @@ impl Block {
         ensures { block_of result.now ≡ self.now }
     {
         self.items.as_slice()
-    }
-
-    /// Copies each statement, in order.
-    #[cycle(stmt)]
-    pub fn try_copy(&self) -> Result<Block, AllocError>
-        ensures { IfOk result (λ b. b ≡ self.now) }
-    {
-        let mut items = Vec::new(*self.items.allocator());
-        for stmt in self.items.as_slice() {
-            items.push(stmt.try_copy()?)?;
-        }
-        Ok(Block { items })
     }
 }

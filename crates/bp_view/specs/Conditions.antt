@@ -3,7 +3,7 @@ use Rattle.std.specs.Prelude.{ℕ, List, [], ◌∷◌, ◌++◌, codes, decimal
 use Rattle.std.specs.List.{concat}
 use Rattle.bp_text.specs.declared.positions.Position.{Position}
 use Rattle.bp_text.specs.JsonStrings.{string_text}
-use Rattle.bp_text.specs.OneLine.{on_one_line}
+use Rattle.bp_text.specs.Displayed.{displayed}
 use Rattle.bp_text.specs.Pieces.{key_text, list_text}
 use Rattle.bp_source.specs.Places.{position_text}
 use Rattle.bp_facts.specs.FootFacts.{ShownCondition}
@@ -37,7 +37,7 @@ condition_members position statement values =
 -- what is said of a condition in a view of this format; for people its place is in a file
 abbrev pub condition_text : ViewFormat → (file : List ℕ) → ShownCondition → List ℕ
 condition_text Columns file x =
-    let place = map on_one_line file ++ codes ":" ++ position_text x.position in
+    let place = displayed file ++ codes ":" ++ position_text x.position in
     condition_lines place x.text (entries_text Columns x.values)
 condition_text Json file x = condition_members x.position x.text (entries_text Json x.values)
 

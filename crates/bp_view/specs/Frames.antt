@@ -2,7 +2,6 @@
 use Rattle.std.specs.Prelude.{if◌then◌else◌, ◌==◌, ℕ, List, [], ◌∷◌, Some, codes, flat_map, map}
 use Rattle.std.specs.List.{concat}
 use Rattle.bp_text.specs.JsonStrings.{string_text}
-use Rattle.bp_text.specs.OneLine.{on_one_line}
 use Rattle.bp_text.specs.Pieces.{key_text, list_text, number_or_null}
 use Rattle.bp_source.specs.JsonPlaces.{column_of, line_of}
 use Rattle.bp_facts.specs.StateFacts.{ShownFrame}
@@ -25,7 +24,7 @@ locals_text format x = variables_text format (Some x.procedure) x.locals
 abbrev pub frame_lines : ShownFrame → (values : List ℕ) → List ℕ
 frame_lines x values =
     concat (
-    concat (lead x.above ∷ map on_one_line x.procedure.name.text ∷ [])
+    concat (lead x.above ∷ x.procedure.name.text ∷ [])
     ∷ condition_lines x.place x.text values
     ∷ codes "\n" ∷ [])
 

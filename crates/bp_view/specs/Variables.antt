@@ -4,7 +4,6 @@ use Rattle.std.specs.List.{concat}
 use Rattle.bp_tree.specs.Ast.{Procedure}
 use Rattle.bp_flat.specs.Values.{Valuation}
 use Rattle.bp_text.specs.JsonStrings.{string_text}
-use Rattle.bp_text.specs.OneLine.{on_one_line}
 use Rattle.bp_text.specs.Pieces.{bit_text, key_text, string_or_null}
 use Rattle.bp_facts.specs.ChangeFacts.{owned, Entry}
 use Rattle.bp_tasks.specs.declared.view_options.ViewFormat.{ViewFormat}
@@ -13,14 +12,14 @@ use Rattle.bp_tasks.specs.declared.view_options.ViewFormat.TheVariants.{Columns,
 -- the procedure of a local, and a dot; a global has none
 abbrev pub owner_text : Option Procedure → List ℕ
 owner_text None = []
-owner_text (Some p) = concat (map on_one_line p.name.text ∷ codes "." ∷ [])
+owner_text (Some p) = concat (p.name.text ∷ codes "." ∷ [])
 
 -- a variable with its value, for people
 abbrev pub assignment_text : Option Procedure → List ℕ → Bool → List ℕ
 assignment_text owner name value =
     concat (
     codes " " ∷ owner_text owner
-    ∷ map on_one_line name ∷ codes "=" ∷ bit_text value ∷ [])
+    ∷ name ∷ codes "=" ∷ bit_text value ∷ [])
 
 -- the same as an object of JSON after a comma
 abbrev pub variable_object : Option Procedure → List ℕ → Bool → List ℕ

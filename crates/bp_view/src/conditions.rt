@@ -1,6 +1,6 @@
 //! The text of an assertion or an assumption at which a thread stands, from its facts.
 ghost use Rattle.std.specs.Prelude.{◌≡◌, ◌++◌, codes, map, OnOk};
-ghost use Rattle.bp_text.specs.OneLine.{on_one_line};
+ghost use Rattle.bp_text.specs.Displayed.{displayed};
 ghost use Rattle.bp_source.specs.Places.{position_text};
 ghost use Rattle.bp_facts.specs.FootFacts.{condition_in};
 ghost use Rattle.bp_view.specs.Conditions.{condition_lines, condition_members, condition_object, condition_text, values_line};
@@ -9,7 +9,7 @@ use crate::lines::push_changed;
 use bp_facts::ConditionFacts;
 use bp_source::push_two;
 use bp_tasks::ViewFormat;
-use bp_text::Piece::{Bytes, Key, List, Number, OneLine, Text};
+use bp_text::Piece::{Bytes, Displayed, Key, List, Number, Text};
 use bp_text::{push_bytes, push_pieces};
 use std::alloc::AllocError;
 
@@ -28,7 +28,7 @@ fn push_condition_lines<'a>(
     values: &'a [u8],
 ) -> Result<(), AllocError>
     ensures { let x = condition_in condition.entry.now in
-        let place = map on_one_line file.entry.now ++ codes ":" ++ position_text x.position in
+        let place = displayed file.entry.now ++ codes ":" ++ position_text x.position in
         let text = condition_lines place x.text values.entry.now in
         OnOk result (view.new.items ≡ view.old.items ++ text) }
 {
@@ -36,7 +36,7 @@ fn push_condition_lines<'a>(
         view,
         &[
             Bytes(b" at "),
-            OneLine(file.as_bytes()),
+            Displayed(file.as_bytes()),
             Bytes(b":"),
             Number(condition.position.line as u64),
             Bytes(b":"),

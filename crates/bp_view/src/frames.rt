@@ -8,7 +8,7 @@ use crate::variables::push_values;
 use bp_facts::FrameFacts;
 use bp_source::{column_of, line_of};
 use bp_tasks::ViewFormat;
-use bp_text::Piece::{Bytes, Key, List, NumberOrNull, OneLine, Text};
+use bp_text::Piece::{Bytes, Key, List, NumberOrNull, Text};
 use bp_text::push_pieces;
 use std::alloc::AllocError;
 
@@ -32,7 +32,7 @@ fn push_frame_lines<'a>(
         view,
         &[
             Bytes(lead(frame.above)),
-            OneLine(frame.proc.name().text().as_bytes()),
+            Bytes(frame.proc.name().text().as_bytes()),
             Bytes(b" at "),
             Bytes(frame.place),
             Bytes(b": "),

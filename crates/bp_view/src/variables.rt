@@ -9,7 +9,7 @@ ghost use Rattle.bp_text.specs.Pieces.{bit_text};
 use bp_flat::bit_of;
 use bp_source::{push_four, push_three, push_two};
 use bp_tasks::ViewFormat;
-use bp_text::Piece::{Bit, Bytes, Key, OneLine, Text, TextOrNull};
+use bp_text::Piece::{Bit, Bytes, Key, Text, TextOrNull};
 use bp_text::push_piece;
 use bp_tree::{Name, Proc};
 use std::alloc::AllocError;
@@ -20,7 +20,7 @@ fn push_owner(line: &mut Vec<u8>, owner: Option<&Proc>) -> Result<(), AllocError
         OnOk result (line.new.items ≡ line.old.items ++ owner_text owner) }
 {
     match owner {
-        Some(proc) => push_two(line, OneLine(proc.name().text().as_bytes()), Bytes(b".")),
+        Some(proc) => push_two(line, Bytes(proc.name().text().as_bytes()), Bytes(b".")),
         None => Ok(()),
     }
 }
@@ -44,7 +44,7 @@ fn push_assignment(
 {
     push_piece(line, Bytes(b" "))?;
     push_owner(line, owner)?;
-    push_two(line, OneLine(name), Bytes(value_text(value)))
+    push_two(line, Bytes(name), Bytes(value_text(value)))
 }
 
 /// The name of a local's procedure; none for a global.

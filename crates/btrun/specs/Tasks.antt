@@ -1,5 +1,5 @@
 -- What a run does, by its task.
-use Rattle.std.specs.Prelude.{ℕ, Bool, true, false, List, Option}
+use Rattle.std.specs.Prelude.{ℕ, Bool, true, false, List, Option, None, Some, option_map}
 use Rattle.bp_commands.specs.Checks.{checks}
 use Rattle.bp_commands.specs.Commands.{Command}
 use Rattle.bp_commands.specs.Drives.{drives_by_names}
@@ -14,17 +14,21 @@ use Rattle.bp_commands.specs.Shrinks.{shrinks}
 use Rattle.bp_commands.specs.Tests.{of_test, tests_by_names}
 use Rattle.bp_commands.specs.Traces.{migrates, replays}
 use Rattle.bp_show.specs.Confirms.{confirms_by_names, of_confirm}
+use Rattle.bp_show.specs.Explores.{explores_by_names, of_exploration}
 use Rattle.bp_show.specs.Shows.{shows_as}
+use Rattle.bp_show.specs.Throughs.{explores_through_by_names, of_through}
 use Rattle.bp_show.specs.ValidCalls.{on_valid_calls}
 use Rattle.bp_show.specs.declared.confirming.VerdictForm.{VerdictForm}
+use Rattle.bp_show.specs.declared.exploration_texts.ExplorationForm.{ExplorationForm}
 use Rattle.bp_machine.specs.declared.reports.Report.{Report}
 use Rattle.bp_messages.specs.declared.test_reports.TestReport.{TestReport}
 use Rattle.bp_trace.specs.declared.limits.TheConstants.{MAX_SCHEDULE, MAX_TRACE}
 use Rattle.bp_tasks.specs.FaultFormats.{fault_format}
 use Rattle.bp_tasks.specs.declared.tasks.ConfirmTask.{ConfirmTask}
+use Rattle.bp_tasks.specs.declared.tasks.ExploreTask.{ExploreTask}
 use Rattle.bp_tasks.specs.declared.tasks.ShowTask.{ShowTask}
 use Rattle.bp_tasks.specs.declared.tasks.Task.{Task}
-use Rattle.bp_tasks.specs.declared.tasks.Task.TheVariants.{Bundle, Check, Code, Drive, Confirm, Run, Test, Replay, Show, Migrate, Shrink}
+use Rattle.bp_tasks.specs.declared.tasks.Task.TheVariants.{Bundle, Check, Code, Drive, Confirm, Run, Test, Explore, Replay, Show, Migrate, Shrink}
 use Rattle.bp_tasks.specs.declared.tasks.TestTask.{TestTask}
 use Rattle.bp_tasks.specs.declared.view_options.ViewFormat.{ViewFormat}
 use Rattle.bp_tasks.specs.declared.view_options.ViewOptions.{ViewOptions}
@@ -44,6 +48,14 @@ test_asked task =
     let file = task.program.now in
     tests_by_names task.start task.named task.options file task.unreached task.json
 
+-- how an exploration is told that a task asks for
+abbrev pub exploration_asked : ExploreTask → ExplorationForm
+exploration_asked task = record {
+  file = task.program;
+  with_deadlock = task.options.with_deadlock;
+  json = task.json;
+}
+
 -- how the verdict is told that a task asks for
 abbrev pub form_asked : ConfirmTask → VerdictForm
 form_asked task = record { expected = task.expected; json = task.json }
@@ -60,6 +72,24 @@ abbrev pub on_trace
     → (program trace : List ℕ) → Job
 on_trace bytes format command program trace =
     on_files bytes format command of_report MAX_TRACE Trace program trace
+
+-- a program is explored as a task asks, or for a run through these steps
+abbrev pub explored_job
+    : (bytes : List ℕ → Option (List ℕ)) → FaultFormat → ExploreTask → Option (List ℕ) → Job
+explored_job bytes format task None =
+    let form = exploration_asked task in
+    let command = explores_by_names task.start task.named task.options form in
+    on_file bytes format command of_exploration task.program.now
+explored_job bytes format task (Some steps) =
+    let form = exploration_asked task in
+    let command = explores_through_by_names task.start task.named task.options form in
+    on_files bytes format command of_through MAX_SCHEDULE Steps task.program.now steps
+
+-- those of the file that it names, if it names one
+abbrev pub explore_job
+    : (bytes : List ℕ → Option (List ℕ)) → FaultFormat → ExploreTask → Job
+explore_job bytes format task =
+    explored_job bytes format task (option_map (λ file. file.now) task.through)
 
 -- The files have these bytes by their paths. Lines are shown so on standard output, and faults are
 -- reported in this format.
@@ -93,6 +123,7 @@ module _ (bytes : List ℕ → Option (List ℕ)) (screen : Screen) (format : Fa
       on_file bytes format command of_run task.program.now
   job_in input (Test task) =
       on_file bytes format (test_asked task) of_test task.program.now
+  job_in input (Explore task) = explore_job bytes format task
   job_in input (Show task) = show_job task
   job_in input (Replay task) =
       on_trace bytes format replays task.program.now task.trace.now

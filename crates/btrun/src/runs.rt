@@ -66,23 +66,19 @@ fn explains_faults(rt: &HostRuntime) -> bool {
 fn seconds_of(task: &Task<'_>) -> Option<u64> {
     match task {
         Task::Test(task) => task.options.seconds,
+        Task::Explore(task) => task.options.seconds,
         _ => None,
     }
 }
 
-/// The line of progress of a test that starts now.
+/// The line of progress of a test or an exploration that starts now.
 fn progress_line<'a>(rt: &'a HostRuntime, task: &Task<'_>) -> ProgressLine<'a> {
     let is_json = matches!(task.fault_format(false), FaultFormat::Json);
     let is_asked_not_to = is_json || is_set(rt, "NO_PROGRESS");
-    let is_wanted = !is_asked_not_to && rt.stderr().is_terminal();
-    let start = if is_wanted {
-        Instant::now(rt).ok()
-    } else {
-        None
-    };
     ProgressLine {
         rt,
-        start,
+        is_shown: !is_asked_not_to && rt.stderr().is_terminal(),
+        start: Instant::now(rt).ok(),
         seconds: seconds_of(task),
     }
 }

@@ -2,17 +2,21 @@
 ghost use Rattle.std.specs.Io.Buffered.{writer_contents};
 ghost use Rattle.std.specs.Prelude.{◌≡◌, is_some};
 ghost use Rattle.bp_commands.specs.Jobs.{held, IsRun};
-ghost use Rattle.btrun.specs.Tasks.{form_asked, job_of, on_screen, on_trace, show_job, valid_if};
+ghost use Rattle.btrun.specs.Tasks.{exploration_asked, explore_job, form_asked, job_of, on_screen, on_trace, show_job, valid_if};
 
 use bp_commands::{
     Check, Drive, Files, Io, ListCode, Migrate, Replay, Run, RunEnd, Shrink, Streams, Test,
     TraceCommand, run_by_workers, run_on_bundle, run_on_pair, run_on_program,
 };
+use bp_explore::Watcher;
 use bp_init::{NamedBits, NamedStart};
 use bp_machine::Start;
 use bp_run::Spread;
-use bp_show::{Confirm, Show, ShowContexts, ShowState, ShowSteps, ShowValid, VerdictForm};
-use bp_tasks::{ConfirmTask, RunTask, ShowTask, Task, TestTask, ViewOptions};
+use bp_show::{
+    Confirm, ExplorationForm, Explore, Show, ShowContexts, ShowState, ShowSteps, ShowValid,
+    VerdictForm,
+};
+use bp_tasks::{ConfirmTask, ExploreTask, RunTask, ShowTask, Task, TestTask, ViewOptions};
 use bp_test::Progress;
 use std::alloc::Global;
 use std::io::{BufWriter, Read, Write};
@@ -37,7 +41,7 @@ pub struct Host<'a, F, T, P> {
     pub threads: &'a T,
     /// What tells the time.
     pub clock: &'a HostRuntime,
-    /// Who is told how far a test is.
+    /// Who is told how far a test or an exploration is.
     pub progress: &'a P,
     /// How lines are shown on standard output.
     pub screen: Screen,
@@ -71,6 +75,25 @@ fn test_of<'a, F, T, P>(host: Host<'a, F, T, P>, task: &'a TestTask<'a>) -> Test
         file: task.program,
         unreached: task.unreached,
         json: task.json,
+    }
+}
+
+/// The exploration that a task asks for.
+fn explore_of<'a, F, T, P>(host: Host<'a, F, T, P>, task: &'a ExploreTask<'a>) -> Explore<'a, P>
+    ensures start { result.start.start.now ≡ task.now.start }
+    ensures named { result.start.named.now ≡ task.now.named }
+    ensures options { result.options ≡ task.now.options }
+    ensures form { result.form ≡ exploration_asked task.now }
+{
+    Explore {
+        start: start_of(&task.start, &task.named),
+        options: task.options,
+        form: ExplorationForm {
+            file: task.program,
+            with_deadlock: task.options.with_deadlock,
+            json: task.json,
+        },
+        watcher: host.progress,
     }
 }
 
@@ -167,11 +190,34 @@ fn show<F: Files, W: Write + Drop, E: Write + Drop>(
     }
 }
 
+/// Explores a program as a task asks, for a run through the steps of a file if it names one.
+fn explore<F: Files, P: Watcher, W: Write + Drop, E: Write + Drop>(
+    io: Io<'_, F>,
+    explore: &Explore<'_, P>,
+    task: &ExploreTask<'_>,
+    streams: Streams<BufWriter<W>, E>,
+) -> (RunEnd, Streams<W, E>)
+    requires start { explore.now.start.start.now ≡ task.now.start }
+    requires named { explore.now.start.named.now ≡ task.now.named }
+    requires options { explore.now.options ≡ task.now.options }
+    requires form { explore.now.form ≡ exploration_asked task.now }
+    ensures { let before =
+        held (writer_contents W.contents streams.output) (E.contents streams.errors) in
+        let after = held (W.contents result.1.output) (E.contents result.1.errors) in
+        let job = explore_job (F.bytes io.entry.files.now) io.entry.format task.now in
+        IsRun job before after result.0 }
+{
+    match task.through {
+        Some(steps) => run_on_pair(io, explore, task.program, steps, streams),
+        None => run_on_program(io, explore, task.program, streams),
+    }
+}
+
 /// Carries out a task, and answers how it ends and the streams.
 pub fn carry_out<
     F: Files,
     T: Threads + Wait + Clock + Sync,
-    P: Progress,
+    P: Progress + Watcher,
     R: Read + Drop,
     W: Write + Drop,
     E: Write + Drop,
@@ -223,6 +269,10 @@ pub fn carry_out<
         Task::Test(task) => {
             let test = test_of(host, task);
             run_on_program(io, &test, task.program, streams)
+        }
+        Task::Explore(task) => {
+            let asked = explore_of(host, task);
+            explore(io, &asked, task, streams)
         }
         Task::Show(task) => show(io, host.screen, task, streams),
         Task::Replay(task) => run_on_pair(io, &Replay, task.program, task.trace, streams),

@@ -1,5 +1,5 @@
 //! Copying a session.
-ghost use Rattle.std.specs.Prelude.{◌≡◌, None, List, IfOk};
+ghost use Rattle.std.specs.Prelude.{◌≡◌, List, IfOk};
 ghost use Rattle.bp_tree.specs.Ast.{Program};
 ghost use Rattle.bp_machine.specs.declared.calls.Call.{Call as Answered};
 ghost use Rattle.bp_machine.specs.Sessions.{Stands};
@@ -20,14 +20,12 @@ fn copied_choices(alloc: Global, choices: &[Choices]) -> Result<Vec<Choices>, Al
 }
 
 impl Session {
-    /// A session that stands after the same calls, with memory of its own. It is prepared for no
-    /// call.
+    /// A session that stands after the same calls, with memory of its own.
     pub fn try_copy(&self) -> Result<Session, AllocError>
         ensures stands { (t : Program) (h : List Answered)
             → Stands t self.now h
             → IfOk result (λ x. Stands t x h) }
-        ensures kept { IfOk result (λ x.
-            (x.code ≡ self.now.code) × (x.setup ≡ self.now.setup) × (x.ready ≡ None)) }
+        ensures kept { IfOk result (λ x. (x.code ≡ self.now.code) × (x.setup ≡ self.now.setup)) }
     {
         let code = self.code.try_copy()?;
         let setup = self.setup.try_copy()?;
@@ -38,7 +36,6 @@ impl Session {
             setup,
             machine,
             choices,
-            prepared: None,
         })
     }
 }

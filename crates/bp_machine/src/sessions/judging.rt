@@ -1,5 +1,5 @@
 //! How a session judges a call before it makes it.
-ghost use Rattle.std.specs.Prelude.{◌≡◌, ◌++◌, ◌∷◌, [], ℕ, List, Option, None, Some, IfOk, OnOk, OnErr, MatchResult};
+ghost use Rattle.std.specs.Prelude.{◌≡◌, ◌++◌, ◌∷◌, [], List, Option, None, Some, IfOk, OnErr, MatchResult};
 ghost use Rattle.bp_tree.specs.Ast.{Program};
 ghost use Rattle.bp_flat.specs.StandsFor.{StandsFor};
 ghost use Rattle.bp_machine.specs.declared.calls.Call.{Call as Answered};
@@ -8,7 +8,7 @@ ghost use Rattle.bp_machine.specs.KeptSessions.{IsKeptBit, IsBitRefusal, IsGiven
 
 use crate::ask_faults::AskFault;
 use crate::calls::Call;
-use crate::sessions::{Prepared, Session, draw};
+use crate::sessions::{Judged, Session, draw};
 use bp_flat::steps_alike;
 
 impl Session {
@@ -39,7 +39,7 @@ impl Session {
 
     /// What a call of the thread results in, where this bit or none is handed in.
     #[inline(always)]
-    pub(super) fn judged(&self, thread: u32, given: Option<bool>) -> Result<Prepared, AskFault>
+    pub(super) fn judged(&self, thread: u32, given: Option<bool>) -> Result<Judged, AskFault>
         ensures { MatchResult result
             (IsJudged self.now thread given)
             (IsKeptRefusal self.now thread given) }
@@ -54,7 +54,7 @@ impl Session {
         let contexts = self.setup.contexts();
         let transition = self.machine.judge(&self.code, contexts, thread, guest, bit);
         let reply = transition.reply();
-        Ok(Prepared {
+        Ok(Judged {
             call: Call { thread, bit, reply },
             transition,
         })
@@ -74,17 +74,12 @@ impl Session {
             → StandsFor self.old.code t
             → Stands t self.old h
             → IfOk result (λ c. Stands t self.new (h ++ c ∷ [])) }
-        ensures unready { OnOk result (self.new.ready ≡ None) }
         ensures kept { (self.new.code ≡ self.old.code) × (self.new.setup ≡ self.old.setup) }
         ensures same { OnErr result (self.new ≡ self.old) }
     {
         steps_alike(&self.code);
         let made = self.judged(thread, given)?;
         self.machine.reserve(thread, made.transition)?;
-        // Few sessions are prepared for a call, and to look costs less than to write.
-        if self.prepared.is_some() {
-            self.prepared = None;
-        }
         self.machine.make(thread, made.transition);
         draw(&mut self.choices, thread as usize);
         Ok(made.call)

@@ -1,5 +1,5 @@
 //! What a session tells of the machine after the calls that it answered.
-ghost use Rattle.std.specs.Prelude.{◌≡◌, ◌<◌, [], ℕ, List, drop, slice_get, option_map, is_some, length, MatchOption, MatchResult};
+ghost use Rattle.std.specs.Prelude.{◌≡◌, ◌<◌, [], List, drop, slice_get, option_map, is_some, length, MatchOption, MatchResult};
 ghost use Rattle.bp_tree.specs.Ast.{Program};
 ghost use Rattle.bp_flat.specs.Bits.{bits_of};
 ghost use Rattle.bp_flat.specs.StandsFor.{valuation_of, StandsFor};
@@ -11,7 +11,7 @@ ghost use Rattle.bp_machine.specs.Tops.{IsTop, IsTopOf};
 ghost use Rattle.bp_machine.specs.Setups.{threads};
 ghost use Rattle.bp_machine.specs.Histories.{calls_of_thread, granted_threads, configuration_after, is_finished, open_lines};
 ghost use Rattle.bp_machine.specs.Reports.{IsReport};
-ghost use Rattle.bp_machine.specs.Sessions.{Stands, IsInOrder, IsPrintRefusal};
+ghost use Rattle.bp_machine.specs.Sessions.{Stands, IsPrintRefusal};
 
 use crate::ask_faults::AskFault;
 use crate::reports::Report;
@@ -20,14 +20,6 @@ use crate::tops::Top;
 use bp_flat::{Kind, Store};
 
 impl Session {
-    /// The law that a session stands at each moment after a legal history of some program that its
-    /// code stands for, in its setup and with the bits of its seed.
-    pub fn is_in_order(&self)
-        ensures { IsInOrder self.now }
-    {
-        let _ = &self.setup;
-    }
-
     /// Whether a thread makes no further call.
     pub fn is_finished(&self, thread: u32) -> bool
         requires { thread < threads self.now.setup }

@@ -19,7 +19,6 @@ impl Session {
             ((t : Program) → StandsFor self.old.code t → Stands t self.new []) }
         ensures code { self.new.code ≡ self.old.code }
         ensures setup { OnOk result (self.new.setup ≡ record self.old.setup { seed = seed }) }
-        ensures ready { OnOk result (self.new.ready ≡ None) }
         ensures same { OnErr result (self.new ≡ self.old) }
         ensures unseeded { seed ≡ None → IsOk result }
     {
@@ -30,7 +29,6 @@ impl Session {
         self.setup.set_seed(seed);
         let word = word_of(self.setup.bits());
         self.machine.restart(word, &self.code, self.setup.entries());
-        self.prepared = None;
         Ok(())
     }
 
@@ -40,9 +38,7 @@ impl Session {
         requires { FitsCode self.code self.setup }
         ensures stands { IfOk result (λ x. (t : Program) → StandsFor self.code t → Stands t x []) }
         ensures kept { IfOk result (λ x.
-            (x.code ≡ self.code)
-            × (x.setup ≡ record self.setup { seed = seed })
-            × (x.ready ≡ None)) }
+            (x.code ≡ self.code) × (x.setup ≡ record self.setup { seed = seed })) }
     {
         let mut session = self;
         session.restart(seed)?;

@@ -18,7 +18,6 @@ use std::test::Fail;
 #[derive(Clone, Copy)]
 enum Taking {
     Read,
-    CopyTree,
     Check,
     Compile,
     CopyCode,
@@ -29,9 +28,8 @@ enum Taking {
     Migrate,
 }
 
-const TAKING: [Taking; 10] = [
+const TAKING: [Taking; 9] = [
     Taking::Read,
-    Taking::CopyTree,
     Taking::Check,
     Taking::Compile,
     Taking::CopyCode,
@@ -86,7 +84,6 @@ fn succeeds(
 {
     match call {
         Taking::Read => read(alloc, program()).is_ok(),
-        Taking::CopyTree => checked.tree().try_copy().is_ok(),
         Taking::Check => checks(alloc, tree),
         Taking::Compile => compile(alloc, checked).is_ok(),
         Taking::CopyCode => code.try_copy().is_ok(),
@@ -113,7 +110,7 @@ fn makes_each<R: Runtime>(
     drive(alloc, code, own, SCHEDULE, &mut trace)?;
     let mut out = Vec::with_capacity(alloc, 4096)?;
     for call in TAKING {
-        let mut tree = Some(checked.tree().try_copy()?);
+        let mut tree = Some(read(alloc, program())?);
         out.clear();
         begin(rt)?;
         let is_made = succeeds(alloc, call, checked, code, own, &trace, &mut tree, &mut out);

@@ -13,7 +13,6 @@ use std::test::Fail;
 enum Way {
     Ask,
     AskWith,
-    Prepare,
 }
 
 /// Makes a session, once more where it is refused. It is new.
@@ -49,11 +48,6 @@ fn call(session: &mut Session, way: Way) -> Result<Call, AskFault> {
     match way {
         Way::Ask => session.ask(0),
         Way::AskWith => session.ask_with(0, true),
-        Way::Prepare => {
-            let call = session.prepare(0)?;
-            session.commit(&call);
-            Ok(call)
-        }
     }
 }
 
@@ -107,11 +101,6 @@ fn ask(rt: HostRuntime) -> Result<(), Fail> {
 #[test]
 fn ask_with(rt: HostRuntime) -> Result<(), Fail> {
     calls_alike(&rt, Way::AskWith)
-}
-
-#[test]
-fn prepare(rt: HostRuntime) -> Result<(), Fail> {
-    calls_alike(&rt, Way::Prepare)
 }
 
 /// Whether two zeros are printed.

@@ -32,12 +32,10 @@ fn tells_frames(session: &Session) -> bool {
         && session.top_below(1, 1).is_none()
 }
 
-/// Prepares a call of thread 1, and makes it. The session has this code and setup, and stands after
-/// the call.
+/// Makes a call of thread 1. The session has this code and setup, and stands after the call.
 fn makes(rt: &HostRuntime, session: &mut Session, code: &Code, setup: &Setup) -> Result<(), Fail> {
-    let call = session.prepare(1)?;
     begin(rt)?;
-    session.commit(&call);
+    let call = session.ask(1)?;
     wants(
         *session.code() == *code
             && *session.setup() == *setup

@@ -1,5 +1,4 @@
-//! Sessions by hand: what they refuse, and calls that are prepared. Cases of the commands show what
-//! calls do.
+//! Sessions by hand: what they refuse. Cases of the commands show what calls do.
 
 use crate::common::{code_of, mains};
 use bp_machine::{AskFault, Call, Reply, Session, Setup, SetupFault};
@@ -16,8 +15,6 @@ enum Ask {
     Drawn,
     /// With this bit.
     Given(bool),
-    /// Prepared twice, and made once.
-    Prepared,
 }
 
 /// How a call is asked for, its thread, and the answer.
@@ -38,46 +35,33 @@ const ZERO: Result<Call, AskFault> = Ok(Call {
 });
 
 /// The answers of a session without a seed, whose thread has one call.
-const UNSEEDED: [Row; 7] = [
+const UNSEEDED: [Row; 6] = [
     (Ask::Drawn, 1, Err(AskFault::NoThread)),
     (Ask::Drawn, 0, Err(AskFault::Unseeded)),
-    (Ask::Prepared, 0, Err(AskFault::Unseeded)),
     (Ask::Given(true), 0, ONE),
     (Ask::Drawn, 0, Err(AskFault::Finished)),
     (Ask::Given(false), 0, Err(AskFault::Finished)),
     (Ask::Given(false), 1, Err(AskFault::NoThread)),
 ];
 
-/// The answers by the seed 42, up to the last of seven calls. Refused calls use no bit, and one
-/// that is prepared twice uses one.
+/// The answers by the seed 42, up to the last of seven calls. Refused calls use no bit.
 const SEEDED: [Row; 10] = [
     (Ask::Drawn, 1, Err(AskFault::NoThread)),
     (Ask::Given(true), 0, Err(AskFault::Seeded)),
-    (Ask::Prepared, 0, ONE),
     (Ask::Drawn, 0, ONE),
-    (Ask::Drawn, 0, ONE),
-    (Ask::Prepared, 0, ZERO),
     (Ask::Drawn, 0, ONE),
     (Ask::Drawn, 0, ONE),
     (Ask::Drawn, 0, ZERO),
-    (Ask::Prepared, 0, Err(AskFault::Finished)),
+    (Ask::Drawn, 0, ONE),
+    (Ask::Drawn, 0, ONE),
+    (Ask::Drawn, 0, ZERO),
+    (Ask::Drawn, 0, Err(AskFault::Finished)),
 ];
-
-/// The call that is prepared twice, made once where both are the same.
-fn prepared(session: &mut Session, thread: u32) -> Result<Call, AskFault> {
-    let first = session.prepare(thread)?;
-    let call = session.prepare(thread)?;
-    if first == call {
-        session.commit(&call);
-    }
-    Ok(call)
-}
 
 fn asked(session: &mut Session, ask: Ask, thread: u32) -> Result<Call, AskFault> {
     match ask {
         Ask::Drawn => session.ask(thread),
         Ask::Given(bit) => session.ask_with(thread, bit),
-        Ask::Prepared => prepared(session, thread),
     }
 }
 

@@ -1,5 +1,5 @@
-//! Tests of `bp_check`: a refused tree, here a copy, is handed back. Which trees are lawful, and at
-//! which place and how others are refused, is shown by the cases of the command `check`.
+//! Tests of `bp_check`: a refused tree is handed back. Which trees are lawful, and at which place
+//! and how others are refused, is shown by the cases of the command `check`.
 
 use bp_check::{CheckFault, CheckRefusal, check};
 use bp_syntax::read;
@@ -17,7 +17,7 @@ fn is_of_the_second_global(refusal: &CheckRefusal) -> bool {
 }
 
 fn refuses_the_second_global(alloc: Global) -> Result<bool, Fail> {
-    let tree = read(alloc, b"decl x; decl x; main() begin skip; end")?.try_copy()?;
+    let tree = read(alloc, b"decl x; decl x; main() begin skip; end")?;
     match check(alloc, tree) {
         Ok(_) => Ok(false),
         Err(refusal) => Ok(is_of_the_second_global(&refusal)),

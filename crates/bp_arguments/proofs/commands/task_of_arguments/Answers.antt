@@ -1,21 +1,13 @@
-use Rattle.std.proofs.Common.{◌∙◌, ap, subst, sym, rules, map, string_bytes}
+use Rattle.std.proofs.Common.{◌∙◌, subst, sym, rules, map, string_bytes}
 use Rattle.clap.specs.Words.{subcommand_of}
 use Rattle.bp_arguments.specs.Commands.{btrun_app, arguments_fault, IsOurs, IsTaskOf}
 use Rattle.bp_arguments.proofs.NoHelpEntered.{named_ours}
-use Rattle.bp_arguments.proofs.PlainArguments.{plain_faulty, plain_asked}
-use Rattle.bp_arguments.proofs.ArgumentFaults.{cleared, named, refused, refused_for_memory, misused, fine_faulty, not_misused}
+use Rattle.bp_arguments.proofs.ArgumentFaults.{cleared, named, refused, misused, fine_faulty}
 use Rattle.bp_arguments.proofs.commands.task_of_arguments.Goals as goal
 
 pub returns-in_err-matches-clause-refusal : goal.returns-in_err-matches-clause-refusal
 returns-in_err-matches-clause-refusal c =
     let kind = refused _ (map string_bytes c.args.arguments.now) c.in_ok-command.ensures c.in_err-matches.field-0.0 c.in_err-matches.ensures.kinds in
-    search rules
-
-pub returns-in_err-matches-clause-plain : goal.returns-in_err-matches-clause-plain
-returns-in_err-matches-clause-plain c usage program plain is =
-    let none = ap arguments_fault is ∙ plain_faulty usage program plain in
-    let memory = refused_for_memory _ (map string_bytes c.args.arguments.now) c.in_ok-command.ensures
-    c.in_err-matches.field-0.0 c.in_err-matches.ensures.kinds none in
     search rules
 
 pub returns-in-Some-clause-refusal : goal.returns-in-Some-clause-refusal
@@ -24,14 +16,6 @@ returns-in-Some-clause-refusal c =
     let clean = cleared _ arguments c.in_ok-command.ensures c.in_ok-matches.ensures.kinds in
     let name = named _ arguments c.in_ok-command.ensures c.in_ok-matches.matches c.in_ok-matches.ensures.matches in
     misused arguments _ clean name c.in_ok-misuse_error.field-0 c.in-Some.misuse (sym c.misuse_of.ensures ∙ c.in-Some.is) c.in_ok-misuse_error.ensures
-
-pub returns-in-Some-clause-plain : goal.returns-in-Some-clause-plain
-returns-in-Some-clause-plain c usage program plain is =
-    let arguments = map string_bytes c.args.arguments.now in
-    let clean = cleared _ arguments c.in_ok-command.ensures c.in_ok-matches.ensures.kinds in
-    let name = named _ arguments c.in_ok-command.ensures c.in_ok-matches.matches c.in_ok-matches.ensures.matches in
-    absurd (not_misused arguments _ clean name c.in-Some.misuse (sym c.misuse_of.ensures ∙ c.in-Some.is)
-    (ap arguments_fault is ∙ plain_faulty usage program plain))
 
 pub task_of-requires : goal.task_of-requires
 task_of-requires c =
@@ -52,9 +36,3 @@ returns-clause-refusal c =
     let clean = cleared _ arguments c.in_ok-command.ensures c.in_ok-matches.ensures.kinds in
     let name = named _ arguments c.in_ok-command.ensures c.in_ok-matches.matches c.in_ok-matches.ensures.matches in
     fine_faulty arguments _ clean name (sym c.misuse_of.ensures ∙ c.in_default.is)
-
-pub returns-clause-plain : goal.returns-clause-plain
-returns-clause-plain c usage program plain is =
-    let arguments = map string_bytes c.args.arguments.now in
-    let name = named _ arguments c.in_ok-command.ensures c.in_ok-matches.matches c.in_ok-matches.ensures.matches ∙ ap (subcommand_of btrun_app) is in
-    plain_asked usage program c.in_ok-task_of.field-0 plain (subst (λ command. IsTaskOf command c.in_ok-task_of.field-0) name c.in_ok-task_of.ensures)

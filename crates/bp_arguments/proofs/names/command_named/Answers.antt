@@ -1,7 +1,7 @@
 use Rattle.std.proofs.Common.{◌≡◌, ◌∙◌, ◌<◌, ℕ, List, true, false, ap, arith, below_more, bytes_eq, get_or, refl, rules, sym}
 use Rattle.std.proofs.lemmas.Slice.Eq.{bytes_eq-Decides}
 use Rattle.bp_arguments.specs.declared.names.Named.{Named}
-use Rattle.bp_arguments.specs.declared.names.Named.TheVariants.{Check, Code, Drive, Confirm, Run, Test, Replay, Show, Migrate, Shrink}
+use Rattle.bp_arguments.specs.declared.names.Named.TheVariants.{Check, Code, Drive, Confirm, Run, Test, Explore, Replay, Show, Migrate, Shrink}
 use Rattle.bp_arguments.specs.declared.names.TheConstants.{NAMED}
 use Rattle.bp_arguments.specs.Names.{command_name}
 use Rattle.bp_arguments.proofs.names.command_named.Goals as goal
@@ -13,10 +13,11 @@ place Drive = 2
 place Confirm = 3
 place Run = 4
 place Test = 5
-place Replay = 6
-place Show = 7
-place Migrate = 8
-place Shrink = 9
+place Explore = 6
+place Replay = 7
+place Show = 8
+place Migrate = 9
+place Shrink = 10
 
 at_place : (n : Named) → get_or NAMED (place n) Check ≡ n
 at_place Check = refl
@@ -25,18 +26,20 @@ at_place Drive = refl
 at_place Confirm = refl
 at_place Run = refl
 at_place Test = refl
+at_place Explore = refl
 at_place Replay = refl
 at_place Show = refl
 at_place Migrate = refl
 at_place Shrink = refl
 
-within : (n : Named) → place n < 10
+within : (n : Named) → place n < 11
 within Check = omega arith
 within Code = omega arith
 within Drive = omega arith
 within Confirm = omega arith
 within Run = omega arith
 within Test = omega arith
+within Explore = omega arith
 within Replay = omega arith
 within Show = omega arith
 within Migrate = omega arith

@@ -1,13 +1,9 @@
 use Rattle.std.proofs.Common.{map, string_bytes}
 use Rattle.clap.specs.Words.{kind_of}
 use Rattle.bp_arguments.specs.Commands.{arguments_fault}
-use Rattle.bp_arguments.proofs.NoTaskKinds.{of_kinds, of_memory}
+use Rattle.bp_arguments.proofs.NoTaskKinds.{of_kinds}
 use Rattle.bp_arguments.proofs.no_tasks.read_arguments.Goals as goal
 
 pub returns-in-Err-clause-refusal : goal.returns-in-Err-clause-refusal
 returns-in-Err-clause-refusal c =
     of_kinds (arguments_fault (map string_bytes c.args.arguments.now)) (kind_of c.in-Err.error) c.no_task.result c.in-Err.ensures.refusal c.no_task.ensures
-
-pub returns-in-Err-clause-plain : goal.returns-in-Err-clause-plain
-returns-in-Err-clause-plain c usage program plain is =
-    of_memory (kind_of c.in-Err.error) c.no_task.result (c.in-Err.ensures.plain usage program plain is) c.no_task.ensures

@@ -1,8 +1,8 @@
 use Rattle.std.proofs.Common.{[], ap, ◌∙◌, option_map}
-use Rattle.bp_confirm.specs.EffectBits.{bit_of_effects, splits}
+use Rattle.bp_confirm.specs.EffectBits.{bit_of_instruction, splits}
 use Rattle.bp_confirm.specs.Inferred.{IsAmbiguous, IsClear}
 use Rattle.bp_confirm.specs.Places.{place_of}
-use Rattle.bp_confirm.proofs.BitsOfEffects.{bit_is, split_is, tells_clear}
+use Rattle.bp_confirm.proofs.BitsOfEffects.{bit_at_is, split_is, tells_clear}
 use Rattle.bp_confirm.proofs.PointsOfInstructions.{numbers_are}
 use Rattle.bp_confirm.proofs.choices.inferred_bit.Goals as goal
 
@@ -14,8 +14,8 @@ returns c = λ text t p left does are.
     let numbers = numbers_are text t c.args.points.now c.args.next are in
     let at = c.splits.ensures ∙ ap (λ n. splits n c.effect-zero.result c.effect-one.result) numbers in
     let split = split_is t p place c.args.follow c.args.store c.effect-zero.result c.effect-one.result left c.args.instr.now does zero one in (
-      c.bit_of_effects.ensures
-          ∙ ap (λ n. bit_of_effects n c.args.follow c.effect-zero.result c.effect-one.result) numbers
-          ∙ bit_is t p place c.args.follow c.args.store c.effect-zero.result c.effect-one.result left c.args.instr.now does zero one,
+      c.bit_of_instruction.ensures
+          ∙ ap (λ n. bit_of_instruction n c.args.last c.args.follow c.args.instr.now c.effect-zero.result c.effect-one.result) numbers
+          ∙ bit_at_is t p place c.args.follow c.args.store c.effect-zero.result c.effect-one.result c.args.last left c.args.instr.now does zero one,
       tells_clear c.splits.result _ at (IsClear left place) (IsAmbiguous t left place) split,
     )

@@ -1,6 +1,8 @@
 use Rattle.std.proofs.Common.{◌++◌, ◌∷◌, [], subst}
 use Rattle.bp_confirm.specs.declared.faults.Difference.{Difference}
+use Rattle.bp_machine.specs.Histories.{configuration_after}
 use Rattle.bp_confirm.specs.Changes.{IsDifference}
+use Rattle.bp_confirm.specs.ListedLines.{AreShown}
 use Rattle.bp_confirm.specs.StepLines.{StepLineOf}
 use Rattle.bp_confirm.specs.ValuesIn.{values_in}
 use Rattle.bp_confirm.proofs.FirstDifference.{difference_is}
@@ -13,7 +15,12 @@ returns c = λ text call are stands.
     let h = c.args.history.now in
     let after = h ++ call ∷ [] in
     let found : Difference = record { place = c.in-Some.unseen.place; seen = c.in-Some.unseen.seen; changed = c.sight_after-changed.result.changed } in
-    let unseen = c.in-Some.ensures.first text after c.requires.code are stands in
+    let now = configuration_after t s after in
+    let shown : AreShown t now c.line.inside.thread c.top-top.result c.globals-globals.result = record {
+      tops = c.top-top.ensures t after c.requires.code stands;
+      globals_are = c.globals-globals.ensures t after stands;
+    } in
+    let unseen = c.in-Some.ensures.first text now c.line.inside.thread are shown in
     let differs = difference_is t s h call c.line.inside.thread (values_in c.line.inside.values.now)
     c.in-Some.unseen.name.now found.place found.seen c.in-Some.ensures.name unseen
     c.in_ok-before.before.seen c.in_ok-before.before.changed found.changed (c.in_ok-before.ensures text are) c.sight_after-changed.ensures.changed in

@@ -1,6 +1,7 @@
-use Rattle.std.proofs.Common.{◌≡◌, ◌≤◌, ◌-◌, ℕ, List, length, take, drop, []}
+use Rattle.std.proofs.Common.{◌≡◌, false, ◌≤◌, ◌-◌, ℕ, List, length, take, drop, []}
 use Rattle.bp_machine.specs.Sessions.{Stands}
-use Rattle.bp_confirm.specs.Inferred.{FollowAfter}
+use Rattle.bp_confirm.specs.Inferred.{LastBits, FollowAfter}
+use Rattle.bp_confirm.specs.LastBits.{last_bits}
 use Rattle.bp_confirm.specs.SourcePoints.{source_points_of}
 use Rattle.bp_confirm.specs.StepLines.{steps_of}
 use Rattle.bp_confirm.proofs.following.take_steps.Given as goal
@@ -12,7 +13,11 @@ invariant-loop-n l = record {
   stands : Stands l.checked l.session l.history.items;
   follow : (text : List ℕ)
       → l.points ≡ source_points_of text l.checked
-      → FollowAfter l.checked l.fn.session.setup [] (steps_of text (take l.n l.lines)) (steps_of text (drop l.n l.lines)) l.history.items;
+      → FollowAfter l.checked l.fn.session.setup (last_bits l.last) [] (steps_of text (take l.n l.lines)) (steps_of text (drop l.n l.lines)) l.history.items;
+  any : (text : List ℕ) (other : LastBits)
+      → l.points ≡ source_points_of text l.checked
+      → l.asks ≡ false
+      → FollowAfter l.checked l.fn.session.setup other [] (steps_of text (take l.n l.lines)) (steps_of text (drop l.n l.lines)) l.history.items;
   code : l.session.code ≡ l.fn.session.code;
   setup : l.session.setup ≡ l.fn.session.setup;
 }

@@ -1,6 +1,5 @@
 use Rattle.std.proofs.Common.{◌∙◌, ap, sym, subst}
 use Rattle.std.specs.Prelude.{option_map}
-use Rattle.bp_machine.specs.Histories.{configuration_after}
 use Rattle.bp_confirm.specs.StepLines.{value_of}
 use Rattle.bp_confirm.specs.Steps.{SeesValues}
 use Rattle.bp_confirm.specs.ValuesIn.{values_in}
@@ -9,7 +8,7 @@ use Rattle.bp_confirm.proofs.ValuesOnLines.{all_read, none_read, one_more_read, 
 use Rattle.bp_confirm.proofs.values.first_unseen.Goals as goal
 
 pub loop-value-init : goal.loop-value-init
-loop-value-init c = record { read = none_read c.args.values.now c.requires; sees = λ text h code are stands. tt }
+loop-value-init c = record { read = none_read c.args.values.now c.requires; sees = λ text now i are shown. tt }
 
 pub returns-then-not-is_value : goal.returns-then-not-is_value
 returns-then-not-is_value c =
@@ -18,11 +17,11 @@ returns-then-not-is_value c =
     c.loop-value.invariant.read v c.in-Some.more.now c.in-Some.ensures in
     record {
       name = ap (option_map (λ x. x.0)) there;
-      first = λ text h code are stands. record {
+      first = λ text now i are shown. record {
         value = v;
         at = there;
-        first = c.loop-value.invariant.sees text h code are stands;
-        is_seen = c.value_seen-seen.ensures text h code are stands;
+        first = c.loop-value.invariant.sees text now i are shown;
+        is_seen = c.value_at_top-seen.ensures text now i are shown;
         differs = λ e. let same = c.is_value.ensures.1 e in absurd (cc (same, c.if-not-is_value.true));
       };
     }
@@ -37,18 +36,16 @@ loop-value-preserved c =
     let there = value_there values c.requires rest n read v c.in-Some.more.now c.in-Some.ensures in
     record {
       read = one_more_read values c.requires rest n read v c.in-Some.more.now c.in-Some.ensures;
-      sees = λ text h code are stands.
-          let now = configuration_after c.args.checked.now c.args.session.now.setup h in
-          let seen = c.value_seen-seen.ensures text h code are stands in
-          sees_more now c.args.thread v (values_in values) n there (c.loop-value.invariant.sees text h code are stands)
+      sees = λ text now i are shown.
+          let seen = c.value_at_top-seen.ensures text now i are shown in
+          sees_more now i v (values_in values) n there (c.loop-value.invariant.sees text now i are shown)
           (sym seen ∙ c.is_value.ensures.0 c.if-not-is_value.false);
     }
 
 pub returns : goal.returns
 returns c = record {
   name = tt;
-  first = λ text h code are stands.
-      let now = configuration_after c.args.checked.now c.args.session.now.setup h in
+  first = λ text now i are shown.
       let all = all_read c.args.values.now c.requires c.loop-value.rest.now c.loop-value.place c.loop-value.invariant.read c.in_default.ensures in
-      subst (SeesValues now c.args.thread) all (c.loop-value.invariant.sees text h code are stands);
+      subst (SeesValues now i) all (c.loop-value.invariant.sees text now i are shown);
 }

@@ -5,6 +5,7 @@ use Rattle.bp_facts.specs.ProgramFacts.{AreProgramFacts}
 use Rattle.bp_tasks.specs.declared.view_options.ViewFormat.TheVariants.{Json}
 use Rattle.bp_view.specs.Outcomes.{outcome_text, waits_text}
 use Rattle.bp_view.proofs.CopiedOptions.{copied}
+use Rattle.bp_show.specs.Confirms.{choices_text}
 use Rattle.bp_show.proofs.confirming.confirmation_of.Goals as goal
 
 pub returns : goal.returns
@@ -28,5 +29,6 @@ returns c = λ stands.
       verdict = c.verdict_of.ensures;
       failure = c.in_ok-failure.ensures ∙ ap (outcome_text Json [] foot.deadlocked) failed;
       waits = c.in_ok-waits.ensures ∙ ap (λ x. waits_text Json [] (map condition_in x)) c.as_slice-2.ensures.value;
+      choices_are = c.in_ok-choices.ensures ∙ ap (choices_text c.args.form.json) c.as_slice-3.ensures.value;
       form_is = refl;
     }

@@ -17,8 +17,13 @@ improve-requires c =
     starts c.args.code.now c.args.setup.now _ c.in_ok-new.ensures.kept.0 (c.in_ok-new.ensures.kept.1 ∙ setup)
     c.args.history.now c.in_ok-from_slice.ensures.items c.requires.fits c.requires.legal c.requires.report c.requires.ends
 
-pub used-requires : goal.used-requires
-used-requires c = λ t is.
+pub used-requires-clause-fits : goal.used-requires-clause-fits
+used-requires-clause-fits c =
+    let setup = c.with_seed-setup.ensures ∙ ap {A = SetupOf} (λ y. record y { seed = None }) c.in_ok-try_copy.ensures in
+    subst (FitsCode c.args.code.now) (sym setup) (fits_unseeded c.args.code.now c.args.setup.now c.requires.fits)
+
+pub used-requires-clause-driven : goal.used-requires-clause-driven
+used-requires-clause-driven c = λ t is.
     let setup = c.with_seed-setup.ensures ∙ ap {A = SetupOf} (λ y. record y { seed = None }) c.in_ok-try_copy.ensures in
     let search = c.in_ok-search.search in
     subst (λ s. IsDriven t s search.end search.best) (sym setup)

@@ -1,29 +1,46 @@
-use Rattle.std.proofs.Common.{◌≡◌, length, ap, sym, ◌∙◌, subst, arith}
+use Rattle.std.proofs.Common.{◌≡◌, ◌≤◌, length, None, ap, sym, ◌∙◌, subst, arith}
+use Rattle.std.proofs.Math.Logic.{∥∥₁_elim}
+use Rattle.std.specs.Coded.{le_prop}
 use Rattle.bp_machine.specs.Contexts.{IsLeastWithin}
 use Rattle.bp_machine.specs.Histories.{granted_calls, granted_threads, open_lines, IsLegal}
 use Rattle.bp_machine.specs.Reports.{outcome_of}
-use Rattle.bp_machine.specs.Setups.{SetupOf}
+use Rattle.bp_machine.specs.Setups.{SetupOf, IsInRange, setup_fault}
+use Rattle.bp_machine.proofs.ForEveryProgram.{for_one}
 use Rattle.bp_shrink.specs.HistoryEnds.{IsEnd}
+use Rattle.bp_shrink.proofs.FaultlessSetups.{no_fault}
 use Rattle.bp_shrink.proofs.GrantedCalls.{fewer_calls, granted_again, same_outcome, granted_legal, granted_end, granted_same}
 use Rattle.bp_shrink.proofs.shrinking.used.Goals as goal
+
+-- a legal history uses no more contexts than its setup allows
+pub budgeted-requires : goal.budgeted-requires
+budgeted-requires c =
+    let s = c.args.setup.now in
+    let best = c.args.search.now.best in
+    ∥∥₁_elim (for_one c.args.code.now (best.report.contexts ≤ s.contexts) c.is_of_a_program.ensures (λ t is.
+    let driven = c.requires.driven t is in
+    driven.report.contexts.least s.contexts (c.steps_are_within.ensures t s best.history.items driven.legal)))
+    le_prop (λ few. few)
 
 pub returns : goal.returns
 returns c = λ t is.
     let s = c.args.setup.now in
     let best = c.args.search.now.best in
     let h = best.history.items in
-    let driven = c.requires t is in
+    let driven = c.requires.driven t is in
+    let fits = c.requires.fits t is in
     let k = best.report.contexts in
     let end = c.args.search.now.end in
     let each = c.runs_are_histories.ensures.each in
     let back = c.runs_are_histories.ensures.back in
     let within = driven.report.contexts.within in
-    let setup = (c.in_ok-setup.ensures t is).0 in
+    let setup = c.in_ok-setup.ensures in
     let items : c.in_ok-history.history.items ≡ granted_calls h = c.in_ok-history.ensures ∙ ap granted_calls c.as_slice.ensures.value in
     let own : SetupOf = c.in_ok-setup.setup in
     record {
       setup = setup;
-      fine = (c.in_ok-setup.ensures t is).1;
+      fine =
+          subst (λ x. setup_fault t x ≡ None) (sym setup)
+          (no_fault t _ (record { entries = fits.entries; init = fits.init }) (subst IsInRange setup c.is_in_range.ensures));
       legal =
           subst (λ g. IsLegal t own g) (sym items)
           (subst (λ x. IsLegal t x (granted_calls h)) (sym setup) (granted_legal t s k h each back driven.legal within));

@@ -1,5 +1,5 @@
 use Rattle.std.proofs.Common.{◌++◌, ap, decimal, map}
-use Rattle.bp_text.specs.OneLine.{on_one_line}
+use Rattle.bp_text.specs.Displayed.{displayed}
 use Rattle.bp_source.proofs.JoinedPieces.{when_ok}
 use Rattle.bp_view.proofs.JoinedTexts.{condition_joined}
 use Rattle.bp_view.proofs.conditions.push_condition_lines.Goals as goal
@@ -9,6 +9,6 @@ returns c =
     let x = c.args.condition.now in
     let old = c.args.view.now.items in
     let lead = c.values_lead.result.now in
-    let file = map on_one_line c.args.file.now in
+    let file = displayed c.args.file.now in
     let joined = condition_joined file (decimal x.position.line) (decimal x.position.column) x.text.now lead c.args.values.now c.values_lead.ensures in
     when_ok c.push_pieces.result c.push_pieces.ensures (λ added. rw (added, c.as_bytes.ensures.value) (ap (λ y. old ++ y) joined))

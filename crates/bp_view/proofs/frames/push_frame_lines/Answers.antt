@@ -1,5 +1,4 @@
 use Rattle.std.proofs.Common.{◌++◌, ap, map}
-use Rattle.bp_text.specs.OneLine.{on_one_line}
 use Rattle.bp_view.specs.Frames.{lead}
 use Rattle.bp_view.proofs.JoinedTexts.{frame_joined}
 use Rattle.bp_view.proofs.frames.push_frame_lines.Goals as goal
@@ -9,7 +8,7 @@ pub returns : goal.returns
 returns c =
     let frame = c.args.frame in
     let old = c.args.view.now.items in
-    let name = map on_one_line frame.proc.now.name.text in
+    let name = frame.proc.now.name.text in
     let joined = frame_joined (lead frame.above) name frame.place.now frame.text.now c.values_lead.result.now c.args.values.now c.values_lead.ensures in
     when_ok c.push_pieces.result c.push_pieces.ensures (λ added.
     rw (added, c.lead.ensures, c.as_bytes.ensures.value, c.text.ensures, c.name.ensures)

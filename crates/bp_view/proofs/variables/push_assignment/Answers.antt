@@ -2,7 +2,6 @@ use Rattle.std.proofs.Common.{◌≡◌, ◌++◌, Bool, true, false, List, ℕ,
 use Rattle.std.specs.Prelude.{option_map}
 use Rattle.std.specs.List.{concat}
 use Rattle.bp_text.proofs.PiecesInTurn.{all_added}
-use Rattle.bp_text.specs.OneLine.{on_one_line}
 use Rattle.bp_text.specs.Pieces.{bit_text}
 use Rattle.bp_source.proofs.JoinedPieces.{when_ok}
 use Rattle.bp_view.specs.Variables.{owner_text}
@@ -18,4 +17,4 @@ returns c =
     let owner = owner_text (option_map (λ p. p.now) c.args.owner) in
     when_ok c.push_two.result c.push_two.ensures (λ added.
     rw (added, c.in_ok-push_owner.ensures, c.in_ok-push_piece.ensures, c.value_text.ensures)
-    (assigned c.args.line.now.items owner (map on_one_line c.args.name.now) c.args.value))
+    (assigned c.args.line.now.items owner c.args.name.now c.args.value))

@@ -1,6 +1,5 @@
 use Rattle.std.proofs.Common.{◌∙◌, [], ◌∷◌, codes, map, ap}
 use Rattle.bp_text.proofs.PiecesInTurn.{all_added}
-use Rattle.bp_text.specs.OneLine.{on_one_line}
 use Rattle.bp_source.proofs.JoinedPieces.{when_ok}
 use Rattle.bp_view.proofs.variables.push_owner.Goals as goal
 
@@ -8,4 +7,4 @@ pub returns-in-Some : goal.returns-in-Some
 returns-in-Some c =
     let name = c.as_bytes.ensures.value ∙ c.text.ensures ∙ ap (λ y. y.text) c.name.ensures in
     when_ok c.push_two.result c.push_two.ensures (λ added.
-    rw (c.in-Some.is, added, name) (all_added c.args.line.now.items (map on_one_line c.in-Some.proc.now.name.text ∷ codes "." ∷ [])))
+    rw (c.in-Some.is, added, name) (all_added c.args.line.now.items (c.in-Some.proc.now.name.text ∷ codes "." ∷ [])))

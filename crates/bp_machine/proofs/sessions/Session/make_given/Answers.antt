@@ -1,5 +1,4 @@
-use Rattle.std.proofs.Common.{◌≡◌, ◌∙◌, sym, subst, false, Option, None, Some, refl}
-use Rattle.std.specs.Prelude.{is_some}
+use Rattle.std.proofs.Common.{subst}
 use Rattle.bp_tree.specs.Ast.{Program}
 use Rattle.bp_flat.specs.StandsFor.{StandsFor}
 use Rattle.bp_flat.specs.Alike.{StepsAlike}
@@ -9,7 +8,7 @@ use Rattle.bp_machine.specs.Sessions.{SessionOf, IsInOrder}
 use Rattle.bp_machine.specs.KeptSessions.{session_of, IsJudged}
 use Rattle.bp_machine.proofs.SessionAnswers.{given_bit, judged_next, refused_after, refused_for_memory}
 use Rattle.bp_machine.proofs.CallsAtOnce.{within, few, grows, made_stands, made_in_order}
-use Rattle.bp_machine.proofs.sessions.Session.make_given.Goals.{In_ok-made, After-make-arg-1, then-is_some, else-is_some}
+use Rattle.bp_machine.proofs.sessions.Session.make_given.Goals.{In_ok-made}
 use Rattle.bp_machine.proofs.sessions.Session.make_given.Goals as goal
 
 abbrev AllAlike : SessionOf → Type 0
@@ -18,31 +17,13 @@ AllAlike x = (t : Program) → StandsFor x.code t → StepsAlike x.code t
 -- what was judged, of the session as it is kept
 judged : (c : In_ok-made)
     → IsJudged
-    (session_of c.self.inside.code c.self.inside.setup c.self.inside.machine c.self.inside.choices.items c.self.inside.prepared)
+    (session_of c.self.inside.code c.self.inside.setup c.self.inside.machine c.self.inside.choices.items)
     c.args.thread c.args.given c.in_ok-made.made
 judged c = rw (← c.self.view_is) at c.in_ok-made.ensures
 
-none_is : {X : Type 0} (o : Option X) → is_some o ≡ false → o ≡ None
-none_is None e = refl
-none_is (Some x) e = absurd cc
-
--- the fields before the call is made: there is room for its frame, and no call is prepared
-left : (c : After-make-arg-1)
-    → c.if-is_some.self-inside ≡ record {
-      code = c.self.inside.code;
-      setup = c.self.inside.setup;
-      machine = c.reserve.new.self;
-      choices = c.self.inside.choices;
-      prepared = None;
-    }
-left c = elim c.if-is_some.branch [
-  | then-is_some w ↦ w.self-inside-is
-  | else-is_some w ↦ rw (sym (none_is c.self.inside.prepared (sym c.is_some.ensures ∙ w.if-is_some.false))) w.self-inside-is
-]
-
 pub returns-in_err-made-clause-answer : goal.returns-in_err-made-clause-answer
 returns-in_err-made-clause-answer c = λ t h is stands.
-    let order = subst IsInOrder c.self.view_is c.self.invariant.0 in
+    let order = subst IsInOrder c.self.view_is c.self.invariant in
     let p = err_from_is_err_and c.from_residual.result c.from_residual.ensures.1 in
     rw (p.1, p.2) (refused_after t c.args.self.now h stands order.choice_count c.args.thread c.args.given c.in_err-made.field-0.0 c.in_err-made.ensures)
 
@@ -56,7 +37,7 @@ invariant_of-self c = rw c.in_err-reserve.ensures.err c.self.invariant
 
 pub returns-in_err-reserve-clause-answer : goal.returns-in_err-reserve-clause-answer
 returns-in_err-reserve-clause-answer c = λ t h is stands.
-    let order = subst IsInOrder c.self.view_is c.self.invariant.0 in
+    let order = subst IsInOrder c.self.view_is c.self.invariant in
     let alike = subst AllAlike c.self.view_is c.steps_alike.ensures in
     let p = err_from_is_err_and c.from_residual-in_err-reserve.result c.from_residual-in_err-reserve.ensures.1 in
     rw (p.1, p.2) (refused_for_memory t c.args.self.now h stands order.choice_count c.args.thread c.args.given
@@ -65,38 +46,35 @@ returns-in_err-reserve-clause-answer c = λ t h is stands.
 pub make-requires-clause-within : goal.make-requires-clause-within
 make-requires-clause-within c =
     let d = (goal.at.make-requires-clause-within c).In_ok-made in
-    rw (left c) (within c.self.inside.code c.self.inside.setup c.self.inside.machine c.reserve.new.self c.in_ok-reserve.ensures.state
-    c.self.inside.choices.items c.self.inside.prepared c.args.thread c.args.given c.in_ok-made.made
-    c.self.invariant.0 (judged d) c.in_ok-reserve.ensures.ok)
+    within c.self.inside.code c.self.inside.setup c.self.inside.machine c.reserve.new.self c.in_ok-reserve.ensures.state
+    c.self.inside.choices.items c.args.thread c.args.given c.in_ok-made.made
+    c.self.invariant (judged d)
 
 pub make-requires-clause-calls : goal.make-requires-clause-calls
 make-requires-clause-calls c =
     let d = (goal.at.make-requires-clause-calls c).In_ok-made in
-    rw (left c) (few c.self.inside.code c.self.inside.setup c.self.inside.machine c.reserve.new.self c.in_ok-reserve.ensures.state
-    c.self.inside.choices.items c.self.inside.prepared c.args.thread c.args.given c.in_ok-made.made
-    c.self.invariant.0 (judged d) c.in_ok-reserve.ensures.ok)
+    few c.self.inside.code c.self.inside.setup c.self.inside.machine c.reserve.new.self c.in_ok-reserve.ensures.state
+    c.self.inside.choices.items c.args.thread c.args.given c.in_ok-made.made
+    c.self.invariant (judged d)
 
 pub make-requires-clause-contexts : goal.make-requires-clause-contexts
 make-requires-clause-contexts c =
     let d = (goal.at.make-requires-clause-contexts c).In_ok-made in
-    rw (left c) (grows c.self.inside.code c.self.inside.setup c.self.inside.machine c.reserve.new.self c.in_ok-reserve.ensures.state
-    c.self.inside.choices.items c.self.inside.prepared c.args.thread c.args.given c.in_ok-made.made
-    c.self.invariant.0 (judged d) c.in_ok-reserve.ensures.ok)
+    grows c.self.inside.code c.self.inside.setup c.self.inside.machine c.reserve.new.self c.in_ok-reserve.ensures.state
+    c.self.inside.choices.items c.args.thread c.args.given c.in_ok-made.made
+    c.self.invariant (judged d)
 
 pub invariant_of-self-2 : goal.invariant_of-self-2
 invariant_of-self-2 c =
     let d = (goal.at.invariant_of-self-2 c).In_ok-made in
-    let is = left (goal.at.invariant_of-self-2 c).After-make-arg-1 in
-    let made = rw is at c.make.ensures in
-    let drawn = rw is at c.draw.ensures in
-    rw is (made_in_order c.self.inside.code c.self.inside.setup c.self.inside.machine c.reserve.new.self
-    c.in_ok-reserve.ensures.state c.self.inside.choices.items c.self.inside.prepared c.args.thread c.args.given
-    c.in_ok-made.made c.self.invariant.0 (judged d) c.in_ok-reserve.ensures.ok
-    c.make.new.self made c.draw.new.choices.items drawn c.steps_alike.ensures)
+    made_in_order c.self.inside.code c.self.inside.setup c.self.inside.machine c.reserve.new.self
+    c.in_ok-reserve.ensures.state c.self.inside.choices.items c.args.thread c.args.given
+    c.in_ok-made.made c.self.invariant (judged d)
+    c.make.new.self c.make.ensures c.draw.new.choices.items c.draw.ensures c.steps_alike.ensures
 
 pub returns-clause-answer : goal.returns-clause-answer
 returns-clause-answer c = λ t h is stands.
-    let order = subst IsInOrder c.self.view_is c.self.invariant.0 in
+    let order = subst IsInOrder c.self.view_is c.self.invariant in
     let alike = subst AllAlike c.self.view_is c.steps_alike.ensures in
     judged_next t c.args.self.now h stands order.choice_count c.args.thread c.args.given (alike t is) c.in_ok-made.made c.in_ok-made.ensures
 
@@ -108,12 +86,9 @@ returns-clause-asked c =
 pub returns-clause-stands : goal.returns-clause-stands
 returns-clause-stands c = λ t h is stands.
     let d = (goal.at.returns-clause-stands c).In_ok-made in
-    let same = left (goal.at.returns-clause-stands c).After-make-arg-1 in
     let is_kept = rw (← c.self.view_is) at is in
     let stood = rw (← c.self.view_is) at stands in
-    let made = rw same at c.make.ensures in
-    let drawn = rw same at c.draw.ensures in
-    rw same (made_stands c.self.inside.code c.self.inside.setup c.self.inside.machine c.reserve.new.self
-    c.in_ok-reserve.ensures.state c.self.inside.choices.items c.self.inside.prepared c.args.thread c.args.given
-    c.in_ok-made.made c.self.invariant.0 (judged d) c.in_ok-reserve.ensures.ok
-    c.make.new.self made c.draw.new.choices.items drawn t h (c.steps_alike.ensures t is_kept) stood)
+    made_stands c.self.inside.code c.self.inside.setup c.self.inside.machine c.reserve.new.self
+    c.in_ok-reserve.ensures.state c.self.inside.choices.items c.args.thread c.args.given
+    c.in_ok-made.made c.self.invariant (judged d)
+    c.make.new.self c.make.ensures c.draw.new.choices.items c.draw.ensures t h (c.steps_alike.ensures t is_kept) stood

@@ -1,7 +1,7 @@
 use Rattle.std.proofs.Common.{◌∙◌, ap, length, map, arith}
 use Rattle.bp_flat.specs.Steps.{bits_from}
 use Rattle.bp_machine.specs.GuestThreads.{first_thread}
-use Rattle.bp_machine.proofs.PreparedSessions.{stands_at_start, in_order_at_start}
+use Rattle.bp_machine.proofs.SessionsInOrder.{stands_at_start, in_order_at_start}
 use Rattle.bp_machine.proofs.sessions.Session.new.Goals as goal
 
 pub word_of-requires : goal.word_of-requires

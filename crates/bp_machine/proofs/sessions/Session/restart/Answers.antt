@@ -4,7 +4,7 @@ use Rattle.bp_flat.specs.StandsFor.{StandsFor}
 use Rattle.bp_machine.specs.GuestThreads.{first_thread}
 use Rattle.bp_machine.specs.Setups.{FitsCode}
 use Rattle.bp_machine.specs.KeptSessions.{AreFirstChoices}
-use Rattle.bp_machine.proofs.PreparedSessions.{stands_at_start, in_order_at_start, fits_anew, in_range_anew}
+use Rattle.bp_machine.proofs.SessionsInOrder.{stands_at_start, in_order_at_start, fits_anew, in_range_anew}
 use Rattle.bp_machine.proofs.sessions.Session.restart.Goals as goal
 
 pub invariant_of-self : goal.invariant_of-self

@@ -11,22 +11,26 @@ returns-then-self g c =
     let old = g.E.Write.contents c.args.errors.now in
     let new = g.E.Write.contents c.put_verdict.new.out in
     let told = c.put_verdict.result in
-    let shown : List ℕ → Option ℕ → List ℕ → List ℕ → ShownVerdict = λ w n f v. record {
+    let shown : List ℕ → Option ℕ → List ℕ → List ℕ → List ℕ → ShownVerdict = λ w n f v b. record {
       word = w;
       steps = x.report.calls;
       contexts = n;
       failure = f;
       waits = v;
+      choices = b;
     } in
     let failure = c.deref.result.now in
     let waits = c.deref-then-self.result.now in
-    let word = subst (λ w. Writes old new (verdict_object (shown w (Some c.from.result) failure waits)) told)
+    let choices = c.deref-then-self-2.result.now in
+    let word = subst (λ w. Writes old new (verdict_object (shown w (Some c.from.result) failure waits choices)) told)
     c.verdict_word.ensures c.put_verdict.ensures in
-    let contexts = subst (λ n. Writes old new (verdict_object (shown (verdict_word x.verdict) (Some n) failure waits)) told)
+    let contexts = subst (λ n. Writes old new (verdict_object (shown (verdict_word x.verdict) (Some n) failure waits choices)) told)
     c.from.ensures word in
-    let failed = subst (λ f. Writes old new (verdict_object (shown (verdict_word x.verdict) (Some x.report.contexts) f waits)) told)
+    let failed = subst (λ f. Writes old new (verdict_object (shown (verdict_word x.verdict) (Some x.report.contexts) f waits choices)) told)
     c.deref.ensures.value contexts in
-    let written = subst (λ v. Writes old new (verdict_object (shown (verdict_word x.verdict) (Some x.report.contexts) x.failure.items v)) told)
+    let written = subst (λ v. Writes old new (verdict_object (shown (verdict_word x.verdict) (Some x.report.contexts) x.failure.items v choices)) told)
     c.deref-then-self.ensures.value failed in
-    subst (λ b. HasSummary (if b then verdict_object (confirmation_shown x) else line_as x.form.expected x.verdict) old new told)
-    (sym c.if-self.true) written
+    let whole = subst (λ v. Writes old new (verdict_object (shown (verdict_word x.verdict) (Some x.report.contexts) x.failure.items x.waits.items v)) told)
+    c.deref-then-self-2.ensures.value written in
+    subst (λ b. HasSummary (if b then verdict_object (confirmation_shown x) else line_as x.form.expected x.choices.items x.verdict) old new told)
+    (sym c.if-self.true) whole

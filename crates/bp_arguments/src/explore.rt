@@ -1,0 +1,103 @@
+//! The arguments of `explore`.
+ghost use Rattle.std.specs.Prelude.{IfOk};
+ghost use Rattle.clap.specs.Words.{found_of, rows_of};
+ghost use Rattle.bp_arguments.specs.ExploreArguments.{IsExploreOf};
+
+use crate::arguments::{Row, Takes};
+use crate::confirm::context_bound;
+use crate::explain::explaining;
+use crate::rows::{ENTRY, INIT};
+use crate::values::{entries, given_long_number, init, is_given, long_number, named, number};
+use bp_machine::Start;
+use bp_machine::limits::{DEFAULT_CALLS, DEFAULT_CONTEXTS};
+use bp_tasks::limits::DEFAULT_STATES;
+use bp_tasks::{ExploreOptions, ExploreTask};
+use clap::ArgMatches;
+use std::alloc::{AllocError, Global};
+
+/// What help says of the command first.
+pub const ABOUT: &str =
+    "Look through all runs of a program and print the failing one with the fewest contexts";
+
+/// What `explore --help` says after the arguments.
+pub const NOTES: &str = "\
+    All runs within one context are looked through, with both values of each choice, then all\n\
+    within two, and so on. If no run fails, that is proved: for this many contexts, or for any\n\
+    number if the last one brought no new state. Else the trace of a failing run with the fewest\n\
+    contexts is printed, and 'btrun replay' takes it. A summary on standard error says what was\n\
+    found, and how many states there are. The number of calls has no bound; a stack has at most\n\
+    1,024 frames. With --json the summary is a JSON object. A fault is one line there.\n\n\
+    With --through a run is looked for that makes the steps of a file in their order, with any\n\
+    other steps between them. If there is none, the summary says how many of them are made.\n\n\
+    Example:\n  btrun explore race.bp writer reader --contexts 4\n\n\
+    Exit status:\n  0  no run fails\n  \
+    1  an assertion fails, or a run ends in a deadlock\n  \
+    2  the program was refused, or the arguments were\n  \
+    3  memory, a device or the output failed\n  \
+    4  no run makes the listed steps\n  \
+    5  not all runs were looked through; none of those that were fails";
+
+/// The arguments of the command after its file.
+pub static ROWS: [Row<'static>; 8] = [
+    ENTRY,
+    Row {
+        name: "contexts",
+        takes: Takes::Number,
+        help: "Look through runs within N contexts [default: any number]",
+    },
+    INIT,
+    Row {
+        name: "states",
+        takes: Takes::LongNumber,
+        help: "Keep at most N states [default: 50000000]",
+    },
+    Row {
+        name: "time",
+        takes: Takes::LongNumber,
+        help: "Stop after N seconds",
+    },
+    Row {
+        name: "deadlock",
+        takes: Takes::Nothing,
+        help: "Also look for a run in which all threads that have not ended wait",
+    },
+    Row {
+        name: "through",
+        takes: Takes::Text("STEPS"),
+        help: "Look for a run that makes the steps of this file in their order",
+    },
+    Row {
+        name: "json",
+        takes: Takes::Nothing,
+        help: "Write the summary as a JSON object, for programs",
+    },
+];
+
+/// What the arguments after `explore` ask for.
+pub fn explore_arguments<'a>(
+    alloc: Global,
+    arguments: &ArgMatches<'a>,
+) -> Result<ExploreTask<'a>, AllocError>
+    ensures { IfOk result (IsExploreOf (rows_of (found_of arguments.now))) }
+{
+    // FILE is required, so it is there.
+    Ok(ExploreTask {
+        program: arguments.get_str("FILE").unwrap_or(""),
+        explain: explaining(arguments),
+        start: Start {
+            entries: entries(alloc, arguments)?,
+            init: init(alloc, arguments)?,
+            contexts: number(arguments, "contexts", DEFAULT_CONTEXTS),
+            calls: DEFAULT_CALLS,
+        },
+        named: named(alloc, arguments)?,
+        through: arguments.get_str("through"),
+        options: ExploreOptions {
+            bound: context_bound(arguments),
+            states: long_number(arguments, "states", DEFAULT_STATES),
+            seconds: given_long_number(arguments, "time"),
+            with_deadlock: is_given(arguments, "deadlock"),
+        },
+        json: is_given(arguments, "json"),
+    })
+}

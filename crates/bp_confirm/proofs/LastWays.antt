@@ -1,0 +1,125 @@
+-- The ways of a step with each of its last bits, beside that of any other call.
+use Rattle.std.proofs.Common.{◌≡◌, Bool, true, false, cond, List, ◌∷◌, Option, None, Some, refl, ap, sym, ◌∙◌, inl, inr, ◌⊎◌}
+use Rattle.bp_tree.specs.Ast.{Block, Done, Then, Skips, GoesTo, Returns, Assigns, Branches, Loops, Asserts, Assumes, Prints, Calls, Choose, Decide, Procedure}
+use Rattle.bp_flat.specs.Configurations.{Frame}
+use Rattle.bp_flat.specs.Continuations.{chain}
+use Rattle.bp_flat.specs.Moves.{StatementEffect, Leaves, Fails, effect, with_left}
+use Rattle.bp_flat.specs.Values.{Valuation}
+use Rattle.bp_machine.specs.Deadlocks.{is_left}
+use Rattle.bp_confirm.specs.Places.{Place}
+use Rattle.bp_confirm.specs.Inferred.{bit_of_block, IsClear}
+use Rattle.bp_confirm.proofs.LastBitsAsked.{told}
+use Rattle.bp_confirm.proofs.WaysOfChoices.{AgreeStacks, leaves_alike}
+
+-- With a further step at this place the stacks after 0, after 1 and after this bit are the same, and the other one agrees. Without one
+-- the bit tells which of the first two the third is, and the fourth is one of them.
+abbrev pub Among : Option Place → Bool → (zeroed oned given other : List Frame) → Type 0
+Among (Some p) b z o w g = (z ≡ o) × (z ≡ w) × AgreeStacks (Some p) z g
+Among None b z o w g = (is_left z ≡ is_left o) × (b ≡ false → z ≡ w) × (b ≡ true → o ≡ w) × ((z ≡ g) ⊎ (o ≡ g))
+
+-- the effects with the three bits leave these globals, and stacks that are so
+pub record LeaveAmong (next : Option Place) (b : Bool) (d e k : StatementEffect) (g : Valuation) (other : List Frame) : Type 0 where
+  pub zeroed : List Frame
+  pub oned : List Frame
+  pub given : List Frame
+  pub zeroed_is : d ≡ Leaves g zeroed
+  pub oned_is : e ≡ Leaves g oned
+  pub given_is : k ≡ Leaves g given
+  pub among : Among next b zeroed oned given other
+
+-- or at the last step the assertion of a `?` fails with each
+pub record FailAll (follow : Bool) (d e k : StatementEffect) : Type 0 where
+  pub last : follow ≡ false
+  pub zeroed_is : d ≡ Fails
+  pub oned_is : e ≡ Fails
+  pub given_is : k ≡ Fails
+
+module _ (ps : List Procedure) (g : Valuation) (f : Frame) (fs : List Frame) where
+  abbrev effect_with : Block → Bool → StatementEffect
+  effect_with left bit = effect ps left g f fs bit
+
+  abbrev Ends : Block → Option Place → (b follow : Bool) → Valuation → List Frame → Type 0
+  Ends left next b follow h S =
+      LeaveAmong next b (effect_with left (bit_of_block left next false follow)) (effect_with left (bit_of_block left next true follow))
+      (effect_with left (bit_of_block left next b follow)) h S
+      ⊎ FailAll follow (effect_with left (bit_of_block left next false follow)) (effect_with left (bit_of_block left next true follow))
+      (effect_with left (bit_of_block left next b follow))
+
+  -- all leave the same
+  same : (b : Bool) (e : StatementEffect) (h : Valuation) (S : List Frame) → e ≡ Leaves h S → LeaveAmong None b e e e h S
+  same b e h S is = record {
+    zeroed = S;
+    oned = S;
+    given = S;
+    zeroed_is = is;
+    oned_is = is;
+    given_is = is;
+    among = (refl, λ p. refl, λ p. refl, inl refl);
+  }
+
+  -- a `?` has two ways
+  fork : (taken other : Block) (b y : Bool) (h : Valuation) (S : List Frame)
+      → Leaves g (with_left f (cond y taken other) ∷ fs) ≡ Leaves h S
+      → LeaveAmong None b (Leaves g (with_left f other ∷ fs)) (Leaves g (with_left f taken ∷ fs)) (Leaves g (with_left f (cond b taken other) ∷ fs)) h S
+  fork taken other b y h S is =
+      let globals : g ≡ h = cc in
+      let stacks : with_left f (cond y taken other) ∷ fs ≡ S = cc in
+      record {
+        zeroed = with_left f other ∷ fs;
+        oned = with_left f taken ∷ fs;
+        given = with_left f (cond b taken other) ∷ fs;
+        zeroed_is = ap (λ (v : Valuation). Leaves v (with_left f other ∷ fs)) globals;
+        oned_is = ap (λ (v : Valuation). Leaves v (with_left f taken ∷ fs)) globals;
+        given_is = ap (λ (v : Valuation). Leaves v (with_left f (cond b taken other) ∷ fs)) globals;
+        among = (
+          refl,
+          λ e. sym (ap (λ k. with_left f (cond k taken other) ∷ fs) e),
+          λ e. sym (ap (λ k. with_left f (cond k taken other) ∷ fs) e),
+          one_of y stacks,
+        );
+      }
+    where
+      one_of : (k : Bool) → with_left f (cond k taken other) ∷ fs ≡ S → (with_left f other ∷ fs ≡ S) ⊎ (with_left f taken ∷ fs ≡ S)
+      one_of true e = inr e
+      one_of false e = inl e
+
+  by_block : (left : Block) (b follow y : Bool) (h : Valuation) (S : List Frame) → effect_with left y ≡ Leaves h S → Ends left None b follow h S
+  by_block Done b follow y h S is = inl (same b _ h S is)
+  by_block (Then label at Skips r) b follow y h S is = inl (same b _ h S is)
+  by_block (Then label at (GoesTo x) r) b follow y h S is = inl (same b _ h S is)
+  by_block (Then label at Returns r) b follow y h S is = inl (same b _ h S is)
+  by_block (Then label at (Assigns xs es) r) b follow y h S is = inl (same b _ h S is)
+  by_block (Then label at (Branches Choose m n) r) b follow y h S is = inl (fork (chain m r) (chain n r) b y h S is)
+  by_block (Then label at (Branches (Decide d) m n) r) b follow y h S is = inl (same b _ h S is)
+  by_block (Then label at (Loops Choose m) r) b follow y h S is = inl (fork (chain m (Then label at (Loops Choose m) r)) r b y h S is)
+  by_block (Then label at (Loops (Decide d) m) r) b follow y h S is = inl (same b _ h S is)
+  by_block (Then label at (Asserts Choose) r) b true true h S is = inl (same b _ h S is)
+  by_block (Then label at (Asserts Choose) r) b false true h S is = inr (record { last = refl; zeroed_is = refl; oned_is = refl; given_is = refl })
+  by_block (Then label at (Asserts Choose) r) b follow false h S is = absurd cc
+  by_block (Then label at (Asserts (Decide d)) r) b follow y h S is = inl (same b _ h S is)
+  by_block (Then label at (Assumes Choose) r) b follow true h S is = inl (same b _ h S is)
+  by_block (Then label at (Assumes Choose) r) b follow false h S is = absurd cc
+  by_block (Then label at (Assumes (Decide d)) r) b follow y h S is = inl (same b _ h S is)
+  by_block (Then label at (Prints es) r) b follow y h S is = inl (same b _ h S is)
+  by_block (Then label at (Calls x es) r) b follow y h S is = inl (same b _ h S is)
+
+  pub leaves_among : (left : Block) (next : Option Place) (b follow y : Bool) (h : Valuation) (S : List Frame)
+      → ((p : Place) → next ≡ Some p → follow ≡ true)
+      → IsClear left next
+      → effect ps left g f fs y ≡ Leaves h S
+      → Ends left next b follow h S
+  leaves_among left None b follow y h S some clear is = by_block left b follow y h S is
+  leaves_among left (Some p) b follow y h S some clear is =
+      let bit = bit_of_block left (Some p) false follow in
+      let alike = leaves_alike ps g f fs left (Some p) false bit y h S (ap (bit_of_block left (Some p) false) (some p refl)) clear is in
+      let one : effect_with left (bit_of_block left (Some p) true follow) ≡ Leaves h alike.stack = ap (effect_with left) (told left p true false follow) ∙ alike.is in
+      let given : effect_with left (bit_of_block left (Some p) b follow) ≡ Leaves h alike.stack = ap (effect_with left) (told left p b false follow) ∙ alike.is in
+      inl (record {
+        zeroed = alike.stack;
+        oned = alike.stack;
+        given = alike.stack;
+        zeroed_is = alike.is;
+        oned_is = one;
+        given_is = given;
+        among = (refl, refl, alike.agree);
+      })

@@ -1,0 +1,186 @@
+-- Where all was explored, a run ends where a node is that has made as many of the listed steps.
+use Rattle.std.proofs.Common.{◌≡◌, ◌⊎◌, ℕ, ◌+◌, ◌<◌, ◌≤◌, Bool, true, false, cond, List, [], ◌∷◌, length, Option, None, Some, refl, ap, sym, ◌∙◌, subst, inl, inr, arith}
+use Rattle.std.specs.Prelude.{slice_get, map}
+use Rattle.std.proofs.lemmas.Option.{slice_get_within}
+use Rattle.bp_tree.specs.Ast.{Program}
+use Rattle.bp_flat.specs.Alike.{StepsAlike}
+use Rattle.bp_flat.specs.Configurations.{Configuration}
+use Rattle.bp_flat.specs.Flat.{Flat}
+use Rattle.bp_flat.specs.StandsFor.{StandsFor}
+use Rattle.bp_machine.specs.declared.calls.Call.{Call}
+use Rattle.bp_machine.specs.BoundedRuns.{EachHasRoom}
+use Rattle.bp_machine.specs.ContextCounts.{contexts_opened}
+use Rattle.bp_machine.specs.Deadlocks.{IsDeadlocked}
+use Rattle.bp_machine.specs.Reports as reports
+use Rattle.bp_machine.specs.Setups.{SetupOf, threads, start}
+use Rattle.bp_machine.proofs.ContextCounts.{opened, opened_more, least}
+use Rattle.bp_machine.proofs.StepsOfRuns.{move_keeps, thread_below, stacks_at_start}
+use Rattle.bp_explore.specs.ListedSteps.{ListedSteps, MakesFrom, CanMake}
+use Rattle.bp_explore.specs.Live.{AreLiveFrom}
+use Rattle.bp_explore.specs.Packing.{NodeOf as Node}
+use Rattle.bp_explore.specs.Reachable.{IsReachable}
+use Rattle.bp_explore.specs.Searches.{HaveFewer}
+use Rattle.bp_explore.specs.States.{Shows}
+use Rattle.bp_explore.specs.Steps.{IsStep, Step, Stays, Fails, Leads}
+use Rattle.bp_explore.specs.Spaces.{level_with, IsSeen, IsClosed}
+use Rattle.bp_explore.proofs.MadeSteps.{FirstMade, no_more, first_made, counts_enough, run_passes}
+use Rattle.bp_explore.proofs.ShownSteps.{IsCounted, Matches, step_matches}
+
+abbrev thread_of : Call → ℕ
+thread_of x = x.thread
+
+-- a node shows the configuration, to which a step of the last thread led within this many contexts, and has made as many listed steps, but not all
+record IsShown (t : Program) (o : ListedSteps) (nodes : List Node) (last : Option ℕ) (level made : ℕ) (d : Configuration) : Type 0 where
+  at : ℕ
+  node : Node
+  is : slice_get nodes at ≡ Some node
+  last_is : node.last ≡ last
+  low : node.level ≤ level
+  enough : made ≤ node.made
+  few : node.made < o.count
+  shows : Shows t node.state d
+  going : d.failed ≡ false
+
+-- where a run ends that makes so many listed steps
+record IsEnd (t : Program) (o : ListedSteps) (nodes : List Node) (made : ℕ) (d : Configuration) : Type 0 where
+  at : ℕ
+  node : Node
+  is : slice_get nodes at ≡ Some node
+  enough : made ≤ node.made
+  few : node.made < o.count
+  ends : (d.failed ≡ true) ⊎ Shows t node.state d
+
+module _ (c : Flat) (t : Program) (o : ListedSteps) (own : o.is_of t) (alike : StepsAlike c t) (nodes : List Node) (count k : ℕ)
+    (closed : (n : ℕ) (node : Node) (i : ℕ) → slice_get nodes n ≡ Some node → i < count → level_with node i ≤ k
+    → (bit : Bool) → (y : Step) × IsStep o node.made node.state i c.instructions bit y × IsSeen o nodes i (level_with node i) y) where
+  lower : (l : Option ℕ) (a b made : ℕ) (d : Configuration) → a ≤ b → IsShown t o nodes l a made d → IsShown t o nodes l b made d
+  lower l a b made d h s = record {
+    at = s.at;
+    node = s.node;
+    is = s.is;
+    last_is = s.last_is;
+    enough = s.enough;
+    few = s.few;
+    shows = s.shows;
+    going = s.going;
+    low = let low = s.low in omega (arith, h, low);
+  }
+
+  -- a false assertion makes no listed step but the last
+  fails_low : (m n : ℕ) (a : Configuration) (i : ℕ) (d : Configuration) → IsCounted o m a i d n → d.failed ≡ true → n < o.count → n ≡ m
+  fails_low m n a i d counted failed few = by_test counted.is_made refl
+    where
+      by_test : (b : Bool) → counted.is_made ≡ b → n ≡ m
+      by_test true is =
+          let last = (counted.told.0 is).last failed in
+          let more : n ≡ m + 1 = counted.count ∙ ap (λ b. cond b (m + 1) m) is in
+          absurd (omega (arith, last, more, few))
+      by_test false is = counted.count ∙ ap (λ b. cond b (m + 1) m) is
+
+  -- a run that goes on after its first step, or ends with it at a false assertion
+  goes_on : (x : Call) (xs : List Call) (l : Option ℕ) (level m n : ℕ) (d e : Configuration) (s : IsShown t o nodes l level m d) (first : FirstMade t o m d x xs n e)
+      → level_with s.node x.thread ≤ level + contexts_opened l x.thread
+      → (IsShown t o nodes (Some x.thread) (level + contexts_opened l x.thread) first.made first.next → IsEnd t o nodes n e)
+      → (y : Step) → Matches t o s.node.made d x.thread first.next y → IsSeen o nodes x.thread (level_with s.node x.thread) y → IsEnd t o nodes n e
+  goes_on x xs l level m n d e s first low again Stays matches seen = absurd matches
+  goes_on x [] l level m n d e s first low again (Fails made) (counted, failed) seen =
+      let (last, there) = no_more first.rest in
+      let enough = counts_enough t o m s.node.made first.made made d x.thread first.next s.enough first.how counted in
+      let same = fails_low s.node.made made d x.thread first.next counted failed seen in
+      record {
+        at = s.at;
+        node = s.node;
+        is = s.is;
+        few = s.few;
+        enough = omega (arith, last, enough, same);
+        ends = inl (ap (λ (z : Configuration). z.failed) (sym there) ∙ failed);
+      }
+  goes_on x (z ∷ zs) l level m n d e s first low again (Fails made) (counted, failed) seen =
+      let runs = (first_made first.rest).move.runs in
+      absurd (let no : false ≡ true = sym runs ∙ failed in cc)
+  goes_on x xs l level m n d e s first low again (Leads made y) (counted, shows, going) (few, has) =
+      let i = x.thread in
+      let enough = counts_enough t o m s.node.made first.made made d i first.next s.enough first.how counted in
+      let is_made = has.held.made in
+      let next : IsShown t o nodes (Some i) (level_with s.node i) first.made first.next = record {
+        at = has.held.at;
+        node = has.held.node;
+        is = has.held.is;
+        last_is = has.held.last;
+        low = has.low;
+        enough = omega (arith, enough, is_made);
+        few = omega (arith, few, is_made);
+        shows = subst (λ z. Shows t z first.next) (sym has.held.state) shows;
+        going = going;
+      } in
+      again (lower (Some i) (level_with s.node i) (level + contexts_opened l i) first.made first.next low next)
+
+  -- what is reached from a configuration that a node shows, a node shows
+  stays_shown : (xs : List Call) (l : Option ℕ) (level m n : ℕ) (d e : Configuration) → IsShown t o nodes l level m d → length d.stacks ≡ count
+      → MakesFrom t o m d xs n e → EachHasRoom t d xs → level + opened l (map thread_of xs) ≤ k → IsEnd t o nodes n e
+  stays_shown [] l level m n d e s stacks run room fits =
+      let (made, there) = no_more run in
+      let enough = s.enough in
+      record { at = s.at; node = s.node; is = s.is; few = s.few; enough = omega (arith, made, enough); ends = inr (subst (Shows t s.node.state) there s.shows) }
+  stays_shown (x ∷ xs) l level m n d e s stacks run room fits =
+      let first = first_made run in
+      let i = x.thread in
+      let more = opened_more l i (map thread_of xs) in
+      let below = thread_below t d i x.bit first.next first.move in
+      let same = ap (λ z. contexts_opened z i) s.last_is in
+      let low = s.low in
+      let here : level_with s.node i ≤ k = omega (arith, fits, more, same, low) in
+      let (y, step, seen) = closed s.at s.node i s.is (omega (arith, below, stacks)) here x.bit in
+      let matches = step_matches c t o own alike s.node.made s.node.state d s.shows i x.bit first.next first.move
+      (room [] x xs d refl (reports.ends d)) y step in
+      goes_on x xs l level m n d e s first (omega (arith, same, low))
+      (λ next. stays_shown xs (Some i) (level + contexts_opened l i) first.made n first.next e next
+      (move_keeps t d i x.bit first.next first.move ∙ stacks) first.rest
+      (λ before z later f split run_to. room (x ∷ before) z later f (ap (λ zs. x ∷ zs) split)
+      (reports.moves d x first.next before f first.move run_to))
+      (omega (arith, fits, more))) y matches seen
+
+-- where all that is within k contexts was seen, from a node that shows the start
+module _ (c : Flat) (t : Program) (s : SetupOf) (o : ListedSteps) (own : o.is_of t) (some : 0 < o.count) (alike : StepsAlike c t) (nodes : List Node) (k : ℕ) (first : Node)
+    (closed : IsClosed o c.instructions (threads s) nodes (length nodes) k) (is : slice_get nodes 0 ≡ Some first)
+    (last : first.last ≡ None) (level : first.level ≡ 0) (made : first.made ≡ 0) (shows : Shows t first.state (start t s)) where
+  shown : (n : ℕ) (run : CanMake t s o k n) → IsEnd t o nodes n run.end
+  shown n run =
+      let fewest = least k (map thread_of run.steps) run.contexts in
+      stays_shown c t o own alike nodes (threads s) k
+      (λ n node i at within fits bit. closed n node i (slice_get_within nodes n node at) at within fits bit)
+      run.steps None 0 0 n (start t s) run.end
+      (record {
+        at = 0;
+        node = first;
+        is = is;
+        last_is = last;
+        low = omega (arith, level);
+        enough = omega arith;
+        few = omega (arith, made, some);
+        shows = shows;
+        going = refl;
+      })
+      (stacks_at_start t s) run.run run.room (omega (arith, fewest))
+
+  pub explored_makes_fewer : (n : ℕ) → HaveFewer o nodes n → CanMake t s o k n → ⊥
+  explored_makes_fewer n fewer run =
+      let there = shown n run in
+      let less = fewer there.at there.node there.is there.few in
+      let enough = there.enough in
+      omega (arith, less, enough)
+
+  pub explored_is_live : StandsFor c t → AreLiveFrom c nodes 0 → (d : Configuration) → IsReachable t s k d → d.failed ≡ false → IsDeadlocked t d → ⊥
+  explored_is_live stands live d reached going dead =
+      let run : CanMake t s o k 0 = record {
+        steps = reached.steps;
+        end = d;
+        run = run_passes t o 0 (start t s) reached.steps d reached.run;
+        contexts = reached.contexts;
+        room = reached.room;
+      } in
+      let there = shown 0 run in
+      elim there.ends [
+        | inl failed ↦ absurd (let no : false ≡ true = sym going ∙ failed in cc)
+        | inr at ↦ live there.at there.node (omega arith) there.is t d stands at dead
+      ]

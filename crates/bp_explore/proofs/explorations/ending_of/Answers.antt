@@ -1,0 +1,38 @@
+use Rattle.std.proofs.Common.{subst}
+use Rattle.bp_explore.specs.Counts.{failures}
+use Rattle.bp_explore.specs.declared.explored.Finding.TheVariants.{Failure, Deadlock}
+use Rattle.bp_explore.specs.declared.searches.SearchEnd.{SearchEnd}
+use Rattle.bp_explore.specs.Searches.{IsSearchEnd}
+use Rattle.bp_explore.proofs.FailuresFound.{none_below_of, none_of, safe_of}
+use Rattle.bp_explore.proofs.PlayedRuns.{played_answer}
+use Rattle.bp_explore.proofs.explorations.ending_of.Goals as goal
+
+pub returns-in-Closed : goal.returns-in-Closed
+returns-in-Closed c = λ t bound b is end k.
+    let found = subst (λ (e : SearchEnd). IsSearchEnd t c.args.setup.now failures bound b c.args.space.now.nodes.items e) c.in-Closed.is end in
+    none_of t c.args.setup.now b k (found.1 k).neither
+
+pub returns-in-Bound : goal.returns-in-Bound
+returns-in-Bound c = λ t bound b is end.
+    let found = subst (λ (e : SearchEnd). IsSearchEnd t c.args.setup.now failures bound b c.args.space.now.nodes.items e) c.in-Bound.is end in
+    (found.0, none_of t c.args.setup.now b c.in-Bound.contexts found.2.neither)
+
+pub returns-in-Short : goal.returns-in-Short
+returns-in-Short c = λ t bound b is end.
+    let found = subst (λ (e : SearchEnd). IsSearchEnd t c.args.setup.now failures bound b c.args.space.now.nodes.items e) c.in-Short.is end in
+    none_below_of t c.args.setup.now b c.in-Short.contexts found
+
+pub returns-in_ok-played-in-Deadlocked : goal.returns-in_ok-played-in-Deadlocked
+returns-in_ok-played-in-Deadlocked c = λ t bound b is end.
+    let s = c.args.setup.now in
+    let found = subst (λ (e : SearchEnd). IsSearchEnd t s failures bound b c.args.space.now.nodes.items e) c.in-Deadlocked.is end in
+    played_answer c.args.code.now t s bound b c.in-Deadlocked.contexts Deadlock
+    (none_below_of t s b c.in-Deadlocked.contexts found.0, (found.1, safe_of t s c.in-Deadlocked.contexts found.2)) c.in_ok-played-in-Deadlocked.field-0
+    (c.in_ok-played-in-Deadlocked.ensures t is)
+
+pub returns-in_ok-played-in-Found : goal.returns-in_ok-played-in-Found
+returns-in_ok-played-in-Found c = λ t bound b is end.
+    let s = c.args.setup.now in
+    let found = subst (λ (e : SearchEnd). IsSearchEnd t s failures bound b c.args.space.now.nodes.items e) c.in-Found.is end in
+    played_answer c.args.code.now t s bound b c.in-Found.contexts Failure
+    (none_below_of t s b c.in-Found.contexts found, tt) c.in_ok-played-in-Found.field-0 (c.in_ok-played-in-Found.ensures t is)

@@ -1,0 +1,7 @@
+use Rattle.std.proofs.Common.{ap, subst}
+use Rattle.bp_explore.specs.Live.{IsLive}
+use Rattle.bp_explore.specs.Packing.{NodesOf}
+use Rattle.bp_explore.proofs.nodes.Nodes.is_live.Goals as goal
+
+pub returns : goal.returns
+returns c = λ yes. subst (IsLive c.args.code.now) (ap (λ (m : NodesOf). m.spare) c.self.view_is) (c.is_live.ensures yes)

@@ -1,0 +1,8 @@
+use Rattle.std.proofs.Common.{take}
+use Rattle.bp_explore.specs.Cells.{IsPacked, take_times}
+use Rattle.bp_explore.specs.Packing.{take_frame}
+use Rattle.bp_explore.proofs.packing.push_frames.Given as goal
+
+abbrev pub invariant-loop-frame : goal.invariant-loop-frame
+invariant-loop-frame l =
+    IsPacked (take_times take_frame l.frame-index) l.fn.cells.items l.cells.items (take l.frame-index l.frames)

@@ -1,0 +1,11 @@
+use Rattle.std.proofs.Common.{◌≡◌, drop, take, length}
+use Rattle.bp_explore.specs.Cells.{take_times}
+use Rattle.bp_explore.specs.Packing.{take_stack}
+use Rattle.bp_explore.specs.States.{frames_of}
+use Rattle.bp_explore.proofs.packing.read_stacks.Given as goal
+
+abbrev pub invariant-loop-i : goal.invariant-loop-i
+invariant-loop-i l = record {
+  read : take_times take_stack l.i (drop l.fn.at l.cells) ≡ (frames_of (take l.i l.stacks.items), drop l.at l.cells);
+  count : length l.stacks.items ≡ length l.fn.stacks.items;
+}

@@ -1,0 +1,46 @@
+use Rattle.std.proofs.Common.{◌≡◌, ◌+◌, ◌<◌, ◌≤◌, ℕ, Some, inl, inr, sym, ◌∙◌, subst, arith}
+use Rattle.std.specs.Prelude.{slice_get}
+use Rattle.std.proofs.lemmas.Bool.{cases_lt}
+use Rattle.std.proofs.lemmas.Option.{slice_get_within}
+use Rattle.bp_explore.specs.Packing.{NodeOf}
+use Rattle.bp_explore.proofs.Growth.{item_at}
+use Rattle.bp_explore.proofs.spaces.Space.most_made.Goals as goal
+use Rattle.bp_explore.proofs.spaces.Space.most_made.Goals.{then-made-most, else-made-most}
+
+pub loop-at-preserved : goal.loop-at-preserved
+loop-at-preserved c =
+    let nodes = c.args.self.now.nodes.items in
+    let at = c.loop-at.at in
+    let here : (n : ℕ) (node : NodeOf) → n < at + 1 → at ≤ n → slice_get nodes n ≡ Some node → c.made-made.result ≡ node.made =
+    λ n node below past is.
+    let same : n ≡ at = omega (arith, below, past) in
+    c.made-made.ensures node (subst (λ m. slice_get nodes m ≡ Some node) same is) in
+    elim c.if-made-most.branch [
+      | then-made-most w ↦
+          let (node, is) = item_at nodes at (omega (arith, c.loop-at-test.true, c.len-at-end.ensures)) in
+          record {
+            at_most = λ n next below found. elim (cases_lt n at) [
+              | inl near ↦ let low = c.loop-at.invariant.at_most n next near found in omega (arith, low, w.most-is, w.if-made-most.true)
+              | inr past ↦ let own = here n next below past found in omega (arith, own, w.most-is)
+            ];
+            attained = inr (record { at = at; node = node; is = is; same = sym (w.most-is ∙ c.made-made.ensures node is) });
+          }
+      | else-made-most w ↦ record {
+        at_most = λ n next below found. elim (cases_lt n at) [
+          | inl near ↦ let low = c.loop-at.invariant.at_most n next near found in omega (arith, low, w.most-is)
+          | inr past ↦ let own = here n next below past found in omega (arith, own, w.most-is, w.if-made-most.false)
+        ];
+        attained = elim c.loop-at.invariant.attained [
+          | inl none ↦ inl (w.most-is ∙ none)
+          | inr one ↦ inr (record { at = one.at; node = one.node; is = one.is; same = one.same ∙ sym w.most-is })
+        ];
+      }
+    ]
+
+pub returns : goal.returns
+returns c = record {
+  at_most = λ n node is.
+      let near = slice_get_within c.args.self.now.nodes.items n node is in
+      c.loop-at.invariant.at_most n node (omega (arith, near, c.loop-at-test.false, c.len-at-end.ensures)) is;
+  attained = c.loop-at.invariant.attained;
+}

@@ -1,0 +1,17 @@
+pub mod Reachable
+pub mod FoundRuns
+pub mod Explorations
+pub mod ListedSteps
+pub mod SeenSteps
+pub mod RunsThrough
+pub mod ThroughExplorations
+pub mod Counts
+pub mod Replays
+pub mod States
+pub mod Steps
+pub mod Spaces
+pub mod Live
+pub mod Reached
+pub mod Searches
+pub mod Cells
+pub mod Packing

@@ -1,0 +1,172 @@
+//! Exploring all that a program reaches.
+ghost use Rattle.std.specs.Prelude.{◌<◌, Bool, ℕ, false, IfOk, Option};
+ghost use Rattle.bp_tree.specs.Ast.{Program};
+ghost use Rattle.bp_flat.specs.StandsFor.{StandsFor};
+ghost use Rattle.bp_machine.specs.Setups.{FitsCode};
+ghost use Rattle.bp_explore.specs.Counts.{failures};
+ghost use Rattle.bp_explore.specs.Explorations.{IsExploration};
+ghost use Rattle.bp_explore.specs.Searches.{IsSearchEnd};
+ghost use Rattle.bp_explore.specs.ThroughExplorations.{IsThrough};
+
+use crate::explored::{Ending, Explored, ExploredThrough, Finding, Reason, ThroughEnding};
+use crate::found_runs::played;
+use crate::observers::{Failures, Observer};
+use crate::runs_through::played_through;
+use crate::searches::{SearchEnd, search};
+use crate::spaces::{Space, Stop};
+use crate::states::State;
+use crate::watchers::Watcher;
+use bp_flat::Code;
+use bp_machine::{Call, Reply, Setup};
+use std::alloc::{AllocError, Global};
+
+/// What is answered if the search of a space ends so.
+fn ending_of(
+    alloc: Global,
+    code: &Code,
+    setup: &Setup,
+    space: &Space,
+    end: SearchEnd,
+) -> Result<Ending, AllocError>
+    requires { FitsCode code.now setup.now }
+    ensures { (t : Program) (bound : Option ℕ) (with_deadlock : Bool)
+        → StandsFor code.now t
+        → IsSearchEnd t setup.now failures bound with_deadlock space.now.nodes.items end
+        → IfOk result (IsExploration code.now t setup.now bound with_deadlock) }
+{
+    match end {
+        SearchEnd::Closed { last } => Ok(Ending::Nothing { last }),
+        SearchEnd::Bound { contexts } => Ok(Ending::NothingWithin { contexts }),
+        SearchEnd::Short { contexts, reason } => Ok(Ending::Unfinished { contexts, reason }),
+        SearchEnd::Deadlocked { contexts, at } => {
+            let calls = space.calls_to(alloc, at)?;
+            Ok(played(alloc, code, setup, calls, contexts, Finding::Deadlock)?)
+        }
+        SearchEnd::Found {
+            contexts,
+            step,
+            reply,
+        } => {
+            let mut calls = space.calls_to(alloc, step.from)?;
+            calls.push(step.call(reply))?;
+            Ok(played(alloc, code, setup, calls, contexts, Finding::Failure)?)
+        }
+    }
+}
+
+/// Explores all runs of a program from the start of a setup within this many contexts, or within
+/// any number if there is no bound. At most `states` states are kept. The setup's bounds and its
+/// seed do not matter. Fails if memory is refused before the first state stands, or while the run
+/// that was found is played.
+pub fn explore<P: Watcher>(
+    alloc: Global,
+    code: &Code,
+    setup: &Setup,
+    contexts: Option<u32>,
+    states: usize,
+    with_deadlock: bool,
+    watcher: &P,
+) -> Result<Explored, AllocError>
+    requires { FitsCode code.now setup.now }
+    ensures { (t : Program)
+        → StandsFor code.now t
+        → IfOk result (λ x. IsExploration code.now t setup.now contexts with_deadlock x.ending) }
+{
+    let first = State::first(alloc, code, setup)?;
+    let mut space = Space::new(alloc, first, states)?;
+    let end = search(
+        &mut space,
+        code,
+        setup,
+        &Failures,
+        contexts,
+        with_deadlock,
+        watcher,
+    );
+    watcher.ends();
+    let ending = ending_of(alloc, code, setup, &space, end)?;
+    Ok(Explored {
+        states: space.len(),
+        full_stacks: space.full_stacks(),
+        ending,
+    })
+}
+
+/// What is answered if the search of a space for listed steps ends so.
+fn through_ending_of<O: Observer>(
+    alloc: Global,
+    code: &Code,
+    setup: &Setup,
+    observer: &O,
+    space: &Space,
+    end: SearchEnd,
+) -> Result<ThroughEnding, AllocError>
+    requires fits { FitsCode code.now setup.now }
+    requires some { 0 < (O.listed observer.now).count }
+    ensures { let o = O.listed observer.now in
+        (t : Program) (bound : Option ℕ)
+        → StandsFor code.now t
+        → o.is_of t
+        → IsSearchEnd t setup.now o bound false space.now.nodes.items end
+        → IfOk result (IsThrough code.now t setup.now o bound) }
+{
+    match end {
+        SearchEnd::Closed { last } => {
+            let made = space.most_made();
+            Ok(ThroughEnding::Missing { last, made })
+        }
+        SearchEnd::Bound { contexts } => {
+            let made = space.most_made();
+            Ok(ThroughEnding::MissingWithin { contexts, made })
+        }
+        SearchEnd::Short { contexts, reason } => {
+            Ok(ThroughEnding::Unfinished { contexts, reason })
+        }
+        // Deadlocks are not looked for.
+        SearchEnd::Deadlocked { contexts, .. } => {
+            let reason = Reason::Stopped;
+            Ok(ThroughEnding::Unfinished { contexts, reason })
+        }
+        SearchEnd::Found {
+            contexts,
+            step,
+            reply,
+        } => {
+            let mut calls = space.calls_to(alloc, step.from)?;
+            calls.push(step.call(reply))?;
+            Ok(played_through(alloc, code, setup, observer, calls, contexts)?)
+        }
+    }
+}
+
+/// Explores the runs of a program as `explore` does, for one that makes the steps that an observer
+/// lists, in their order and with any other steps between them. A false assertion ends a run, and
+/// is found only if it makes the last of these steps. At least one step is listed.
+pub fn explore_through<O: Observer, P: Watcher>(
+    alloc: Global,
+    code: &Code,
+    setup: &Setup,
+    observer: &O,
+    contexts: Option<u32>,
+    states: usize,
+    watcher: &P,
+) -> Result<ExploredThrough, AllocError>
+    requires fits { FitsCode code.now setup.now }
+    requires some { 0 < (O.listed observer.now).count }
+    ensures { let o = O.listed observer.now in
+        (t : Program)
+        → StandsFor code.now t
+        → o.is_of t
+        → IfOk result (λ x. IsThrough code.now t setup.now o contexts x.ending) }
+{
+    let first = State::first(alloc, code, setup)?;
+    let mut space = Space::new(alloc, first, states)?;
+    let end = search(&mut space, code, setup, observer, contexts, false, watcher);
+    watcher.ends();
+    let ending = through_ending_of(alloc, code, setup, observer, &space, end)?;
+    Ok(ExploredThrough {
+        states: space.len(),
+        full_stacks: space.full_stacks(),
+        ending,
+    })
+}

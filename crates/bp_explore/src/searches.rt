@@ -1,0 +1,120 @@
+//! Searching a space, layer by layer.
+ghost use Rattle.std.specs.Prelude.{◌≡◌, ◌<◌, ◌∷◌, []};
+ghost use Rattle.bp_tree.specs.Ast.{Program};
+ghost use Rattle.bp_flat.specs.StandsFor.{StandsFor};
+ghost use Rattle.bp_explore.specs.Searches.{BeginsAt, IsSearchEnd};
+
+use crate::explored::Reason;
+use crate::observers::Observer;
+use crate::spaces::{Space, Step, Stop};
+use crate::watchers::Watcher;
+use bp_flat::{Code, steps_alike};
+use bp_machine::{Reply, Setup};
+use std::alloc::AllocError;
+
+/// Where a search ends.
+#[derive(Clone, Copy, Debug, PartialEq, Eq)]
+pub(crate) enum SearchEnd {
+    /// The layer after `last` brought nothing.
+    Closed {
+        last: u32,
+    },
+    /// All layers within the bound were searched.
+    Bound {
+        contexts: u32,
+    },
+    /// The threads are deadlocked in the state of a node.
+    Deadlocked {
+        contexts: u32,
+        at: usize,
+    },
+    /// This step makes the last of the listed steps, and is within this many contexts.
+    Found {
+        contexts: u32,
+        step: Step,
+        reply: Reply,
+    },
+    /// Not all within this many contexts was seen.
+    Short {
+        contexts: u32,
+        reason: Reason,
+    },
+}
+
+/// Searches a space from its first node, within this many contexts or within any number, until the
+/// listed steps are made.
+pub(crate) fn search<O: Observer, P: Watcher>(
+    space: &mut Space,
+    code: &Code,
+    setup: &Setup,
+    observer: &O,
+    contexts: Option<u32>,
+    with_deadlock: bool,
+    watcher: &P,
+) -> SearchEnd
+    requires begins { BeginsAt code.now setup.now space.old.nodes.items }
+    requires some { 0 < (O.listed observer.now).count }
+    ensures { let o = O.listed observer.now in
+        let nodes = space.new.nodes.items in
+        (t : Program)
+        → StandsFor code.now t
+        → o.is_of t
+        → IsSearchEnd t setup.now o contexts with_deadlock nodes result }
+{
+    steps_alike(code);
+    match space.first_dead(code, 0, with_deadlock) {
+        Err(AllocError) => {
+            let reason = Reason::Memory;
+            return SearchEnd::Short {
+                contexts: 0,
+                reason,
+            };
+        }
+        Ok(dead) => {
+            if let Some(at) = dead {
+                return SearchEnd::Deadlocked { contexts: 0, at };
+            }
+        }
+    }
+    let threads = setup.threads();
+    let mut from = 0;
+    for last in 0..contexts.unwrap_or(u32::MAX) {
+        let contexts = last + 1;
+        if !watcher.goes_on(contexts, space.len()) {
+            let reason = Reason::Stopped;
+            return SearchEnd::Short { contexts, reason };
+        }
+        match space.next_layer(code, observer, from, contexts, threads, watcher) {
+            Err(Stop::Found { step, reply }) => {
+                return SearchEnd::Found {
+                    contexts,
+                    step,
+                    reply,
+                };
+            }
+            Err(Stop::Short(reason)) => return SearchEnd::Short { contexts, reason },
+            Ok(next) => from = next,
+        }
+        match space.first_dead(code, from, with_deadlock) {
+            Err(AllocError) => {
+                let reason = Reason::Memory;
+                return SearchEnd::Short { contexts, reason };
+            }
+            Ok(dead) => {
+                if let Some(at) = dead {
+                    return SearchEnd::Deadlocked { contexts, at };
+                }
+            }
+        }
+        if from == space.len() {
+            return SearchEnd::Closed { last };
+        }
+    }
+    match contexts {
+        Some(contexts) => SearchEnd::Bound { contexts },
+        None => SearchEnd::Short {
+            contexts: u32::MAX,
+            reason: Reason::States,
+        },
+    }
+}

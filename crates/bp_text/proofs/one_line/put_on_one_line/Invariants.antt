@@ -1,8 +1,0 @@
-use Rattle.std.proofs.Common.{map, take}
-use Rattle.std.specs.Io.KnownBytes.{Appends}
-use Rattle.bp_text.specs.OneLine.{on_one_line}
-use Rattle.bp_text.proofs.one_line.put_on_one_line.Given as goal
-
-abbrev pub invariant-loop-byte : goal.invariant-loop-byte
-invariant-loop-byte g l =
-    Appends (g.W.Write.contents l.fn.out) (g.W.Write.contents l.out) (map on_one_line (take l.byte-index l.bytes))

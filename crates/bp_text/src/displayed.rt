@@ -1,0 +1,92 @@
+//! Texts for a terminal: a question mark stands for each byte of a control character.
+ghost use Rattle.std.specs.Prelude.{◌≡◌, ◌++◌, OnOk};
+ghost use Rattle.std.specs.List.{slice_index};
+ghost use Rattle.bp_text.specs.Displayed.{control_bytes, control_size, displayed, displayed_byte, is_among, is_turning, NoControlIsDisplayed};
+ghost use Rattle.bp_text.specs.Writing.{Writes};
+
+use crate::parts::part_from;
+use crate::writing::{WriteFault, put};
+use std::alloc::AllocError;
+use std::io::Write;
+
+fn is_among(least: u8, byte: u8, most: u8) -> bool
+    ensures { result ≡ is_among least byte most }
+{
+    least <= byte && byte <= most
+}
+
+/// Whether a character with these last two bytes turns the direction of a text.
+fn is_turning(second: u8, third: u8) -> bool
+    ensures { result ≡ is_turning second third }
+{
+    second == 0x80 && is_among(0xaa, third, 0xae) || second == 0x81 && is_among(0xa6, third, 0xa9)
+}
+
+/// How many bytes the control character has that begins with these, or 0 if none does.
+fn control_size(first: u8, second: u8, third: u8) -> usize
+    ensures { result ≡ control_size first second third }
+{
+    if first.is_ascii_control() {
+        1
+    } else if first == 0xc2 && is_among(0x80, second, 0x9f) {
+        2
+    } else if first == 0xe2 && is_turning(second, third) {
+        3
+    } else {
+        0
+    }
+}
+
+/// The byte at a place, or 0 if the text is shorter.
+fn byte_at(text: &[u8], at: usize) -> u8
+    ensures { result ≡ slice_index text.now at }
+{
+    text.get(at).copied().unwrap_or(0)
+}
+
+/// How many bytes of a control character come next in a text: some are left of one, or one begins.
+fn control_bytes(left: usize, text: &[u8]) -> usize
+    ensures { result ≡ control_bytes left text.now }
+{
+    if left > 0 {
+        return left;
+    }
+    control_size(byte_at(text, 0), byte_at(text, 1), byte_at(text, 2))
+}
+
+fn displayed_byte(control: usize, byte: u8) -> u8
+    ensures { result ≡ displayed_byte control byte }
+{
+    if control == 0 { byte } else { b'?' }
+}
+
+/// Adds the bytes, with `?` for each byte of a control character.
+pub fn push_displayed(line: &mut Vec<u8>, text: &[u8]) -> Result<(), AllocError>
+    ensures { OnOk result (line.new.items ≡ line.old.items ++ displayed text.now) }
+{
+    let mut left = 0;
+    for (at, byte) in text.iter().enumerate() {
+        let control = control_bytes(left, part_from(text, at));
+        line.push(displayed_byte(control, *byte))?;
+        left = control.saturating_sub(1);
+    }
+    Ok(())
+}
+
+/// Writes the bytes, with `?` for each byte of a control character.
+pub(crate) fn put_displayed<W: Write>(text: &[u8], out: &mut W) -> Result<(), WriteFault>
+    ensures { Writes (W.contents out.old) (W.contents out.new) (displayed text.now) result }
+{
+    let mut left = 0;
+    for (at, byte) in text.iter().enumerate() {
+        let control = control_bytes(left, part_from(text, at));
+        put(out, &[displayed_byte(control, *byte)])?;
+        left = control.saturating_sub(1);
+    }
+    Ok(())
+}
+
+/// States that no control character is left of a text that is displayed.
+pub fn no_control_is_displayed()
+    ensures { NoControlIsDisplayed }
+{}
