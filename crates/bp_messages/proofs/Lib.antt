@@ -1,1 +1,2 @@
+pub mod Givings
 pub mod ItemsInTurn

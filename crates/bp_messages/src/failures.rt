@@ -1,15 +1,16 @@
 //! Which assertion failed in the run that a test found, and where. It is written without memory.
 ghost use Rattle.std.specs.Prelude.{◌≡◌};
-ghost use Rattle.bp_text.specs.Writing.{Writes};
+ghost use Rattle.bp_messages.specs.Sinks.{Given};
 ghost use Rattle.bp_messages.specs.Failures.{failure_member, failed_assertion, failure_text, statement_of};
 
 use crate::run_limits::{limit_piece, of_word};
+use crate::sinks::Sink;
 use crate::test_reports::TestReport;
 use crate::waits::position_of;
 use bp_machine::Outcome;
 use bp_test::Found;
 use bp_text::Piece::{Bytes, Displayed, Key, Number, Text};
-use bp_text::{Position, WriteFault, put, put_pieces};
+use bp_text::Position;
 use std::io::Write;
 
 /// An assertion that failed.
@@ -61,42 +62,36 @@ pub(crate) fn put_failure<'a, W: Write>(
     file: &'a [u8],
     run: u64,
     runs: u64,
-    out: &mut W,
-) -> Result<(), WriteFault>
+    sink: &mut Sink<'_, W>,
+)
     ensures { let text = failure_text failure statement.now file.now run runs in
-        Writes (W.contents out.old) (W.contents out.new) text result }
+        Given W.contents sink.old sink.new text }
 {
     match failure {
-        None => put_pieces(
-            out,
-            &[
-                Bytes(b"an assertion failed in run "),
-                Number(run),
-                of_word(runs),
-                limit_piece(runs),
-                Bytes(b"\n"),
-            ],
-        ),
-        Some(failure) => put_pieces(
-            out,
-            &[
-                Bytes(b"an assertion of thread "),
-                Number(failure.thread as u64),
-                Bytes(b" failed in run "),
-                Number(run),
-                of_word(runs),
-                limit_piece(runs),
-                Bytes(b", at "),
-                Displayed(file),
-                Bytes(b":"),
-                Number(failure.position.line as u64),
-                Bytes(b":"),
-                Number(failure.position.column as u64),
-                Bytes(b": "),
-                Bytes(statement),
-                Bytes(b"\n"),
-            ],
-        ),
+        None => sink.put_pieces(&[
+            Bytes(b"an assertion failed in run "),
+            Number(run),
+            of_word(runs),
+            limit_piece(runs),
+            Bytes(b"\n"),
+        ]),
+        Some(failure) => sink.put_pieces(&[
+            Bytes(b"an assertion of thread "),
+            Number(failure.thread as u64),
+            Bytes(b" failed in run "),
+            Number(run),
+            of_word(runs),
+            limit_piece(runs),
+            Bytes(b", at "),
+            Displayed(file),
+            Bytes(b":"),
+            Number(failure.position.line as u64),
+            Bytes(b":"),
+            Number(failure.position.column as u64),
+            Bytes(b": "),
+            Bytes(statement),
+            Bytes(b"\n"),
+        ]),
     }
 }
 
@@ -104,26 +99,22 @@ pub(crate) fn put_failure<'a, W: Write>(
 pub(crate) fn put_failure_member<'a, W: Write>(
     failure: Option<FailedAssertion>,
     statement: &'a [u8],
-    out: &mut W,
-) -> Result<(), WriteFault>
-    ensures { let text = failure_member failure statement.now in
-        Writes (W.contents out.old) (W.contents out.new) text result }
+    sink: &mut Sink<'_, W>,
+)
+    ensures { Given W.contents sink.old sink.new (failure_member failure statement.now) }
 {
     match failure {
-        None => put(out, b",\"failure\":null"),
-        Some(failure) => put_pieces(
-            out,
-            &[
-                Bytes(b",\"failure\":{\"thread\":"),
-                Number(failure.thread as u64),
-                Key(b"line"),
-                Number(failure.position.line as u64),
-                Key(b"column"),
-                Number(failure.position.column as u64),
-                Key(b"statement"),
-                Text(statement),
-                Bytes(b"}"),
-            ],
-        ),
+        None => sink.put(b",\"failure\":null"),
+        Some(failure) => sink.put_pieces(&[
+            Bytes(b",\"failure\":{\"thread\":"),
+            Number(failure.thread as u64),
+            Key(b"line"),
+            Number(failure.position.line as u64),
+            Key(b"column"),
+            Number(failure.position.column as u64),
+            Key(b"statement"),
+            Text(statement),
+            Bytes(b"}"),
+        ]),
     }
 }

@@ -15,6 +15,7 @@ mod novelty;
 mod progress;
 mod replay_lines;
 mod run_limits;
+mod sinks;
 mod step_objects;
 mod summaries;
 mod summary_objects;

@@ -1,14 +1,15 @@
 //! Where a test may mislead: what it did not look at, and what it was not asked for.
 ghost use Rattle.std.specs.Prelude.{◌≡◌, flat_map};
 ghost use Rattle.bp_text.specs.Pieces.{piece_text};
-ghost use Rattle.bp_text.specs.Writing.{Writes};
+ghost use Rattle.bp_messages.specs.Sinks.{Given};
 ghost use Rattle.bp_messages.specs.Notes.{are_many, count_note, note_if, notes_members, notes_of, notes_text};
 
 use crate::limits::NOTED_SHARE;
 use crate::novelty::novelty_note;
+use crate::sinks::Sink;
 use crate::test_reports::TestReport;
+use bp_text::Piece;
 use bp_text::Piece::{Bytes, Key, Number, Truth};
-use bp_text::{Piece, WriteFault, put_pieces};
 use std::io::Write;
 
 /// Why what a test says of a program may be little. All but the first are of tests that found
@@ -97,21 +98,19 @@ fn note_if<'a>(applies: bool, note: &'a [Piece<'a>]) -> &'a [Piece<'a>]
 }
 
 /// Writes notes, by their pieces, one after the other.
-fn put_each<W: Write>(notes: &[&[Piece<'_>]], out: &mut W) -> Result<(), WriteFault>
+fn put_each<W: Write>(notes: &[&[Piece<'_>]], sink: &mut Sink<'_, W>)
     ensures { let text = flat_map (λ note. flat_map piece_text note.now) notes.now in
-        Writes (W.contents out.old) (W.contents out.new) text result }
+        Given W.contents sink.old sink.new text }
 {
     for note in notes {
-        put_pieces(out, note)?;
+        sink.put_pieces(note);
     }
-    Ok(())
 }
 
 /// Writes a line for each note that applies. If nothing was found, it also says how many new runs
 /// would be new.
-pub(crate) fn put_notes<W: Write>(tested: &TestReport, out: &mut W) -> Result<(), WriteFault>
-    ensures { let text = notes_text tested.now in
-        Writes (W.contents out.old) (W.contents out.new) text result }
+pub(crate) fn put_notes<W: Write>(tested: &TestReport, sink: &mut Sink<'_, W>)
+    ensures { Given W.contents sink.old sink.new (notes_text tested.now) }
 {
     let notes = notes_of(tested);
     let (runs, ends) = (tested.counts.runs, &tested.counts.ends);
@@ -132,39 +131,32 @@ pub(crate) fn put_notes<W: Write>(tested: &TestReport, out: &mut W) -> Result<()
             note_if(notes.cut_off, &cut_off),
             note_if(notes.full_stack, &full_stack),
         ],
-        out,
+        sink,
     )
 }
 
 /// Writes the member that says which notes apply, and the end of the object.
-pub(crate) fn put_notes_members<W: Write>(
-    tested: &TestReport,
-    out: &mut W,
-) -> Result<(), WriteFault>
-    ensures { let text = notes_members (notes_of tested.now) in
-        Writes (W.contents out.old) (W.contents out.new) text result }
+pub(crate) fn put_notes_members<W: Write>(tested: &TestReport, sink: &mut Sink<'_, W>)
+    ensures { Given W.contents sink.old sink.new (notes_members (notes_of tested.now)) }
 {
     let notes = notes_of(tested);
-    put_pieces(
-        out,
-        &[
-            Bytes(b",\"notes\":{\"few_contexts\":"),
-            Truth(notes.few_contexts),
-            Key(b"no_run"),
-            Truth(notes.no_run),
-            Key(b"no_assertion"),
-            Truth(notes.no_assertion),
-            Key(b"no_assertion_reached"),
-            Truth(notes.no_assertion_reached),
-            Key(b"deadlocked"),
-            Truth(notes.deadlocked),
-            Key(b"out_of_contexts"),
-            Truth(notes.out_of_contexts),
-            Key(b"cut_off"),
-            Truth(notes.cut_off),
-            Key(b"full_stack"),
-            Truth(notes.full_stack),
-            Bytes(b"}}\n"),
-        ],
-    )
+    sink.put_pieces(&[
+        Bytes(b",\"notes\":{\"few_contexts\":"),
+        Truth(notes.few_contexts),
+        Key(b"no_run"),
+        Truth(notes.no_run),
+        Key(b"no_assertion"),
+        Truth(notes.no_assertion),
+        Key(b"no_assertion_reached"),
+        Truth(notes.no_assertion_reached),
+        Key(b"deadlocked"),
+        Truth(notes.deadlocked),
+        Key(b"out_of_contexts"),
+        Truth(notes.out_of_contexts),
+        Key(b"cut_off"),
+        Truth(notes.cut_off),
+        Key(b"full_stack"),
+        Truth(notes.full_stack),
+        Bytes(b"}}\n"),
+    ])
 }

@@ -1,46 +1,43 @@
 //! The summary of a test: what was found, and how well the program was tested.
 ghost use Rattle.std.specs.Prelude.{◌≡◌};
 ghost use Rattle.bp_text.specs.Writing.{Writes};
-ghost use Rattle.bp_messages.specs.Summaries.{counts_text, deadlock_text, distinct_text, finding_text, found_phrase, head_text};
+ghost use Rattle.bp_messages.specs.Sinks.{Given};
+ghost use Rattle.bp_messages.specs.Summaries.{counts_text, deadlock_text, distinct_text, finding_text, found_phrase};
 ghost use Rattle.bp_messages.specs.Summaries.{line_unless, nothing_text, nothing_phrase, summary_text, unreached_text};
 
 use crate::asked_tests::put_asked_line;
 use crate::failures::{failed_assertion, put_failure, statement_of};
 use crate::notes::put_notes;
 use crate::run_limits::{limit_piece, of_word};
+use crate::sinks::Sink;
 use crate::test_reports::TestReport;
 use crate::waits::put_waits;
 use bp_test::{Counts, Distinct, Found};
 use bp_text::Piece::{Bytes, Number};
-use bp_text::{WriteFault, put, put_pieces};
+use bp_text::WriteFault;
 use std::io::Write;
 
 /// Writes what was found in one of the runs.
-fn put_found<W: Write>(phrase: &[u8], run: u64, runs: u64, out: &mut W) -> Result<(), WriteFault>
-    ensures { let text = found_phrase phrase.now run runs in
-        Writes (W.contents out.old) (W.contents out.new) text result }
+fn put_found<W: Write>(phrase: &[u8], run: u64, runs: u64, sink: &mut Sink<'_, W>)
+    ensures { Given W.contents sink.old sink.new (found_phrase phrase.now run runs) }
 {
-    put_pieces(
-        out,
-        &[
-            Bytes(phrase),
-            Bytes(b" in run "),
-            Number(run),
-            of_word(runs),
-            limit_piece(runs),
-        ],
-    )
+    sink.put_pieces(&[
+        Bytes(phrase),
+        Bytes(b" in run "),
+        Number(run),
+        of_word(runs),
+        limit_piece(runs),
+    ])
 }
 
 /// Writes that a deadlock was found in a run of this test, and where its threads wait.
-fn put_deadlock<W: Write>(tested: &TestReport, run: u64, out: &mut W) -> Result<(), WriteFault>
-    ensures { let text = deadlock_text tested.now run in
-        Writes (W.contents out.old) (W.contents out.new) text result }
+fn put_deadlock<W: Write>(tested: &TestReport, run: u64, sink: &mut Sink<'_, W>)
+    ensures { Given W.contents sink.old sink.new (deadlock_text tested.now run) }
 {
-    put_found(b"deadlock", run, tested.options.runs, out)?;
+    put_found(b"deadlock", run, tested.options.runs, sink);
     let (file, positions) = (tested.file.as_slice(), tested.positions.as_slice());
-    put_waits(file, positions, tested.waiting.as_slice(), out)?;
-    put(out, b"\n")
+    put_waits(file, positions, tested.waiting.as_slice(), sink);
+    sink.put(b"\n")
 }
 
 /// What was looked for and not found.
@@ -56,49 +53,35 @@ fn nothing_phrase(with_deadlock: bool) -> &'static [u8]
 
 /// Writes that nothing was found in the runs that were made, how many were to be made, and within
 /// how many contexts.
-fn put_nothing<W: Write>(
-    phrase: &[u8],
-    made: u64,
-    runs: u64,
-    contexts: u32,
-    out: &mut W,
-) -> Result<(), WriteFault>
-    ensures { let text = nothing_text phrase.now made runs contexts in
-        Writes (W.contents out.old) (W.contents out.new) text result }
+fn put_nothing<W: Write>(phrase: &[u8], made: u64, runs: u64, contexts: u32, sink: &mut Sink<'_, W>)
+    ensures { Given W.contents sink.old sink.new (nothing_text phrase.now made runs contexts) }
 {
     let contexts = u64::from(contexts);
     if made != runs {
-        return put_pieces(
-            out,
-            &[
-                Bytes(phrase),
-                Bytes(b" in "),
-                Number(made),
-                of_word(runs),
-                limit_piece(runs),
-                Bytes(b" runs within "),
-                Number(contexts),
-                Bytes(b" contexts: the time is over\n"),
-            ],
-        );
-    }
-    put_pieces(
-        out,
-        &[
+        return sink.put_pieces(&[
             Bytes(phrase),
             Bytes(b" in "),
-            Number(runs),
+            Number(made),
+            of_word(runs),
+            limit_piece(runs),
             Bytes(b" runs within "),
             Number(contexts),
-            Bytes(b" contexts\n"),
-        ],
-    )
+            Bytes(b" contexts: the time is over\n"),
+        ]);
+    }
+    sink.put_pieces(&[
+        Bytes(phrase),
+        Bytes(b" in "),
+        Number(runs),
+        Bytes(b" runs within "),
+        Number(contexts),
+        Bytes(b" contexts\n"),
+    ])
 }
 
 /// Writes what was found.
-fn put_finding<W: Write>(tested: &TestReport, out: &mut W) -> Result<(), WriteFault>
-    ensures { let text = finding_text tested.now tested.now.found in
-        Writes (W.contents out.old) (W.contents out.new) text result }
+fn put_finding<W: Write>(tested: &TestReport, sink: &mut Sink<'_, W>)
+    ensures { Given W.contents sink.old sink.new (finding_text tested.now tested.now.found) }
 {
     let runs = tested.options.runs;
     match tested.found {
@@ -109,91 +92,74 @@ fn put_finding<W: Write>(tested: &TestReport, out: &mut W) -> Result<(), WriteFa
                 tested.counts.runs,
                 runs,
                 tested.setup.contexts(),
-                out,
+                sink,
             )
         }
         Found::Failed { run, .. } => {
             let failure = failed_assertion(tested);
             let statement = statement_of(tested.statements.as_slice(), failure);
-            put_failure(failure, statement, tested.file.as_slice(), run, runs, out)
+            put_failure(failure, statement, tested.file.as_slice(), run, runs, sink)
         }
-        Found::Deadlock { run, .. } => put_deadlock(tested, run, out),
+        Found::Deadlock { run, .. } => put_deadlock(tested, run, sink),
     }
 }
 
-/// Writes what was found, and what was asked for.
-fn put_head<W: Write>(tested: &TestReport, out: &mut W) -> Result<(), WriteFault>
-    ensures { let text = head_text tested.now in
-        Writes (W.contents out.old) (W.contents out.new) text result }
-{
-    put_finding(tested, out)?;
-    put_asked_line(tested, out)
-}
-
 /// Writes how many runs were made, how they ended, and what they reached.
-fn put_counts<W: Write>(counts: &Counts, out: &mut W) -> Result<(), WriteFault>
-    ensures { let text = counts_text counts.now in
-        Writes (W.contents out.old) (W.contents out.new) text result }
+fn put_counts<W: Write>(counts: &Counts, sink: &mut Sink<'_, W>)
+    ensures { Given W.contents sink.old sink.new (counts_text counts.now) }
 {
-    put_pieces(
-        out,
-        &[
-            Bytes(b"runs "),
-            Number(counts.runs),
-            Bytes(b", calls "),
-            Number(counts.calls),
-            Bytes(b", longest "),
-            Number(counts.longest),
-            Bytes(b"\nended: finished "),
-            Number(counts.ends.finished),
-            Bytes(b", out of contexts "),
-            Number(counts.ends.out_of_contexts),
-            Bytes(b", cut off "),
-            Number(counts.ends.cut_off),
-            Bytes(b", starved "),
-            Number(counts.ends.starved),
-            Bytes(b", deadlocked "),
-            Number(counts.ends.deadlocked),
-            Bytes(b"\ncontexts: least "),
-            Number(counts.contexts.least),
-            Bytes(b", middle "),
-            Number(counts.contexts.middle),
-            Bytes(b", most "),
-            Number(counts.contexts.most),
-            Bytes(b"\nreached: statements "),
-            Number(counts.statements.reached),
-            Bytes(b" of "),
-            Number(counts.statements.all),
-            Bytes(b", assertions "),
-            Number(counts.assertions.reached),
-            Bytes(b" of "),
-            Number(counts.assertions.all),
-            Bytes(b", threads "),
-            Number(counts.threads.reached),
-            Bytes(b" of "),
-            Number(counts.threads.all),
-            Bytes(b"\n"),
-        ],
-    )
+    sink.put_pieces(&[
+        Bytes(b"runs "),
+        Number(counts.runs),
+        Bytes(b", calls "),
+        Number(counts.calls),
+        Bytes(b", longest "),
+        Number(counts.longest),
+        Bytes(b"\nended: finished "),
+        Number(counts.ends.finished),
+        Bytes(b", out of contexts "),
+        Number(counts.ends.out_of_contexts),
+        Bytes(b", cut off "),
+        Number(counts.ends.cut_off),
+        Bytes(b", starved "),
+        Number(counts.ends.starved),
+        Bytes(b", deadlocked "),
+        Number(counts.ends.deadlocked),
+        Bytes(b"\ncontexts: least "),
+        Number(counts.contexts.least),
+        Bytes(b", middle "),
+        Number(counts.contexts.middle),
+        Bytes(b", most "),
+        Number(counts.contexts.most),
+        Bytes(b"\nreached: statements "),
+        Number(counts.statements.reached),
+        Bytes(b" of "),
+        Number(counts.statements.all),
+        Bytes(b", assertions "),
+        Number(counts.assertions.reached),
+        Bytes(b" of "),
+        Number(counts.assertions.all),
+        Bytes(b", threads "),
+        Number(counts.threads.reached),
+        Bytes(b" of "),
+        Number(counts.threads.all),
+        Bytes(b"\n"),
+    ])
 }
 
 /// Writes how many of the runs were different.
-fn put_distinct<W: Write>(distinct: Distinct, out: &mut W) -> Result<(), WriteFault>
-    ensures { let text = distinct_text distinct in
-        Writes (W.contents out.old) (W.contents out.new) text result }
+fn put_distinct<W: Write>(distinct: Distinct, sink: &mut Sink<'_, W>)
+    ensures { Given W.contents sink.old sink.new (distinct_text distinct) }
 {
-    put_pieces(
-        out,
-        &[
-            Bytes(b"distinct: runs "),
-            Number(distinct.runs),
-            Bytes(b" of "),
-            Number(distinct.of),
-            Bytes(b", seen once "),
-            Number(distinct.once),
-            Bytes(b"\n"),
-        ],
-    )
+    sink.put_pieces(&[
+        Bytes(b"distinct: runs "),
+        Number(distinct.runs),
+        Bytes(b" of "),
+        Number(distinct.of),
+        Bytes(b", seen once "),
+        Number(distinct.once),
+        Bytes(b"\n"),
+    ])
 }
 
 /// The line of a statement that was not reached.
@@ -204,13 +170,9 @@ fn line_unless(is_reached: bool, line: &Vec<u8>) -> &[u8]
 }
 
 /// Writes the lines of the statements that no run reached.
-pub(crate) fn put_unreached<W: Write>(
-    lines: &[Vec<u8>],
-    reached: &[bool],
-    out: &mut W,
-) -> Result<(), WriteFault>
-    ensures { let text = unreached_text lines.now reached.now in
-        Writes (W.contents out.old) (W.contents out.new) text result }
+#[tactic(auto, using(crate::proofs::Givings::left_after))]
+pub(crate) fn put_unreached<W: Write>(lines: &[Vec<u8>], reached: &[bool], sink: &mut Sink<'_, W>)
+    ensures { Given W.contents sink.old sink.new (unreached_text lines.now reached.now) }
 {
     let mut lines = lines;
     let mut reached = reached;
@@ -218,11 +180,10 @@ pub(crate) fn put_unreached<W: Write>(
         lines.split_first(),
         reached.split_first(),
     ) {
-        put(out, line_unless(*is_reached, line))?;
+        sink.put(line_unless(*is_reached, line));
         lines = more;
         reached = others;
     }
-    Ok(())
 }
 
 /// Writes the summary of a test.
@@ -230,9 +191,16 @@ pub fn put_summary<W: Write>(tested: &TestReport, out: &mut W) -> Result<(), Wri
     ensures { let text = summary_text tested.now in
         Writes (W.contents out.old) (W.contents out.new) text result }
 {
-    put_head(tested, out)?;
-    put_counts(&tested.counts, out)?;
-    put_distinct(tested.distinct, out)?;
-    put_notes(tested, out)?;
-    put_unreached(tested.lines.as_slice(), tested.reached.as_slice(), out)
+    let mut sink = Sink::new(out);
+    put_finding(tested, &mut sink);
+    put_asked_line(tested, &mut sink);
+    put_counts(&tested.counts, &mut sink);
+    put_distinct(tested.distinct, &mut sink);
+    put_notes(tested, &mut sink);
+    put_unreached(
+        tested.lines.as_slice(),
+        tested.reached.as_slice(),
+        &mut sink,
+    );
+    sink.finish()
 }

@@ -1,12 +1,13 @@
 //! Which threads wait at the end of a run, and where. They are written without memory.
 ghost use Rattle.std.specs.Prelude.{◌≡◌, [], codes, option_map};
-ghost use Rattle.bp_text.specs.Writing.{Writes};
+ghost use Rattle.bp_messages.specs.Sinks.{Given};
 ghost use Rattle.bp_messages.specs.Waits.{position_of, position_of_wait, wait_object, wait_objects, wait_text};
 ghost use Rattle.bp_messages.specs.Waits.{waits_member, waits_text};
 
+use crate::sinks::Sink;
 use bp_test::Waiting;
 use bp_text::Piece::{Bytes, Displayed, Key, Number, NumberOrNull};
-use bp_text::{Position, WriteFault, put, put_pieces};
+use bp_text::Position;
 use std::io::Write;
 
 /// Where the statement of an instruction begins, where those of all begin there.
@@ -33,50 +34,46 @@ fn put_wait<'a, W: Write>(
     verb: &'a [u8],
     thread: u32,
     position: Option<Position>,
-    out: &mut W,
-) -> Result<(), WriteFault>
+    sink: &mut Sink<'_, W>,
+)
     ensures { let text = wait_text file.now before.now verb.now thread position in
-        Writes (W.contents out.old) (W.contents out.new) text result }
+        Given W.contents sink.old sink.new text }
 {
     match position {
-        None => put_pieces(out, &[Bytes(before), Number(thread as u64)]),
-        Some(position) => put_pieces(
-            out,
-            &[
-                Bytes(before),
-                Number(thread as u64),
-                Bytes(verb),
-                Displayed(file),
-                Bytes(b":"),
-                Number(position.line as u64),
-                Bytes(b":"),
-                Number(position.column as u64),
-            ],
-        ),
+        None => sink.put_pieces(&[Bytes(before), Number(thread as u64)]),
+        Some(position) => sink.put_pieces(&[
+            Bytes(before),
+            Number(thread as u64),
+            Bytes(verb),
+            Displayed(file),
+            Bytes(b":"),
+            Number(position.line as u64),
+            Bytes(b":"),
+            Number(position.column as u64),
+        ]),
     }
 }
 
 /// Writes the threads that wait, and where in a file, after a colon.
+#[tactic(auto, using(crate::proofs::Givings::left_after))]
 pub(crate) fn put_waits<W: Write>(
     file: &[u8],
     positions: &[Option<Position>],
     waiting: &[Waiting],
-    out: &mut W,
-) -> Result<(), WriteFault>
-    ensures { let text = waits_text file.now positions.now waiting.now in
-        Writes (W.contents out.old) (W.contents out.new) text result }
+    sink: &mut Sink<'_, W>,
+)
+    ensures { Given W.contents sink.old sink.new (waits_text file.now positions.now waiting.now) }
 {
     let mut before: &[u8] = b": thread ";
     let mut verb: &[u8] = b" waits at ";
     let mut waiting = waiting;
     while let Some((wait, more)) = waiting.split_first() {
         let position = position_of_wait(positions, *wait);
-        put_wait(file, before, verb, wait.thread, position, out)?;
+        put_wait(file, before, verb, wait.thread, position, sink);
         before = b", thread ";
         verb = b" at ";
         waiting = more;
     }
-    Ok(())
 }
 
 /// The line of a position.
@@ -100,55 +97,54 @@ fn put_wait_object<W: Write>(
     before: &[u8],
     thread: u32,
     position: Option<Position>,
-    out: &mut W,
-) -> Result<(), WriteFault>
-    ensures { let text = wait_object before.now thread position in
-        Writes (W.contents out.old) (W.contents out.new) text result }
+    sink: &mut Sink<'_, W>,
+)
+    ensures { Given W.contents sink.old sink.new (wait_object before.now thread position) }
 {
-    put_pieces(
-        out,
-        &[
-            Bytes(before),
-            Bytes(b"{\"thread\":"),
-            Number(thread as u64),
-            Key(b"line"),
-            NumberOrNull(line_of(position)),
-            Key(b"column"),
-            NumberOrNull(column_of(position)),
-            Bytes(b"}"),
-        ],
-    )
+    sink.put_pieces(&[
+        Bytes(before),
+        Bytes(b"{\"thread\":"),
+        Number(thread as u64),
+        Key(b"line"),
+        NumberOrNull(line_of(position)),
+        Key(b"column"),
+        NumberOrNull(column_of(position)),
+        Bytes(b"}"),
+    ])
 }
 
 /// Writes the objects of the threads that wait, with commas between them.
+#[tactic(auto, using(crate::proofs::Givings::left_after))]
 fn put_wait_objects<W: Write>(
     positions: &[Option<Position>],
     waiting: &[Waiting],
-    out: &mut W,
-) -> Result<(), WriteFault>
-    ensures { let text = wait_objects [] positions.now waiting.now in
-        Writes (W.contents out.old) (W.contents out.new) text result }
+    sink: &mut Sink<'_, W>,
+)
+    ensures { Given W.contents sink.old sink.new (wait_objects [] positions.now waiting.now) }
 {
     let mut before: &[u8] = b"";
     let mut waiting = waiting;
     while let Some((wait, more)) = waiting.split_first() {
-        put_wait_object(before, wait.thread, position_of_wait(positions, *wait), out)?;
+        put_wait_object(
+            before,
+            wait.thread,
+            position_of_wait(positions, *wait),
+            sink,
+        );
         before = b",";
         waiting = more;
     }
-    Ok(())
 }
 
 /// Writes the member of an object with the threads that wait.
 pub(crate) fn put_waits_member<W: Write>(
     positions: &[Option<Position>],
     waiting: &[Waiting],
-    out: &mut W,
-) -> Result<(), WriteFault>
-    ensures { let text = waits_member positions.now waiting.now in
-        Writes (W.contents out.old) (W.contents out.new) text result }
+    sink: &mut Sink<'_, W>,
+)
+    ensures { Given W.contents sink.old sink.new (waits_member positions.now waiting.now) }
 {
-    put(out, b",\"waiting\":[")?;
-    put_wait_objects(positions, waiting, out)?;
-    put(out, b"]")
+    sink.put(b",\"waiting\":[");
+    put_wait_objects(positions, waiting, sink);
+    sink.put(b"]")
 }

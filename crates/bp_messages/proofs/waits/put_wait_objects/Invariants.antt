@@ -1,11 +1,11 @@
 use Rattle.std.proofs.Common.{length, []}
-use Rattle.bp_text.proofs.Appends.{HasRest}
+use Rattle.bp_messages.proofs.Givings.{IsLeft}
 use Rattle.bp_messages.specs.Waits.{wait_objects}
 use Rattle.bp_messages.proofs.waits.put_wait_objects.Given as goal
 
 abbrev pub invariant-loop-wait : goal.invariant-loop-wait
 invariant-loop-wait g l =
-    HasRest (g.W.Write.contents l.fn.out) (g.W.Write.contents l.out) (wait_objects [] l.fn.positions l.fn.waiting) (wait_objects l.before l.positions l.waiting)
+    IsLeft g.W.Write.contents l.fn.sink l.sink (wait_objects [] l.fn.positions l.fn.waiting) (wait_objects l.before l.positions l.waiting)
 
 abbrev pub decreases-loop-wait : goal.decreases-loop-wait
 decreases-loop-wait g l = length l.waiting

@@ -1,11 +1,11 @@
 use Rattle.std.proofs.Common.{length}
-use Rattle.bp_text.proofs.Appends.{HasRest}
+use Rattle.bp_messages.proofs.Givings.{IsLeft}
 use Rattle.bp_messages.specs.Waits.{waits_after, waits_text}
 use Rattle.bp_messages.proofs.waits.put_waits.Given as goal
 
 abbrev pub invariant-loop-wait : goal.invariant-loop-wait
 invariant-loop-wait g l =
-    HasRest (g.W.Write.contents l.fn.out) (g.W.Write.contents l.out) (waits_text l.file l.fn.positions l.fn.waiting)
+    IsLeft g.W.Write.contents l.fn.sink l.sink (waits_text l.file l.fn.positions l.fn.waiting)
     (waits_after l.file l.before l.verb l.positions l.waiting)
 
 abbrev pub decreases-loop-wait : goal.decreases-loop-wait
