@@ -1,25 +1,23 @@
 //! The lines that report faults.
 ghost use Rattle.std.specs.Prelude.{◌≡◌, ◌++◌};
 ghost use Rattle.bp_text.specs.Writing.{Writes};
+ghost use Rattle.bp_messages.specs.Sinks.{Given};
 ghost use Rattle.bp_messages.specs.FaultTable.{detail_text, fault_line, fault_head, seen_text, step_detail};
 
 use crate::fault_table::{Detail, Row};
 use crate::faults::Fault;
+use crate::sinks::Sink;
 use bp_confirm::{StepReason, StepRefusal};
 use bp_text::Piece::{Bytes, Number};
-use bp_text::{WriteFault, put, put_pieces};
+use bp_text::WriteFault;
 use std::io::Write;
 
 /// Writes the number and the name of a fault.
-fn put_head<W: Write>(row: Row, out: &mut W) -> Result<(), WriteFault>
-    ensures { Writes (W.contents out.old) (W.contents out.new)
-        (fault_head row.number row.name.now) result }
+fn put_head<W: Write>(row: Row, sink: &mut Sink<'_, W>)
+    ensures { Given W.contents sink.old sink.new (fault_head row.number row.name.now) }
 {
     let number = Number(u64::from(row.number));
-    put_pieces(
-        out,
-        &[Bytes(b"btrun: "), number, Bytes(b" "), Bytes(row.name)],
-    )
+    sink.put_pieces(&[Bytes(b"btrun: "), number, Bytes(b" "), Bytes(row.name)])
 }
 
 /// The bit that a thread sees, or a dash where it sees no variable of the name.
@@ -34,47 +32,40 @@ fn seen_text(seen: Option<bool>) -> &'static [u8]
 }
 
 /// Writes the line of a step that is not taken, and the machine's reply or the value that is seen.
-fn put_step<W: Write>(refusal: StepRefusal, out: &mut W) -> Result<(), WriteFault>
-    ensures { Writes (W.contents out.old) (W.contents out.new)
-        (step_detail refusal.line refusal.reason) result }
+fn put_step<W: Write>(refusal: StepRefusal, sink: &mut Sink<'_, W>)
+    ensures { Given W.contents sink.old sink.new (step_detail refusal.line refusal.reason) }
 {
     let line = Number(u64::from(refusal.line));
     match refusal.reason {
         StepReason::Refused(reply) => {
             let letter = [reply.letter()];
-            put_pieces(
-                out,
-                &[Bytes(b" line "), line, Bytes(b" reply "), Bytes(&letter)],
-            )
+            sink.put_pieces(&[Bytes(b" line "), line, Bytes(b" reply "), Bytes(&letter)])
         }
         StepReason::Differs(found) => {
             let seen = Bytes(seen_text(found.seen));
-            put_pieces(out, &[Bytes(b" line "), line, Bytes(b" value "), seen])
+            sink.put_pieces(&[Bytes(b" line "), line, Bytes(b" value "), seen])
         }
         StepReason::Elsewhere | StepReason::Ambiguous | StepReason::Finished => {
-            put_pieces(out, &[Bytes(b" line "), line])
+            sink.put_pieces(&[Bytes(b" line "), line])
         }
     }
 }
 
 /// Writes what a fault names.
-fn put_detail<W: Write>(detail: Detail, out: &mut W) -> Result<(), WriteFault>
-    ensures { Writes (W.contents out.old) (W.contents out.new) (detail_text detail) result }
+fn put_detail<W: Write>(detail: Detail, sink: &mut Sink<'_, W>)
+    ensures { Given W.contents sink.old sink.new (detail_text detail) }
 {
     match detail {
-        Detail::Nothing => Ok(()),
-        Detail::Byte(n) => put_pieces(out, &[Bytes(b" at "), Number(u64::from(n))]),
-        Detail::Thread(n) => put_pieces(out, &[Bytes(b" thread "), Number(u64::from(n))]),
+        Detail::Nothing => {}
+        Detail::Byte(n) => sink.put_pieces(&[Bytes(b" at "), Number(u64::from(n))]),
+        Detail::Thread(n) => sink.put_pieces(&[Bytes(b" thread "), Number(u64::from(n))]),
         Detail::Line(n) | Detail::ThreadOn(n, _) => {
-            put_pieces(out, &[Bytes(b" line "), Number(u64::from(n))])
+            sink.put_pieces(&[Bytes(b" line "), Number(u64::from(n))])
         }
-        Detail::Step(refusal) => put_step(refusal, out),
+        Detail::Step(refusal) => put_step(refusal, sink),
         Detail::Wanted(n, reply) => {
             let (line, letter) = (Number(u64::from(n)), [reply.letter()]);
-            put_pieces(
-                out,
-                &[Bytes(b" line "), line, Bytes(b" wanted "), Bytes(&letter)],
-            )
+            sink.put_pieces(&[Bytes(b" line "), line, Bytes(b" wanted "), Bytes(&letter)])
         }
     }
 }
@@ -84,7 +75,9 @@ pub fn show_fault<W: Write>(fault: &Fault, out: &mut W) -> Result<(), WriteFault
     ensures { Writes (W.contents out.old) (W.contents out.new) (fault_line fault.now) result }
 {
     let row = fault.row();
-    put_head(row, out)?;
-    put_detail(row.detail, out)?;
-    put(out, b"\n")
+    let mut sink = Sink::new(out);
+    put_head(row, &mut sink);
+    put_detail(row.detail, &mut sink);
+    sink.put(b"\n");
+    sink.finish()
 }

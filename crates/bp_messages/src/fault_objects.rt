@@ -3,16 +3,18 @@ ghost use Rattle.std.specs.Prelude.{◌≡◌, option_map};
 ghost use Rattle.bp_text.specs.Writing.{Writes};
 ghost use Rattle.bp_text.specs.Pieces.{piece_text, string_or_null};
 ghost use Rattle.bp_confirm.specs.StepLines.{value_of};
-ghost use Rattle.bp_messages.specs.FaultObjects.{byte_of, column_in, facts_text, fault_object, letter_text, line_in, message_text, name_in, refutation_text, row_object, thread_of};
+ghost use Rattle.bp_messages.specs.FaultObjects.{byte_of, column_in, facts_text, fault_object, letter_text, line_in, message_text, name_in, refutation_text, thread_of};
 ghost use Rattle.bp_messages.specs.FaultTable.{row_of};
+ghost use Rattle.bp_messages.specs.Sinks.{Given};
 
 use crate::fault_table::{Detail, Row};
 use crate::faults::Fault;
+use crate::sinks::Sink;
 use crate::step_objects::put_step;
 use crate::verdicts::put_refuted;
 use bp_confirm::SeenValue;
 use bp_text::Piece::{Bytes, Key, Letter, Number, NumberOrNull, Text, TextOrNull};
-use bp_text::{Piece, WriteFault, position_of, put_pieces};
+use bp_text::{Piece, WriteFault, position_of};
 use std::io::Write;
 
 /// The byte of the program text that a fault names.
@@ -81,75 +83,47 @@ fn bytes_of<'a>(name: Option<&'a str>) -> Option<&'a [u8]>
 }
 
 /// Writes the facts of a row of the table that each fault has.
-fn put_facts<'a, W: Write>(
-    row: Row,
-    file: Option<&'a str>,
-    text: &[u8],
-    out: &mut W,
-) -> Result<(), WriteFault>
+fn put_facts<'a, W: Write>(row: Row, file: Option<&'a str>, text: &[u8], sink: &mut Sink<'_, W>)
     ensures { let facts = facts_text (row_of row) (name_in file.entry) text.now in
-        Writes (W.contents out.old) (W.contents out.new) facts result }
+        Given W.contents sink.old sink.new facts }
 {
     let detail = row.detail;
-    put_pieces(
-        out,
-        &[
-            Bytes(b"{\"kind\":\"fault\",\"version\":1"),
-            Key(b"number"),
-            Number(u64::from(row.number)),
-            Key(b"name"),
-            Text(row.name),
-            Key(b"file"),
-            TextOrNull(bytes_of(file)),
-            Key(b"offset"),
-            NumberOrNull(byte_of(detail)),
-            Key(b"line"),
-            NumberOrNull(line_in(text, detail)),
-            Key(b"column"),
-            NumberOrNull(column_in(text, detail)),
-            Key(b"thread"),
-            NumberOrNull(thread_of(detail)),
-            Key(b"wanted"),
-            wanted_letter(detail),
-        ],
-    )
+    sink.put_pieces(&[
+        Bytes(b"{\"kind\":\"fault\",\"version\":1"),
+        Key(b"number"),
+        Number(u64::from(row.number)),
+        Key(b"name"),
+        Text(row.name),
+        Key(b"file"),
+        TextOrNull(bytes_of(file)),
+        Key(b"offset"),
+        NumberOrNull(byte_of(detail)),
+        Key(b"line"),
+        NumberOrNull(line_in(text, detail)),
+        Key(b"column"),
+        NumberOrNull(column_in(text, detail)),
+        Key(b"thread"),
+        NumberOrNull(thread_of(detail)),
+        Key(b"wanted"),
+        wanted_letter(detail),
+    ])
 }
 
 /// Writes the sentence that ends an object.
-fn put_message<W: Write>(message: &[u8], out: &mut W) -> Result<(), WriteFault>
-    ensures { Writes (W.contents out.old) (W.contents out.new) (message_text message.now) result }
+fn put_message<W: Write>(message: &[u8], sink: &mut Sink<'_, W>)
+    ensures { Given W.contents sink.old sink.new (message_text message.now) }
 {
-    put_pieces(out, &[Key(b"message"), Text(message), Bytes(b"}\n")])
+    sink.put_pieces(&[Key(b"message"), Text(message), Bytes(b"}\n")])
 }
 
 /// Writes the object of the verdict on steps, if a fault refutes them.
-fn put_refutation<W: Write>(detail: Detail, out: &mut W) -> Result<(), WriteFault>
-    ensures { let text = refutation_text detail in
-        Writes (W.contents out.old) (W.contents out.new) text result }
+fn put_refutation<W: Write>(detail: Detail, sink: &mut Sink<'_, W>)
+    ensures { Given W.contents sink.old sink.new (refutation_text detail) }
 {
     match detail {
-        Detail::Step(refusal) => put_refuted(u64::from(refusal.line.saturating_sub(1)), out),
-        _ => Ok(()),
+        Detail::Step(refusal) => put_refuted(u64::from(refusal.line.saturating_sub(1)), sink),
+        _ => {}
     }
-}
-
-/// Writes the object of a row of the table.
-fn put_row_object<'a, W: Write>(
-    row: Row,
-    file: Option<&'a str>,
-    text: &[u8],
-    value: Option<SeenValue<'a>>,
-    message: &'a [u8],
-    out: &mut W,
-) -> Result<(), WriteFault>
-    ensures { let file = name_in file.entry in
-        let value = option_map value_of value.entry in
-        let object = row_object (row_of row) file text.now value message.entry.now in
-        Writes (W.contents out.old) (W.contents out.new) object result }
-{
-    put_facts(row, file, text, out)?;
-    put_step(row.detail, value, out)?;
-    put_message(message, out)
 }
 
 /// Writes the object of a fault: its row of the table, the file that it is in, its place there, the
@@ -170,6 +144,10 @@ pub fn put_fault_object<'a, W: Write>(
         Writes (W.contents out.old) (W.contents out.new) object result }
 {
     let row = fault.row();
-    put_refutation(row.detail, out)?;
-    put_row_object(row, file, text, value, message, out)
+    let mut sink = Sink::new(out);
+    put_refutation(row.detail, &mut sink);
+    put_facts(row, file, text, &mut sink);
+    put_step(row.detail, value, &mut sink);
+    put_message(message, &mut sink);
+    sink.finish()
 }

@@ -1,14 +1,15 @@
 //! What the object of a fault says of a step that is not taken.
 ghost use Rattle.std.specs.Prelude.{◌≡◌, option_map};
 ghost use Rattle.bp_text.specs.Pieces.{piece_text, string_or_null};
-ghost use Rattle.bp_text.specs.Writing.{Writes};
 ghost use Rattle.bp_confirm.specs.StepLines.{value_of};
+ghost use Rattle.bp_messages.specs.Sinks.{Given};
 ghost use Rattle.bp_messages.specs.StepObjects.{bit_in, changed_in, column_at, column_named, has_ended, line_at, line_named, name_of_value, reply_text, seen_in, step_object, step_of, step_text, IsValueIn};
 
 use crate::fault_table::Detail;
+use crate::sinks::Sink;
 use bp_confirm::{Difference, Location, SeenValue, Stand, StepReason, StepRefusal, value_on_line};
+use bp_text::Piece;
 use bp_text::Piece::{BitOrNull, Bytes, Key, Letter, NumberOrNull, TextOrNull, Truth};
-use bp_text::{Piece, WriteFault, put, put_pieces};
 use std::io::Write;
 
 /// The line that a location names; none for the end of a procedure.
@@ -138,13 +139,9 @@ pub fn value_in<'a>(steps: &'a [u8], detail: Detail) -> Option<SeenValue<'a>>
 }
 
 /// Writes the member of a step that is not taken.
-fn put_refusal<W: Write>(
-    refusal: StepRefusal,
-    value: Option<SeenValue<'_>>,
-    out: &mut W,
-) -> Result<(), WriteFault>
+fn put_refusal<W: Write>(refusal: StepRefusal, value: Option<SeenValue<'_>>, sink: &mut Sink<'_, W>)
     ensures { let object = step_object refusal (option_map value_of value.entry) in
-        Writes (W.contents out.old) (W.contents out.new) object result }
+        Given W.contents sink.old sink.new object }
 {
     let StepRefusal {
         location,
@@ -152,32 +149,29 @@ fn put_refusal<W: Write>(
         reason,
         ..
     } = refusal;
-    put_pieces(
-        out,
-        &[
-            Bytes(b",\"step\":{\"expected\":{\"line\":"),
-            NumberOrNull(line_named(location)),
-            Key(b"column"),
-            NumberOrNull(column_named(location)),
-            Bytes(b"},\"stands\":{\"line\":"),
-            NumberOrNull(line_at(stand)),
-            Key(b"column"),
-            NumberOrNull(column_at(stand)),
-            Key(b"ended"),
-            Truth(has_ended(stand)),
-            Bytes(b"},\"reply\":"),
-            reply_piece(reason),
-            Key(b"variable"),
-            name_piece(value),
-            Key(b"value"),
-            BitOrNull(bit_in(value)),
-            Key(b"seen"),
-            BitOrNull(seen_in(reason)),
-            Key(b"changed"),
-            NumberOrNull(changed_in(reason)),
-            Bytes(b"}"),
-        ],
-    )
+    sink.put_pieces(&[
+        Bytes(b",\"step\":{\"expected\":{\"line\":"),
+        NumberOrNull(line_named(location)),
+        Key(b"column"),
+        NumberOrNull(column_named(location)),
+        Bytes(b"},\"stands\":{\"line\":"),
+        NumberOrNull(line_at(stand)),
+        Key(b"column"),
+        NumberOrNull(column_at(stand)),
+        Key(b"ended"),
+        Truth(has_ended(stand)),
+        Bytes(b"},\"reply\":"),
+        reply_piece(reason),
+        Key(b"variable"),
+        name_piece(value),
+        Key(b"value"),
+        BitOrNull(bit_in(value)),
+        Key(b"seen"),
+        BitOrNull(seen_in(reason)),
+        Key(b"changed"),
+        NumberOrNull(changed_in(reason)),
+        Bytes(b"}"),
+    ])
 }
 
 /// The member where a fault names no step.
@@ -187,13 +181,13 @@ const NO_STEP: &[u8] = b",\"step\":null";
 pub(crate) fn put_step<W: Write>(
     detail: Detail,
     value: Option<SeenValue<'_>>,
-    out: &mut W,
-) -> Result<(), WriteFault>
+    sink: &mut Sink<'_, W>,
+)
     ensures { let text = step_text detail (option_map value_of value.entry) in
-        Writes (W.contents out.old) (W.contents out.new) text result }
+        Given W.contents sink.old sink.new text }
 {
     match step_of(detail) {
-        Some(refusal) => put_refusal(refusal, value, out),
-        None => put(out, NO_STEP),
+        Some(refusal) => put_refusal(refusal, value, sink),
+        None => sink.put(NO_STEP),
     }
 }

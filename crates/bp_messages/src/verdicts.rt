@@ -1,9 +1,13 @@
 //! The verdict on reported steps in JSON. It is written without memory.
+ghost use Rattle.std.specs.Prelude.{◌≡◌, flat_map};
+ghost use Rattle.bp_text.specs.Pieces.{piece_text};
 ghost use Rattle.bp_text.specs.Writing.{Writes};
+ghost use Rattle.bp_messages.specs.Sinks.{Given};
 ghost use Rattle.bp_messages.specs.Verdicts.{refuted_after, shown_verdict, verdict_object};
 
+use crate::sinks::Sink;
 use bp_text::Piece::{Bytes, Key, List, Number, NumberOrNull, Text};
-use bp_text::{WriteFault, put_pieces};
+use bp_text::{Piece, WriteFault, put_pieces};
 use std::io::Write;
 
 /// What is said of the verdict on reported steps.
@@ -23,46 +27,46 @@ pub struct VerdictFacts<'a> {
     pub choices: &'a [u8],
 }
 
+/// Returns the pieces of the object of the verdict on reported steps.
+fn verdict_pieces<'a>(facts: VerdictFacts<'a>) -> [Piece<'a>; 14]
+    ensures { flat_map piece_text result ≡ verdict_object (shown_verdict facts.entry) }
+{
+    [
+        Bytes(b"{\"kind\":\"confirm\",\"version\":1"),
+        Key(b"verdict"),
+        Text(facts.verdict),
+        Key(b"steps"),
+        Number(facts.steps),
+        Key(b"contexts"),
+        NumberOrNull(facts.contexts),
+        Key(b"failure"),
+        Bytes(facts.failure),
+        Key(b"deadlock"),
+        List(facts.waits),
+        Key(b"choices"),
+        List(facts.choices),
+        Bytes(b"}\n"),
+    ]
+}
+
 /// Writes the object of the verdict on reported steps.
 pub fn put_verdict<'a, W: Write>(facts: VerdictFacts<'a>, out: &mut W) -> Result<(), WriteFault>
     ensures { let object = verdict_object (shown_verdict facts.entry) in
         Writes (W.contents out.old) (W.contents out.new) object result }
 {
-    put_pieces(
-        out,
-        &[
-            Bytes(b"{\"kind\":\"confirm\",\"version\":1"),
-            Key(b"verdict"),
-            Text(facts.verdict),
-            Key(b"steps"),
-            Number(facts.steps),
-            Key(b"contexts"),
-            NumberOrNull(facts.contexts),
-            Key(b"failure"),
-            Bytes(facts.failure),
-            Key(b"deadlock"),
-            List(facts.waits),
-            Key(b"choices"),
-            List(facts.choices),
-            Bytes(b"}\n"),
-        ],
-    )
+    put_pieces(out, &verdict_pieces(facts))
 }
 
 /// Writes the object of the verdict on steps that a run makes as far as this many.
-pub(crate) fn put_refuted<W: Write>(steps: u64, out: &mut W) -> Result<(), WriteFault>
-    ensures { let object = verdict_object (refuted_after steps) in
-        Writes (W.contents out.old) (W.contents out.new) object result }
+pub(crate) fn put_refuted<W: Write>(steps: u64, sink: &mut Sink<'_, W>)
+    ensures { Given W.contents sink.old sink.new (verdict_object (refuted_after steps)) }
 {
-    put_verdict(
-        VerdictFacts {
-            verdict: b"refuted",
-            steps,
-            contexts: None,
-            failure: b"null",
-            waits: b"",
-            choices: b"",
-        },
-        out,
-    )
+    sink.put_pieces(&verdict_pieces(VerdictFacts {
+        verdict: b"refuted",
+        steps,
+        contexts: None,
+        failure: b"null",
+        waits: b"",
+        choices: b"",
+    }))
 }
