@@ -3,55 +3,53 @@ ghost use Rattle.std.specs.Prelude.{◌≡◌, flat_map, map};
 ghost use Rattle.bp_text.specs.Pieces.{bit_text};
 ghost use Rattle.bp_text.specs.Writing.{Writes};
 ghost use Rattle.bp_trace.specs.Replayed.{row_of};
+ghost use Rattle.bp_messages.specs.Sinks.{Given};
 ghost use Rattle.bp_messages.specs.ReplayLines.{outcome_line, printed_line, row_line, shown_text};
 
+use crate::sinks::Sink;
 use bp_machine::Outcome;
 use bp_text::Piece::{Bit, Bytes, Number};
-use bp_text::{WriteFault, put, put_pieces};
+use bp_text::WriteFault;
 use bp_trace::{Printed, Replayed};
 use std::io::Write;
 
 /// Writes the digit of each value.
-fn put_values<W: Write>(values: &[bool], out: &mut W) -> Result<(), WriteFault>
-    ensures { Writes (W.contents out.old) (W.contents out.new)
-        (flat_map bit_text values.now) result }
+fn put_values<W: Write>(values: &[bool], sink: &mut Sink<'_, W>)
+    ensures { Given W.contents sink.old sink.new (flat_map bit_text values.now) }
 {
     for value in values {
-        put_pieces(out, &[Bit(*value)])?;
+        sink.put_pieces(&[Bit(*value)]);
     }
-    Ok(())
 }
 
 /// Writes the line of what a step printed.
-fn put_row<W: Write>(row: &Printed, out: &mut W) -> Result<(), WriteFault>
-    ensures { Writes (W.contents out.old) (W.contents out.new) (row_line (row_of row.now)) result }
+fn put_row<W: Write>(row: &Printed, sink: &mut Sink<'_, W>)
+    ensures { Given W.contents sink.old sink.new (row_line (row_of row.now)) }
 {
     let thread = u64::from(row.thread);
-    put_pieces(out, &[Bytes(b"print "), Number(thread), Bytes(b" ")])?;
-    put_values(row.values.as_slice(), out)?;
-    put(out, b"\n")
+    sink.put_pieces(&[Bytes(b"print "), Number(thread), Bytes(b" ")]);
+    put_values(row.values.as_slice(), sink);
+    sink.put(b"\n")
 }
 
 /// Writes a line for each row.
-fn put_rows<W: Write>(rows: &[Printed], out: &mut W) -> Result<(), WriteFault>
-    ensures { Writes (W.contents out.old) (W.contents out.new)
-        (flat_map printed_line rows.now) result }
+fn put_rows<W: Write>(rows: &[Printed], sink: &mut Sink<'_, W>)
+    ensures { Given W.contents sink.old sink.new (flat_map printed_line rows.now) }
 {
     for row in rows {
-        put_row(row, out)?;
+        put_row(row, sink);
     }
-    Ok(())
 }
 
 /// Writes the line of an outcome.
-fn put_outcome<W: Write>(outcome: Outcome, out: &mut W) -> Result<(), WriteFault>
-    ensures { Writes (W.contents out.old) (W.contents out.new) (outcome_line outcome) result }
+fn put_outcome<W: Write>(outcome: Outcome, sink: &mut Sink<'_, W>)
+    ensures { Given W.contents sink.old sink.new (outcome_line outcome) }
 {
     match outcome {
-        Outcome::Clean => put(out, b"outcome clean\n"),
+        Outcome::Clean => sink.put(b"outcome clean\n"),
         Outcome::Failed { thread } => {
             let number = Number(u64::from(thread));
-            put_pieces(out, &[Bytes(b"outcome failed "), number, Bytes(b"\n")])
+            sink.put_pieces(&[Bytes(b"outcome failed "), number, Bytes(b"\n")])
         }
     }
 }
@@ -63,6 +61,8 @@ pub fn show_replay<W: Write>(replayed: &Replayed, out: &mut W) -> Result<(), Wri
         Writes (W.contents out.old) (W.contents out.new)
         (shown_text rows replayed.now.report.outcome) result }
 {
-    put_rows(replayed.printed.as_slice(), out)?;
-    put_outcome(replayed.report.outcome, out)
+    let mut sink = Sink::new(out);
+    put_rows(replayed.printed.as_slice(), &mut sink);
+    put_outcome(replayed.report.outcome, &mut sink);
+    sink.finish()
 }

@@ -1,8 +1,8 @@
 use Rattle.std.proofs.Common.{flat_map, take}
-use Rattle.std.specs.Io.KnownBytes.{Appends}
 use Rattle.bp_messages.specs.ReplayLines.{printed_line}
+use Rattle.bp_messages.specs.Sinks.{Given}
 use Rattle.bp_messages.proofs.replay_lines.put_rows.Given as goal
 
 abbrev pub invariant-loop-row : goal.invariant-loop-row
 invariant-loop-row g l =
-    Appends (g.W.Write.contents l.fn.out) (g.W.Write.contents l.out) (flat_map printed_line (take l.row-index l.rows))
+    Given g.W.Write.contents l.fn.sink l.sink (flat_map printed_line (take l.row-index l.rows))
