@@ -1,7 +1,7 @@
 -- How the texts that a sink is given add up.
 use Rattle.std.proofs.Common.{◌≡◌, ℕ, Bool, false, true, List, [], ◌++◌, Option, Result, Ok, Err, sym, subst, ◌∙◌}
 use Rattle.std.specs.Borrow.{MutBor}
-use Rattle.std.proofs.lemmas.List.{append-nil, append_assoc}
+use Rattle.std.proofs.lemmas.List.{append_assoc}
 use Rattle.std.proofs.KnownBytes.{Appends-nil}
 use Rattle.std.specs.Result.{is_err}
 use Rattle.bp_text.specs.Writing.{Writes}
@@ -44,9 +44,6 @@ pub left_after : {W : Type 0} (contents : W → Option (List ℕ)) (a b c : Sink
     → IsLeft contents a b text (t ++ u) → Given contents b c t → IsLeft contents a c text u
 left_after contents a b c text t u h p =
     record { done = h.done ++ t; given = and_then h.given p; is = h.is ∙ sym (append_assoc h.done t u) }
-
-pub none_left : {W : Type 0} (contents : W → Option (List ℕ)) (a b : Sink W) (text : List ℕ) → IsLeft contents a b text [] → Given contents a b text
-none_left contents a b text h = subst (Given contents a b) (sym (h.is ∙ append-nil h.done)) h.given
 
 taken_all : (first now : Option (List ℕ)) (refused : Bool) (text : List ℕ) → HasTaken first now refused text → Writes first now text (result_of refused)
 taken_all first now false text h = h

@@ -1,16 +1,15 @@
 //! What a test was asked for: its program, and what each run started from. It is written without
 //! memory.
-ghost use Rattle.std.specs.Prelude.{◌≡◌};
+ghost use Rattle.std.specs.Prelude.{◌≡◌, map, string_bytes};
 ghost use Rattle.bp_text.specs.Pieces.{piece_text};
 ghost use Rattle.bp_messages.specs.Sinks.{Given};
-ghost use Rattle.bp_messages.specs.AskedTests.{asked_line, asked_member, bits_text, bounds_members, bounds_text, init_text, name_text, names_text};
+ghost use Rattle.bp_messages.specs.AskedTests.{asked_line, asked_member, bounds_members, bounds_text, init_text, name_text, names_text};
 
 use crate::run_limits::limit_of;
 use crate::sinks::Sink;
 use crate::test_reports::TestReport;
-use bp_machine::Setup;
 use bp_text::Piece;
-use bp_text::Piece::{Bit, Bytes, Displayed, Key, Number, NumberOrNull, Text, Truth};
+use bp_text::Piece::{Bytes, Displayed, Key, Number, NumberOrNull, Text, Truth};
 use std::io::Write;
 
 /// A name as it is, or as a string of JSON.
@@ -20,49 +19,35 @@ fn name_piece<'a>(json: bool, name: &'a [u8]) -> Piece<'a>
     if json { Text(name) } else { Bytes(name) }
 }
 
-/// Writes the entries of the threads, with these bytes before the first and those before each other
-/// one.
-fn put_entries<W: Write>(
+/// Writes names, with these bytes before the first and those before each other one.
+#[tactic(auto, using(crate::proofs::Givings::left_after))]
+fn put_names<W: Write>(
     json: bool,
     first: &[u8],
     between: &[u8],
-    setup: &Setup,
+    names: &[String],
     sink: &mut Sink<'_, W>,
 )
-    ensures { let text = names_text json first.now between.now setup.now.entries in
+    ensures { let text = names_text json first.now between.now (map string_bytes names.now) in
         Given W.contents sink.old sink.new text }
 {
-    setup.is_in_range();
     let mut before = first;
-    let mut thread = 0;
-    while let Some(name) = setup.entry(thread) {
-        let name = name_piece(json, name.as_bytes());
-        sink.put_pieces(&[Bytes(before), name]);
+    let mut names = names;
+    while let Some((name, more)) = names.split_first() {
+        sink.put_pieces(&[Bytes(before), name_piece(json, name.as_bytes())]);
         before = between;
-        thread += 1;
-    }
-}
-
-/// Writes a digit for each global.
-fn put_bits<W: Write>(setup: &Setup, sink: &mut Sink<'_, W>)
-    ensures { Given W.contents sink.old sink.new (bits_text setup.now.init) }
-{
-    setup.is_in_range();
-    let mut n = 0;
-    while let Some(bit) = setup.init(n) {
-        sink.put_pieces(&[Bit(bit)]);
-        n += 1;
+        names = more;
     }
 }
 
 /// Writes a digit for each global, or a dash where there is none.
-fn put_init<W: Write>(setup: &Setup, sink: &mut Sink<'_, W>)
-    ensures { Given W.contents sink.old sink.new (init_text setup.now.init) }
+fn put_init<W: Write>(bits: &[bool], sink: &mut Sink<'_, W>)
+    ensures { Given W.contents sink.old sink.new (init_text bits.now) }
 {
-    if setup.init(0).is_none() {
+    if bits.is_empty() {
         sink.put(b"-")
     } else {
-        put_bits(setup, sink)
+        sink.put_bits(bits)
     }
 }
 
@@ -87,9 +72,9 @@ pub(crate) fn put_asked_line<W: Write>(tested: &TestReport, sink: &mut Sink<'_, 
 {
     let file = Displayed(tested.file.as_slice());
     sink.put_pieces(&[Bytes(b"test of "), file, Bytes(b": threads")]);
-    put_entries(false, b" ", b" ", &tested.setup, sink);
+    put_names(false, b" ", b" ", tested.setup.entries(), sink);
     sink.put(b", init ");
-    put_init(&tested.setup, sink);
+    put_init(tested.setup.bits(), sink);
     put_bounds(tested, sink)
 }
 
@@ -122,8 +107,8 @@ pub(crate) fn put_asked_member<W: Write>(tested: &TestReport, sink: &mut Sink<'_
 {
     let file = Text(tested.file.as_slice());
     sink.put_pieces(&[Bytes(b",\"asked\":{\"file\":"), file, Key(b"entries")]);
-    put_entries(true, b"[", b",", &tested.setup, sink);
+    put_names(true, b"[", b",", tested.setup.entries(), sink);
     sink.put(b"],\"init\":\"");
-    put_bits(&tested.setup, sink);
+    sink.put_bits(tested.setup.bits());
     put_bounds_members(tested, sink)
 }

@@ -1,6 +1,5 @@
 //! The lines that show a replay.
 ghost use Rattle.std.specs.Prelude.{◌≡◌, flat_map, map};
-ghost use Rattle.bp_text.specs.Pieces.{bit_text};
 ghost use Rattle.bp_text.specs.Writing.{Writes};
 ghost use Rattle.bp_trace.specs.Replayed.{row_of};
 ghost use Rattle.bp_messages.specs.Sinks.{Given};
@@ -8,19 +7,10 @@ ghost use Rattle.bp_messages.specs.ReplayLines.{outcome_line, printed_line, row_
 
 use crate::sinks::Sink;
 use bp_machine::Outcome;
-use bp_text::Piece::{Bit, Bytes, Number};
+use bp_text::Piece::{Bytes, Number};
 use bp_text::WriteFault;
 use bp_trace::{Printed, Replayed};
 use std::io::Write;
-
-/// Writes the digit of each value.
-fn put_values<W: Write>(values: &[bool], sink: &mut Sink<'_, W>)
-    ensures { Given W.contents sink.old sink.new (flat_map bit_text values.now) }
-{
-    for value in values {
-        sink.put_pieces(&[Bit(*value)]);
-    }
-}
 
 /// Writes the line of what a step printed.
 fn put_row<W: Write>(row: &Printed, sink: &mut Sink<'_, W>)
@@ -28,7 +18,7 @@ fn put_row<W: Write>(row: &Printed, sink: &mut Sink<'_, W>)
 {
     let thread = u64::from(row.thread);
     sink.put_pieces(&[Bytes(b"print "), Number(thread), Bytes(b" ")]);
-    put_values(row.values.as_slice(), sink);
+    sink.put_bits(row.values.as_slice());
     sink.put(b"\n")
 }
 

@@ -1,8 +1,9 @@
 //! A writer to which texts are given one after the other. Its errors stick.
 ghost use Rattle.std.specs.Prelude.{◌≡◌, flat_map};
-ghost use Rattle.bp_text.specs.Pieces.{piece_text};
+ghost use Rattle.bp_text.specs.Pieces.{bit_text, piece_text};
 ghost use Rattle.bp_messages.specs.Sinks.{Given, IsFresh, result_of};
 
+use bp_text::Piece::Bit;
 use bp_text::{Piece, WriteFault, put, put_pieces};
 use std::io::Write;
 
@@ -42,6 +43,15 @@ impl<'a, W: Write> Sink<'a, W> {
             return;
         }
         self.refused = put_pieces(self.out, pieces).is_err();
+    }
+
+    /// Gives the writer a digit for each bit.
+    pub fn put_bits(&mut self, bits: &[bool])
+        ensures { Given W.contents self.old self.new (flat_map bit_text bits.now) }
+    {
+        for bit in bits {
+            self.put_pieces(&[Bit(*bit)]);
+        }
     }
 
     /// Returns whether the writer took all that it was given.

@@ -1,0 +1,13 @@
+use Rattle.std.proofs.Common.{length, map}
+use Rattle.std.specs.Prelude.{string_bytes}
+use Rattle.bp_messages.proofs.Givings.{IsLeft}
+use Rattle.bp_messages.specs.AskedTests.{names_text}
+use Rattle.bp_messages.proofs.asked_tests.put_names.Given as goal
+
+abbrev pub invariant-loop-name : goal.invariant-loop-name
+invariant-loop-name g l =
+    IsLeft g.W.Write.contents l.fn.sink l.sink (names_text l.json l.first l.between (map string_bytes l.fn.names))
+    (names_text l.json l.before l.between (map string_bytes l.names))
+
+abbrev pub decreases-loop-name : goal.decreases-loop-name
+decreases-loop-name g l = length l.names
