@@ -285,8 +285,8 @@ pub(crate) fn push_refusal(
     }
 }
 
-/// Adds how to look for a run through steps that a list does not tell whole, if this is a reason for
-/// it and a shell can name the files.
+/// Adds the command that looks for a run through all listed steps, if it may find one although
+/// `confirm` refuses them for this reason. A shell has to be able to name both files.
 pub(crate) fn push_exploration(
     out: &mut Vec<u8>,
     program_file: &[u8],

@@ -213,7 +213,8 @@ fn made_through(steps: u64, ending: &ThroughEnding) -> Option<u64>
     }
 }
 
-/// Returns the object of an exploration through this many steps, of which this is the outcome.
+/// Returns the JSON object of an exploration through `steps` steps. The run that was found has this
+/// outcome.
 fn through_object<'a>(
     alloc: Global,
     explored: &'a ExploredThrough,
