@@ -8,14 +8,15 @@ use Rattle.bp_explore.specs.declared.explored.Ending.TheVariants.{Nothing, Nothi
 use Rattle.bp_explore.specs.declared.explored.Finding.{Finding}
 use Rattle.bp_explore.specs.Explorations.{IsFirst, IsExploration}
 use Rattle.bp_explore.specs.FoundRuns.{IsPlayed}
+use Rattle.bp_explore.specs.Reachable.{IsInBound}
 
-module _ (c : Flat) (t : Program) (s : SetupOf) (bound : Option ℕ) (b : Bool) (k : ℕ) (f : Finding) (first : IsFirst t s b k f) where
+module _ (c : Flat) (t : Program) (s : SetupOf) (bound : Option ℕ) (b : Bool) (k : ℕ) (f : Finding) (first : IsFirst t s b k f) (within : IsInBound bound k) where
   first_of : (m : ℕ) (g : Finding) → m ≡ k → g ≡ f → IsFirst t s b m g
   first_of m g k_is f_is = subst (λ n. IsFirst t s b n g) (sym k_is) (subst (IsFirst t s b k) (sym f_is) first)
 
   pub played_answer : (e : Ending) → IsPlayed c t s k f e → IsExploration c t s bound b e
   played_answer (Nothing last) is = absurd is
   played_answer (NothingWithin contexts) is = absurd is
-  played_answer (Found r) (k_is, f_is, found) = (first_of r.contexts r.finding k_is f_is, found)
-  played_answer (Unplayed contexts finding calls) (k_is, f_is, long) = (first_of contexts finding k_is f_is, long)
+  played_answer (Found r) (k_is, f_is, found) = (first_of r.contexts r.finding k_is f_is, found, subst (IsInBound bound) (sym k_is) within)
+  played_answer (Unplayed contexts finding calls) (k_is, f_is, long) = (first_of contexts finding k_is f_is, long, subst (IsInBound bound) (sym k_is) within)
   played_answer (Unfinished contexts reason) is = absurd is

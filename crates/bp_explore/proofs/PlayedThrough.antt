@@ -13,6 +13,7 @@ use Rattle.bp_explore.specs.declared.explored.ThroughEnding.{ThroughEnding}
 use Rattle.bp_explore.specs.declared.explored.ThroughEnding.TheVariants.{Found, Unplayed, Missing, MissingWithin, Unfinished}
 use Rattle.bp_explore.specs.ListedSteps.{ListedSteps, CanMake, MakesFrom, ends}
 use Rattle.bp_explore.specs.Packing.{NodeOf}
+use Rattle.bp_explore.specs.Reachable.{IsInBound}
 use Rattle.bp_explore.specs.RunsThrough.{IsPlayedThrough, IsRunThrough}
 use Rattle.bp_explore.specs.Searches.{HasMade, HaveFewer, IsMostMade}
 use Rattle.bp_explore.specs.ThroughExplorations.{CannotMakeBelow, IsThrough}
@@ -38,13 +39,13 @@ run_can_be_made c t s o r found =
       room = subst (λ (z : SetupOf). EachHasRoom t (start t z) h) found.setup room;
     }
 
-pub through_answer : (c : Flat) (t : Program) (s : SetupOf) (o : ListedSteps) (bound : Option ℕ) (k : ℕ) → CannotMakeBelow t s o k
+pub through_answer : (c : Flat) (t : Program) (s : SetupOf) (o : ListedSteps) (bound : Option ℕ) (k : ℕ) → CannotMakeBelow t s o k → IsInBound bound k
     → (e : ThroughEnding) → IsPlayedThrough c t s o k e → IsThrough c t s o bound e
-through_answer c t s o bound k below (Found r) (k_is, found) = (subst (CannotMakeBelow t s o) (sym k_is) below, run_can_be_made c t s o r found, found)
-through_answer c t s o bound k below (Unplayed contexts calls) (k_is, long) = (subst (CannotMakeBelow t s o) (sym k_is) below, long)
-through_answer c t s o bound k below (Missing last made) is = absurd is
-through_answer c t s o bound k below (MissingWithin contexts made) is = absurd is
-through_answer c t s o bound k below (Unfinished contexts reason) is = absurd is
+through_answer c t s o bound k below within (Found r) (k_is, found) = (subst (CannotMakeBelow t s o) (sym k_is) below, run_can_be_made c t s o r found, found, subst (IsInBound bound) (sym k_is) within)
+through_answer c t s o bound k below within (Unplayed contexts calls) (k_is, long) = (subst (CannotMakeBelow t s o) (sym k_is) below, long, subst (IsInBound bound) (sym k_is) within)
+through_answer c t s o bound k below within (Missing last made) is = absurd is
+through_answer c t s o bound k below within (MissingWithin contexts made) is = absurd is
+through_answer c t s o bound k below within (Unfinished contexts reason) is = absurd is
 
 module _ (o : ListedSteps) (nodes : List NodeOf) (made : ℕ) (most : IsMostMade nodes made) where
   pub one_more : HaveFewer o nodes (made + 1)

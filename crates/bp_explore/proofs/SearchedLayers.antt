@@ -1,5 +1,6 @@
 -- How a search goes from layer to layer, and what is known after each.
-use Rattle.std.proofs.Common.{◌≡◌, ◌<◌, ◌≤◌, ℕ, zero, suc, Bool, true, inl, inr, ◌+◌, List, [], ◌∷◌, length, None, Some, refl, ap, sym, ◌∙◌, subst, arith}
+use Rattle.std.proofs.Common.{◌≡◌, ◌<◌, ◌≤◌, ℕ, zero, suc, Bool, true, inl, inr, ◌+◌, List, [], ◌∷◌, length, Option, None, Some, refl, ap, sym, ◌∙◌, subst, arith}
+use Rattle.std.specs.Option.{unwrap_or}
 use Rattle.std.specs.Prelude.{slice_get, map}
 use Rattle.std.proofs.lemmas.Bool.{cases_lt}
 use Rattle.std.proofs.lemmas.Option.{slice_get_within}
@@ -15,6 +16,7 @@ use Rattle.bp_explore.specs.Packing.{NodeOf as Node}
 use Rattle.bp_explore.specs.ListedSteps.{ListedSteps, CanMake, ends}
 use Rattle.bp_explore.specs.Live.{AreLiveFrom}
 use Rattle.bp_explore.specs.Searches.{BeginsAt, HasMade, HasNeither, HasNeitherBelow, IsExhausted}
+use Rattle.bp_explore.specs.Reachable.{IsInBound}
 use Rattle.bp_explore.specs.Reached.{IsReached, AreReached, StayReached}
 use Rattle.bp_explore.specs.Spaces.{AreAtMost, IsClosed, IsExplored, IsGrown}
 use Rattle.bp_explore.specs.States.{StateOf, Shows}
@@ -183,3 +185,8 @@ first_searched c s o some b nodes after begins same live =
           (record { first = f; is = refl; last = refl; level = refl; made = refl; shows = begins.shows t is });
       reached = λ t alike is own. subst (λ (l : List Node). AreReached t s o l) (sym only) (start_reached t s o some begins.state (begins.shows t is));
     })
+
+-- one more context than are searched is within the bound while the loop's test holds
+pub next_in_bound : (bound : Option ℕ) (end last : ℕ) → end ≡ unwrap_or bound 4294967295 → last < end → IsInBound bound (last + 1)
+next_in_bound None end last is more = tt
+next_in_bound (Some n) end last is more = omega (arith, is, more)

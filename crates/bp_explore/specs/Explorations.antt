@@ -8,7 +8,7 @@ use Rattle.bp_explore.specs.declared.explored.Ending.TheVariants.{Nothing, Nothi
 use Rattle.bp_explore.specs.declared.explored.Finding.{Finding}
 use Rattle.bp_explore.specs.declared.explored.Finding.TheVariants.{Failure, Deadlock}
 use Rattle.bp_explore.specs.FoundRuns.{IsFoundRun, IsTooLong}
-use Rattle.bp_explore.specs.Reachable.{IsSafe, HasNoDeadlock}
+use Rattle.bp_explore.specs.Reachable.{IsInBound, IsSafe, HasNoDeadlock}
 
 -- Within k contexts there is nothing of what is looked for: no false assertion, and no deadlock if
 -- that is looked for as well.
@@ -36,7 +36,12 @@ module _ (c : Flat) (t : Program) (s : SetupOf) (bound : Option ℕ) (with_deadl
   IsExploration (NothingWithin contexts) =
       (bound ≡ Some contexts) × HasNone t s with_deadlock contexts
   IsExploration (Found r) =
-      IsFirst t s with_deadlock r.contexts r.finding × IsFoundRun c t s r
+      IsFirst t s with_deadlock r.contexts r.finding
+      × IsFoundRun c t s r
+      × IsInBound bound r.contexts
   IsExploration (Unplayed contexts finding calls) =
-      IsFirst t s with_deadlock contexts finding × IsTooLong contexts calls
-  IsExploration (Unfinished contexts reason) = HasNoneBelow t s with_deadlock contexts
+      IsFirst t s with_deadlock contexts finding
+      × IsTooLong contexts calls
+      × IsInBound bound contexts
+  IsExploration (Unfinished contexts reason) =
+      HasNoneBelow t s with_deadlock contexts × IsInBound bound contexts

@@ -10,7 +10,7 @@ use Rattle.bp_explore.specs.Packing.{NodeOf as Node}
 use Rattle.bp_explore.specs.declared.searches.SearchEnd.{SearchEnd}
 use Rattle.bp_explore.specs.declared.searches.SearchEnd.TheVariants.{Closed, Bound, Deadlocked, Found, Short}
 use Rattle.bp_explore.specs.ListedSteps.{ListedSteps, CanMake}
-use Rattle.bp_explore.specs.Reachable.{IsReachable}
+use Rattle.bp_explore.specs.Reachable.{IsInBound, IsReachable}
 use Rattle.bp_explore.specs.States.{StateOf, Shows}
 
 -- there is one node, whose state shows the start
@@ -70,8 +70,11 @@ module _
       HasNeitherBelow t s o with_deadlock contexts
       × (with_deadlock ≡ true)
       × (CanMake t s o contexts o.count → ⊥)
-  IsSearchEnd (Found contexts step reply) = HasNeitherBelow t s o with_deadlock contexts
-  IsSearchEnd (Short contexts reason) = HasNeitherBelow t s o with_deadlock contexts
+      × IsInBound bound contexts
+  IsSearchEnd (Found contexts step reply) =
+      HasNeitherBelow t s o with_deadlock contexts × IsInBound bound contexts
+  IsSearchEnd (Short contexts reason) =
+      HasNeitherBelow t s o with_deadlock contexts × IsInBound bound contexts
 
 -- a node has made this many listed steps
 pub record HasOneMade (nodes : List Node) (made : ℕ) : Type 0 where

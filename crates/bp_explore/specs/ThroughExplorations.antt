@@ -7,6 +7,7 @@ use Rattle.bp_explore.specs.declared.explored.ThroughEnding.{ThroughEnding}
 use Rattle.bp_explore.specs.declared.explored.ThroughEnding.TheVariants.{Found, Unplayed, Missing, MissingWithin, Unfinished}
 use Rattle.bp_explore.specs.FoundRuns.{IsTooLong}
 use Rattle.bp_explore.specs.ListedSteps.{ListedSteps, CanMake}
+use Rattle.bp_explore.specs.Reachable.{IsInBound}
 use Rattle.bp_explore.specs.RunsThrough.{IsRunThrough}
 
 module _ (t : Program) (s : SetupOf) (o : ListedSteps) where
@@ -21,8 +22,11 @@ module _ (c : Flat) (t : Program) (s : SetupOf) (o : ListedSteps) (bound : Optio
       CannotMakeBelow t s o r.contexts
       × CanMake t s o r.contexts o.count
       × IsRunThrough c t s o r
+      × IsInBound bound r.contexts
   IsThrough (Unplayed contexts calls) =
-      CannotMakeBelow t s o contexts × IsTooLong contexts calls
+      CannotMakeBelow t s o contexts
+      × IsTooLong contexts calls
+      × IsInBound bound contexts
   IsThrough (Missing last made) =
       (made < o.count)
       × CanMake t s o last made
@@ -32,4 +36,5 @@ module _ (c : Flat) (t : Program) (s : SetupOf) (o : ListedSteps) (bound : Optio
       × (made < o.count)
       × CanMake t s o contexts made
       × (CanMake t s o contexts (made + 1) → ⊥)
-  IsThrough (Unfinished contexts reason) = CannotMakeBelow t s o contexts
+  IsThrough (Unfinished contexts reason) =
+      CannotMakeBelow t s o contexts × IsInBound bound contexts

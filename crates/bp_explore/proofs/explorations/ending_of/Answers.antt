@@ -20,14 +20,14 @@ returns-in-Bound c = λ t bound b is end.
 pub returns-in-Short : goal.returns-in-Short
 returns-in-Short c = λ t bound b is end.
     let found = subst (λ (e : SearchEnd). IsSearchEnd t c.args.setup.now failures bound b c.args.space.now.nodes.items e) c.in-Short.is end in
-    none_below_of t c.args.setup.now b c.in-Short.contexts found
+    (none_below_of t c.args.setup.now b c.in-Short.contexts found.0, found.1)
 
 pub returns-in_ok-played-in-Deadlocked : goal.returns-in_ok-played-in-Deadlocked
 returns-in_ok-played-in-Deadlocked c = λ t bound b is end.
     let s = c.args.setup.now in
     let found = subst (λ (e : SearchEnd). IsSearchEnd t s failures bound b c.args.space.now.nodes.items e) c.in-Deadlocked.is end in
     played_answer c.args.code.now t s bound b c.in-Deadlocked.contexts Deadlock
-    (none_below_of t s b c.in-Deadlocked.contexts found.0, (found.1, safe_of t s c.in-Deadlocked.contexts found.2)) c.in_ok-played-in-Deadlocked.field-0
+    (none_below_of t s b c.in-Deadlocked.contexts found.0, (found.1, safe_of t s c.in-Deadlocked.contexts found.2)) found.3 c.in_ok-played-in-Deadlocked.field-0
     (c.in_ok-played-in-Deadlocked.ensures t is)
 
 pub returns-in_ok-played-in-Found : goal.returns-in_ok-played-in-Found
@@ -35,4 +35,4 @@ returns-in_ok-played-in-Found c = λ t bound b is end.
     let s = c.args.setup.now in
     let found = subst (λ (e : SearchEnd). IsSearchEnd t s failures bound b c.args.space.now.nodes.items e) c.in-Found.is end in
     played_answer c.args.code.now t s bound b c.in-Found.contexts Failure
-    (none_below_of t s b c.in-Found.contexts found, tt) c.in_ok-played-in-Found.field-0 (c.in_ok-played-in-Found.ensures t is)
+    (none_below_of t s b c.in-Found.contexts found.0, tt) found.1 c.in_ok-played-in-Found.field-0 (c.in_ok-played-in-Found.ensures t is)

@@ -29,5 +29,5 @@ returns-in_ok-played_through-in-Found g c = λ t bound is own end.
     let o = g.O.Observer.listed c.args.observer.now in
     let s = c.args.setup.now in
     let found = subst (λ (e : SearchEnd). IsSearchEnd t s o bound false c.args.space.now.nodes.items e) c.in-Found.is end in
-    through_answer c.args.code.now t s o bound c.in-Found.contexts (λ m below. (found m below).none) c.in_ok-played_through-in-Found.field-0
+    through_answer c.args.code.now t s o bound c.in-Found.contexts (λ m below. (found.0 m below).none) found.1 c.in_ok-played_through-in-Found.field-0
     (c.in_ok-played_through-in-Found.ensures t is own)

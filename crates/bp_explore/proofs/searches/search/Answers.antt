@@ -1,8 +1,9 @@
-use Rattle.std.proofs.Common.{◌≡◌, ◌+◌, refl, ap, ◌∙◌, subst, arith}
+use Rattle.std.proofs.Common.{◌≡◌, ◌+◌, refl, ap, ◌∙◌, subst, sym, arith}
 use Rattle.std.specs.Option.{is_some, unwrap_or}
+use Rattle.bp_explore.specs.Reachable.{IsInBound}
 use Rattle.bp_explore.specs.Searches.{HasMade, IsExhausted}
 use Rattle.bp_explore.proofs.Growth.{at_most_layered}
-use Rattle.bp_explore.proofs.SearchedLayers.{made_before, made_so_far, first_searched, none_in_layer, next_searched, exhausted_at_all, neither_in_next, neither_less, exhausted_so_far}
+use Rattle.bp_explore.proofs.SearchedLayers.{made_before, made_so_far, first_searched, none_in_layer, next_searched, exhausted_at_all, neither_in_next, neither_less, exhausted_so_far, next_in_bound}
 use Rattle.bp_explore.proofs.searches.search.Goals as goal
 
 pub loop-last-init : goal.loop-last-init
@@ -12,19 +13,19 @@ loop-last-init g c =
 
 pub returns-then-not-goes_on : goal.returns-then-not-goes_on
 returns-then-not-goes_on g c = λ t is own. let w = c.loop-last in
-    neither_in_next c.args.code.now c.args.setup.now (g.O.Observer.listed c.args.observer.now) c.requires.some c.args.with_deadlock w.space.nodes.items w.from w.last w.invariant t own (c.steps_alike.ensures t is) is
+    (neither_in_next c.args.code.now c.args.setup.now (g.O.Observer.listed c.args.observer.now) c.requires.some c.args.with_deadlock w.space.nodes.items w.from w.last w.invariant t own (c.steps_alike.ensures t is) is, next_in_bound c.args.contexts c.unwrap_or-last-end.result w.last c.unwrap_or-last-end.ensures c.loop-last-test.true)
 
 pub returns-in-Err-Short : goal.returns-in-Err-Short
 returns-in-Err-Short g c = λ t is own. let w = c.loop-last in
-    neither_in_next c.args.code.now c.args.setup.now (g.O.Observer.listed c.args.observer.now) c.requires.some c.args.with_deadlock w.space.nodes.items w.from w.last w.invariant t own (c.steps_alike.ensures t is) is
+    (neither_in_next c.args.code.now c.args.setup.now (g.O.Observer.listed c.args.observer.now) c.requires.some c.args.with_deadlock w.space.nodes.items w.from w.last w.invariant t own (c.steps_alike.ensures t is) is, next_in_bound c.args.contexts c.unwrap_or-last-end.result w.last c.unwrap_or-last-end.ensures c.loop-last-test.true)
 
 pub returns-in-Err-Found : goal.returns-in-Err-Found
 returns-in-Err-Found g c = λ t is own. let w = c.loop-last in
-    neither_in_next c.args.code.now c.args.setup.now (g.O.Observer.listed c.args.observer.now) c.requires.some c.args.with_deadlock w.space.nodes.items w.from w.last w.invariant t own (c.steps_alike.ensures t is) is
+    (neither_in_next c.args.code.now c.args.setup.now (g.O.Observer.listed c.args.observer.now) c.requires.some c.args.with_deadlock w.space.nodes.items w.from w.last w.invariant t own (c.steps_alike.ensures t is) is, next_in_bound c.args.contexts c.unwrap_or-last-end.result w.last c.unwrap_or-last-end.ensures c.loop-last-test.true)
 
 pub returns-in-Err-first_dead : goal.returns-in-Err-first_dead
 returns-in-Err-first_dead g c = λ t is own. let w = c.loop-last in
-    neither_in_next c.args.code.now c.args.setup.now (g.O.Observer.listed c.args.observer.now) c.requires.some c.args.with_deadlock w.space.nodes.items w.from w.last w.invariant t own (c.steps_alike.ensures t is) is
+    (neither_in_next c.args.code.now c.args.setup.now (g.O.Observer.listed c.args.observer.now) c.requires.some c.args.with_deadlock w.space.nodes.items w.from w.last w.invariant t own (c.steps_alike.ensures t is) is, next_in_bound c.args.contexts c.unwrap_or-last-end.result w.last c.unwrap_or-last-end.ensures c.loop-last-test.true)
 
 pub returns-in-Some-dead : goal.returns-in-Some-dead
 returns-in-Some-dead g c = λ t is own.
@@ -35,6 +36,7 @@ returns-in-Some-dead g c = λ t is own.
       none_in_layer c.args.code.now c.args.setup.now (g.O.Observer.listed c.args.observer.now) c.requires.some c.args.with_deadlock w.space.nodes.items w.from w.last w.invariant
           c.next_layer.new.self.nodes.items c.in-Ok-next_layer.next c.threads-threads.result c.threads-threads.ensures c.in-Ok-next_layer.ensures.grown
           (c.in-Ok-next_layer.ensures.explored w.last refl) t own alike is,
+      next_in_bound c.args.contexts c.unwrap_or-last-end.result w.last c.unwrap_or-last-end.ensures c.loop-last-test.true,
     )
 
 pub returns-then-from-len : goal.returns-then-from-len
@@ -75,11 +77,11 @@ returns-in-Some-contexts g c = λ t is own.
     )
 
 pub returns-in-None : goal.returns-in-None
-returns-in-None g c = λ t is own m below.
+returns-in-None g c = λ t is own.
     let w = c.loop-last in
     let s = c.args.setup.now in
     let o = g.O.Observer.listed c.args.observer.now in
     let b = c.args.with_deadlock in
     let bound : c.unwrap_or-last-end.result ≡ 4294967295 = c.unwrap_or-last-end.ensures ∙ ap (λ o. unwrap_or o 4294967295) c.in-None.is in
-    neither_less t s o b m w.last (omega (arith, bound, below, c.loop-last-test.false))
-    (exhausted_so_far c.args.code.now s o c.requires.some b w.space.nodes.items w.from w.last w.invariant t own (c.steps_alike.ensures t is) is).neither
+    let all = exhausted_so_far c.args.code.now s o c.requires.some b w.space.nodes.items w.from w.last w.invariant t own (c.steps_alike.ensures t is) is in
+    (λ m below. neither_less t s o b m w.last (omega (arith, bound, below, c.loop-last-test.false)) all.neither, subst (λ k. IsInBound k 4294967295) (sym c.in-None.is) tt)
