@@ -1,6 +1,7 @@
 //! The listing of a code.
 ghost use Rattle.std.specs.Prelude.{◌≡◌, ◌≤◌, drop, flat_map, take};
 ghost use Rattle.bp_text.specs.Pieces.{piece_text};
+ghost use Rattle.bp_text.specs.Sinks.{Given};
 ghost use Rattle.bp_text.specs.Writing.{Writes};
 ghost use Rattle.bp_flat.specs.Instructions.{instruction_of};
 ghost use Rattle.bp_code.specs.Listing as listing;
@@ -11,36 +12,34 @@ use bp_flat::code::Code;
 use bp_flat::headings::Heading;
 use bp_flat::instrs::Instr;
 use bp_text::Piece::{Bytes, Number};
-use bp_text::{Piece, WriteFault, put, put_pieces};
+use bp_text::{Piece, Sink, WriteFault};
 use std::io::Write;
 
 /// Writes each number after a space.
-fn write_numbers<W: Write>(numbers: &[u32], out: &mut W) -> Result<(), WriteFault>
-    ensures { Writes (W.contents out.old) (W.contents out.new)
-        (flat_map number_field numbers.now) result }
+fn put_numbers<W: Write>(numbers: &[u32], sink: &mut Sink<'_, W>)
+    ensures { Given W.contents sink.old sink.new (flat_map number_field numbers.now) }
 {
     for number in numbers {
-        put_pieces(out, &[Bytes(b" "), Number(u64::from(*number))])?;
+        sink.put_pieces(&[Bytes(b" "), Number(u64::from(*number))]);
     }
-    Ok(())
 }
 
 /// Writes a line with numbers after its front.
-fn write_line<W: Write>(front: &[Piece<'_>], numbers: &[u32], out: &mut W) -> Result<(), WriteFault>
+fn put_line<W: Write>(front: &[Piece<'_>], numbers: &[u32], sink: &mut Sink<'_, W>)
     ensures { let text = flat_map piece_text front.now in
-        Writes (W.contents out.old) (W.contents out.new) (line text numbers.now) result }
+        Given W.contents sink.old sink.new (line text numbers.now) }
 {
-    put_pieces(out, front)?;
-    write_numbers(numbers, out)?;
-    put(out, b"\n")
+    sink.put_pieces(front);
+    put_numbers(numbers, sink);
+    sink.put(b"\n")
 }
 
 /// Writes the line of a procedure.
-fn write_heading<W: Write>(heading: &Heading, out: &mut W) -> Result<(), WriteFault>
-    ensures { Writes (W.contents out.old) (W.contents out.new) (heading_line heading.now) result }
+fn put_heading<W: Write>(heading: &Heading, sink: &mut Sink<'_, W>)
+    ensures { Given W.contents sink.old sink.new (heading_line heading.now) }
 {
     let front = [Bytes(b"proc "), Bytes(heading.name().as_bytes())];
-    write_line(&front, &[heading.formals(), heading.locals()], out)
+    put_line(&front, &[heading.formals(), heading.locals()], sink)
 }
 
 /// What an instruction does.
@@ -82,32 +81,24 @@ fn successors(action: &Action) -> ([u32; 2], usize)
 }
 
 /// Writes the line of the instruction that has this number.
-fn write_instruction<W: Write>(number: usize, instr: &Instr, out: &mut W) -> Result<(), WriteFault>
-    ensures { Writes (W.contents out.old) (W.contents out.new)
-        (instruction_line number instr.now) result }
+fn put_instruction<W: Write>(number: usize, instr: &Instr, sink: &mut Sink<'_, W>)
+    ensures { Given W.contents sink.old sink.new (instruction_line number instr.now) }
 {
     let word = Bytes(word_of(instr.action()));
     let (numbers, count) = successors(instr.action());
     let front = [Number(number as u64), Bytes(b" "), word];
-    write_line(&front, &numbers[..count], out)
+    put_line(&front, &numbers[..count], sink)
 }
 
 /// Writes the lines of the instructions from one number to before another.
-fn write_instructions<W: Write>(
-    instrs: &[Instr],
-    from: usize,
-    end: usize,
-    out: &mut W,
-) -> Result<(), WriteFault>
-    ensures { Writes (W.contents out.old) (W.contents out.new)
-        (lines_between instrs.now from end) result }
+fn put_instructions<W: Write>(instrs: &[Instr], from: usize, end: usize, sink: &mut Sink<'_, W>)
+    ensures { Given W.contents sink.old sink.new (lines_between instrs.now from end) }
 {
     for number in from..end {
         if let Some(instr) = instrs.get(number) {
-            write_instruction(number, instr, out)?;
+            put_instruction(number, instr, sink);
         }
     }
-    Ok(())
 }
 
 /// Where the instructions end of the procedure before the heading of this number.
@@ -120,15 +111,23 @@ fn end_of(code: &Code, next: usize) -> usize
     }
 }
 
+/// Writes a line for each procedure, and one for each of its instructions.
+fn put_procedures<W: Write>(code: &Code, sink: &mut Sink<'_, W>)
+    ensures { Given W.contents sink.old sink.new (listing_text code.now) }
+{
+    for (n, heading) in code.headings().iter().enumerate() {
+        put_heading(heading, sink);
+        let entry = heading.entry() as usize;
+        put_instructions(code.instrs(), entry, end_of(code, n + 1), sink);
+    }
+}
+
 /// Writes the listing: for each procedure a line with its name and its numbers of formals and of
 /// declared locals, and a line for each of its instructions.
 pub fn list<W: Write>(code: &Code, out: &mut W) -> Result<(), WriteFault>
     ensures { Writes (W.contents out.old) (W.contents out.new) (listing_text code.now) result }
 {
-    for (n, heading) in code.headings().iter().enumerate() {
-        write_heading(heading, out)?;
-        let entry = heading.entry() as usize;
-        write_instructions(code.instrs(), entry, end_of(code, n + 1), out)?;
-    }
-    Ok(())
+    let mut sink = Sink::new(out);
+    put_procedures(code, &mut sink);
+    sink.finish()
 }

@@ -18,9 +18,6 @@ module _ {X R : Type 0} (command : Command X R) (given : X) (old : Option (List 
     pub refused : (f : Fault) → command.Refuses given f → IsNotDone command old old inputs f
     refused f why = inr (record { given = given; read = read; refused = refused_with f why })
 
-    pub cut : (new : Option (List ℕ)) (text : List ℕ) → command.Writes given text → AppendsPart old new text → IsNotDone command old new inputs Write
-    cut new text writes part = inr (record { given = given; read = read; refused = cut_short new text writes part })
-
     pub answered : (new : Option (List ℕ)) (r : Result R Fault) → AnswersOf command given old new r → Answers command inputs old new r
     answered new (Ok report) done = record { given = given; read = read; done = done }
     answered new (Err f) why = inr (record { given = given; read = read; refused = why })

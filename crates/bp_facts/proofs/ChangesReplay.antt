@@ -292,11 +292,6 @@ names_once [] bits distinct = tt
 names_once (x ∷ xs) [] distinct = (none_later x.text xs [] (first_differs x xs distinct), names_once xs [] (others_differ x xs distinct))
 names_once (x ∷ xs) (b ∷ bits) distinct = (none_later x.text xs bits (first_differs x xs distinct), names_once xs bits (others_differ x xs distinct))
 
-alike_bits : (xs : List Name) (bits : List Bool) → Alike (binding xs []) (binding xs bits)
-alike_bits [] bits = tt
-alike_bits (x ∷ xs) [] = (refl, alike_bits xs [])
-alike_bits (x ∷ xs) (b ∷ bits) = (refl, alike_bits xs bits)
-
 alike_entry : (xs ys : List Name) (bits : List Bool) → Alike (binding (xs ++ ys) []) (binding xs bits ++ binding ys [])
 alike_entry [] ys bits = alike_self (binding ys [])
 alike_entry (x ∷ xs) ys [] = (refl, alike_entry xs ys [])

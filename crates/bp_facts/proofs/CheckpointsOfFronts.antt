@@ -9,7 +9,7 @@ use Rattle.bp_machine.specs.Histories.{granted_threads}
 use Rattle.bp_machine.specs.Sessions.{Stands}
 use Rattle.bp_machine.specs.Setups.{SetupOf}
 use Rattle.bp_facts.specs.declared.checkpoints.Checkpoint.{Checkpoint}
-use Rattle.bp_facts.specs.Checkpoints.{IsCheckpoint, IsCheckpointAfter, IsKept}
+use Rattle.bp_facts.specs.Checkpoints.{IsCheckpoint, IsKept}
 
 module _ (t : Program) (s : SetupOf) (h : List Call) where
   -- the session stands after the whole history
@@ -24,10 +24,6 @@ module _ (t : Program) (s : SetupOf) (h : List Call) where
         stands = subst (Stands t x.session) (sym all) stands;
         last = last ∙ ap (λ g. last_thread (granted_threads g)) (sym all);
       }
-
-  -- a kept checkpoint, after the whole history, is the one that is wanted
-  pub kept_after : (n : ℕ) (x : Checkpoint) → IsKept t s h n (Some x) → IsCheckpointAfter t s h n x
-  kept_after n x kept = record { is = kept.0; made = let few = kept.0.few in omega (arith, kept.1, few) }
 
   module _ (y : Call) where
     abbrev longer : List Call

@@ -1,6 +1,5 @@
 -- How many equal waits a list begins with, by its first call.
-use Rattle.std.proofs.Common.{◌≡◌, ◌∙◌, ◌≤◌, suc, Bool, true, false, List, [], ◌∷◌, ◌++◌, length, reverse, ap, refl, arith}
-use Rattle.std.proofs.lemmas.List.{reverse-append}
+use Rattle.std.proofs.Common.{◌≡◌, ◌≤◌, suc, Bool, true, false, List, [], ◌∷◌, length, refl, arith}
 use Rattle.bp_machine.specs.declared.calls.Call.{Call}
 use Rattle.bp_facts.specs.Waits.{is_same_wait, waits_like}
 
@@ -10,10 +9,6 @@ module _ (x y : Call) (ys : List Call) where
 
   pub other_first : is_same_wait x y ≡ false → waits_like x (y ∷ ys) ≡ 0
   other_first other = rw other refl
-
--- the last call is the first of the reversed list
-pub last_first : (xs : List Call) (y : Call) (ys : List Call) → xs ≡ ys ++ y ∷ [] → reverse xs ≡ y ∷ reverse ys
-last_first xs y ys is = ap reverse is ∙ reverse-append ys (y ∷ [])
 
 -- there are no more equal waits than calls
 at_most_here : (x y : Call) (ys : List Call) (b : Bool) → is_same_wait x y ≡ b → waits_like x ys ≤ length ys → waits_like x (y ∷ ys) ≤ length (y ∷ ys)

@@ -81,9 +81,6 @@ module _ (h : List Call) (x : Call) where
     begins_within : first < length h
     begins_within = slice_get_within h first is.begins.0 is.begins.1.at
 
-    ends_within : last < length h
-    ends_within = slice_get_within h last is.ends.0 is.ends.1.at
-
     each_kept : (IsContext h x (Some n) → ⊥) → (k : ℕ) (y : Call)
         → (IsStepIn n h k y × (k < length h)) ⊎ ((k ≡ length h) × (x ≡ y) × IsContext h x (Some n))
         → (y.thread ≡ i) × (first ≤ k) × (k ≤ last)

@@ -8,7 +8,6 @@ pub mod Novelty
 pub mod ProgressTexts
 pub mod ReplayLines
 pub mod RunLimits
-pub mod Sinks
 pub mod StepObjects
 pub mod Summaries
 pub mod SummaryObjects

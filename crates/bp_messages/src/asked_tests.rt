@@ -2,14 +2,13 @@
 //! memory.
 ghost use Rattle.std.specs.Prelude.{◌≡◌, map, string_bytes};
 ghost use Rattle.bp_text.specs.Pieces.{piece_text};
-ghost use Rattle.bp_messages.specs.Sinks.{Given};
+ghost use Rattle.bp_text.specs.Sinks.{Given};
 ghost use Rattle.bp_messages.specs.AskedTests.{asked_line, asked_member, bounds_members, bounds_text, init_text, name_text, names_text};
 
 use crate::run_limits::limit_of;
-use crate::sinks::Sink;
 use crate::test_reports::TestReport;
-use bp_text::Piece;
 use bp_text::Piece::{Bytes, Displayed, Key, Number, NumberOrNull, Text, Truth};
+use bp_text::{Piece, Sink};
 use std::io::Write;
 
 /// A name as it is, or as a string of JSON.
@@ -20,7 +19,7 @@ fn name_piece<'a>(json: bool, name: &'a [u8]) -> Piece<'a>
 }
 
 /// Writes names, with these bytes before the first and those before each other one.
-#[tactic(auto, using(crate::proofs::Givings::left_after))]
+#[tactic(auto, using(bp_text::proofs::Givings::left_after))]
 fn put_names<W: Write>(
     json: bool,
     first: &[u8],

@@ -1,16 +1,15 @@
 //! Which assertion failed in the run that a test found, and where. It is written without memory.
 ghost use Rattle.std.specs.Prelude.{◌≡◌};
-ghost use Rattle.bp_messages.specs.Sinks.{Given};
+ghost use Rattle.bp_text.specs.Sinks.{Given};
 ghost use Rattle.bp_messages.specs.Failures.{failure_member, failed_assertion, failure_text, statement_of};
 
 use crate::run_limits::{limit_piece, of_word};
-use crate::sinks::Sink;
 use crate::test_reports::TestReport;
 use crate::waits::position_of;
 use bp_machine::Outcome;
 use bp_test::Found;
 use bp_text::Piece::{Bytes, Displayed, Key, Number, Text};
-use bp_text::Position;
+use bp_text::{Position, Sink};
 use std::io::Write;
 
 /// An assertion that failed.

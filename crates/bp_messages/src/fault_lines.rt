@@ -1,15 +1,14 @@
 //! The lines that report faults.
 ghost use Rattle.std.specs.Prelude.{◌≡◌, ◌++◌};
 ghost use Rattle.bp_text.specs.Writing.{Writes};
-ghost use Rattle.bp_messages.specs.Sinks.{Given};
+ghost use Rattle.bp_text.specs.Sinks.{Given};
 ghost use Rattle.bp_messages.specs.FaultTable.{detail_text, fault_line, fault_head, seen_text, step_detail};
 
 use crate::fault_table::{Detail, Row};
 use crate::faults::Fault;
-use crate::sinks::Sink;
 use bp_confirm::{StepReason, StepRefusal};
 use bp_text::Piece::{Bytes, Number};
-use bp_text::WriteFault;
+use bp_text::{Sink, WriteFault};
 use std::io::Write;
 
 /// Writes the number and the name of a fault.

@@ -15,7 +15,6 @@ mod novelty;
 mod progress;
 mod replay_lines;
 mod run_limits;
-mod sinks;
 mod step_objects;
 mod summaries;
 mod summary_objects;

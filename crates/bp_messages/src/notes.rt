@@ -1,15 +1,14 @@
 //! Where a test may mislead: what it did not look at, and what it was not asked for.
 ghost use Rattle.std.specs.Prelude.{◌≡◌, flat_map};
 ghost use Rattle.bp_text.specs.Pieces.{piece_text};
-ghost use Rattle.bp_messages.specs.Sinks.{Given};
+ghost use Rattle.bp_text.specs.Sinks.{Given};
 ghost use Rattle.bp_messages.specs.Notes.{are_many, count_note, note_if, notes_members, notes_of, notes_text};
 
 use crate::limits::NOTED_SHARE;
 use crate::novelty::novelty_note;
-use crate::sinks::Sink;
 use crate::test_reports::TestReport;
-use bp_text::Piece;
 use bp_text::Piece::{Bytes, Key, Number, Truth};
+use bp_text::{Piece, Sink};
 use std::io::Write;
 
 /// Why what a test says of a program may be little. All but the first are of tests that found

@@ -1,14 +1,13 @@
 //! The lines that show a replay.
 ghost use Rattle.std.specs.Prelude.{◌≡◌, flat_map, map};
 ghost use Rattle.bp_text.specs.Writing.{Writes};
+ghost use Rattle.bp_text.specs.Sinks.{Given};
 ghost use Rattle.bp_trace.specs.Replayed.{row_of};
-ghost use Rattle.bp_messages.specs.Sinks.{Given};
 ghost use Rattle.bp_messages.specs.ReplayLines.{outcome_line, printed_line, row_line, shown_text};
 
-use crate::sinks::Sink;
 use bp_machine::Outcome;
 use bp_text::Piece::{Bytes, Number};
-use bp_text::WriteFault;
+use bp_text::{Sink, WriteFault};
 use bp_trace::{Printed, Replayed};
 use std::io::Write;
 

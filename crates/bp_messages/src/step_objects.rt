@@ -1,15 +1,14 @@
 //! What the object of a fault says of a step that is not taken.
 ghost use Rattle.std.specs.Prelude.{◌≡◌, option_map};
 ghost use Rattle.bp_text.specs.Pieces.{piece_text, string_or_null};
+ghost use Rattle.bp_text.specs.Sinks.{Given};
 ghost use Rattle.bp_confirm.specs.StepLines.{value_of};
-ghost use Rattle.bp_messages.specs.Sinks.{Given};
 ghost use Rattle.bp_messages.specs.StepObjects.{bit_in, changed_in, column_at, column_named, has_ended, line_at, line_named, name_of_value, reply_text, seen_in, step_object, step_of, step_text, IsValueIn};
 
 use crate::fault_table::Detail;
-use crate::sinks::Sink;
 use bp_confirm::{Difference, Location, SeenValue, Stand, StepReason, StepRefusal, value_on_line};
-use bp_text::Piece;
 use bp_text::Piece::{BitOrNull, Bytes, Key, Letter, NumberOrNull, TextOrNull, Truth};
+use bp_text::{Piece, Sink};
 use std::io::Write;
 
 /// The line that a location names; none for the end of a procedure.

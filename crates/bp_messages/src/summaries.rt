@@ -1,7 +1,7 @@
 //! The summary of a test: what was found, and how well the program was tested.
 ghost use Rattle.std.specs.Prelude.{◌≡◌};
 ghost use Rattle.bp_text.specs.Writing.{Writes};
-ghost use Rattle.bp_messages.specs.Sinks.{Given};
+ghost use Rattle.bp_text.specs.Sinks.{Given};
 ghost use Rattle.bp_messages.specs.Summaries.{counts_text, deadlock_text, distinct_text, finding_text, found_phrase};
 ghost use Rattle.bp_messages.specs.Summaries.{line_unless, nothing_text, nothing_phrase, summary_text, unreached_text};
 
@@ -9,12 +9,11 @@ use crate::asked_tests::put_asked_line;
 use crate::failures::{failed_assertion, put_failure, statement_of};
 use crate::notes::put_notes;
 use crate::run_limits::{limit_piece, of_word};
-use crate::sinks::Sink;
 use crate::test_reports::TestReport;
 use crate::waits::put_waits;
 use bp_test::{Counts, Distinct, Found};
 use bp_text::Piece::{Bytes, Number};
-use bp_text::WriteFault;
+use bp_text::{Sink, WriteFault};
 use std::io::Write;
 
 /// Writes what was found in one of the runs.
@@ -170,7 +169,7 @@ fn line_unless(is_reached: bool, line: &Vec<u8>) -> &[u8]
 }
 
 /// Writes the lines of the statements that no run reached.
-#[tactic(auto, using(crate::proofs::Givings::left_after))]
+#[tactic(auto, using(bp_text::proofs::Givings::left_after))]
 pub(crate) fn put_unreached<W: Write>(lines: &[Vec<u8>], reached: &[bool], sink: &mut Sink<'_, W>)
     ensures { Given W.contents sink.old sink.new (unreached_text lines.now reached.now) }
 {

@@ -2,20 +2,19 @@
 //! for each statement that no run reached. It is written without memory.
 ghost use Rattle.std.specs.Prelude.{◌≡◌};
 ghost use Rattle.bp_text.specs.Writing.{Writes};
-ghost use Rattle.bp_messages.specs.Sinks.{Given};
+ghost use Rattle.bp_text.specs.Sinks.{Given};
 ghost use Rattle.bp_messages.specs.SummaryObjects.{distinct_member, ends_members, finding_members, found_name, found_run, reach_members, summary_object, summary_objects};
 
 use crate::asked_tests::put_asked_member;
 use crate::failures::{failed_assertion, put_failure_member, statement_of};
 use crate::notes::put_notes_members;
 use crate::novelty::new_percent;
-use crate::sinks::Sink;
 use crate::summaries::put_unreached;
 use crate::test_reports::TestReport;
 use crate::waits::put_waits_member;
 use bp_test::{Counts, Distinct, Found};
 use bp_text::Piece::{Bytes, Key, Number, NumberOrNull, Text};
-use bp_text::WriteFault;
+use bp_text::{Sink, WriteFault};
 use std::io::Write;
 
 /// The word for what was found.

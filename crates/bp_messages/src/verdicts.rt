@@ -2,12 +2,11 @@
 ghost use Rattle.std.specs.Prelude.{◌≡◌, flat_map};
 ghost use Rattle.bp_text.specs.Pieces.{piece_text};
 ghost use Rattle.bp_text.specs.Writing.{Writes};
-ghost use Rattle.bp_messages.specs.Sinks.{Given};
+ghost use Rattle.bp_text.specs.Sinks.{Given};
 ghost use Rattle.bp_messages.specs.Verdicts.{refuted_after, shown_verdict, verdict_object};
 
-use crate::sinks::Sink;
 use bp_text::Piece::{Bytes, Key, List, Number, NumberOrNull, Text};
-use bp_text::{Piece, WriteFault, put_pieces};
+use bp_text::{Piece, Sink, WriteFault, put_pieces};
 use std::io::Write;
 
 /// What is said of the verdict on reported steps.

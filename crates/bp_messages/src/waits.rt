@@ -1,13 +1,12 @@
 //! Which threads wait at the end of a run, and where. They are written without memory.
 ghost use Rattle.std.specs.Prelude.{◌≡◌, [], codes, option_map};
-ghost use Rattle.bp_messages.specs.Sinks.{Given};
+ghost use Rattle.bp_text.specs.Sinks.{Given};
 ghost use Rattle.bp_messages.specs.Waits.{position_of, position_of_wait, wait_object, wait_objects, wait_text};
 ghost use Rattle.bp_messages.specs.Waits.{waits_member, waits_text};
 
-use crate::sinks::Sink;
 use bp_test::Waiting;
 use bp_text::Piece::{Bytes, Displayed, Key, Number, NumberOrNull};
-use bp_text::Position;
+use bp_text::{Position, Sink};
 use std::io::Write;
 
 /// Where the statement of an instruction begins, where those of all begin there.
@@ -55,7 +54,7 @@ fn put_wait<'a, W: Write>(
 }
 
 /// Writes the threads that wait, and where in a file, after a colon.
-#[tactic(auto, using(crate::proofs::Givings::left_after))]
+#[tactic(auto, using(bp_text::proofs::Givings::left_after))]
 pub(crate) fn put_waits<W: Write>(
     file: &[u8],
     positions: &[Option<Position>],
@@ -114,7 +113,7 @@ fn put_wait_object<W: Write>(
 }
 
 /// Writes the objects of the threads that wait, with commas between them.
-#[tactic(auto, using(crate::proofs::Givings::left_after))]
+#[tactic(auto, using(bp_text::proofs::Givings::left_after))]
 fn put_wait_objects<W: Write>(
     positions: &[Option<Position>],
     waiting: &[Waiting],

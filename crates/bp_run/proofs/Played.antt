@@ -3,8 +3,11 @@ use Rattle.std.proofs.Common.{◌≡◌, ◌<◌, ℕ, length, length-append, ar
 use Rattle.std.proofs.lemmas.List.{append-nil}
 use Rattle.std.proofs.lemmas.Option.{same_Some}
 use Rattle.bp_tree.specs.Ast.{Program}
+use Rattle.bp_text.specs.declared.sinks.Sink.{Sink}
+use Rattle.bp_text.specs.Sinks.{Given, HasTaken}
 use Rattle.bp_text.specs.Writing.{AppendsAll, AppendsPart}
 use Rattle.bp_text.proofs.Appends.{part_first, part_then}
+use Rattle.bp_text.proofs.Givings.{and_then, taken_since}
 use Rattle.bp_text.proofs.GrownLists.{regrouped}
 use Rattle.std.proofs.KnownBytes.{Appends-nil}
 use Rattle.bp_machine.specs.declared.calls.Call.{Call}
@@ -18,10 +21,8 @@ use Rattle.bp_board.specs.Stopping.{TellsEarly}
 use Rattle.bp_board.specs.Taps.{TapOf}
 use Rattle.bp_trace.specs.declared.versions.Version.TheVariants.{One}
 use Rattle.bp_trace.specs.TraceText.{head_text, end_line, trace_text}
-use Rattle.bp_run.specs.Inks.{IsInked, Inks}
 use Rattle.bp_run.specs.Scribing.{lines_of, IsRestScribed}
 use Rattle.bp_run.specs.Played.{IsPlayedFrom, IsEarly, IsCutTrace}
-use Rattle.bp_run.proofs.Inks.{inks_then}
 use Rattle.bp_run.proofs.Scribing.{lines_append}
 
 pub has_rest : (t : Program) (s : SetupOf) (taken : List Call) (seats : List SeatOf) (tap : TapOf) (r : Report)
@@ -32,11 +33,18 @@ has_rest t s taken seats tap r b a g = ap is_some g.rest
 both_lines : (head end : List ℕ) (cs ds : List Call) → (head ++ lines_of cs) ++ (lines_of ds ++ end) ≡ head ++ (lines_of (cs ++ ds) ++ end)
 both_lines head end cs ds = simp (regrouped, lines_append)
 
-module _ (t : Program) (s : SetupOf) (old c1 c2 c3 : Option (List ℕ)) (f1 f2 f3 : Bool) (taken : List Call)
+module _ {W : Type 0} (contents : W → Option (List ℕ)) (t : Program) (s : SetupOf) (a b c d : Sink W) (taken : List Call)
     (rest_now : Option (List Call)) (seats : List SeatOf) (tap : TapOf) (r : Report) (early : Option ℕ) (agree : Bool)
-    (staged : IsInked old c1 f1 (head_text One s ++ lines_of taken)) (g : IsGathered t s taken seats tap r early agree)
-    (rest : IsRestScribed c1 f1 c2 f2 tap.rest rest_now) (all : rest_now ≡ Some [])
-    (ended : Inks c2 f2 c3 f3 (end_line r.calls r.left_open)) where
+    (fresh : a.refused ≡ false) (staged : Given contents a b (head_text One s ++ lines_of taken))
+    (g : IsGathered t s taken seats tap r early agree)
+    (rest : IsRestScribed contents b c tap.rest rest_now) (all : rest_now ≡ Some [])
+    (ended : Given contents c d (end_line r.calls r.left_open)) where
+  abbrev old : Option (List ℕ)
+  old = contents a.out.now
+
+  abbrev now : Option (List ℕ)
+  now = contents d.out.now
+
   -- what was left is what was gathered to be left
   same : rest.more ≡ g.left
   same =
@@ -53,15 +61,13 @@ module _ (t : Program) (s : SetupOf) (old c1 c2 c3 : Option (List ℕ)) (f1 f2 f
       ∙ ap (λ x. head_text One s ++ (lines_of (taken ++ x) ++ end_line r.calls r.left_open)) same
       ∙ ap (λ w. head_text One s ++ (lines_of (taken ++ g.left) ++ w)) the_end
 
-  pub inked : IsInked old c3 f3 (trace_text s (taken ++ g.left))
-  inked =
-      subst (λ w. IsInked old c3 f3 w) bytes
-      (inks_then c1 c2 c3 f1 f2 f3 (lines_of rest.more) (end_line r.calls r.left_open) rest.inks ended old (head_text One s ++ lines_of taken) staged)
+  taken_all : HasTaken old now d.refused (trace_text s (taken ++ g.left))
+  taken_all = taken_since contents a d _ fresh (subst (Given contents a d) bytes (and_then staged (and_then rest.given ended)))
 
-  pub played : StepsAreARun → StepsAreWithin → FailuresAreReal → f3 ≡ false → early ≡ None → IsPlayedFrom t s old c3 seats agree r
+  pub played : StepsAreARun → StepsAreWithin → FailuresAreReal → d.refused ≡ false → early ≡ None → IsPlayedFrom t s old now seats agree r
   played run within real fine none =
-      let all_written : AppendsAll old c3 (trace_text s (taken ++ g.left)) =
-      subst (λ b. IsInked old c3 b (trace_text s (taken ++ g.left))) fine inked in
+      let all_written : AppendsAll old now (trace_text s (taken ++ g.left)) =
+      subst (λ b. HasTaken old now b (trace_text s (taken ++ g.left))) fine taken_all in
       record {
         played = record {
           history = taken ++ g.left;
@@ -80,10 +86,10 @@ module _ (t : Program) (s : SetupOf) (old c1 c2 c3 : Option (List ℕ)) (f1 f2 f
         left = g.open_are;
       }
 
-  pub stopped_early : (i : ℕ) → f3 ≡ false → early ≡ Some i → IsEarly t s old c3 i
+  pub stopped_early : (i : ℕ) → d.refused ≡ false → early ≡ Some i → IsEarly t s old now i
   stopped_early i fine one =
-      let all_written : AppendsAll old c3 (trace_text s (taken ++ g.left)) =
-      subst (λ b. IsInked old c3 b (trace_text s (taken ++ g.left))) fine inked in
+      let all_written : AppendsAll old now (trace_text s (taken ++ g.left)) =
+      subst (λ b. HasTaken old now b (trace_text s (taken ++ g.left))) fine taken_all in
       record {
         history = taken ++ g.left;
         legal = g.legal;
@@ -92,18 +98,18 @@ module _ (t : Program) (s : SetupOf) (old c1 c2 c3 : Option (List ℕ)) (f1 f2 f
         early = subst (TellsEarly t s (taken ++ g.left)) one g.stops;
       }
 
-  pub cut : f3 ≡ true → IsCutTrace t s old c3
+  pub cut : d.refused ≡ true → IsCutTrace t s old now
   cut broken = record {
     history = taken ++ g.left;
     legal = g.legal;
     seeded = g.seeded;
-    written = subst (λ b. IsInked old c3 b (trace_text s (taken ++ g.left))) broken inked;
+    written = subst (λ b. HasTaken old now b (trace_text s (taken ++ g.left))) broken taken_all;
   }
 
 -- The pen stopped before the end: the calls that were taken are written, or a part of their lines.
-module _ (t : Program) (s : SetupOf) (old now : Option (List ℕ)) (failed : Bool) (taken : List Call)
-    (seats : List SeatOf) (tap : TapOf) (r : Report) (early : Option ℕ) (agree : Bool)
-    (staged : IsInked old now failed (head_text One s ++ lines_of taken)) (g : IsGathered t s taken seats tap r early agree) where
+module _ {W : Type 0} (contents : W → Option (List ℕ)) (t : Program) (s : SetupOf) (a b : Sink W) (taken : List Call)
+    (seats : List SeatOf) (tap : TapOf) (r : Report) (early : Option ℕ) (agree : Bool) (fresh : a.refused ≡ false)
+    (staged : Given contents a b (head_text One s ++ lines_of taken)) (g : IsGathered t s taken seats tap r early agree) where
   begun : List ℕ
   begun = head_text One s ++ lines_of taken
 
@@ -118,15 +124,17 @@ module _ (t : Program) (s : SetupOf) (old now : Option (List ℕ)) (failed : Boo
   unfolding the_rest begun
   whole = both_lines (head_text One s) (end_line (length (taken ++ g.left)) (open_lines s (taken ++ g.left))) taken g.left
 
-  part : (b : Bool) → IsInked old now b begun → AppendsPart old now (begun ++ the_rest)
-  part false all = part_then old now now begun the_rest all (record { count = 0; short = has_end; grown = Appends-nil now })
-  part true some = part_first old now begun the_rest some
+  part : (old now : Option (List ℕ)) (refused : Bool) → HasTaken old now refused begun → AppendsPart old now (begun ++ the_rest)
+  part old now false all = part_then old now now begun the_rest all (record { count = 0; short = has_end; grown = Appends-nil now })
+  part old now true some = part_first old now begun the_rest some
 
-  pub stopped : IsCutTrace t s old now
+  pub stopped : IsCutTrace t s (contents a.out.now) (contents b.out.now)
   unfolding begun
   stopped = record {
     history = taken ++ g.left;
     legal = g.legal;
     seeded = g.seeded;
-    written = subst (λ w. AppendsPart old now w) whole (part failed staged);
+    written =
+        subst (AppendsPart (contents a.out.now) (contents b.out.now)) whole
+        (part _ _ b.refused (taken_since contents a b begun fresh staged));
   }

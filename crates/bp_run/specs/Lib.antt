@@ -1,6 +1,5 @@
 pub mod Counts
 pub mod Faults
-pub mod Inks
 pub mod Options
 pub mod Played
 pub mod Runs

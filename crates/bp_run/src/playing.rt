@@ -17,6 +17,7 @@ use crate::stages::{Crew, Staged, stage};
 use bp_board::{Board, Calls, Gathered, Seat, Tap, gather};
 use bp_flat::Code;
 use bp_machine::{Report, Setup, failures_are_real, steps_are_a_run, steps_are_within};
+use bp_text::Sink;
 use std::alloc::Global;
 use std::io::Write;
 use std::sync::Wait;
@@ -58,9 +59,8 @@ struct Finished<'a, W> {
 
 /// The answer where playing is refused, with the pen as it was.
 fn refused<'a, W>(pen: Pen<'a, W>, fault: RunFault) -> Finished<'a, W>
-    ensures same_reference { result.pen.out.ghost_name ≡ pen.entry.out.ghost_name }
     ensures answer { result.answer ≡ Err fault }
-    ensures same { result.pen.out.now ≡ pen.entry.out.now }
+    ensures same { result.pen.sink ≡ pen.entry.sink }
 {
     Finished {
         all_done: false,
@@ -102,11 +102,11 @@ fn play_with<
     requires seats { AreOnePerThread (threads opened.setup.now) opened.seats.items }
     requires untaken { opened.tap.taken ≡ [] }
     requires turn { (0 < turns.calls) × (turns.calls ≤ MAX_TURN) }
-    requires fresh { pen.failed ≡ false }
-    ensures same_reference { result.pen.out.ghost_name ≡ pen.entry.out.ghost_name }
+    requires fresh { pen.sink.refused ≡ false }
+    ensures same_reference { result.pen.sink.out.ghost_name ≡ pen.entry.sink.out.ghost_name }
     ensures answer { let setup = opened.entry.setup.now in
-        let old = W.contents pen.entry.out.now in
-        let new = W.contents result.pen.out.now in
+        let old = W.contents pen.entry.sink.out.now in
+        let new = W.contents result.pen.sink.out.now in
         (t : Program)
         → StandsFor opened.entry.code.now t
         → MatchResult result.answer
@@ -163,7 +163,7 @@ fn play_with<
     }
     write_rest(&mut pen, &mut tap);
     pen.end(report.calls, report.left_open);
-    if pen.failed {
+    if pen.sink.has_refused() {
         return refused(pen, RunFault::Write);
     }
     if let Some(thread) = early {
@@ -212,7 +212,8 @@ pub fn play<
         (AreOnePerThread (threads opened.entry.setup.now) result.seats.items) }
     ensures done { OnOk result.answer (TellsShut result.all_done result.seats.items) }
 {
-    let pen = Pen::new(out);
+    let sink = Sink::new(out);
+    let pen = Pen::new(sink);
     let mut back = Vec::new(alloc);
     let Finished {
         all_done,

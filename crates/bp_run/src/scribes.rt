@@ -1,5 +1,5 @@
 //! The scribe: takes the calls from the ring while the workers run, and writes their lines.
-ghost use Rattle.std.specs.Prelude.{◌≡◌, [], true, false, Some, is_some};
+ghost use Rattle.std.specs.Prelude.{◌≡◌, [], true, Some, is_some};
 ghost use Rattle.bp_run.specs.Scribing.{IsScribed, IsStaged, IsRestScribed};
 
 use crate::bells::Idle;
@@ -25,9 +25,7 @@ fn scribe<W: Write, C: Calls, R: Wait + Clock>(
     signals: &Signals,
     started: u32,
 )
-    ensures same_reference { pen.new.out.ghost_name ≡ pen.old.out.ghost_name }
-    ensures written { IsScribed (W.contents pen.old.out.now) pen.old.failed
-        (W.contents pen.new.out.now) pen.new.failed tap.old.taken tap.new.taken }
+    ensures { IsScribed W.contents pen.old.sink pen.new.sink tap.old.taken tap.new.taken }
 {
     let mut idle = Idle::new(&signals.calls, DOZES);
     let mut room = 0u64;
@@ -67,11 +65,9 @@ pub(crate) fn write_running<W: Write, C: Calls, R: Wait + Clock>(
     started: u32,
     all_started: bool,
 )
-    requires fine { pen.old.failed ≡ false }
-    requires untaken { tap.old.taken ≡ [] }
-    ensures same_reference { pen.new.out.ghost_name ≡ pen.old.out.ghost_name }
-    ensures written { IsStaged setup.now (W.contents pen.old.out.now)
-        (W.contents pen.new.out.now) pen.new.failed tap.new.taken all_started }
+    requires { tap.old.taken ≡ [] }
+    ensures { let taken = tap.new.taken in
+        IsStaged W.contents setup.now pen.old.sink pen.new.sink taken all_started }
 {
     if all_started {
         pen.head(setup);
@@ -84,9 +80,7 @@ pub(crate) fn write_running<W: Write, C: Calls, R: Wait + Clock>(
 /// Writes the calls that are left in the ring of a gathered board.
 pub(crate) fn write_rest<W: Write, C: Calls>(pen: &mut Pen<'_, W>, tap: &mut Tap<C>)
     requires { is_some tap.old.rest ≡ true }
-    ensures same_reference { pen.new.out.ghost_name ≡ pen.old.out.ghost_name }
-    ensures written { IsRestScribed (W.contents pen.old.out.now) pen.old.failed
-        (W.contents pen.new.out.now) pen.new.failed tap.old.rest tap.new.rest }
+    ensures written { IsRestScribed W.contents pen.old.sink pen.new.sink tap.old.rest tap.new.rest }
     ensures all { tap.new.rest ≡ Some [] }
 {
     while let Some(call) = tap.next() {

@@ -157,11 +157,9 @@ pub(crate) fn stage<
     requires no_handle { vec_len crew.handles ≡ 0 }
     requires room_back { vec_len crew.seats ≤ vec_capacity crew.back }
     requires room_handles { vec_len crew.seats ≤ vec_capacity crew.handles }
-    requires fine { pen.failed ≡ false }
     requires untaken { tap.taken ≡ [] }
-    ensures same_reference { result.pen.out.ghost_name ≡ pen.entry.out.ghost_name }
-    ensures written { IsStaged setup.now (W.contents pen.entry.out.now)
-        (W.contents result.pen.out.now) result.pen.failed result.tap.taken result.all_started }
+    ensures written { IsStaged W.contents setup.now pen.entry.sink result.pen.sink
+        result.tap.taken result.all_started }
     ensures seats { result.all_started ≡ true
         → map (λ s. s.thread) result.seats.items ≡ map (λ s. s.thread) crew.seats.items }
     ensures done { TellsShut result.all_done result.seats.items }
@@ -185,12 +183,9 @@ pub(crate) fn stage<
             requires no_handle { vec_len handles ≡ 0 }
             requires room_back { vec_len seats ≤ vec_capacity back }
             requires room_handles { vec_len seats ≤ vec_capacity handles }
-            requires fine { pen.failed ≡ false }
             requires untaken { tap.taken ≡ [] }
-            ensures same_reference { result.pen.out.ghost_name ≡ pen.entry.out.ghost_name }
-            ensures written { IsStaged setup.entry.now (W.contents pen.entry.out.now)
-                (W.contents result.pen.out.now) result.pen.failed result.tap.taken
-                result.all_started }
+            ensures written { IsStaged W.contents setup.entry.now pen.entry.sink result.pen.sink
+                result.tap.taken result.all_started }
             ensures seats { result.all_started ≡ true
                 → map (λ s. s.thread) result.seats.items
                 ≡ map (λ s. s.thread) seats.items }

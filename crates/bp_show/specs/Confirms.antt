@@ -1,5 +1,5 @@
 -- The command `confirm`.
-use Rattle.std.specs.Prelude.{if◌then◌else◌, ◌≡◌, ◌⊎◌, ◌∷◌, ◌++◌, ℕ, Bool, true, false, List, [], Option, None, Some, codes, decimal, drop, flat_map, is_some}
+use Rattle.std.specs.Prelude.{if◌then◌else◌, ◌≡◌, ◌⊎◌, ◌∷◌, ℕ, Bool, true, false, List, [], Option, None, Some, codes, decimal, drop, flat_map, is_some}
 use Rattle.std.specs.List.{concat}
 use Rattle.bp_text.specs.Pieces.{bit_text}
 use Rattle.bp_tree.specs.Ast.{Program}

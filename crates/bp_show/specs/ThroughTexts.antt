@@ -1,5 +1,5 @@
 -- What is said of an exploration through listed steps on standard error.
-use Rattle.std.specs.Prelude.{if◌then◌else◌, ◌==◌, ◌+◌, ◌-◌, ℕ, nat_le, Bool, true, false, List, [], ◌∷◌, ◌++◌, Option, None, Some, codes, decimal}
+use Rattle.std.specs.Prelude.{if◌then◌else◌, ◌==◌, ◌+◌, ◌-◌, ℕ, nat_le, Bool, List, [], ◌∷◌, ◌++◌, Option, None, Some, codes, decimal}
 use Rattle.std.specs.List.{concat}
 use Rattle.bp_text.specs.Pieces.{key_text, number_or_null}
 use Rattle.bp_explore.specs.declared.explored.ExploredThrough.{ExploredThrough}

@@ -1,12 +1,11 @@
 -- The command `explore --through`.
-use Rattle.std.specs.Prelude.{◌≡◌, ◌⊎◌, ℕ, Bool, true, false, List, [], None, length}
+use Rattle.std.specs.Prelude.{◌≡◌, ◌⊎◌, ℕ, Bool, false, List, [], None, length}
 use Rattle.bp_tree.specs.Ast.{Program}
 use Rattle.bp_code.specs.LawfulTexts.{IsLawfulText}
 use Rattle.bp_confirm.specs.declared.confirming.ConfirmFault.{ConfirmFault}
 use Rattle.bp_confirm.specs.ConfirmedTexts.{AreTold, IsUntold}
 use Rattle.bp_confirm.specs.ListedLines.{listed_steps}
 use Rattle.bp_confirm.specs.StepLines.{StepLineOf}
-use Rattle.bp_explore.specs.declared.explored.RunThrough.{RunThrough}
 use Rattle.bp_explore.specs.declared.explored.ThroughEnding.{ThroughEnding}
 use Rattle.bp_explore.specs.declared.explored.ThroughEnding.TheVariants.{Found, Unplayed, Missing, MissingWithin, Unfinished}
 use Rattle.bp_explore.specs.ThroughExplorations.{IsThrough}

@@ -1,5 +1,5 @@
 -- A text as it is displayed, byte by byte.
-use Rattle.std.proofs.Common.{if◌then◌else◌, ◌≡◌, ◌==◌, ◌∙◌, ◌⊎◌, inl, inr, refl, sym, ap, ℕ, zero, suc, ◌+◌, ◌-◌, ◌<◌, ◌≤◌, Bool, true, false, List, [], ◌∷◌, ◌++◌, length, take, drop, get_or, add-one, drop-cons, take-append-drop, arith}
+use Rattle.std.proofs.Common.{if◌then◌else◌, ◌≡◌, ◌==◌, ◌∙◌, ◌⊎◌, inl, inr, refl, sym, ap, ℕ, zero, suc, ◌+◌, ◌-◌, ◌<◌, ◌≤◌, Bool, true, false, List, [], ◌∷◌, ◌++◌, length, take, drop, get_or, add-one, drop-cons, arith}
 use Rattle.std.specs.List.{slice_index}
 use Rattle.std.proofs.Math.Seq.{take-suc}
 use Rattle.std.proofs.lemmas.List.{take_all}
@@ -28,14 +28,14 @@ displayed_next text at left inside so_far =
     let (byte, rest) = same_front _ _ _ _ (sym (drop-cons (displayed text) at 0 within) ∙ so_far ∙ here) in
     (rw add-one (take-suc (displayed text) at 0 within ∙ ap (λ b. take at (displayed text) ++ b ∷ []) byte), rw add-one rest)
 
--- before the byte at a place, that byte and those after it are all
+-- from a place on, the byte there is displayed, and then those after it
 pub displayed_at
-    : (text : List ℕ) (at left : ℕ) → at < length text → drop at (displayed text) ≡ displayed_after left (drop at text)
-    → (rest : List ℕ)
-    × (displayed text ≡ take at (displayed text) ++ ((displayed_byte (control_bytes left (drop at text)) (get_or text at 0) ∷ []) ++ rest))
-displayed_at text at left inside so_far =
-    let here = after_one left (drop at text) (drop (suc at) text) (get_or text at 0) (drop-cons text at 0 inside) in
-    (_, sym (take-append-drop at (displayed text)) ∙ ap (λ xs. take at (displayed text) ++ xs) (so_far ∙ here))
+    : (text : List ℕ) (at left : ℕ) → at < length text
+    → displayed_after left (drop at text)
+    ≡ (displayed_byte (control_bytes left (drop at text)) (get_or text at 0) ∷ [])
+    ++ displayed_after (control_bytes left (drop at text) - 1) (drop (at + 1) text)
+displayed_at text at left inside =
+    rw add-one (after_one left (drop at text) (drop (suc at) text) (get_or text at 0) (drop-cons text at 0 inside))
 
 -- a byte that begins no control character begins none if question marks stand for some of the next two
 still_none : (a b c b' c' : ℕ) → control_size a b c ≡ 0 → (b' ≡ b) ⊎ (b' ≡ 63) → (c' ≡ c) ⊎ (c' ≡ 63) → control_size a b' c' ≡ 0

@@ -2,6 +2,7 @@ pub mod Appends
 pub mod AppendsPieces
 mod DisplayedTexts
 pub mod FirstLines
+pub mod Givings
 pub mod GrownLists
 pub mod ItemsOfLists
 pub mod Lengths

@@ -7,5 +7,6 @@ pub mod OneLine
 pub mod Parts
 pub mod Pieces
 pub mod Positions
+pub mod Sinks
 pub mod Writing
 pub mod WrittenTexts

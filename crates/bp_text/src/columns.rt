@@ -1,9 +1,9 @@
 //! Fields of a line, filled with spaces to a width.
 ghost use Rattle.std.specs.Prelude.{◌≡◌, ◌++◌, OnOk};
 ghost use Rattle.bp_text.specs.Columns.{spaces, at_left, at_right};
-ghost use Rattle.bp_text.specs.Writing.{Writes};
+ghost use Rattle.bp_text.specs.Sinks.{Given};
 
-use crate::writing::{WriteFault, put};
+use crate::sinks::Sink;
 use std::alloc::AllocError;
 use std::io::Write;
 
@@ -47,29 +47,26 @@ pub fn push_left(line: &mut Vec<u8>, width: usize, bytes: &[u8]) -> Result<(), A
 }
 
 /// Writes this number of spaces.
-pub(crate) fn put_spaces<W: Write>(count: usize, out: &mut W) -> Result<(), WriteFault>
-    ensures { Writes (W.contents out.old) (W.contents out.new) (spaces count) result }
+pub(crate) fn put_spaces<W: Write>(count: usize, sink: &mut Sink<'_, W>)
+    ensures { Given W.contents sink.old sink.new (spaces count) }
 {
     for done in 0..count {
-        put(out, b" ")?;
+        sink.put(b" ");
     }
-    Ok(())
 }
 
 /// Writes the bytes at the right of a field.
-pub(crate) fn put_right<W: Write>(width: usize, bytes: &[u8], out: &mut W) -> Result<(), WriteFault>
-    ensures { let field = at_right width bytes.now in
-        Writes (W.contents out.old) (W.contents out.new) field result }
+pub(crate) fn put_right<W: Write>(width: usize, bytes: &[u8], sink: &mut Sink<'_, W>)
+    ensures { Given W.contents sink.old sink.new (at_right width bytes.now) }
 {
-    put_spaces(width.saturating_sub(bytes.len()), out)?;
-    put(out, bytes)
+    put_spaces(width.saturating_sub(bytes.len()), sink);
+    sink.put(bytes)
 }
 
 /// Writes the bytes at the left of a field.
-pub(crate) fn put_left<W: Write>(width: usize, bytes: &[u8], out: &mut W) -> Result<(), WriteFault>
-    ensures { let field = at_left width bytes.now in
-        Writes (W.contents out.old) (W.contents out.new) field result }
+pub(crate) fn put_left<W: Write>(width: usize, bytes: &[u8], sink: &mut Sink<'_, W>)
+    ensures { Given W.contents sink.old sink.new (at_left width bytes.now) }
 {
-    put(out, bytes)?;
-    put_spaces(width.saturating_sub(bytes.len()), out)
+    sink.put(bytes);
+    put_spaces(width.saturating_sub(bytes.len()), sink)
 }

@@ -2,10 +2,10 @@
 ghost use Rattle.std.specs.Prelude.{◌≡◌, ◌++◌, OnOk};
 ghost use Rattle.std.specs.List.{slice_index};
 ghost use Rattle.bp_text.specs.Displayed.{control_bytes, control_size, displayed, displayed_byte, is_among, is_turning, NoControlIsDisplayed};
-ghost use Rattle.bp_text.specs.Writing.{Writes};
+ghost use Rattle.bp_text.specs.Sinks.{Given};
 
 use crate::parts::part_from;
-use crate::writing::{WriteFault, put};
+use crate::sinks::Sink;
 use std::alloc::AllocError;
 use std::io::Write;
 
@@ -74,16 +74,15 @@ pub fn push_displayed(line: &mut Vec<u8>, text: &[u8]) -> Result<(), AllocError>
 }
 
 /// Writes the bytes, with `?` for each byte of a control character.
-pub(crate) fn put_displayed<W: Write>(text: &[u8], out: &mut W) -> Result<(), WriteFault>
-    ensures { Writes (W.contents out.old) (W.contents out.new) (displayed text.now) result }
+pub(crate) fn put_displayed<W: Write>(text: &[u8], sink: &mut Sink<'_, W>)
+    ensures { Given W.contents sink.old sink.new (displayed text.now) }
 {
     let mut left = 0;
     for (at, byte) in text.iter().enumerate() {
         let control = control_bytes(left, part_from(text, at));
-        put(out, &[displayed_byte(control, *byte)])?;
+        sink.put(&[displayed_byte(control, *byte)]);
         left = control.saturating_sub(1);
     }
-    Ok(())
 }
 
 /// States that no control character is left of a text that is displayed.

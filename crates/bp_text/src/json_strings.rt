@@ -1,10 +1,10 @@
 //! Strings of JSON: a text as it stands between quotation marks.
 ghost use Rattle.std.specs.Prelude.{◌≡◌, ◌<◌, ◌++◌, flat_map, OnOk};
 ghost use Rattle.bp_text.specs.JsonStrings.{hex_digit, string_byte, string_text, StringsAreReadBack};
-ghost use Rattle.bp_text.specs.Writing.{Writes};
+ghost use Rattle.bp_text.specs.Sinks.{Given};
 
 use crate::columns::push_bytes;
-use crate::writing::{WriteFault, put};
+use crate::sinks::Sink;
 use std::alloc::AllocError;
 use std::io::Write;
 
@@ -27,37 +27,35 @@ fn hex_digit(number: u8) -> u8
 }
 
 /// Writes a byte of a string.
-fn put_byte<W: Write>(byte: u8, out: &mut W) -> Result<(), WriteFault>
-    ensures { Writes (W.contents out.old) (W.contents out.new) (string_byte byte) result }
+fn put_byte<W: Write>(byte: u8, sink: &mut Sink<'_, W>)
+    ensures { Given W.contents sink.old sink.new (string_byte byte) }
 {
     if byte == b'"' || byte == b'\\' {
-        put(out, &[b'\\', byte])
+        sink.put(&[b'\\', byte])
     } else if byte < b' ' || byte == DELETE {
         let (high, low) = (hex_digit(byte / 16), hex_digit(byte % 16));
-        put(out, &[b'\\', b'u', b'0', b'0', high, low])
+        sink.put(&[b'\\', b'u', b'0', b'0', high, low])
     } else {
-        put(out, &[byte])
+        sink.put(&[byte])
     }
 }
 
 /// Writes the bytes of a string.
-fn put_escaped<W: Write>(text: &[u8], out: &mut W) -> Result<(), WriteFault>
-    ensures { let escaped = flat_map string_byte text.now in
-        Writes (W.contents out.old) (W.contents out.new) escaped result }
+fn put_escaped<W: Write>(text: &[u8], sink: &mut Sink<'_, W>)
+    ensures { Given W.contents sink.old sink.new (flat_map string_byte text.now) }
 {
     for byte in text {
-        put_byte(*byte, out)?;
+        put_byte(*byte, sink);
     }
-    Ok(())
 }
 
 /// Writes a string.
-pub(crate) fn put_string<W: Write>(text: &[u8], out: &mut W) -> Result<(), WriteFault>
-    ensures { Writes (W.contents out.old) (W.contents out.new) (string_text text.now) result }
+pub(crate) fn put_string<W: Write>(text: &[u8], sink: &mut Sink<'_, W>)
+    ensures { Given W.contents sink.old sink.new (string_text text.now) }
 {
-    put(out, b"\"")?;
-    put_escaped(text, out)?;
-    put(out, b"\"")
+    sink.put(b"\"");
+    put_escaped(text, sink);
+    sink.put(b"\"")
 }
 
 /// Adds a byte of a string.

@@ -12,6 +12,7 @@ mod one_line;
 mod parts;
 mod pieces;
 mod positions;
+mod sinks;
 mod writing;
 
 pub use columns::{push_bytes, push_left, push_right, push_spaces};
@@ -24,4 +25,5 @@ pub use one_line::push_on_one_line;
 pub use parts::{first_line, last_line, part_before, part_from};
 pub use pieces::{Piece, push_piece, push_pieces, put_pieces};
 pub use positions::{FIRST, Position, after_all, position_from, position_of};
+pub use sinks::Sink;
 pub use writing::{WriteFault, put};

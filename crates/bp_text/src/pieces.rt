@@ -1,6 +1,7 @@
 //! Pieces of a text, and the calls that write them. A piece says what stands at its place.
 ghost use Rattle.std.specs.Prelude.{◌≡◌, ◌++◌, decimal, flat_map, OnOk};
 ghost use Rattle.bp_text.specs.Pieces.{bit_text, key_text, list_text, piece_text, truth_text};
+ghost use Rattle.bp_text.specs.Sinks.{Given};
 ghost use Rattle.bp_text.specs.Writing.{Writes};
 
 use crate::columns::{
@@ -9,7 +10,8 @@ use crate::columns::{
 use crate::displayed::{push_displayed, put_displayed};
 use crate::json_strings::{push_string, put_string};
 use crate::parts::part_from;
-use crate::writing::{WriteFault, put, put_each};
+use crate::sinks::Sink;
+use crate::writing::WriteFault;
 use itoa::Buffer;
 use std::alloc::AllocError;
 use std::io::Write;
@@ -66,39 +68,57 @@ fn bit_text(bit: bool) -> &'static [u8]
 }
 
 /// Writes the decimal of a number.
-fn put_number<W: Write>(number: u64, out: &mut W) -> Result<(), WriteFault>
-    ensures { Writes (W.contents out.old) (W.contents out.new) (decimal number) result }
+fn put_number<W: Write>(number: u64, sink: &mut Sink<'_, W>)
+    ensures { Given W.contents sink.old sink.new (decimal number) }
 {
     let mut buffer = Buffer::new();
-    put(out, buffer.format(number).as_bytes())
+    sink.put(buffer.format(number).as_bytes())
+}
+
+/// Writes the key of one more member of an object.
+fn put_key<W: Write>(key: &[u8], sink: &mut Sink<'_, W>)
+    ensures { Given W.contents sink.old sink.new (key_text key.now) }
+{
+    sink.put(b",\"");
+    sink.put(key);
+    sink.put(b"\":")
+}
+
+/// Writes items as a list.
+fn put_list<W: Write>(items: &[u8], sink: &mut Sink<'_, W>)
+    ensures { Given W.contents sink.old sink.new (list_text items.now) }
+{
+    sink.put(b"[");
+    sink.put(part_from(items, 1));
+    sink.put(b"]")
 }
 
 /// Writes a piece.
-fn put_piece<W: Write>(piece: Piece<'_>, out: &mut W) -> Result<(), WriteFault>
-    ensures { Writes (W.contents out.old) (W.contents out.new) (piece_text piece.entry) result }
+pub(crate) fn put_piece<W: Write>(piece: Piece<'_>, sink: &mut Sink<'_, W>)
+    ensures { Given W.contents sink.old sink.new (piece_text piece.entry) }
 {
     match piece {
-        Piece::Bytes(bytes) => put(out, bytes),
-        Piece::Number(number) => put_number(number, out),
-        Piece::Spaces(count) => put_spaces(count, out),
-        Piece::Left(width, bytes) => put_left(width, bytes, out),
-        Piece::Right(width, bytes) => put_right(width, bytes, out),
+        Piece::Bytes(bytes) => sink.put(bytes),
+        Piece::Number(number) => put_number(number, sink),
+        Piece::Spaces(count) => put_spaces(count, sink),
+        Piece::Left(width, bytes) => put_left(width, bytes, sink),
+        Piece::Right(width, bytes) => put_right(width, bytes, sink),
         Piece::NumberRight(width, number) => {
             let mut buffer = Buffer::new();
-            put_right(width, buffer.format(number).as_bytes(), out)
+            put_right(width, buffer.format(number).as_bytes(), sink)
         }
-        Piece::Displayed(bytes) => put_displayed(bytes, out),
-        Piece::Key(key) => put_each(out, &[b",\"", key, b"\":"]),
-        Piece::Text(text) => put_string(text, out),
-        Piece::Letter(letter) => put_string(&[letter], out),
-        Piece::NumberOrNull(Some(number)) => put_number(number, out),
-        Piece::NumberOrNull(None) => put(out, b"null"),
-        Piece::TextOrNull(Some(text)) => put_string(text, out),
-        Piece::TextOrNull(None) => put(out, b"null"),
-        Piece::Truth(value) => put(out, truth_text(value)),
-        Piece::Bit(bit) | Piece::BitOrNull(Some(bit)) => put(out, bit_text(bit)),
-        Piece::BitOrNull(None) => put(out, b"null"),
-        Piece::List(items) => put_each(out, &[b"[", part_from(items, 1), b"]"]),
+        Piece::Displayed(bytes) => put_displayed(bytes, sink),
+        Piece::Key(key) => put_key(key, sink),
+        Piece::Text(text) => put_string(text, sink),
+        Piece::Letter(letter) => put_string(&[letter], sink),
+        Piece::NumberOrNull(Some(number)) => put_number(number, sink),
+        Piece::NumberOrNull(None) => sink.put(b"null"),
+        Piece::TextOrNull(Some(text)) => put_string(text, sink),
+        Piece::TextOrNull(None) => sink.put(b"null"),
+        Piece::Truth(value) => sink.put(truth_text(value)),
+        Piece::Bit(bit) | Piece::BitOrNull(Some(bit)) => sink.put(bit_text(bit)),
+        Piece::BitOrNull(None) => sink.put(b"null"),
+        Piece::List(items) => put_list(items, sink),
     }
 }
 
@@ -107,10 +127,9 @@ pub fn put_pieces<W: Write>(out: &mut W, pieces: &[Piece<'_>]) -> Result<(), Wri
     ensures { let text = flat_map piece_text pieces.now in
         Writes (W.contents out.old) (W.contents out.new) text result }
 {
-    for piece in pieces {
-        put_piece(*piece, out)?;
-    }
-    Ok(())
+    let mut sink = Sink::new(out);
+    sink.put_pieces(pieces);
+    sink.finish()
 }
 
 /// Adds the decimal of a number.

@@ -1,5 +1,4 @@
 //! Writing a text to any writer, piece by piece.
-ghost use Rattle.std.specs.Prelude.{flat_map};
 ghost use Rattle.bp_text.specs.Writing.{Writes};
 
 use std::io::Write;
@@ -24,17 +23,6 @@ pub fn put<W: Write>(out: &mut W, bytes: &[u8]) -> Result<(), WriteFault>
             Ok(0) | Err(_) => return Err(WriteFault::Write),
             Ok(n) => done += n,
         }
-    }
-    Ok(())
-}
-
-/// Writes the pieces one after the other, by `put`.
-pub(crate) fn put_each<W: Write>(out: &mut W, pieces: &[&[u8]]) -> Result<(), WriteFault>
-    ensures { let text = flat_map (λ p. p.now) pieces.now in
-        Writes (W.contents out.old) (W.contents out.new) text result }
-{
-    for piece in pieces {
-        put(out, piece)?;
     }
     Ok(())
 }

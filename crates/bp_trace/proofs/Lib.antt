@@ -1,5 +1,4 @@
 mod AllOfBoth
-pub mod Appends
 mod BodyLineAt
 mod Cuts
 mod EndLineAt

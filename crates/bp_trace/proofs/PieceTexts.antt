@@ -1,12 +1,11 @@
 -- The pieces of a history have the text that its calls have one by one.
-use Rattle.std.proofs.Common.{◌≡◌, ℕ, ◌+◌, ◌<◌, ◌==◌, Bool, true, false, cond, List, [], ◌∷◌, ◌++◌, length, take, drop, flat_map, get_or, Option, None, Some, refl, ap, sym, ◌∙◌, subst, arith, add-one, drop-cons, take-append-drop, codes, decimal}
+use Rattle.std.proofs.Common.{◌≡◌, ℕ, ◌<◌, ◌==◌, Bool, true, false, cond, List, [], ◌∷◌, ◌++◌, length, flat_map, None, Some, refl, ap, sym, ◌∙◌, arith, codes, decimal}
 use Rattle.std.proofs.lemmas.Bool.Decides.{nat_tests}
-use Rattle.std.proofs.lemmas.List.{append-nil, take_more}
 use Rattle.bp_text.proofs.GrownLists.{regrouped}
 use Rattle.bp_machine.specs.declared.calls.Call.{Call}
 use Rattle.bp_trace.specs.Pieces.{Piece, symbol_of, piece_of, with_call, pieces_of}
 use Rattle.bp_trace.specs.TraceText.{symbol_text, piece_line}
-use Rattle.bp_trace.specs.SymbolTexts.{symbol_after, symbols_after, last_of}
+use Rattle.bp_trace.specs.SymbolTexts.{symbols_after}
 
 abbrev symbols_text : Piece → List ℕ
 symbols_text p = flat_map symbol_text (p.first ∷ p.others)
@@ -82,44 +81,3 @@ pieces_are_symbols x xs =
 pub some_pieces : (h : List Call) → 0 < length h → flat_map piece_line (pieces_of h) ≡ symbols_after None h ++ codes "\n"
 some_pieces [] some = absurd (omega arith)
 some_pieces (x ∷ xs) some = pieces_are_symbols x xs
-
--- one more call at the end
-symbols-append : (last : Option ℕ) (h : List Call) (x : Call) → symbols_after last (h ++ x ∷ []) ≡ symbols_after last h ++ symbol_after (last_of last h) x
-symbols-append last [] x = append-nil (symbol_after last x)
-symbols-append last (y ∷ ys) x =
-    ap (λ t. symbol_after last y ++ t) (symbols-append (Some y.thread) ys x)
-    ∙ simp regrouped
-
-last-append : (last : Option ℕ) (h : List Call) (x : Call) → last_of last (h ++ x ∷ []) ≡ Some x.thread
-last-append last [] x = refl
-last-append last (y ∷ ys) x = last-append (Some y.thread) ys x
-
-symbols-split : (last : Option ℕ) (h k : List Call) → symbols_after last (h ++ k) ≡ symbols_after last h ++ symbols_after (last_of last h) k
-symbols-split last [] k = refl
-symbols-split last (y ∷ ys) k =
-    ap (λ t. symbol_after last y ++ t) (symbols-split (Some y.thread) ys k)
-    ∙ simp regrouped
-
-module _ (h : List Call) (i : ℕ) (d : Call) (within : i < length h) where
-  abbrev x : Call
-  x = get_or h i d
-
-  rest_is : drop i h ≡ x ∷ drop (i + 1) h
-  rest_is = rw (add-one) (drop-cons h i d within)
-
-  -- the calls before the i-th, the i-th and the others
-  pub symbols_at : symbols_after None h
-      ≡ symbols_after None (take i h)
-      ++ (symbol_after (last_of None (take i h)) x ++ symbols_after (Some x.thread) (drop (i + 1) h))
-  symbols_at =
-      subst (λ ys. symbols_after None ys
-      ≡ symbols_after None (take i h)
-      ++ (symbol_after (last_of None (take i h)) x ++ symbols_after (Some x.thread) (drop (i + 1) h)))
-      (take-append-drop i h)
-      (symbols-split None (take i h) (drop i h) ∙ ap (λ ys. symbols_after None (take i h) ++ symbols_after (last_of None (take i h)) ys) rest_is)
-
-  pub symbols_more : symbols_after None (take (i + 1) h) ≡ symbols_after None (take i h) ++ symbol_after (last_of None (take i h)) x
-  symbols_more = ap (symbols_after None) (take_more h i d within) ∙ symbols-append None (take i h) x
-
-  pub last_more : Some x.thread ≡ last_of None (take (i + 1) h)
-  last_more = sym (ap (last_of None) (take_more h i d within) ∙ last-append None (take i h) x)

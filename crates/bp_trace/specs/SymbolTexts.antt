@@ -22,8 +22,3 @@ symbol_after last x = opening last x.thread ++ symbol_text (symbol_of x)
 abbrev pub symbols_after : Option ℕ → List Call → List ℕ
 symbols_after last [] = []
 symbols_after last (x ∷ xs) = symbol_after last x ++ symbols_after (Some x.thread) xs
-
--- the thread of the last call, or this one where there is none
-abbrev pub last_of : Option ℕ → List Call → Option ℕ
-last_of last [] = last
-last_of last (x ∷ xs) = last_of (Some x.thread) xs

@@ -25,7 +25,7 @@ mod versions;
 mod watchers;
 
 pub use accepted_traces::{AcceptedTrace, accepted_trace};
-pub use call_lines::write_call;
+pub use call_lines::{put_call, write_call};
 pub use driving::drive;
 pub use faults::DriveFault;
 pub use judging::Printed;
@@ -38,6 +38,8 @@ pub use migrating::migrate;
 pub use replay_faults::{Due, EndCounts, ReplayFault};
 pub use replaying::{Replayed, Watched, replay, replay_watched};
 pub use schedules::ScheduleLine;
-pub use traces::{write_end, write_head, write_trace, write_trace2, write_with_open_lines};
+pub use traces::{
+    put_end, put_head, write_end, write_head, write_trace, write_trace2, write_with_open_lines,
+};
 pub use versions::Version;
 pub use watchers::{Unwatched, Watcher};

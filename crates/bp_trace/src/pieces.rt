@@ -1,70 +1,69 @@
 //! Writing the calls of a history by its pieces.
 ghost use Rattle.std.specs.Prelude.{None, flat_map};
-ghost use Rattle.bp_text.specs.Writing.{Writes};
-ghost use Rattle.bp_trace.specs.Pieces.{pieces_of, symbol_of};
-ghost use Rattle.bp_trace.specs.TraceText.{piece_line, symbol_text};
+ghost use Rattle.bp_text.specs.Sinks.{Given};
+ghost use Rattle.bp_trace.specs.Pieces.{pieces_of};
+ghost use Rattle.bp_trace.specs.TraceText.{piece_line};
 ghost use Rattle.bp_trace.specs.SymbolTexts.{line_start, opening, symbol_after, symbols_after};
 
 use crate::traces::bit_digit;
 use bp_machine::Call;
 use bp_text::Piece::{Bytes, Number};
-use bp_text::{WriteFault, put, put_pieces};
+use bp_text::Sink;
 use std::io::Write;
 
 /// Begins the line of a thread, after the end of the line before it, where there is one.
-fn begin_line<W: Write>(is_first: bool, thread: u32, out: &mut W) -> Result<(), WriteFault>
-    ensures { Writes (W.contents out.old) (W.contents out.new)
-        (line_start is_first thread) result }
+fn put_start<W: Write>(is_first: bool, thread: u32, sink: &mut Sink<'_, W>)
+    ensures { Given W.contents sink.old sink.new (line_start is_first thread) }
 {
     let end = if is_first {
         b"".as_slice()
     } else {
         b"\n".as_slice()
     };
-    put_pieces(out, &[Bytes(end), Number(u64::from(thread)), Bytes(b" ")])
+    sink.put_pieces(&[Bytes(end), Number(u64::from(thread)), Bytes(b" ")])
 }
 
 /// Writes what begins a call after one of this thread, or after none.
-fn write_opening<W: Write>(last: Option<u32>, thread: u32, out: &mut W) -> Result<(), WriteFault>
-    ensures { Writes (W.contents out.old) (W.contents out.new) (opening last thread) result }
+fn put_opening<W: Write>(last: Option<u32>, thread: u32, sink: &mut Sink<'_, W>)
+    ensures { Given W.contents sink.old sink.new (opening last thread) }
 {
     match last {
-        Some(last) if last == thread => Ok(()),
-        Some(_) => begin_line(false, thread, out),
-        None => begin_line(true, thread, out),
+        Some(last) if last == thread => {}
+        Some(_) => put_start(false, thread, sink),
+        None => put_start(true, thread, sink),
     }
 }
 
 /// Writes a call after one of this thread, or after none.
-fn write_symbol<W: Write>(last: Option<u32>, call: &Call, out: &mut W) -> Result<(), WriteFault>
-    ensures { Writes (W.contents out.old) (W.contents out.new)
-        (symbol_after last call.now) result }
+fn put_symbol<W: Write>(last: Option<u32>, call: &Call, sink: &mut Sink<'_, W>)
+    ensures { Given W.contents sink.old sink.new (symbol_after last call.now) }
 {
-    write_opening(last, call.thread, out)?;
-    put(out, &[bit_digit(call.bit), call.reply.letter()])
+    put_opening(last, call.thread, sink);
+    sink.put(&[bit_digit(call.bit), call.reply.letter()])
 }
 
 /// Writes the calls of a history without the end of the last line.
-fn write_symbols<W: Write>(history: &[Call], out: &mut W) -> Result<(), WriteFault>
-    ensures { Writes (W.contents out.old) (W.contents out.new)
-        (symbols_after None history.now) result }
+#[tactic(auto, using(bp_text::proofs::Givings::left_after))]
+fn put_symbols<W: Write>(history: &[Call], sink: &mut Sink<'_, W>)
+    ensures { Given W.contents sink.old sink.new (symbols_after None history.now) }
 {
     let mut last = None;
-    for call in history {
-        write_symbol(last, call, out)?;
+    let mut calls = history;
+    while let Some((call, more)) = calls.split_first() {
+        put_symbol(last, call, sink);
         last = Some(call.thread);
+        calls = more;
     }
-    Ok(())
 }
 
 /// Writes a line for each piece of a history.
-pub(crate) fn write_pieces<W: Write>(history: &[Call], out: &mut W) -> Result<(), WriteFault>
-    ensures { Writes (W.contents out.old) (W.contents out.new)
-        (flat_map piece_line (pieces_of history.now)) result }
+pub(crate) fn put_pieces<W: Write>(history: &[Call], sink: &mut Sink<'_, W>)
+    ensures { let text = flat_map piece_line (pieces_of history.now) in
+        Given W.contents sink.old sink.new text }
 {
     if history.is_empty() {
-        return Ok(());
+        return;
     }
-    write_symbols(history, out)?;
-    put(out, b"\n")
+    put_symbols(history, sink);
+    sink.put(b"\n")
 }

@@ -1,19 +1,19 @@
 //! Writing the text of a trace.
-ghost use Rattle.std.specs.Prelude.{◌≡◌, ◌≤◌, map, flat_map, length};
+ghost use Rattle.std.specs.Prelude.{◌≡◌, map, flat_map, string_bytes};
 ghost use Rattle.std.specs.List.{concat};
-ghost use Rattle.bp_language.specs.declared.limits.TheConstants.{MAX_GLOBALS};
 ghost use Rattle.bp_text.specs.Pieces.{piece_text};
+ghost use Rattle.bp_text.specs.Sinks.{Given};
 ghost use Rattle.bp_text.specs.Writing.{Writes};
 ghost use Rattle.bp_machine.specs.Histories.{open_lines};
 ghost use Rattle.bp_trace.specs.Schedules.{bit_digit};
 ghost use Rattle.bp_trace.specs.TraceText.{entry_line, init_digits, init_line, limit_lines, seed_word, version_line, head_text, call_line, end_line, calls_text, text_of, trace_text, trace_text_2};
 
-use crate::call_lines::write_call;
-use crate::pieces::write_pieces;
+use crate::call_lines::put_call;
+use crate::pieces::put_pieces;
 use crate::versions::Version;
 use bp_machine::{Call, Setup, open_lines};
 use bp_text::Piece::{Bytes, Number};
-use bp_text::{Piece, WriteFault, put, put_pieces};
+use bp_text::{Piece, Sink, WriteFault};
 use std::io::Write;
 
 pub(crate) fn bit_digit(bit: bool) -> u8
@@ -23,53 +23,32 @@ pub(crate) fn bit_digit(bit: bool) -> u8
 }
 
 /// Writes a line for the entry of each thread.
-fn write_entries<W: Write>(setup: &Setup, out: &mut W) -> Result<(), WriteFault>
-    ensures { Writes (W.contents out.old) (W.contents out.new)
-        (flat_map entry_line setup.now.entries) result }
+fn put_entries<W: Write>(names: &[String], sink: &mut Sink<'_, W>)
+    ensures { let text = flat_map entry_line (map string_bytes names.now) in
+        Given W.contents sink.old sink.new text }
 {
-    for thread in 0..setup.threads() {
-        if let Some(name) = setup.entry(thread) {
-            let name = Bytes(name.as_bytes());
-            put_pieces(out, &[Bytes(b"entry "), name, Bytes(b"\n")])?;
-        }
+    for name in names {
+        sink.put_pieces(&[Bytes(b"entry "), Bytes(name.as_bytes()), Bytes(b"\n")]);
     }
-    Ok(())
-}
-
-/// Writes a digit for each global.
-fn write_bits<W: Write>(setup: &Setup, out: &mut W) -> Result<(), WriteFault>
-    requires { length setup.now.init ≤ MAX_GLOBALS }
-    ensures { Writes (W.contents out.old) (W.contents out.new)
-        (map bit_digit setup.now.init) result }
-{
-    let mut n = 0;
-    while let Some(bit) = setup.init(n) {
-        put(out, &[bit_digit(bit)])?;
-        n += 1;
-    }
-    Ok(())
 }
 
 /// Writes a digit for each global, or a dash where there is none.
-fn write_digits<W: Write>(setup: &Setup, out: &mut W) -> Result<(), WriteFault>
-    requires { length setup.now.init ≤ MAX_GLOBALS }
-    ensures { Writes (W.contents out.old) (W.contents out.new) (init_digits setup.now.init) result }
+fn put_digits<W: Write>(bits: &[bool], sink: &mut Sink<'_, W>)
+    ensures { Given W.contents sink.old sink.new (init_digits bits.now) }
 {
-    if setup.init(0).is_none() {
-        put(out, b"-")
-    } else {
-        write_bits(setup, out)
+    if bits.is_empty() {
+        return sink.put(b"-");
     }
+    sink.put_bits(bits)
 }
 
 /// Writes the line of the initial bits.
-fn write_init<W: Write>(setup: &Setup, out: &mut W) -> Result<(), WriteFault>
-    requires { length setup.now.init ≤ MAX_GLOBALS }
-    ensures { Writes (W.contents out.old) (W.contents out.new) (init_line setup.now.init) result }
+fn put_init<W: Write>(bits: &[bool], sink: &mut Sink<'_, W>)
+    ensures { Given W.contents sink.old sink.new (init_line bits.now) }
 {
-    put(out, b"init ")?;
-    write_digits(setup, out)?;
-    put(out, b"\n")
+    sink.put(b"init ");
+    put_digits(bits, sink);
+    sink.put(b"\n")
 }
 
 /// The number of a seed, or the word for none.
@@ -83,22 +62,18 @@ fn seed_piece<'a>(seed: Option<u64>) -> Piece<'a>
 }
 
 /// Writes the lines of the contexts and calls that are allowed, and of the seed.
-fn write_limits<W: Write>(setup: &Setup, out: &mut W) -> Result<(), WriteFault>
-    ensures { Writes (W.contents out.old) (W.contents out.new)
-        (concat (limit_lines setup.now)) result }
+fn put_limits<W: Write>(setup: &Setup, sink: &mut Sink<'_, W>)
+    ensures { Given W.contents sink.old sink.new (concat (limit_lines setup.now)) }
 {
-    put_pieces(
-        out,
-        &[
-            Bytes(b"contexts "),
-            Number(u64::from(setup.contexts())),
-            Bytes(b"\ncalls "),
-            Number(u64::from(setup.calls())),
-            Bytes(b"\nseed "),
-            seed_piece(setup.seed()),
-            Bytes(b"\n"),
-        ],
-    )
+    sink.put_pieces(&[
+        Bytes(b"contexts "),
+        Number(u64::from(setup.contexts())),
+        Bytes(b"\ncalls "),
+        Number(u64::from(setup.calls())),
+        Bytes(b"\nseed "),
+        seed_piece(setup.seed()),
+        Bytes(b"\n"),
+    ])
 }
 
 fn version_line(version: Version) -> &'static [u8]
@@ -111,15 +86,20 @@ fn version_line(version: Version) -> &'static [u8]
 }
 
 /// Writes the head of a trace of this version: the setup.
-fn write_head_of<W: Write>(version: Version, setup: &Setup, out: &mut W) -> Result<(), WriteFault>
-    ensures { Writes (W.contents out.old) (W.contents out.new)
-        (head_text version setup.now) result }
+fn put_head_of<W: Write>(version: Version, setup: &Setup, sink: &mut Sink<'_, W>)
+    ensures { Given W.contents sink.old sink.new (head_text version setup.now) }
 {
-    setup.is_in_range();
-    put(out, version_line(version))?;
-    write_entries(setup, out)?;
-    write_init(setup, out)?;
-    write_limits(setup, out)
+    sink.put(version_line(version));
+    put_entries(setup.entries(), sink);
+    put_init(setup.bits(), sink);
+    put_limits(setup, sink)
+}
+
+/// Writes the head of a trace: the setup.
+pub fn put_head<W: Write>(setup: &Setup, sink: &mut Sink<'_, W>)
+    ensures { Given W.contents sink.old sink.new (head_text Version.One setup.now) }
+{
+    put_head_of(Version::One, setup, sink)
 }
 
 /// Writes the head of a trace: the setup.
@@ -127,48 +107,45 @@ pub fn write_head<W: Write>(setup: &Setup, out: &mut W) -> Result<(), WriteFault
     ensures { Writes (W.contents out.old) (W.contents out.new)
         (head_text Version.One setup.now) result }
 {
-    write_head_of(Version::One, setup, out)
+    let mut sink = Sink::new(out);
+    put_head(setup, &mut sink);
+    sink.finish()
+}
+
+/// Writes the line that ends a trace of this many calls, with this many open lines.
+pub fn put_end<W: Write>(calls: u64, left_open: u32, sink: &mut Sink<'_, W>)
+    ensures { Given W.contents sink.old sink.new (end_line calls left_open) }
+{
+    let left_open = Number(u64::from(left_open));
+    let number = Number(calls);
+    sink.put_pieces(&[Bytes(b"end "), number, Bytes(b" "), left_open, Bytes(b"\n")])
 }
 
 /// Writes the line that ends a trace of this many calls, with this many open lines.
 pub fn write_end<W: Write>(calls: u64, left_open: u32, out: &mut W) -> Result<(), WriteFault>
     ensures { Writes (W.contents out.old) (W.contents out.new) (end_line calls left_open) result }
 {
-    put_pieces(
-        out,
-        &[
-            Bytes(b"end "),
-            Number(calls),
-            Bytes(b" "),
-            Number(u64::from(left_open)),
-            Bytes(b"\n"),
-        ],
-    )
+    let mut sink = Sink::new(out);
+    put_end(calls, left_open, &mut sink);
+    sink.finish()
 }
 
 /// Writes a line for each call.
-fn write_calls<W: Write>(history: &[Call], out: &mut W) -> Result<(), WriteFault>
-    ensures { Writes (W.contents out.old) (W.contents out.new)
-        (flat_map call_line history.now) result }
+fn put_calls<W: Write>(history: &[Call], sink: &mut Sink<'_, W>)
+    ensures { Given W.contents sink.old sink.new (flat_map call_line history.now) }
 {
     for call in history {
-        write_call(call, out)?;
+        put_call(call, sink);
     }
-    Ok(())
 }
 
 /// Writes the calls of a history in this version.
-fn write_history<W: Write>(
-    version: Version,
-    history: &[Call],
-    out: &mut W,
-) -> Result<(), WriteFault>
-    ensures { Writes (W.contents out.old) (W.contents out.new)
-        (calls_text version history.now) result }
+fn put_history<W: Write>(version: Version, history: &[Call], sink: &mut Sink<'_, W>)
+    ensures { Given W.contents sink.old sink.new (calls_text version history.now) }
 {
     match version {
-        Version::One => write_calls(history, out),
-        Version::Two => write_pieces(history, out),
+        Version::One => put_calls(history, sink),
+        Version::Two => put_pieces(history, sink),
     }
 }
 
@@ -184,9 +161,11 @@ pub fn write_with_open_lines<W: Write>(
     ensures { Writes (W.contents out.old) (W.contents out.new)
         (text_of version setup.now history.now) result }
 {
-    write_head_of(version, setup, out)?;
-    write_history(version, history, out)?;
-    write_end(history.len() as u64, left_open, out)
+    let mut sink = Sink::new(out);
+    put_head_of(version, setup, &mut sink);
+    put_history(version, history, &mut sink);
+    put_end(history.len() as u64, left_open, &mut sink);
+    sink.finish()
 }
 
 /// Writes the trace of a setup and a history.

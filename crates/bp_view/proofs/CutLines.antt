@@ -1,5 +1,5 @@
 -- What is after the first bytes of a line, cut.
-use Rattle.std.proofs.Common.{if◌then◌else◌, ◌≡◌, ◌∙◌, ◌+◌, ◌-◌, ◌<◌, ◌≤◌, ◌++◌, ℕ, zero, suc, true, List, [], ◌∷◌, codes, nat_lt, take, drop, length, length-drop, ap, ap₂, refl, sym, arith}
+use Rattle.std.proofs.Common.{if◌then◌else◌, ◌≡◌, ◌∙◌, ◌+◌, ◌-◌, ◌<◌, ◌++◌, ℕ, zero, suc, true, List, [], ◌∷◌, codes, nat_lt, take, drop, length, length-drop, ap, ap₂, refl, sym, arith}
 use Rattle.std.proofs.lemmas.Bool.Decides.{nat_tests}
 use Rattle.bp_text.proofs.GrownLists.{both_added}
 use Rattle.bp_view.specs.StatementColumns.{shortened}
@@ -34,22 +34,6 @@ cut columns start line more =
     let long : nat_lt columns (length rest) ≡ true = let size = length-drop start line in grind (arith, nat_tests, size, more) in
     let own = ap (λ b. if b then take (columns - 2) rest ++ codes ".." else rest) (sym long) in
     both_added (take start line) _ _ (take (columns - 2) rest) (codes "..") _ refl (taken_both start (columns - 2) line) own
-
--- one that is not
-pub uncut : (columns start : ℕ) (line : List ℕ) → length line - start ≤ columns → line ≡ take start line ++ shortened columns (drop start line)
-uncut columns start line few = whole
-  where
-    both : (n : ℕ) (xs : List ℕ) → xs ≡ take n xs ++ drop n xs
-    both zero xs = refl
-    both (suc n) [] = refl
-    both (suc n) (x ∷ xs) = ap (λ ys. x ∷ ys) (both n xs)
-
-    whole : line ≡ take start line ++ shortened columns (drop start line)
-    whole =
-        let rest = drop start line in
-        let size = length-drop start line in
-        let short : nat_lt columns (length rest) ≡ nat_lt 1 0 = grind (arith, nat_tests, size, few) in
-        both start line ∙ ap (λ b. take start line ++ (if b then take (columns - 2) rest ++ codes ".." else rest)) (sym short)
 
 -- what was added to a line is cut
 pub added_cut : (columns : ℕ) (first more line : List ℕ) (start : ℕ) → start ≡ length first → line ≡ first ++ more

@@ -1,6 +1,6 @@
 use Rattle.std.proofs.Common.{option_map, subst}
 use Rattle.bp_confirm.specs.StepLines.{value_of}
-use Rattle.bp_messages.specs.Sinks.{Given}
+use Rattle.bp_text.specs.Sinks.{Given}
 use Rattle.bp_messages.specs.StepObjects.{step_member}
 use Rattle.bp_messages.proofs.step_objects.put_step.Goals as goal
 

@@ -1,5 +1,5 @@
 use Rattle.std.proofs.Common.{length}
-use Rattle.bp_messages.proofs.Givings.{IsLeft}
+use Rattle.bp_text.proofs.Givings.{IsLeft}
 use Rattle.bp_messages.specs.Summaries.{unreached_text}
 use Rattle.bp_messages.proofs.summaries.put_unreached.Given as goal
 

@@ -1,5 +1,5 @@
 use Rattle.std.proofs.Common.{length, []}
-use Rattle.bp_messages.proofs.Givings.{IsLeft}
+use Rattle.bp_text.proofs.Givings.{IsLeft}
 use Rattle.bp_messages.specs.Waits.{wait_objects}
 use Rattle.bp_messages.proofs.waits.put_wait_objects.Given as goal
 

@@ -1,12 +1,9 @@
-use Rattle.std.proofs.Common.{◌∙◌, refl}
 use Rattle.bp_run.proofs.Scribing.{scribed_none, scribed_more}
 use Rattle.bp_run.proofs.scribes.scribe.Goals as goal
 
 pub loop-init : goal.loop-init
-loop-init g c = record { reference = refl; scribed = scribed_none _ _ _ }
+loop-init g c = scribed_none _ _ _
 
 pub loop-preserved-in-Some-next : goal.loop-preserved-in-Some-next
-loop-preserved-in-Some-next g c = record {
-  reference = c.line.ensures.same_reference ∙ c.loop.invariant.reference;
-  scribed = scribed_more _ _ _ _ _ _ _ _ _ c.in-Some-next.call c.loop.invariant.scribed c.in-Some-next.ensures.some c.line.ensures.inks;
-}
+loop-preserved-in-Some-next g c =
+    scribed_more _ _ _ _ _ _ _ c.in-Some-next.call c.loop.invariant c.in-Some-next.ensures.some c.line.ensures.given

@@ -1,12 +1,9 @@
-use Rattle.std.proofs.Common.{◌∙◌, refl}
 use Rattle.bp_run.proofs.Scribing.{rest_begins, rest_more}
 use Rattle.bp_run.proofs.scribes.write_rest.Goals as goal
 
 pub loop-call-init : goal.loop-call-init
-loop-call-init g c = record { reference = refl; scribed = rest_begins _ _ _ c.requires }
+loop-call-init g c = rest_begins _ _ _ c.requires
 
 pub loop-call-preserved : goal.loop-call-preserved
-loop-call-preserved g c = record {
-  reference = c.line.ensures.same_reference ∙ c.loop-call.invariant.reference;
-  scribed = rest_more _ _ _ _ _ _ _ _ _ c.in-Some.call c.loop-call.invariant.scribed c.in-Some.ensures.rest c.line.ensures.inks;
-}
+loop-call-preserved g c =
+    rest_more _ _ _ _ _ _ _ c.in-Some.call c.loop-call.invariant c.in-Some.ensures.rest c.line.ensures.given

@@ -1,12 +1,9 @@
-use Rattle.std.proofs.Common.{◌≡◌}
 use Rattle.bp_run.specs.Scribing.{IsRestScribed, rest_length}
 use Rattle.bp_run.proofs.scribes.write_rest.Given as goal
 
 abbrev pub invariant-loop-call : goal.invariant-loop-call
-invariant-loop-call g l = record {
-  reference : l.pen.out.ghost_name ≡ l.fn.pen.out.ghost_name;
-  scribed : IsRestScribed (g.W.Write.contents l.fn.pen.out.now) l.fn.pen.failed (g.W.Write.contents l.pen.out.now) l.pen.failed l.fn.tap.rest l.tap.rest;
-}
+invariant-loop-call g l =
+    IsRestScribed g.W.Write.contents l.fn.pen.sink l.pen.sink l.fn.tap.rest l.tap.rest
 
 abbrev pub decreases-loop-call : goal.decreases-loop-call
 decreases-loop-call g l = rest_length l.tap.rest

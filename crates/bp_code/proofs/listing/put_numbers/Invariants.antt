@@ -1,0 +1,8 @@
+use Rattle.std.proofs.Common.{flat_map, take}
+use Rattle.bp_text.specs.Sinks.{Given}
+use Rattle.bp_code.specs.Listing.{number_field}
+use Rattle.bp_code.proofs.listing.put_numbers.Given as goal
+
+abbrev pub invariant-loop-number : goal.invariant-loop-number
+invariant-loop-number g l =
+    Given g.W.Write.contents l.fn.sink l.sink (flat_map number_field (take l.number-index l.numbers))

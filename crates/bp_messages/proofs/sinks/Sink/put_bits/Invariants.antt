@@ -1,8 +1,0 @@
-use Rattle.std.proofs.Common.{flat_map, take}
-use Rattle.bp_text.specs.Pieces.{bit_text}
-use Rattle.bp_messages.specs.Sinks.{Given}
-use Rattle.bp_messages.proofs.sinks.Sink.put_bits.Given as goal
-
-abbrev pub invariant-loop-bit : goal.invariant-loop-bit
-invariant-loop-bit g l =
-    Given g.W.Write.contents l.fn.self l.self (flat_map bit_text (take l.bit-index l.bits))

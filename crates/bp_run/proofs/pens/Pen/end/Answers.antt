@@ -1,5 +1,0 @@
-use Rattle.bp_run.proofs.Inks.{inks_written}
-use Rattle.bp_run.proofs.pens.Pen.end.Goals as goal
-
-pub returns-then-not-self-clause-inks : goal.returns-then-not-self-clause-inks
-returns-then-not-self-clause-inks g c = inks_written _ _ _ _ _ c.write_end.result c.if-not-self.true c.is_err-self.ensures.value c.write_end.ensures

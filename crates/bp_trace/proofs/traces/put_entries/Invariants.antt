@@ -1,0 +1,8 @@
+use Rattle.std.proofs.Common.{flat_map, map, string_bytes, take}
+use Rattle.bp_text.specs.Sinks.{Given}
+use Rattle.bp_trace.specs.TraceText.{entry_line}
+use Rattle.bp_trace.proofs.traces.put_entries.Given as goal
+
+abbrev pub invariant-loop-name : goal.invariant-loop-name
+invariant-loop-name g l =
+    Given g.W.Write.contents l.fn.sink l.sink (flat_map entry_line (map string_bytes (take l.name-index l.names)))
