@@ -17,8 +17,8 @@ pub record MissesSemicolon (text : List ℕ) (at place : ℕ) : Type 0 where
   pub gap : HasTokens (drop place (take at text)) []
   pub follows : MayFollow (take place text) (59 ∷ [])
 
--- the explanation names this place of a token that cannot come there, or one where a semicolon is
--- missing, and shows its line with a caret
+-- the explanation is of this place of a token that cannot come there, or of one where a semicolon
+-- is missing
 abbrev pub ExplainsSyntax : List ℕ → List ℕ → ℕ → Explanation → Type 0
 ExplainsSyntax file text at e =
     (place : ℕ) × ((place ≡ at) ⊎ MissesSemicolon text at place)

@@ -1,6 +1,5 @@
 -- The parts of an explanation, and the lines that show it.
 use Rattle.std.specs.Prelude.{if◌then◌else◌, ◌≡◌, ◌==◌, ◌||◌, ◌&&◌, nat_le, ℕ, Bool, true, List, [], ◌∷◌, ◌++◌, Option, None, Some, All, map, decimal}
-use Rattle.bp_text.specs.Excerpts.{excerpt_of_fault, excerpt_of_line}
 use Rattle.bp_text.specs.Displayed.{displayed}
 use Rattle.bp_text.specs.OneLine.{IsOneLine}
 use Rattle.bp_text.specs.Positions.{position_at}
@@ -14,24 +13,18 @@ pub record IsAt (file : List ℕ) (place : Place) (e : Explanation) : Type 0 whe
   pub place_is : e.place ≡ place
   pub one_line : IsOneLine e.sentence.items
 
--- the same, and it shows this excerpt
-pub record IsExplanation (file : List ℕ) (place : Place) (excerpt : List ℕ) (e : Explanation)
-    : Type 0 where
-  pub at : IsAt file place e
-  pub excerpt_is : e.excerpt.items ≡ excerpt
-
 -- the place of a byte of a text, or the whole text
 abbrev pub place_of : List ℕ → Option ℕ → Place
 place_of text None = Whole
 place_of text (Some at) = At (position_at text at)
 
--- the explanation names this place of a text, where there is one, and shows its line with a caret
+-- the explanation is of this place of a text, or of the whole text
 abbrev pub ExplainsPlace : List ℕ → List ℕ → Option ℕ → Explanation → Type 0
-ExplainsPlace file text at e = IsExplanation file (place_of text at) (excerpt_of_fault text at) e
+ExplainsPlace file text at e = IsAt file (place_of text at) e
 
--- the explanation names this line of the text, and shows it
-abbrev pub ExplainsLine : List ℕ → List ℕ → ℕ → Explanation → Type 0
-ExplainsLine file text n e = IsExplanation file (Line n) (excerpt_of_line text n) e
+-- the explanation is of this line
+abbrev pub ExplainsLine : List ℕ → ℕ → Explanation → Type 0
+ExplainsLine file n e = IsAt file (Line n) e
 
 -- nothing explains a fault
 abbrev pub IsUnexplained : (Explanation → Type 0) → Type 0

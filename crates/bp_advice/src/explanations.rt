@@ -1,6 +1,6 @@
 //! Explanations of faults: where in a file, what is wrong there, and the lines that show the place.
-ghost use Rattle.std.specs.Prelude.{◌≡◌, [], IfOk};
-ghost use Rattle.bp_advice.specs.Explanations.{ExplainsLine, ExplainsPlace, IsExplanation, place_of};
+ghost use Rattle.std.specs.Prelude.{◌≡◌, IfOk};
+ghost use Rattle.bp_advice.specs.Explanations.{ExplainsLine, ExplainsPlace, IsAt, place_of};
 
 use bp_text::{Position, excerpt_of, first_line, position_of, push_line};
 use std::alloc::{AllocError, Global};
@@ -37,7 +37,7 @@ fn explained<'a>(
     excerpt: Vec<u8>,
     words: &[u8],
 ) -> Result<Explanation<'a>, AllocError>
-    ensures { IfOk result (λ e. IsExplanation file.now place excerpt.items e) }
+    ensures { IfOk result (λ e. IsAt file.now place e) }
 {
     let mut sentence = Vec::new(alloc);
     sentence.extend_from_slice(first_line(words))?;
@@ -81,7 +81,7 @@ pub fn about_excerpt<'a>(
     excerpt: Vec<u8>,
     sentence: &[u8],
 ) -> Result<Explanation<'a>, AllocError>
-    ensures { IfOk result (λ e. IsExplanation file.now (Place.Line number) excerpt.items e) }
+    ensures { IfOk result (λ e. ExplainsLine file.now number e) }
 {
     explained(alloc, file, Place::Line(number), excerpt, sentence)
 }
@@ -94,7 +94,7 @@ pub fn about_line<'a>(
     number: usize,
     sentence: &[u8],
 ) -> Result<Explanation<'a>, AllocError>
-    ensures { IfOk result (λ e. ExplainsLine file.now text.now number e) }
+    ensures { IfOk result (λ e. ExplainsLine file.now number e) }
 {
     let mut excerpt = Vec::new(alloc);
     push_line(&mut excerpt, text, number)?;

@@ -29,8 +29,8 @@ ExplainsText name text f e = ⊥
 abbrev pub ExplainsInput : SecondInput → List ℕ → List ℕ → Fault → Explanation → Type 0
 ExplainsInput second.Trace name trace (Trace f) e = ExplainsTrace name trace f e
 ExplainsInput second.Trace name trace (Setup f) e = ExplainsTrace name trace (replay.Setup f) e
-ExplainsInput second.Schedule name schedule (Schedule f) e = ExplainsSchedule name schedule f e
-ExplainsInput second.Steps name steps (Steps f) e = ExplainsSteps name steps f e
+ExplainsInput second.Schedule name schedule (Schedule f) e = ExplainsSchedule name f e
+ExplainsInput second.Steps name steps (Steps f) e = ExplainsSteps name f e
 ExplainsInput kind name input f e = ⊥
 
 -- this explains a fault of either

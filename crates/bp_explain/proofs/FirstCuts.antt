@@ -26,15 +26,6 @@ line_first text a x p e = ap first_line e ∙ line_taken a x p
 pub rest_after : (text a x : List ℕ) → Without 10 a → text ≡ a ++ 10 ∷ x → after_first (λ b. b == 10) text ≡ x
 rest_after text a x p e = ap (after_first (λ b. b == 10)) e ∙ rest_taken a x p
 
--- two texts that a byte cuts first at these places
-pub one_cut : (byte : ℕ) (a b x y : List ℕ) → Without byte a → Without byte b → a ++ byte ∷ x ≡ b ++ byte ∷ y → (a ≡ b) × (x ≡ y)
-one_cut byte [] [] x y p q e = (refl, cc)
-one_cut byte [] (d ∷ b) x y p q e = absurd (q.0 (cc))
-one_cut byte (c ∷ a) [] x y p q e = absurd (p.0 (cc))
-one_cut byte (c ∷ a) (d ∷ b) x y p q e =
-    let rest = one_cut byte a b x y p.1 q.1 (cc) in
-    (cc (rest.0), rest.1)
-
 -- words that have no line feed
 pub low_free : (word : List ℕ) → AllByRecursion (λ b. 10 < b) word → Without 10 word
 low_free [] p = tt

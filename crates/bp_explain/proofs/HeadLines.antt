@@ -1,5 +1,5 @@
 -- The lines of a head, taken one after the other.
-use Rattle.std.proofs.Common.{◌≡◌, ◌==◌, ◌+◌, ◌<◌, ◌≢◌, ◌^◌, ℕ, Bool, true, false, List, [], ◌∷◌, ◌++◌, Option, None, Some, length, map, refl, ap, sym, ◌∙◌, arith, codes, decimal, rules}
+use Rattle.std.proofs.Common.{◌≡◌, ◌==◌, ◌+◌, ◌<◌, ◌≢◌, ◌^◌, ℕ, Bool, true, false, List, [], ◌∷◌, ◌++◌, length, map, refl, ap, sym, ◌∙◌, arith, codes, decimal, rules}
 use Rattle.std.specs.List.{AllByRecursion, concat, after_first}
 use Rattle.std.specs.Str.Parse.{AllDigits}
 use Rattle.std.proofs.lemmas.Str.Parse.{digit_from_value}
@@ -23,12 +23,12 @@ after_line text = after_first (λ b. b == 10) text
 
 -- ---- what has no line feed
 
-digits_without : (byte : ℕ) → byte < 48 → (ds : List ℕ) → AllDigits 10 ds → Without byte ds
-digits_without byte low [] p = tt
-digits_without byte low (d ∷ ds) p = (λ e. absurd (omega (arith, digit_from_value d p.0, e)), digits_without byte low ds p.1)
+digits_without : (ds : List ℕ) → AllDigits 10 ds → Without 10 ds
+digits_without [] p = tt
+digits_without (d ∷ ds) p = (λ e. absurd (omega (arith, digit_from_value d p.0, e)), digits_without ds p.1)
 
-pub decimal_without : (byte : ℕ) → byte < 48 → (n : ℕ) → n < 2 ^ 64 → Without byte (decimal n)
-decimal_without byte low n fits = digits_without byte low (decimal n) (digits_decimal numerals n fits)
+decimal_without : (n : ℕ) → n < 2 ^ 64 → Without 10 (decimal n)
+decimal_without n fits = digits_without (decimal n) (digits_decimal numerals n fits)
 
 digit_high : (b : Bool) → 48 < bit_digit b + 1
 digit_high true = omega arith
@@ -41,10 +41,6 @@ bits_without (b ∷ bs) = (λ e. absurd (omega (arith, digit_high b, e)), bits_w
 init_without : (bs : List Bool) → Without 10 (init_digits bs)
 init_without [] = low_free (codes "-") (search rules)
 init_without (b ∷ bs) = bits_without (b ∷ bs)
-
-seed_without : (o : Option ℕ) → ((n : ℕ) → o ≡ Some n → n < 2 ^ 64) → Without 10 (seed_word o)
-seed_without None fits = low_free (codes "none") (search rules)
-seed_without (Some n) fits = decimal_without 10 (omega arith) n (fits n refl)
 
 -- ---- a line of a word and a value
 
@@ -84,23 +80,8 @@ module _ (s : SetupOf) (has : HasHead s) (rest : List ℕ) where
   word_without : Without 10 (codes "contexts ")
   word_without = low_free (codes "contexts ") (search rules)
 
-  number_without : (n : ℕ) → n < 2 ^ 64 → Without 10 (decimal n)
-  number_without n fits = decimal_without 10 (omega arith) n fits
-
   pub contexts_first : (text : List ℕ) → text ≡ contexts_on → first_line text ≡ codes "contexts " ++ decimal s.contexts
-  contexts_first text e = field_first (codes "contexts ") (decimal s.contexts) calls_on word_without (number_without s.contexts has.contexts) text e
-
-  pub after_settings : (text a b c d : List ℕ) → text ≡ concat (setting_lines s) ++ rest → a ≡ after_line text
-      → b ≡ after_line a → c ≡ after_line b → d ≡ after_line c → d ≡ rest
-  after_settings text a b c d e first second third fourth =
-      let at_contexts = first ∙ after_init text e in
-      let at_calls =
-      second ∙ field_after (codes "contexts ") (decimal s.contexts) calls_on word_without
-      (number_without s.contexts has.contexts) a at_contexts in
-      let at_seed =
-      third ∙ field_after (codes "calls ") (decimal s.calls) seed_on (low_free (codes "calls ") (search rules))
-      (number_without s.calls has.calls) b at_calls in
-      fourth ∙ field_after (codes "seed ") (seed_word s.seed) rest (low_free (codes "seed ") (search rules)) (seed_without s.seed has.seed) c at_seed
+  contexts_first text e = field_first (codes "contexts ") (decimal s.contexts) calls_on word_without (decimal_without s.contexts has.contexts) text e
 
 -- ---- the entries
 

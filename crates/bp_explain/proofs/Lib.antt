@@ -1,3 +1,2 @@
-mod CallLines
 mod FirstCuts
 mod HeadLines

@@ -1,3 +1,2 @@
-pub mod CallReading
 pub mod Explained
 pub mod TraceParts

@@ -1,8 +1,4 @@
 //! The line of a call of a trace, with a caret below what is wrong in the call.
-ghost use Rattle.std.specs.Prelude.{◌≡◌, ℕ, IfOk, IfSome};
-ghost use Rattle.bp_text.specs.Excerpts.{excerpt_of_place};
-ghost use Rattle.bp_explain.specs.Explained.{IsOnLine, ShowsLine};
-ghost use Rattle.bp_explain.specs.TraceParts.{IsWrongByte};
 
 use crate::recorded_calls::recorded_call;
 use bp_text::{position_of, push_line, push_place};
@@ -10,9 +6,7 @@ use bp_trace::ReplayFault;
 use std::alloc::{AllocError, Global};
 
 /// The byte of a trace that is wrong in the call that the fault names.
-fn place_of(trace: &[u8], fault: &ReplayFault) -> Option<usize>
-    ensures { (at : ℕ) → IsWrongByte trace.now fault.now at → result ≡ Some at }
-{
+fn place_of(trace: &[u8], fault: &ReplayFault) -> Option<usize> {
     match fault {
         ReplayFault::AfterFinish(_, made) => Some(recorded_call(trace, *made)?.bit_at),
         ReplayFault::Bit(_, due) => Some(recorded_call(trace, due.calls)?.bit_at),
@@ -22,13 +16,7 @@ fn place_of(trace: &[u8], fault: &ReplayFault) -> Option<usize>
 }
 
 /// The same, where it is on this line.
-fn place_on_line(trace: &[u8], number: usize, fault: &ReplayFault) -> Option<usize>
-    ensures on_line { IfSome result (λ at. IsOnLine trace.now number at) }
-    ensures is { (at : ℕ)
-        → IsWrongByte trace.now fault.now at
-        → IsOnLine trace.now number at
-        → result ≡ Some at }
-{
+fn place_on_line(trace: &[u8], number: usize, fault: &ReplayFault) -> Option<usize> {
     let at = place_of(trace, fault)?;
     if position_of(trace, at).line != number {
         return None;
@@ -42,13 +30,7 @@ pub(crate) fn excerpt_in_line(
     trace: &[u8],
     number: usize,
     fault: &ReplayFault,
-) -> Result<Vec<u8>, AllocError>
-    ensures shows { IfOk result (λ v. ShowsLine trace.now number v.items) }
-    ensures caret { IfOk result (λ v. (at : ℕ)
-        → IsWrongByte trace.now fault.now at
-        → IsOnLine trace.now number at
-        → v.items ≡ excerpt_of_place trace.now at) }
-{
+) -> Result<Vec<u8>, AllocError> {
     let mut excerpt = Vec::new(alloc);
     let Some(at) = place_on_line(trace, number, fault) else {
         push_line(&mut excerpt, trace, number)?;

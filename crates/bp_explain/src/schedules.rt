@@ -61,7 +61,7 @@ fn explain_line<'a>(
     schedule: &[u8],
     number: u32,
 ) -> Result<Explanation<'a>, AllocError>
-    ensures { IfOk result (λ e. ExplainsLine file.now schedule.now number e) }
+    ensures { IfOk result (λ e. ExplainsLine file.now number e) }
 {
     let mut sentence = Vec::new(alloc);
     if let Some(line) = line_of(schedule, number as usize) {
@@ -79,7 +79,7 @@ fn explain_finished<'a>(
     schedule: &[u8],
     number: u32,
 ) -> Result<Explanation<'a>, AllocError>
-    ensures { IfOk result (λ e. ExplainsLine file.now schedule.now number e) }
+    ensures { IfOk result (λ e. ExplainsLine file.now number e) }
 {
     let number = number as usize;
     let mut sentence = Vec::new(alloc);
@@ -99,7 +99,7 @@ pub fn explain_schedule<'a>(
     schedule: &[u8],
     fault: &DriveFault,
 ) -> Result<Option<Explanation<'a>>, AllocError>
-    ensures { let Explains = ExplainsSchedule file.now schedule.now fault.now in
+    ensures { let Explains = ExplainsSchedule file.now fault.now in
         IfOk result (IsExplanationOf Explains) }
 {
     let explanation = match fault {

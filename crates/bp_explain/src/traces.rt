@@ -1,6 +1,6 @@
 //! Explanations of the faults of traces.
 ghost use Rattle.std.specs.Prelude.{IfOk};
-ghost use Rattle.bp_explain.specs.Explained.{ExplainsCall, ExplainsNoEnd, ExplainsSetup, ExplainsTrace};
+ghost use Rattle.bp_explain.specs.Explained.{ExplainsNoEnd, ExplainsSetup, ExplainsTrace};
 ghost use Rattle.bp_advice.specs.Explanations.{ExplainsLine, IsExplanationOf};
 
 use crate::accepted_calls::push_accepted;
@@ -70,7 +70,7 @@ fn explain_line<'a>(
     fault: &ReplayFault,
     number: u32,
 ) -> Result<Explanation<'a>, AllocError>
-    ensures { IfOk result (λ e. ExplainsLine file.now trace.now number e) }
+    ensures { IfOk result (λ e. ExplainsLine file.now number e) }
 {
     let mut sentence = Vec::new(alloc);
     push_line_fault(&mut sentence, trace, fault)?;
@@ -102,7 +102,7 @@ fn explain_call<'a>(
     fault: &ReplayFault,
     number: u32,
 ) -> Result<Explanation<'a>, AllocError>
-    ensures { IfOk result (λ e. ExplainsCall file.now trace.now number fault.now e) }
+    ensures { IfOk result (λ e. ExplainsLine file.now number e) }
 {
     let mut sentence = Vec::new(alloc);
     push_call_fault(&mut sentence, program, trace, fault)?;

@@ -7,7 +7,4 @@ pub returns : goal.returns
 returns c =
     let line : IsOneLine c.first_line.result.now = rw c.first_line.ensures (first_on_one_line c.args.words.now) in
     let one_line : IsOneLine c.extend_from_slice.new.self.items = rw (c.in_ok-extend_from_slice.ensures.items, c.new-sentence.ensures.items) line in
-    record {
-      at = record { file_is = refl; place_is = refl; one_line = one_line };
-      excerpt_is = refl;
-    }
+    record { file_is = refl; place_is = refl; one_line = one_line }
