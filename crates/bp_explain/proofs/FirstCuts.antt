@@ -3,7 +3,7 @@ use Rattle.std.proofs.Common.{◌≡◌, ◌==◌, ◌+◌, ◌<◌, ℕ, not, c
 use Rattle.std.proofs.lemmas.Bool.{ne_eqb}
 use Rattle.std.proofs.Math.Seq.{take-append_seam, drop-append-add}
 use Rattle.std.specs.List.{AllByRecursion, position_or_len, after_first}
-use Rattle.bp_text.specs.Excerpts.{first_line}
+use Rattle.bp_text.specs.OneLine.{first_line}
 use Rattle.bp_trace.specs.Writable.{Without}
 
 first_place : (a x : List ℕ) → Without 10 a → position_or_len (λ b. b == 10) (a ++ 10 ∷ x) ≡ length a

@@ -8,7 +8,7 @@ use Rattle.std.proofs.lemmas.List.{append_cancel_left}
 use Rattle.std.proofs.lemmas.List.Folds.{concat-append}
 use Rattle.bp_text.proofs.GrownLists.{others_after, regrouped}
 use Rattle.bp_text.proofs.Numerals.{numerals}
-use Rattle.bp_text.specs.Excerpts.{first_line}
+use Rattle.bp_text.specs.OneLine.{first_line}
 use Rattle.bp_machine.specs.Setups.{SetupOf, threads}
 use Rattle.bp_trace.specs.declared.versions.Version.{Version}
 use Rattle.bp_trace.specs.declared.versions.Version.TheVariants.{One, Two}

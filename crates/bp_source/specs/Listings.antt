@@ -3,7 +3,7 @@ use Rattle.std.specs.Prelude.{if◌then◌else◌, ◌==◌, ◌<◌, ℕ, Bool,
 use Rattle.std.specs.List.{after_first}
 use Rattle.bp_tree.specs.Ast.{Program}
 use Rattle.bp_text.specs.Columns.{at_left}
-use Rattle.bp_text.specs.Excerpts.{first_line}
+use Rattle.bp_text.specs.OneLine.{first_line}
 use Rattle.bp_source.specs.declared.listings.TheConstants.{INSTRUCTION_WIDTH, PLACE_WIDTH}
 use Rattle.bp_source.specs.declared.source_statements.SourceStatement.{SourceStatement}
 use Rattle.bp_source.specs.SourceStatements.{AreSourceStatements}

@@ -1,8 +1,7 @@
 -- The first line of a text is on one line.
 use Rattle.std.proofs.Common.{◌≡◌, ◌==◌, ◌+◌, ℕ, suc, Bool, true, false, not, cond, List, [], ◌∷◌, take, refl, subst, arith}
 use Rattle.std.specs.List.{position_or_len}
-use Rattle.bp_text.specs.Excerpts.{first_line}
-use Rattle.bp_text.specs.OneLine.{IsOneLine}
+use Rattle.bp_text.specs.OneLine.{first_line, IsOneLine}
 
 pub first_on_one_line : (text : List ℕ) → IsOneLine (first_line text)
 first_on_one_line [] = tt

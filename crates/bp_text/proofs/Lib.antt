@@ -6,7 +6,6 @@ pub mod Givings
 pub mod GrownLists
 pub mod ItemsOfLists
 pub mod Lengths
-mod LinesOfTexts
 mod NumberOfDigits
 pub mod Numerals
 pub mod PartsOfTexts

@@ -1,7 +1,6 @@
 pub mod Columns
 pub mod Decimals
 pub mod Displayed
-pub mod Excerpts
 pub mod JsonStrings
 pub mod OneLine
 pub mod Parts

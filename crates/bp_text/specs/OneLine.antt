@@ -1,5 +1,10 @@
--- Texts on one line.
+-- Texts on one line, and the first line of a text.
 use Rattle.std.specs.Prelude.{if◌then◌else◌, ◌≡◌, ◌==◌, ℕ, false, List, [], ◌∷◌, ◌++◌}
+use Rattle.std.specs.List.{before_first}
+
+-- the bytes before the first line feed
+abbrev pub first_line : List ℕ → List ℕ
+first_line text = before_first (λ b. b == 10) text
 
 -- no byte is a line end
 abbrev pub IsOneLine : List ℕ → Type 0

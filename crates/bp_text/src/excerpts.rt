@@ -1,7 +1,4 @@
 //! Excerpts of a text, for people: a line of it, and a caret below a place.
-ghost use Rattle.std.specs.Prelude.{◌≡◌, ◌++◌, ◌∷◌, [], OnOk, IfOk};
-ghost use Rattle.bp_text.specs.Columns.{spaces};
-ghost use Rattle.bp_text.specs.Excerpts.{dots, front_of, end_of, indented, with_caret, excerpt_of_place, excerpt_of_line, excerpt_of_fault};
 
 use crate::columns::push_spaces;
 use crate::lines::text_from_line;
@@ -21,16 +18,12 @@ const MAX_AFTER: usize = 40;
 const CUT: &[u8] = b"..";
 
 /// The dots where the bytes are more than are shown.
-fn dots(bytes: &[u8], shown: usize) -> &'static [u8]
-    ensures { result.now ≡ dots bytes.now shown }
-{
+fn dots(bytes: &[u8], shown: usize) -> &'static [u8] {
     if shown < bytes.len() { CUT } else { b"" }
 }
 
 /// The end of the bytes, after dots where they are more than are shown.
-fn end_of(alloc: Global, bytes: &[u8], shown: usize) -> Result<Vec<u8>, AllocError>
-    ensures { IfOk result (λ v. v.items ≡ end_of bytes.now shown) }
-{
+fn end_of(alloc: Global, bytes: &[u8], shown: usize) -> Result<Vec<u8>, AllocError> {
     let mut end = Vec::new(alloc);
     end.extend_from_slice(dots(bytes, shown))?;
     end.extend_from_slice(part_from(bytes, bytes.len().saturating_sub(shown)))?;
@@ -43,10 +36,7 @@ fn push_indented(
     front: &[u8],
     bytes: &[u8],
     shown: usize,
-) -> Result<(), AllocError>
-    ensures { OnOk result (out.new.items
-        ≡ out.old.items ++ indented (front.now ++ front_of bytes.now shown)) }
-{
+) -> Result<(), AllocError> {
     push_spaces(out, INDENT)?;
     out.extend_from_slice(front)?;
     out.extend_from_slice(part_before(bytes, shown))?;
@@ -56,10 +46,7 @@ fn push_indented(
 }
 
 /// Adds a line with a caret after this number of bytes.
-fn push_caret(out: &mut Vec<u8>, column: usize) -> Result<(), AllocError>
-    ensures { OnOk result (out.new.items
-        ≡ out.old.items ++ indented (spaces column ++ 94 ∷ [])) }
-{
+fn push_caret(out: &mut Vec<u8>, column: usize) -> Result<(), AllocError> {
     push_spaces(out, INDENT)?;
     push_spaces(out, column)?;
     out.push(b'^')?;
@@ -68,19 +55,14 @@ fn push_caret(out: &mut Vec<u8>, column: usize) -> Result<(), AllocError>
 }
 
 /// Adds a line of these parts, and a line with a caret below the second.
-fn push_with_caret(out: &mut Vec<u8>, front: &[u8], after: &[u8]) -> Result<(), AllocError>
-    ensures { OnOk result (out.new.items
-        ≡ out.old.items ++ with_caret front.now (front_of after.now MAX_AFTER)) }
-{
+fn push_with_caret(out: &mut Vec<u8>, front: &[u8], after: &[u8]) -> Result<(), AllocError> {
     push_indented(out, front, after, MAX_AFTER)?;
     push_caret(out, front.len())
 }
 
 /// Adds the line of the text at this place, and a line with a caret below the place. Nothing is
 /// added where that line is empty.
-pub fn push_place(out: &mut Vec<u8>, text: &[u8], at: usize) -> Result<(), AllocError>
-    ensures { OnOk result (out.new.items ≡ out.old.items ++ excerpt_of_place text.now at) }
-{
+pub fn push_place(out: &mut Vec<u8>, text: &[u8], at: usize) -> Result<(), AllocError> {
     let before = last_line(part_before(text, at));
     let after = first_line(part_from(text, at));
     if before.is_empty() && after.is_empty() {
@@ -91,9 +73,7 @@ pub fn push_place(out: &mut Vec<u8>, text: &[u8], at: usize) -> Result<(), Alloc
 }
 
 /// The excerpt for a fault that names this byte of the text, or none.
-pub fn excerpt_of(alloc: Global, text: &[u8], place: Option<u32>) -> Result<Vec<u8>, AllocError>
-    ensures { IfOk result (λ v. v.items ≡ excerpt_of_fault text.now place) }
-{
+pub fn excerpt_of(alloc: Global, text: &[u8], place: Option<u32>) -> Result<Vec<u8>, AllocError> {
     let mut excerpt = Vec::new(alloc);
     let Some(at) = place else {
         return Ok(excerpt);
@@ -104,9 +84,7 @@ pub fn excerpt_of(alloc: Global, text: &[u8], place: Option<u32>) -> Result<Vec<
 
 /// Adds the front of the line of a text that has this number. Nothing is added where there is no
 /// such line, or an empty one.
-pub fn push_line(out: &mut Vec<u8>, text: &[u8], number: usize) -> Result<(), AllocError>
-    ensures { OnOk result (out.new.items ≡ out.old.items ++ excerpt_of_line text.now number) }
-{
+pub fn push_line(out: &mut Vec<u8>, text: &[u8], number: usize) -> Result<(), AllocError> {
     let line = first_line(text_from_line(text, number));
     if line.is_empty() {
         return Ok(());

@@ -1,7 +1,7 @@
 //! Lines of a text, which are counted from 1.
 ghost use Rattle.std.specs.Prelude.{◌≡◌, ◌==◌, ◌<◌, ◌↔◌, length, IsTrue, IfSome, MatchOption};
 ghost use Rattle.std.specs.List.{after_first};
-ghost use Rattle.bp_text.specs.Excerpts.{first_line, line_at};
+ghost use Rattle.bp_text.specs.OneLine.{first_line};
 
 use crate::parts::{first_line, part_from};
 
@@ -37,9 +37,7 @@ pub fn take_line<'a>(text: &mut &'a [u8]) -> Option<Line<'a>>
 }
 
 /// The text from the line of this number on. It is empty where there is no such line.
-pub fn text_from_line(text: &[u8], number: usize) -> &[u8]
-    ensures { first_line result.now ≡ line_at text.now number }
-{
+pub fn text_from_line(text: &[u8], number: usize) -> &[u8] {
     let mut rest = text;
     for _taken in 1..number {
         if take_line(&mut rest).is_none() {
@@ -50,9 +48,7 @@ pub fn text_from_line(text: &[u8], number: usize) -> &[u8]
 }
 
 /// The line of this number.
-pub fn line_of(text: &[u8], number: usize) -> Option<Line<'_>>
-    ensures { IfSome result (λ line. line.text.now ≡ line_at text.now number) }
-{
+pub fn line_of(text: &[u8], number: usize) -> Option<Line<'_>> {
     let mut rest = text_from_line(text, number);
     take_line(&mut rest)
 }

@@ -1,7 +1,7 @@
 //! Parts of a text.
-ghost use Rattle.std.specs.Prelude.{◌≡◌, ◌==◌, ◌-◌, not, length, take, drop};
-ghost use Rattle.std.specs.List.{position_or_len, suffix_len};
-ghost use Rattle.bp_text.specs.Excerpts.{first_line, last_line};
+ghost use Rattle.std.specs.Prelude.{◌≡◌, ◌==◌, take, drop};
+ghost use Rattle.std.specs.List.{position_or_len};
+ghost use Rattle.bp_text.specs.OneLine.{first_line};
 
 /// The bytes before this offset, or all of them where the text is shorter.
 pub fn part_before(text: &[u8], at: usize) -> &[u8]
@@ -42,23 +42,12 @@ pub fn first_line(text: &[u8]) -> &[u8]
     part_before(text, line_size(text))
 }
 
-/// How many bytes there are up to the last line feed and with it, or 0 where there is none.
-fn size_before_last_line(text: &[u8]) -> usize
-    ensures { result ≡ length text.now - suffix_len (λ b. not (b == 10)) text.now }
-{
-    let mut size = text.len();
-    while size > 0 {
-        if text[size - 1] == b'\n' {
-            return size;
-        }
-        size -= 1;
-    }
-    size
-}
-
 /// The bytes after the last line feed, or all where there is none.
-pub fn last_line(text: &[u8]) -> &[u8]
-    ensures { result.now ≡ last_line text.now }
-{
-    part_from(text, size_before_last_line(text))
+pub fn last_line(text: &[u8]) -> &[u8] {
+    for at in (0..text.len()).rev() {
+        if text[at] == b'\n' {
+            return part_from(text, at + 1);
+        }
+    }
+    text
 }
