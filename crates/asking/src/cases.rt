@@ -1,6 +1,6 @@
 //! What the rounds of a case took.
 
-use bp_board::{Calls, Tap};
+use bp_run::{Calls, Tap};
 use std::io;
 use std::time::{Clock, Duration, Instant};
 

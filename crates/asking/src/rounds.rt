@@ -1,13 +1,13 @@
 //! Rounds: a new session, desk or board of one guest thread, and its asks.
 ghost use Rattle.std.specs.Prelude.{◌≡◌, true, is_some, IfOk};
 ghost use Rattle.bp_machine.specs.Setups.{threads, FitsCode};
-ghost use Rattle.bp_board.specs.Kits.{IsNamed};
+ghost use Rattle.bp_run.specs.Desks.{IsNamed};
 
 use crate::cases::{Case, RING, unexpected};
-use bp_board::limits::MAX_TURN;
-use bp_board::{Board, Calls, Desk, Kit, Seat, Tap};
 use bp_code::{Code, code_of};
 use bp_machine::{Reply, Session, Setup};
+use bp_run::limits::MAX_TURN;
+use bp_run::{Board, Calls, Desk, Kit, Seat, Tap};
 use std::alloc::Global;
 use std::io;
 use std::marker::Brand;

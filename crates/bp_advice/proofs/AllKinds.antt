@@ -1,13 +1,119 @@
 -- Each kind of token is tried, and offered where it may follow.
-use Rattle.std.proofs.Common.{◌≡◌, ◌<◌, ◌+◌, ℕ, List, [], ◌∷◌, ◌++◌, get_or, refl, sym, subst, arith, below_more}
+use Rattle.std.proofs.Common.{◌≡◌, ◌&&◌, ℕ, Bool, true, false, cond, List, [], ◌∷◌, Option, None, Some, refl, sym, ap, ◌∙◌, nat_eq, ◌<◌, ◌+◌, ◌++◌, get_or, subst, arith, below_more, ◌≢◌, ◌↔◌, IsTrue, length, inl, inr, ◌⊎◌}
+use Rattle.std.proofs.lemmas.Bool.Decides.{Decides-eqb}
+use Rattle.std.proofs.lemmas.Slice.Eq.{bytes_eq-Decides}
+use Rattle.std.specs.Map.{lookup}
+use Rattle.std.specs.Option.{unwrap_or}
+use Rattle.std.specs.Str.{bytes_eq}
 use Rattle.std.specs.List.{All, Contains}
 use Rattle.std.proofs.lemmas.List.Elements.{All-contains, All-push, Contains-append_left, Contains-push}
-use Rattle.bp_language.specs.Tokens.{IsReal}
-use Rattle.bp_syntax.specs.declared.token_kinds.TheConstants.{TOKEN_KINDS}
+use Rattle.std.proofs.lemmas.Bool.{false≢true}
+use Rattle.bp_language.specs.Tokens.{constants, symbols, long_symbols, reserved_word, reserved_words, kind_of, IsReal, Lexeme, IsCut, ends, first_bad_byte, first_open_brace, tokens_of, HasTokens}
+use Rattle.bp_language.specs.declared.tokens.LexemeKind.{LexemeKind}
+use Rattle.bp_language.specs.declared.tokens.LexemeKind.TheVariants.{White, Comment, Identifier, Braced, Constant, Symbol}
 use Rattle.bp_language.specs.declared.tokens.TokenKind.{TokenKind}
+use Rattle.bp_language.specs.declared.tokens.TokenKind.TheVariants.{Name}
 use Rattle.bp_language.specs.declared.tokens.TokenKind.TheVariants as kind
-use Rattle.bp_advice.specs.Followers.{MayFollow, MayFollowAs, IsJudged}
-use Rattle.bp_advice.proofs.OneSpelling.{one_spelling}
+use Rattle.bp_syntax.specs.Spellings.{spelling}
+use Rattle.bp_syntax.specs.declared.tokens.TheConstants.{TOKEN_KINDS}
+use Rattle.bp_syntax.specs.Refusals.{read_fault_number, OneRefusal, NoRefusalOfPrograms, IsRefusal}
+use Rattle.bp_syntax.specs.declared.faults.ReadFault.{ReadFault}
+use Rattle.bp_syntax.specs.declared.faults.ReadFault.TheVariants.{Syntax, Memory}
+use Rattle.bp_syntax.specs.Lexer.{TakesLexeme, lexeme_of}
+use Rattle.bp_advice.specs.Explanations.{MayFollow, MayFollowAs, IsJudged, IsProgram, BeginsProgram}
+
+-- A kind of token has one spelling, unless it is that of names.
+
+-- the text is the spelling of each kind that a table finds
+module _ {K : Type 0} (test : K → Bool) (text : List ℕ) where
+  abbrev Spelled : List (K × TokenKind) → Type 0
+  Spelled [] = Unit {0}
+  Spelled (e ∷ es) = (test e.0 ≡ true → text ≡ spelling e.1) × Spelled es
+
+  found : (es : List (K × TokenKind)) → Spelled es → (k : TokenKind) → lookup test es ≡ Some k → text ≡ spelling k
+  found [] p k e = absurd (cc)
+  found (x ∷ es) p k e = by (test x.0) refl (found es p.1 k) e
+    where
+      by : (b : Bool) → test x.0 ≡ b → (lookup test es ≡ Some k → text ≡ spelling k) → cond b (Some x.1) (lookup test es) ≡ Some k → text ≡ spelling k
+      by true passes later e = let same : x.1 ≡ k = cc in p.0 passes ∙ ap spelling same
+      by false fails later e = later e
+
+word : (s w : List ℕ) → bytes_eq s w ≡ true → s ≡ w
+word s w = (bytes_eq-Decides s w).0
+
+byte : (b c : ℕ) → nat_eq b c ≡ true → b ∷ [] ≡ c ∷ []
+byte b c e = ap (λ n. n ∷ []) ((Decides-eqb b c).0 e)
+
+both : (x y : Bool) → (x && y) ≡ true → (x ≡ true) × (y ≡ true)
+both true y e = (refl, e)
+both false y e = absurd (cc)
+
+two : (b c d f : ℕ) → (nat_eq b d && nat_eq c f) ≡ true → b ∷ c ∷ [] ≡ d ∷ f ∷ []
+two b c d f e =
+    let parts = both (nat_eq b d) (nat_eq c f) e in
+    let first = (Decides-eqb b d).0 parts.0 in
+    let second = (Decides-eqb c f).0 parts.1 in
+    cc (first, second)
+
+of_word : (s : List ℕ) (k : TokenKind) → reserved_word s ≡ Some k → s ≡ spelling k
+of_word s k = found (bytes_eq s) s reserved_words (
+  word s _,
+  (
+    word s _,
+    (
+      word s _,
+      (
+        word s _,
+        (
+          word s _,
+          (
+            word s _,
+            (
+              word s _,
+              (
+                word s _,
+                (word s _, (word s _, (word s _, (word s _, (word s _, (word s _, (word s _, (word s _, tt)))))))),
+              ),
+            ),
+          ),
+        ),
+      ),
+    ),
+  ),
+) k
+
+of_constant : (b : ℕ) (k : TokenKind) → lookup (nat_eq b) constants ≡ Some k → b ∷ [] ≡ spelling k
+of_constant b k = found (nat_eq b) (b ∷ []) constants (byte b _, (byte b _, tt)) k
+
+of_symbol : (b : ℕ) (k : TokenKind) → lookup (nat_eq b) symbols ≡ Some k → b ∷ [] ≡ spelling k
+of_symbol b k = found (nat_eq b) (b ∷ []) symbols (
+  byte b _,
+  (byte b _, (byte b _, (byte b _, (byte b _, (byte b _, (byte b _, (byte b _, (byte b _, (byte b _, (byte b _, tt)))))))))),
+) k
+
+of_long : (b c : ℕ) (k : TokenKind) → lookup (λ (p : ℕ × ℕ). nat_eq b p.0 && nat_eq c p.1) long_symbols ≡ Some k → b ∷ c ∷ [] ≡ spelling k
+of_long b c k = found (λ (p : ℕ × ℕ). nat_eq b p.0 && nat_eq c p.1) (b ∷ c ∷ []) long_symbols (two b c _ _, (two b c _ _, (two b c _ _, tt))) k
+
+of_identifier : (s : List ℕ) (o : Option TokenKind) (k : TokenKind) → reserved_word s ≡ o → unwrap_or o Name ≡ k → (k ≡ Name → ⊥) → s ≡ spelling k
+of_identifier s None k is e other = absurd (other (sym e))
+of_identifier s (Some j) k is e other = of_word s k (is ∙ ap Some e)
+
+module _ (k : TokenKind) (other : k ≡ Name → ⊥) where
+  of_lexeme : (l : LexemeKind) (s : List ℕ) → kind_of l s ≡ Some k → s ≡ spelling k
+  of_lexeme White s e = absurd (cc)
+  of_lexeme Comment s e = absurd (cc)
+  of_lexeme Identifier s e = of_identifier s (reserved_word s) k refl (cc) other
+  of_lexeme Braced s e = absurd (other (cc))
+  of_lexeme Constant [] e = absurd (cc)
+  of_lexeme Constant (b ∷ []) e = of_constant b k e
+  of_lexeme Constant (b ∷ c ∷ s) e = absurd (cc)
+  of_lexeme Symbol [] e = absurd (cc)
+  of_lexeme Symbol (b ∷ []) e = of_symbol b k e
+  of_lexeme Symbol (b ∷ c ∷ []) e = of_long b c k e
+  of_lexeme Symbol (b ∷ c ∷ d ∷ s) e = absurd (cc)
+
+  pub one_spelling : (s t : List ℕ) → IsReal (record { kind = k; at = 0; text = s }) → IsReal (record { kind = k; at = 0; text = t }) → s ≡ t
+  one_spelling s t p q = of_lexeme p.lexeme s p.spells ∙ sym (of_lexeme q.lexeme t q.spells)
 
 -- a token of the kind was tried, and is among these kinds if it may follow
 pub record IsTried (front : List ℕ) (kinds : List TokenKind) (kind : TokenKind) : Type 0 where
@@ -102,3 +208,75 @@ all_judged front kinds n p all k =
     let q = placed k in
     let within = q.within in
     judged front kinds k p.only (subst (IsTried front kinds) q.is (p.tried q.place (omega (arith, within, all))))
+
+-- What a refusal says of a text that may be the front of a program.
+
+-- a fault of the text that is not of memory
+module _ (text : List ℕ) (e : ReadFault) (refused : IsRefusal text e) (is_memory : Bool)
+    (means : IsTrue is_memory ↔ (e ≡ Memory)) (other : is_memory ≡ false) where
+  differs : e ≢ Memory
+  differs m = false≢true (sym other ∙ means.1 m)
+
+  syntax_differs : (n : ℕ) → Syntax n ≢ Memory
+  syntax_differs n m = let six : 6 ≡ 7 = ap read_fault_number m in omega (arith, six)
+
+  pub no_program : NoRefusalOfPrograms → IsTrue false ↔ IsProgram text
+  no_program none = ((λ t. absurd (false≢true t)), λ p. absurd (differs (none text p.program e p.derived refused)))
+
+  pub front_of_program : OneRefusal → NoRefusalOfPrograms → (early : Bool) → (IsTrue early ↔ (e ≡ Syntax (length text))) → IsTrue early ↔ BeginsProgram text
+  front_of_program one none early is = (
+    (λ t. inr (subst (IsRefusal text) (is.0 t) refused)),
+    λ b.
+        elim b [
+          | inl p ↦ absurd (differs (none text p.program e p.derived refused))
+          | inr r ↦ is.1 (one text e (Syntax (length text)) differs (syntax_differs (length text)) refused r)
+        ],
+  )
+
+-- A text that begins with white or a comment has the tokens of the rest.
+
+-- the lexemes of the text from this place on are white and comments
+pub record HasGapsFrom (at : ℕ) (text : List ℕ) : Type 0 where
+  pub lexemes : List Lexeme
+  pub cut : IsCut at text lexemes
+  pub good : first_bad_byte lexemes ≡ None
+  pub closed : first_open_brace lexemes ≡ None
+  pub tokens : tokens_of lexemes ≡ []
+
+abbrev pub HasOnlyGaps : List ℕ → Type 0
+HasOnlyGaps text = (at : ℕ) → HasGapsFrom at text
+
+pub no_gaps : HasOnlyGaps []
+no_gaps at = record { lexemes = []; cut = ends; good = refl; closed = refl; tokens = refl }
+
+pub has_no_tokens : (text : List ℕ) → HasOnlyGaps text → HasTokens text []
+has_no_tokens text gaps =
+    let all = gaps 0 in
+    record { lexemes = all.lexemes; cut = all.cut; good = all.good; closed = all.closed; tokens = all.tokens }
+
+module _ (text bytes rest : List ℕ) (gaps : HasOnlyGaps rest) where
+  after_white : TakesLexeme text (Some White) bytes rest → HasOnlyGaps text
+  after_white taken at =
+      let more = gaps (at + taken.size) in
+      record {
+        lexemes = lexeme_of (Some White) at bytes ∷ more.lexemes;
+        cut = taken.cut at more.lexemes more.cut;
+        good = more.good;
+        closed = more.closed;
+        tokens = more.tokens;
+      }
+
+  after_comment : TakesLexeme text (Some Comment) bytes rest → HasOnlyGaps text
+  after_comment taken at =
+      let more = gaps (at + taken.size) in
+      record {
+        lexemes = lexeme_of (Some Comment) at bytes ∷ more.lexemes;
+        cut = taken.cut at more.lexemes more.cut;
+        good = more.good;
+        closed = more.closed;
+        tokens = more.tokens;
+      }
+
+  pub after_gap : (kind : Option LexemeKind) → TakesLexeme text kind bytes rest → (kind ≡ Some White) ⊎ (kind ≡ Some Comment) → HasOnlyGaps text
+  after_gap kind taken (inl is) = after_white (subst (λ k. TakesLexeme text k bytes rest) is taken)
+  after_gap kind taken (inr is) = after_comment (subst (λ k. TakesLexeme text k bytes rest) is taken)

@@ -1,5 +1,2 @@
-mod AllKinds
-pub mod Followed
-pub mod Gaps
-mod OneSpelling
+pub mod AllKinds
 pub mod PlainTexts

@@ -1,11 +1,24 @@
--- The parts of an explanation, and the lines that show it.
-use Rattle.std.specs.Prelude.{if◌then◌else◌, ◌≡◌, ◌==◌, ◌||◌, ◌&&◌, nat_le, ℕ, Bool, true, List, [], ◌∷◌, ◌++◌, Option, None, Some, All, map, decimal}
-use Rattle.bp_text.specs.Displayed.{displayed}
-use Rattle.bp_text.specs.OneLine.{IsOneLine}
-use Rattle.bp_text.specs.Positions.{position_at}
+-- Explanations: their parts, and what explains a fault of a program.
+use Rattle.std.specs.Prelude.{if◌then◌else◌, ◌≡◌, ◌==◌, ◌||◌, ◌&&◌, nat_le, ℕ, Bool, true, List, [], ◌∷◌, ◌++◌, Option, None, Some, All, map, decimal, ◌≢◌, ◌⊎◌, length, ◌≤◌, take, drop}
+use Rattle.bp_text.specs.Pieces.{displayed}
+use Rattle.bp_text.specs.Lines.{IsOneLine, position_at}
+use Rattle.bp_language.specs.Ast.{Program}
+use Rattle.bp_language.specs.Texts.{IsTextOf}
+use Rattle.bp_language.specs.Tokens.{IsReal, HasTokens}
+use Rattle.bp_language.specs.declared.tokens.TokenKind.{TokenKind}
+use Rattle.bp_language.specs.declared.tokens.TokenKind.TheVariants.{Name}
+use Rattle.bp_language.specs.declared.faults.CheckFault.TheVariants as check
+use Rattle.bp_syntax.specs.Refusals.{IsRefusal}
+use Rattle.bp_syntax.specs.declared.faults.ReadFault.TheVariants.{Syntax}
+use Rattle.bp_syntax.specs.declared.faults.ReadFault.TheVariants as read
+use Rattle.bp_code.specs.LawfulTexts.{program_fault_place}
+use Rattle.bp_code.specs.declared.texts.ProgramFault.{ProgramFault}
+use Rattle.bp_code.specs.declared.texts.ProgramFault.TheVariants.{Read, Check}
 use Rattle.bp_advice.specs.declared.explanations.Explanation.{Explanation}
 use Rattle.bp_advice.specs.declared.explanations.Place.{Place}
 use Rattle.bp_advice.specs.declared.explanations.Place.TheVariants.{Whole, Line, At}
+
+-- The parts of an explanation, and the lines that show it.
 
 -- the explanation is of this place of a file, by a sentence on one line
 pub record IsAt (file : List ℕ) (place : Place) (e : Explanation) : Type 0 where
@@ -73,3 +86,58 @@ sentence_of e = map shown e.sentence.items
 abbrev pub lines_of : Explanation → List ℕ
 lines_of e =
     map shown (head_of e.file.now e.place ++ e.sentence.items ++ 10 ∷ e.excerpt.items)
+
+-- With which tokens a text may continue.
+
+-- the text is a program
+pub record IsProgram (text : List ℕ) : Type 0 where
+  pub program : Program
+  pub derived : IsTextOf text program
+
+-- a program begins with the text: it is one, or it only ends too early
+abbrev pub BeginsProgram : List ℕ → Type 0
+BeginsProgram text = IsProgram text ⊎ IsRefusal text (Syntax (length text))
+
+-- a program begins with the front and, on the next line, the token
+abbrev pub MayFollow : List ℕ → List ℕ → Type 0
+MayFollow front token = BeginsProgram (front ++ 10 ∷ token)
+
+-- a program begins with the front and, on the next line, some token of this kind
+pub record MayFollowAs (front : List ℕ) (kind : TokenKind) : Type 0 where
+  pub token : List ℕ
+  pub real : IsReal (record { kind = kind; at = 0; text = token })
+  pub follows : MayFollow front token
+
+-- A kind is offered after the front where a token of it may follow, and nowhere else. For names one
+-- is tried: where they are not offered, that one may not follow.
+pub record IsJudged (front : List ℕ) (kind : TokenKind) (offered : Type 0) : Type 0 where
+  pub only : offered → MayFollowAs front kind
+  pub all : kind ≢ Name → MayFollowAs front kind → offered
+  pub name : List ℕ
+  pub real : IsReal (record { kind = kind; at = 0; text = name })
+  pub tried : MayFollow front name → offered
+
+-- What explains a fault of a program.
+
+-- a semicolon is missing at this place, before the token that cannot come at `at`: a program may go
+-- on with one there, and from there to the token is white and comments alone
+pub record MissesSemicolon (text : List ℕ) (at place : ℕ) : Type 0 where
+  pub before : place ≤ at
+  pub gap : HasTokens (drop place (take at text)) []
+  pub follows : MayFollow (take place text) (59 ∷ [])
+
+-- the explanation is of this place of a token that cannot come there, or of one where a semicolon
+-- is missing
+abbrev pub ExplainsSyntax : List ℕ → List ℕ → ℕ → Explanation → Type 0
+ExplainsSyntax file text at e =
+    (place : ℕ) × ((place ≡ at) ⊎ MissesSemicolon text at place)
+    × ExplainsPlace file text (Some place) e
+
+-- the explanation of a fault of a program's text: none of refused memory, and of a text that is too
+-- long, which was not read whole
+abbrev pub ExplainsProgram : List ℕ → List ℕ → ProgramFault → Explanation → Type 0
+ExplainsProgram file text (Read read.Memory) e = ⊥
+ExplainsProgram file text (Read read.TooLong) e = ⊥
+ExplainsProgram file text (Read (read.Syntax at)) e = ExplainsSyntax file text at e
+ExplainsProgram file text (Check check.Memory at) e = ⊥
+ExplainsProgram file text fault e = ExplainsPlace file text (program_fault_place fault) e

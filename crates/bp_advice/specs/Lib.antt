@@ -1,3 +1,1 @@
-pub mod ExplainedPrograms
 pub mod Explanations
-pub mod Followers

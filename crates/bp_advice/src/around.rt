@@ -1,8 +1,8 @@
 //! The tokens around a place of a program text.
+//! The token at a place of a program text.
 ghost use Rattle.std.specs.Prelude.{◌≤◌, [], length, IsTrue};
-ghost use Rattle.bp_language.specs.Cut.{HasTokens};
+ghost use Rattle.bp_language.specs.Tokens.{HasTokens};
 
-use crate::tokens_at::token_at;
 use bp_syntax::{is_reserved, take_lexeme};
 use bp_text::{part_before, part_from};
 
@@ -124,5 +124,14 @@ impl<'a> Around<'a> {
         } else {
             None
         }
+    }
+}
+
+/// The token at this place of a text. It has no bytes where the text ends.
+pub(crate) fn token_at(text: &[u8], at: usize) -> &[u8] {
+    let mut rest = part_from(text, at);
+    match take_lexeme(&mut rest) {
+        Some(lexeme) => lexeme.text,
+        None => part_before(text, 0),
     }
 }

@@ -3,18 +3,19 @@ ghost use Rattle.std.specs.Prelude.{◌≡◌, IfOk};
 ghost use Rattle.bp_language.specs.Faults.{check_fault_place};
 ghost use Rattle.bp_advice.specs.Explanations.{ExplainsPlace};
 
-use crate::counts::{argument_count, side_counts};
-use crate::declared::{Role, first_named, first_procedure, procedure_around, role_at, tree_of};
+use crate::around::token_at;
+use crate::declared::{
+    Role, argument_count, first_named, first_procedure, procedure_around, role_at, side_counts,
+    tree_of,
+};
 use crate::explanations::{Explanation, about_place};
 use crate::guesses::{push_near_label, push_near_procedure, push_near_variable};
 use crate::sentences::Part::{Count, Number, Place, Quoted, Words};
 use crate::sentences::{Part, push_all, push_parts};
-use crate::tokens_at::token_at;
-use bp_language::CheckFault;
 use bp_language::limits::{MAX_GLOBALS, MAX_OWN_NAMES, MAX_PROCEDURES};
+use bp_language::{CheckFault, Name};
 use bp_syntax::Tree;
 use bp_text::position_of;
-use bp_tree::Name;
 use std::alloc::{AllocError, Global};
 
 /// Adds words, a name in quotes, and more words.

@@ -3,8 +3,8 @@
 use crate::declared::{procedure_around, text_of_procedure};
 use crate::sentences::Part::{Quoted, Words};
 use crate::sentences::push_parts;
+use bp_language::{Name, Proc};
 use bp_syntax::{Tree, take_lexeme};
-use bp_tree::{Name, Proc};
 use std::alloc::{AllocError, Global};
 use strsim::osa_distance;
 

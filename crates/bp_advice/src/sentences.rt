@@ -1,6 +1,6 @@
 //! The parts of sentences: words, numbers, and names in quotes.
-
-use bp_text::part_before;
+//! Numbers at the front of lines of traces and schedules.
+use bp_text::{number_of, part_before, part_from};
 use itoa::Buffer;
 use std::alloc::AllocError;
 
@@ -85,4 +85,17 @@ fn push_quoted(out: &mut Vec<u8>, name: &[u8]) -> Result<(), AllocError> {
     push_all(out, &[b"'"])?;
     push_name(out, name)?;
     push_all(out, &[b"'"])
+}
+
+/// A greater number is no number of a thread, and too large for each limit.
+const MAX_NUMBER: u64 = 999_999_999;
+
+/// The number before the first space of a line, and what follows that space.
+pub fn number_at_front(line: &[u8]) -> Option<(u32, &[u8])> {
+    let end = line.iter().position(|byte| *byte == b' ')?;
+    let number = number_of(part_before(line, end))?;
+    if number > MAX_NUMBER {
+        return None;
+    }
+    Some((number as u32, part_from(line, end.saturating_add(1))))
 }

@@ -1,6 +1,20 @@
 -- What a match on an argument's value says of the rows of a parse.
-use Rattle.std.proofs.Common.{◌≡◌, refl, codes, map, option_map, unwrap_or, List, [], ◌∷◌, Bor, Option, Some, None}
-use Rattle.clap.specs.Walk.{Text}
+use Rattle.std.proofs.Common.{◌≡◌, refl, codes, map, option_map, unwrap_or, List, [], ◌∷◌, Bor, Option, Some, None, ◌∙◌, ap, sym, Bool, true, false, if◌then◌else◌, ◌^◌, ℕ, inl, inr, Result, Ok, Err, find, option_and_then, length, nat_lt, ltb-true, lt-ltb}
+use Rattle.clap.specs.Walk.{Text, Row, row_of, rows_of}
+use Rattle.std.specs.Str.{bytes_eq}
+use Rattle.clap.proofs.WalkLemmas.{find_row, both}
+use Rattle.clap.specs.Facts.{Entry}
+use Rattle.clap.specs.Matches.{matched_of, ReadsOne}
+use Rattle.clap.specs.declared.parser.matches.Found.{Found}
+use Rattle.clap.specs.declared.parser.matches.MatchedArg.{MatchedArg}
+use Rattle.clap.specs.declared.parser.matches.ValueSource.{ValueSource}
+use Rattle.std.specs.List.{list_all}
+use Rattle.std.specs.Char.{digit_value}
+use Rattle.std.specs.Str.Parse.{AllDigits, IsNumeral, without_leading_plus, ParsesUnsigned}
+use Rattle.clap.specs.ValueTests.{is_numeral}
+use Rattle.bp_arguments.specs.Misuses.{is_from_line, is_on_line, option_name}
+use Rattle.bp_arguments.specs.declared.misuses.OptionName.{OptionName}
+use Rattle.bp_arguments.specs.Values.{is_number_text, number_in, number_of, IsNumberIn, IsNumberText, IsNumberOf}
 
 read_or : (given : Option (Bor Text)) (first : Option Text) (r d : Bor Text) → option_map (λ s. s.now) given ≡ first
     → r ≡ unwrap_or given d → d.now ≡ [] → r.now ≡ unwrap_or first []
@@ -24,3 +38,87 @@ module _ (given : Option (Bor (List (Bor Text)))) (all : Option (List Text)) (sa
 
   pub no_names_read : given ≡ None → (codes "main" ∷ []) ≡ unwrap_or all (codes "main" ∷ [])
   no_names_read is = rw (← same, is) refl
+
+-- Which options the arguments gave, and the first pair of them that clashes.
+
+-- where the value of an argument came from, by the rows
+pub source-rows : (f : Found) (id : Text) → option_and_then (λ (a : MatchedArg). a.source) (matched_of f id)
+    ≡ option_and_then (λ (r : Row). r.source) (find (λ r. bytes_eq r.id id) (rows_of f))
+source-rows f id = go (find (λ e. bytes_eq e.0.now id) f.entries.items) ∙ ap (option_and_then (λ (r : Row). r.source)) (sym (find_row f.entries.items id))
+  where
+    go : (o : Option Entry) → option_and_then (λ (a : MatchedArg). a.source) (option_map (λ e. e.1) o)
+        ≡ option_and_then (λ (r : Row). r.source) (option_map row_of o)
+    go None = refl
+    go (Some e) = refl
+
+pub given_is : (f : Found) (o : OptionName) (name : Text) (source : Option ValueSource) → name ≡ option_name o
+    → source ≡ option_and_then (λ (a : MatchedArg). a.source) (matched_of f name) → is_from_line source ≡ is_on_line (rows_of f) o
+given_is f o name source named is =
+    ap is_from_line (is ∙ source-rows f name)
+    ∙ ap (λ n. is_from_line (option_and_then (λ (r : Row). r.source) (find (λ r. bytes_eq r.id n) (rows_of f)))) named
+
+-- the first element that has a property, where the first one has it or not
+pub find_first : {X : Type 0} (p : X → Bool) (x : X) (xs : List X) → p x ≡ true → find p (x ∷ xs) ≡ Some x
+find_first p x xs e = rw e refl
+
+pub find_later : {X : Type 0} (p : X → Bool) (x : X) (xs : List X) → p x ≡ false → find p (x ∷ xs) ≡ find p xs
+find_later p x xs e = rw e refl
+
+-- The number of a text as a relation, and as a function.
+
+digits_from : (ds : List ℕ) → list_all (λ d. nat_lt (digit_value d) 10) ds ≡ true → AllDigits 10 ds
+digits_from [] e = tt
+digits_from (d ∷ ds) e = let parts = both _ _ e in (ltb-true _ _ parts.0, digits_from ds parts.1)
+
+digits_back : (ds : List ℕ) → AllDigits 10 ds → list_all (λ d. nat_lt (digit_value d) 10) ds ≡ true
+digits_back [] h = refl
+digits_back (d ∷ ds) h = rw (lt-ltb (digit_value d) 10 h.0) (digits_back ds h.1)
+
+numeral_back : (ds : List ℕ) → IsNumeral 10 ds → is_numeral ds ≡ true
+numeral_back ds h = rw (lt-ltb 0 (length ds) h.0) (digits_back ds h.1)
+
+is_a_number : (bits : ℕ) (t : Text) → IsNumberText bits t → is_number_text bits t ≡ true
+is_a_number bits t h = rw (numeral_back (without_leading_plus t) h.0) (lt-ltb (number_of t) (2 ^ bits) h.1)
+
+a_number_is : (bits : ℕ) (t : Text) → is_number_text bits t ≡ true → IsNumberText bits t
+a_number_is bits t e =
+    let parts = both _ _ e in
+    let numeral = both _ _ parts.0 in
+    ((ltb-true _ _ numeral.0, digits_from _ numeral.1), ltb-true _ _ parts.1)
+
+read_as_number : (b : Bool) (n : ℕ) → b ≡ true → (if b then Some n else None) ≡ Some n
+read_as_number true n e = refl
+read_as_number false n e = absurd cc
+
+no_number : (b : Bool) (n : ℕ) → (b ≡ true → ⊥) → (if b then Some n else None) ≡ None
+no_number true n unlike = absurd (unlike refl)
+no_number false n unlike = refl
+
+-- the number that is read of a text is that of the text
+pub number_is : (bits : ℕ) (text : Option Text) (read : Option ℕ) → IsNumberIn bits text read → read ≡ number_in bits text
+number_is bits None read is = is
+number_is bits (Some t) (Some n) (lawful, is) =
+    ap Some is ∙ sym (read_as_number (is_number_text bits t) (number_of t) (is_a_number bits t lawful))
+number_is bits (Some t) None none =
+    sym (no_number (is_number_text bits t) (number_of t) (λ e. none (a_number_is bits t e)))
+
+-- The number of an option, from what a parse reads of it.
+
+module _ {E : Type 0} (bits : ℕ) (gives : Text → Result ℕ E → Type 0) (parses : (t : Text) (r : Result ℕ E) → gives t r → ParsesUnsigned bits 10 t r) where
+  read_of : (default : ℕ) (t : Text) (read : Option ℕ) → ReadsOne gives t read → IsNumberOf bits default (Some t) (unwrap_or read default)
+  read_of default t (Some n) reads = let known = parses t (Ok n) reads in inl (known.0, known.1)
+  read_of default t None (e, reads) = let known = parses t (Err e) reads in inr (known, refl)
+
+  pub number_given : (default : ℕ) (text : Option Text) (read : Option ℕ) (n : ℕ) → n ≡ unwrap_or read default → (text ≡ None → read ≡ None)
+      → ((t : Text) → text ≡ Some t → ReadsOne gives t read) → IsNumberOf bits default text n
+  number_given default None read n is none some = is ∙ ap (λ r. unwrap_or r default) (none refl)
+  number_given default (Some t) read n is none some = rw is (read_of default t read (some t refl))
+
+  read_in : (t : Text) (read : Option ℕ) → ReadsOne gives t read → IsNumberIn bits (Some t) read
+  read_in t (Some n) reads = let known = parses t (Ok n) reads in (known.0, known.1)
+  read_in t None (e, reads) = parses t (Err e) reads
+
+  pub number_read : (text : Option Text) (read : Option ℕ) → (text ≡ None → read ≡ None)
+      → ((t : Text) → text ≡ Some t → ReadsOne gives t read) → IsNumberIn bits text read
+  number_read None read none some = none refl
+  number_read (Some t) read none some = read_in t read (some t refl)

@@ -1,8 +1,3 @@
-mod CommandShapes
-mod GivenArguments
 mod NoHelpEntered
-mod NoTaskKinds
-mod NumberGiven
-mod NumberTexts
-mod OptionsGiven
+mod GivenArguments
 mod ArgumentFaults

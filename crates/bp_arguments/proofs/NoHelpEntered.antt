@@ -1,18 +1,49 @@
 -- Where arguments have no fault, the command that they name is one of ours: at `help` a parse ends.
-use Rattle.std.proofs.Common.{refl, codes, not, ◌&&◌, ◌||◌, cond, option_map, inl, inr, ◌⊎◌, ℕ, Bool, true, false, List, Option, Some, None, is_some, [], ◌∷◌, ◌≡◌, arith}
+use Rattle.std.proofs.Common.{◌≡◌, ◌∙◌, ap, refl, false, Result, Ok, Err, IfOk, codes, not, ◌&&◌, ◌||◌, cond, option_map, inl, inr, ◌⊎◌, ℕ, Bool, true, List, Option, Some, None, is_some, [], ◌∷◌, arith, subst, find}
+use Rattle.clap.specs.Built.{AddsArg, AddsSubcommand}
+use Rattle.clap.specs.Walk.{Rule, rule_of, Held, Names, Row, Step, next, trailing, subcommand, value, Text, Waiting, idle, option, positional, Walk, Outcome, done, waits, plain, refused, arg_by_long, arg_by_index, answers_to, plain_word, after_flag, long_met, bundle, short_or_plain, long_or_other, subcommand_met, subcommand_or_other, word_met, to_positional, after_step, walked, walked_from, walk_from, nothing_held, stop_after}
+use Rattle.clap.specs.Simple.{App, app_of, shape_of, with_rule, with_subcommand, Shape, built, entered, names_of, label_of, rows_at, subcommand_of, argument_words}
+use Rattle.clap.specs.declared.builder.arg.Arg.{Arg}
+use Rattle.clap.specs.declared.builder.command.Command.{Command}
+use Rattle.clap.specs.declared.builder.command.Command.TheViews.{out-Command}
 use Rattle.std.specs.List.{fold}
-use Rattle.std.specs.Prelude.{find}
 use Rattle.std.specs.Str.{bytes_eq}
 use Rattle.std.proofs.lemmas.Slice.Eq.{bytes_eq-Decides}
-use Rattle.clap.specs.Kinds.{Kinds, or_else}
+use Rattle.clap.specs.Kinds.{Kinds, or_else, IsAmong}
 use Rattle.clap.specs.Faults.{other_fault, word_fault, step_fault, turn_fault, walk_fault, fault_of}
 use Rattle.clap.specs.Lexer.{long_of, short_of}
-use Rattle.clap.specs.Simple.{Shape, built, entered, names_of, label_of, rows_at, subcommand_of, argument_words}
-use Rattle.clap.specs.Walk.{Held, Names, Rule, Row, Step, next, trailing, subcommand, value, Text, Waiting, idle, option, positional, Walk, Outcome, done, waits, plain, refused, arg_by_long, arg_by_index, answers_to, plain_word, after_flag, long_met, bundle, short_or_plain, long_or_other, subcommand_met, subcommand_or_other, word_met, to_positional, after_step, walked, walked_from, walk_from, nothing_held, stop_after}
 use Rattle.clap.proofs.OnLiterals.{clap_on_literals}
+use Rattle.clap.specs.declared.error.kind.ErrorKind.{ErrorKind}
+use Rattle.clap.specs.declared.error.kind.ErrorKind.TheVariants.{OutOfMemory}
 use Rattle.bp_arguments.specs.Commands.{btrun_app, IsOurs}
-use Rattle.bp_arguments.specs.declared.names.Named.TheVariants as name
-use Rattle.bp_arguments.specs.Names.{IsNamed}
+use Rattle.bp_arguments.specs.declared.table.Named.TheVariants as name
+use Rattle.bp_arguments.specs.Values.{IsNamed}
+use Rattle.bp_arguments.specs.NoTasks.{IsOfKind, IsOfOne}
+use Rattle.bp_arguments.specs.declared.no_tasks.NoTask.{NoTask}
+use Rattle.bp_arguments.specs.declared.no_tasks.NoTask.TheVariants.{Memory}
+
+-- What a command is after one more argument, or one more subcommand.
+
+-- the command has this shape, and no argument for all subcommands
+abbrev pub HasShape : App → Command → Type 0
+HasShape app c = (app_of c ≡ app) × ((out-Command c).has_globals ≡ false)
+
+pub with_argument : (old new : Command) (a : Arg) (app : App) (r : Rule) → HasShape app old
+    → (rule_of a ≡ r) × (a.global ≡ false) → AddsArg old a new → HasShape (with_rule app r) new
+with_argument old new a app r has is adds =
+    (adds.shape is.1 ∙ (ap (λ x. with_rule x (rule_of a)) has.0 ∙ ap (with_rule app) is.0), adds.globals ∙ (rw (has.1, is.1) refl))
+
+pub with_command : (old new sub : Command) (app below : App) → app_of old ≡ app → HasShape below sub
+    → AddsSubcommand old sub new → app_of new ≡ with_subcommand app below.top
+with_command old new sub app below is has adds =
+    adds.shape has.1 ∙ (ap (λ x. with_subcommand x (shape_of sub)) is ∙ ap (λ x. with_subcommand app x.top) has.0)
+
+pub if_ok : {X E : Type 0} (r : Result X E) (P Q : X → Type 0) → ((x : X) → P x → Q x) → IfOk r P → IfOk r Q
+if_ok (Ok x) P Q moves known = moves x known
+if_ok (Err e) P Q moves known = tt
+
+pub of_same_shape : (app other : App) → app ≡ other → (c : Command) → HasShape app c → HasShape other c
+of_same_shape app other same c is = (is.0 ∙ same, is.1)
 
 -- the step enters no `help`, and the walk did not stop there
 abbrev NoHelpStep : Step → Type 0
@@ -169,3 +200,20 @@ pub named_ours : (arguments : List Text) → fault_of btrun_app arguments ≡ []
 named_ours arguments clean =
     entered_ours (stop_after (built btrun_app).top.rules (names_of (built btrun_app)) (argument_words btrun_app arguments))
     (all_fine (built btrun_app).top enabled (names_of (built btrun_app)) (argument_words btrun_app arguments) (walk_from nothing_held) tt (or_left _ _ clean))
+
+-- What is said in place of a task is of one of the kinds of errors that come.
+
+of_one : (kinds : Kinds) (k : ErrorKind) (none : NoTask) → IsAmong k kinds → IsOfKind k none → IsOfOne kinds none
+of_one [] k none is of = is
+of_one (x ∷ xs) k none (inl is) of = inl (subst (λ y. IsOfKind y none) is of)
+of_one (x ∷ xs) k none (inr is) of = inr (of_one xs k none is of)
+
+of_memory : (k : ErrorKind) (none : NoTask) → k ≡ OutOfMemory → (none ≡ Memory) ⊎ IsOfKind k none → none ≡ Memory
+of_memory k none is (inl memory) = memory
+of_memory k none is (inr of) = subst (λ y. IsOfKind y none) is of
+
+pub of_kinds : (kinds : Kinds) (k : ErrorKind) (none : NoTask) → (k ≡ OutOfMemory) ⊎ IsAmong k kinds
+    → (none ≡ Memory) ⊎ IsOfKind k none → (none ≡ Memory) ⊎ IsOfOne kinds none
+of_kinds kinds k none (inl memory) of = inl (of_memory k none memory of)
+of_kinds kinds k none (inr is) (inl memory) = inl memory
+of_kinds kinds k none (inr is) (inr of) = inr (of_one kinds k none is of)

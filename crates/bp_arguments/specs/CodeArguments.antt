@@ -1,11 +1,10 @@
 -- What the arguments after `code` ask for.
 use Rattle.std.specs.Prelude.{◌≡◌, true, false, List, codes}
 use Rattle.clap.specs.Walk.{Row, one_of}
-use Rattle.bp_tasks.specs.declared.listing_forms.ListingForm.{ListingForm}
-use Rattle.bp_tasks.specs.declared.listing_forms.ListingForm.TheVariants.{Lines, Sourced, Json}
+use Rattle.bp_tasks.specs.declared.tasks.ListingForm.{ListingForm}
+use Rattle.bp_tasks.specs.declared.tasks.ListingForm.TheVariants.{Lines, Sourced, Json}
 use Rattle.bp_tasks.specs.declared.tasks.CodeTask.{CodeTask}
-use Rattle.bp_arguments.specs.Explains.{IsExplainingOf}
-use Rattle.bp_arguments.specs.Values.{value_of, IsFlagOf}
+use Rattle.bp_arguments.specs.Values.{IsExplainingOf, value_of, IsFlagOf}
 
 -- the listing is JSON where that is asked for, and else has the source where that is
 abbrev pub IsFormOf : List Row → ListingForm → Type 0

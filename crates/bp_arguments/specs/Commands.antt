@@ -11,20 +11,13 @@ use Rattle.clap.specs.declared.builder.value_parser.ValueParser.TheVariants as p
 use Rattle.bp_arguments.specs.declared.arguments.Row.{Row as TableRow}
 use Rattle.bp_arguments.specs.declared.arguments.Takes.{Takes}
 use Rattle.bp_arguments.specs.declared.arguments.Takes.TheVariants as takes
-use Rattle.bp_arguments.specs.declared.names.Named.{Named}
-use Rattle.bp_arguments.specs.declared.names.Named.TheVariants as name
-use Rattle.bp_arguments.specs.declared.names.TheConstants.{NAMED}
-use Rattle.bp_arguments.specs.Names.{command_name, IsNamed}
+use Rattle.bp_arguments.specs.declared.table.Named.{Named}
+use Rattle.bp_arguments.specs.declared.table.Named.TheVariants as name
+use Rattle.bp_arguments.specs.declared.table.TheConstants.{NAMED}
+use Rattle.bp_arguments.specs.Values.{command_name, IsNamed}
 use Rattle.bp_arguments.specs.Misuses.{misuse_fault}
-use Rattle.bp_arguments.specs.CheckArguments.{IsCheckArgumentsOf}
+use Rattle.bp_arguments.specs.CommandArguments.{IsCheckArgumentsOf, IsConfirmOf, IsDriveOf, IsExploreOf, IsRunOf, IsShowOf, IsTestOf, IsTraceArgumentsOf}
 use Rattle.bp_arguments.specs.CodeArguments.{IsCodeArgumentsOf}
-use Rattle.bp_arguments.specs.ConfirmArguments.{IsConfirmOf}
-use Rattle.bp_arguments.specs.DriveArguments.{IsDriveOf}
-use Rattle.bp_arguments.specs.ExploreArguments.{IsExploreOf}
-use Rattle.bp_arguments.specs.RunArguments.{IsRunOf}
-use Rattle.bp_arguments.specs.ShowArguments.{IsShowOf}
-use Rattle.bp_arguments.specs.TestArguments.{IsTestOf}
-use Rattle.bp_arguments.specs.TraceArguments.{IsTraceArgumentsOf}
 use Rattle.bp_tasks.specs.declared.tasks.CheckTask.{CheckTask}
 use Rattle.bp_tasks.specs.declared.tasks.CodeTask.{CodeTask}
 use Rattle.bp_tasks.specs.declared.tasks.ConfirmTask.{ConfirmTask}

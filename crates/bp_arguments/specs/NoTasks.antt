@@ -1,10 +1,22 @@
 -- What is said where arguments ask for no task.
-use Rattle.std.specs.Prelude.{◌≡◌, ◌⊎◌, [], ◌∷◌, Result, MatchResult}
+use Rattle.std.specs.Prelude.{if◌then◌else◌, Bool, true, false, List, [], ◌∷◌, codes, ◌≡◌, ◌⊎◌, Result, MatchResult}
+use Rattle.std.specs.Str.{bytes_eq}
+use Rattle.clap.specs.Walk.{Text}
 use Rattle.clap.specs.Kinds.{Kinds}
 use Rattle.clap.specs.declared.error.kind.ErrorKind.{ErrorKind}
 use Rattle.clap.specs.declared.error.kind.ErrorKind.TheVariants.{OutOfMemory, DisplayHelp, DisplayVersion}
 use Rattle.bp_arguments.specs.declared.no_tasks.NoTask.{NoTask}
 use Rattle.bp_arguments.specs.declared.no_tasks.NoTask.TheVariants.{Memory, Printed, Refused}
+
+-- What arguments ask for where they are refused.
+
+-- a word asks for JSON; after a word `--` none does
+abbrev pub asks_for_json : List Text → Bool
+asks_for_json [] = false
+asks_for_json (word ∷ arguments) =
+    if bytes_eq word (codes "--") then false
+    else if bytes_eq word (codes "--json") then true
+    else asks_for_json arguments
 
 -- the arguments ask for help or the version
 abbrev pub IsPrinted : NoTask → Type 0

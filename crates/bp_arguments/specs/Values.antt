@@ -1,14 +1,37 @@
--- What the values of arguments say: numbers, bits, names.
-use Rattle.std.specs.Prelude.{if◌then◌else◌, ◌≡◌, ◌⊎◌, ◌<◌, ◌^◌, ◌==◌, ◌&&◌, ◌||◌, ℕ, Bool, false, true, not, List, [], ◌∷◌, Option, Some, None, codes, map, nat_lt, option_and_then, unwrap_or, is_some, bytes_eq}
+-- The names of the commands, and what the values of arguments say: numbers, bits, names.
+use Rattle.std.specs.Prelude.{◌≡◌, codes, if◌then◌else◌, ◌⊎◌, ◌<◌, ◌^◌, ◌==◌, ◌&&◌, ◌||◌, ℕ, Bool, false, true, not, List, [], ◌∷◌, Option, Some, None, map, nat_lt, option_and_then, unwrap_or, is_some, bytes_eq}
+use Rattle.clap.specs.Walk.{Text, Row, all_of, first_of, one_of}
 use Rattle.std.specs.List.{list_all}
 use Rattle.std.specs.Option.{option_map_or}
 use Rattle.std.specs.Str.Parse.{IsNumeral, digits_value, without_leading_plus}
 use Rattle.clap.specs.ValueTests.{is_numeral}
-use Rattle.clap.specs.Walk.{Row, Text, all_of, first_of}
-use Rattle.bp_tasks.specs.declared.verdicts.Verdict.{Verdict}
-use Rattle.bp_tasks.specs.declared.verdicts.Verdict.TheVariants as verdict
-use Rattle.bp_init.specs.NamedBits.{NamedBitOf}
-use Rattle.bp_init.specs.Texts.{are_named_bits, gives_names, named_bits}
+use Rattle.bp_tasks.specs.NamedBits.{NamedBitOf, are_named_bits, gives_names, named_bits}
+use Rattle.bp_tasks.specs.declared.tasks.Verdict.{Verdict}
+use Rattle.bp_tasks.specs.declared.tasks.Verdict.TheVariants as verdict
+use Rattle.bp_tasks.specs.declared.tasks.Explaining.{Explaining}
+use Rattle.bp_arguments.specs.declared.table.Named.{Named}
+use Rattle.bp_arguments.specs.declared.table.Named.TheVariants.{Check, Code, Drive, Confirm, Run, Test, Explore, Replay, Show, Migrate, Shrink}
+
+-- The names of the commands.
+
+abbrev pub command_name : Named → Text
+command_name Check = codes "check"
+command_name Code = codes "code"
+command_name Drive = codes "drive"
+command_name Confirm = codes "confirm"
+command_name Run = codes "run"
+command_name Test = codes "test"
+command_name Explore = codes "explore"
+command_name Replay = codes "replay"
+command_name Show = codes "show"
+command_name Migrate = codes "migrate"
+command_name Shrink = codes "shrink"
+
+-- the name of a command
+abbrev pub IsNamed : Text → Type 0
+IsNamed name = (command : Named) × (name ≡ command_name command)
+
+-- What the values of arguments say: numbers, bits, names.
 
 -- the value of an argument, empty where it has none
 abbrev pub value_of : Text → List Row → Text
@@ -105,3 +128,10 @@ expected_in rows = option_and_then verdict_named (first_of (codes "expect") rows
 abbrev pub has_bad_verdict : List Row → Bool
 has_bad_verdict rows =
     option_map_or (λ t. not (is_some (verdict_named t))) (first_of (codes "expect") rows) false
+
+-- When a fault is explained.
+
+-- the options on explanations are those of the arguments
+pub record IsExplainingOf (rows : List Row) (x : Explaining) : Type 0 where
+  pub always : IsFlagOf (one_of (codes "explain") rows) x.always
+  pub never : IsFlagOf (one_of (codes "no-explain") rows) x.never

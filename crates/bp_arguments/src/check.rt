@@ -1,9 +1,9 @@
 //! The arguments of `check`.
 ghost use Rattle.clap.specs.Words.{found_of, rows_of};
-ghost use Rattle.bp_arguments.specs.CheckArguments.{IsCheckArgumentsOf};
+ghost use Rattle.bp_arguments.specs.CommandArguments.{IsCheckArgumentsOf};
 
 use crate::arguments::{Row, Takes};
-use crate::explain::explaining;
+use crate::files::explaining;
 use crate::values::is_given;
 use bp_tasks::CheckTask;
 use clap::ArgMatches;

@@ -3,7 +3,7 @@ ghost use Rattle.clap.specs.Words.{found_of, rows_of};
 ghost use Rattle.bp_arguments.specs.CodeArguments.{IsCodeArgumentsOf, IsFormOf};
 
 use crate::arguments::{Row, Takes};
-use crate::explain::explaining;
+use crate::files::explaining;
 use crate::values::is_given;
 use bp_tasks::{CodeTask, ListingForm};
 use clap::ArgMatches;

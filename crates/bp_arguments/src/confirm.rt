@@ -1,11 +1,10 @@
 //! The arguments of `confirm`.
 ghost use Rattle.std.specs.Prelude.{IfOk};
 ghost use Rattle.clap.specs.Words.{found_of, rows_of};
-ghost use Rattle.bp_arguments.specs.ConfirmArguments.{IsBoundOf, IsConfirmOf};
+ghost use Rattle.bp_arguments.specs.CommandArguments.{IsBoundOf, IsConfirmOf};
 
 use crate::arguments::{Row, Takes};
-use crate::explain::explaining;
-use crate::rows::{CALLS, ENTRY, INIT};
+use crate::files::{CALLS, ENTRY, INIT, explaining};
 use crate::values::{entries, expected_verdict, given_number, init, is_given, named, number};
 use bp_machine::Start;
 use bp_machine::limits::{DEFAULT_CALLS, DEFAULT_CONTEXTS};

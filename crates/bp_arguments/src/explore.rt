@@ -1,12 +1,11 @@
 //! The arguments of `explore`.
 ghost use Rattle.std.specs.Prelude.{IfOk};
 ghost use Rattle.clap.specs.Words.{found_of, rows_of};
-ghost use Rattle.bp_arguments.specs.ExploreArguments.{IsExploreOf};
+ghost use Rattle.bp_arguments.specs.CommandArguments.{IsExploreOf};
 
 use crate::arguments::{Row, Takes};
 use crate::confirm::context_bound;
-use crate::explain::explaining;
-use crate::rows::{ENTRY, INIT};
+use crate::files::{ENTRY, INIT, explaining};
 use crate::values::{entries, given_long_number, init, is_given, long_number, named, number};
 use bp_machine::Start;
 use bp_machine::limits::{DEFAULT_CALLS, DEFAULT_CONTEXTS};

@@ -1,12 +1,12 @@
 //! What is said where the arguments ask for no task.
+//! The error of arguments, with the control characters of the arguments escaped.
 ghost use Rattle.std.specs.Prelude.{◌≡◌, ◌⊎◌, ℕ, List, ◌∷◌, map, string_bytes, IfOk, MatchResult};
 ghost use Rattle.clap.specs.Words.{kind_of, subcommand_of};
 ghost use Rattle.bp_arguments.specs.Commands.{btrun_app, arguments_fault, IsTaskOf};
 ghost use Rattle.bp_arguments.specs.NoTasks.{EndsBy, IsOfKind, IsPrinted, IsRefused};
 
 use crate::commands::{not_utf8_error, task_of_arguments};
-use crate::echoes::{error_on_lines, escaped};
-use crate::usages::message_of;
+use crate::usages::{message_of, with_usage};
 use bp_tasks::Task;
 use clap::Error;
 use clap::error::ErrorKind;
@@ -109,4 +109,62 @@ pub fn not_utf8(alloc: Global) -> NoTask
         Ok(error) => said_or_memory(refused(alloc, &error)),
         Err(_) => NoTask::Memory,
     }
+}
+
+/// A word with its line feeds escaped.
+fn on_one_line(alloc: Global, word: &str) -> Result<String, AllocError> {
+    let mut line = String::new(alloc);
+    for character in word.chars() {
+        if character == '\n' {
+            line.push_str("\\n")?;
+        } else {
+            line.push(character)?;
+        }
+    }
+    Ok(line)
+}
+
+/// The arguments with their line feeds escaped.
+fn all_on_one_line(alloc: Global, arguments: &[String]) -> Result<Vec<String>, AllocError> {
+    let mut lines = Vec::new(alloc);
+    for word in arguments {
+        lines.push(on_one_line(alloc, word)?)?;
+    }
+    Ok(lines)
+}
+
+/// The error of arguments, with their line feeds escaped where the same is wrong with them then.
+/// After a bad value it says how the command is used. Where memory is refused it stays as it is.
+pub fn error_on_lines(alloc: Global, arguments: &[String], error: Error) -> Error {
+    let Ok(lines) = all_on_one_line(alloc, arguments) else {
+        return error;
+    };
+    let Err(other) = task_of_arguments(alloc, &lines) else {
+        return error;
+    };
+    if other.kind() == error.kind() {
+        return with_usage(alloc, &lines, other);
+    }
+    error
+}
+
+/// Whether a character turns the direction of the text around it.
+fn is_turning(character: char) -> bool {
+    matches!(character, '\u{202a}'..='\u{202e}' | '\u{2066}'..='\u{2069}')
+}
+
+/// A text with its control characters escaped, and those that turn its direction, so that they have
+/// no effect on a terminal. Line feeds stay, since a text has lines; `error_on_lines` escapes those
+/// of arguments.
+pub fn escaped(alloc: Global, text: &str) -> Result<String, AllocError> {
+    let mut plain = String::new(alloc);
+    for character in text.chars() {
+        if character.is_control() && character != '\n' || is_turning(character) {
+            let escape = format!(in alloc; "{}", character.escape_default())?;
+            plain.push_str(escape.as_str())?;
+        } else {
+            plain.push(character)?;
+        }
+    }
+    Ok(plain)
 }

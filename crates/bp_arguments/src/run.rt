@@ -1,11 +1,10 @@
 //! The arguments of `run`.
 ghost use Rattle.std.specs.Prelude.{IfOk};
 ghost use Rattle.clap.specs.Words.{found_of, rows_of};
-ghost use Rattle.bp_arguments.specs.RunArguments.{IsRunOf};
+ghost use Rattle.bp_arguments.specs.CommandArguments.{IsRunOf};
 
 use crate::arguments::{Row, Takes};
-use crate::explain::explaining;
-use crate::rows::{CALLS, CONTEXTS, ENTRY, INIT};
+use crate::files::{CALLS, CONTEXTS, ENTRY, INIT, explaining};
 use crate::values::{entries, init, is_given, long_number, named, number};
 use bp_machine::Start;
 use bp_machine::limits::{DEFAULT_CALLS, DEFAULT_CONTEXTS};

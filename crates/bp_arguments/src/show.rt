@@ -1,10 +1,9 @@
 //! The arguments of `show`.
 ghost use Rattle.clap.specs.Words.{found_of, rows_of};
-ghost use Rattle.bp_arguments.specs.ShowArguments.{IsShowOf, IsViewFormatOf, IsViewOf};
+ghost use Rattle.bp_arguments.specs.CommandArguments.{IsShowOf, IsViewFormatOf, IsViewOf};
 
 use crate::arguments::{Row, Takes};
-use crate::explain::explaining;
-use crate::rows::TRACE;
+use crate::files::{TRACE, explaining};
 use crate::values::{given_long_number, given_number, is_given};
 use bp_tasks::{ShowTask, ViewFormat, ViewOptions};
 use clap::ArgMatches;

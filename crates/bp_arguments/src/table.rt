@@ -1,15 +1,85 @@
 //! The table of commands: what each takes, and what its help says.
-ghost use Rattle.std.specs.Prelude.{◌≡◌, false, map, IfOk};
+//! The commands by their names.
+ghost use Rattle.std.specs.Prelude.{◌≡◌, MatchOption, false, map, IfOk};
 ghost use Rattle.clap.specs.Words.{app_of};
 ghost use Rattle.clap.specs.declared.builder.command.Command.TheViews.{out-Command};
+ghost use Rattle.bp_arguments.specs.Values.{command_name};
+ghost use Rattle.bp_arguments.specs.declared.table.Named.{Named as Either};
 ghost use Rattle.bp_arguments.specs.Commands.{advanced_rules, command_app, command_rules, row_rule};
 
 use crate::arguments::{Row, with_rows};
 use crate::files::file_command;
-use crate::names::{Named, name_of};
 use crate::{check, code, confirm, drive, explore, run, show, test, trace};
 use clap::Command;
 use std::alloc::{AllocError, Global};
+
+/// A command that has a name.
+#[derive(Clone, Copy)]
+pub enum Named {
+    Check,
+    Code,
+    Drive,
+    Confirm,
+    Run,
+    Test,
+    Explore,
+    Replay,
+    Show,
+    Migrate,
+    Shrink,
+}
+
+/// How many commands have a name.
+const COMMANDS: usize = 11;
+
+/// The commands that have a name, in the order of the help.
+pub const NAMED: [Named; COMMANDS] = [
+    Named::Check,
+    Named::Code,
+    Named::Drive,
+    Named::Confirm,
+    Named::Run,
+    Named::Test,
+    Named::Explore,
+    Named::Replay,
+    Named::Show,
+    Named::Migrate,
+    Named::Shrink,
+];
+
+/// The name of a command.
+pub fn name_of<'a>(command: Named) -> &'a str
+    ensures { result.now ≡ command_name command }
+{
+    match command {
+        Named::Check => "check",
+        Named::Code => "code",
+        Named::Drive => "drive",
+        Named::Confirm => "confirm",
+        Named::Run => "run",
+        Named::Test => "test",
+        Named::Explore => "explore",
+        Named::Replay => "replay",
+        Named::Show => "show",
+        Named::Migrate => "migrate",
+        Named::Shrink => "shrink",
+    }
+}
+
+/// The command of this name, where there is one.
+pub fn command_named(name: &str) -> Option<Named>
+    ensures { MatchOption result
+        ((other : Either) → name.now ≡ command_name other → ⊥)
+        (λ command. name.now ≡ command_name command) }
+{
+    let all = NAMED;
+    for command in &all {
+        if name == name_of(*command) {
+            return Some(*command);
+        }
+    }
+    None
+}
 
 /// What help says of a command.
 #[derive(Clone, Copy)]

@@ -1,11 +1,10 @@
 //! The arguments of `test`.
 ghost use Rattle.std.specs.Prelude.{◌≡◌, false, length, IfOk};
 ghost use Rattle.clap.specs.Words.{found_of, rows_of};
-ghost use Rattle.bp_arguments.specs.TestArguments.{contexts_for, runs_within, IsTestOf};
+ghost use Rattle.bp_arguments.specs.CommandArguments.{contexts_for, runs_within, IsTestOf};
 
 use crate::arguments::{Row, Takes};
-use crate::explain::explaining;
-use crate::rows::{CALLS, ENTRY, INIT};
+use crate::files::{CALLS, ENTRY, INIT, explaining};
 use crate::values::{entries, given_long_number, init, is_given, long_number, named, number};
 use bp_machine::Start;
 use bp_machine::limits::{DEFAULT_CALLS, MAX_THREADS};

@@ -1,10 +1,9 @@
 //! The arguments of `replay`, `migrate` and `shrink`.
 ghost use Rattle.clap.specs.Words.{found_of, rows_of};
-ghost use Rattle.bp_arguments.specs.TraceArguments.{IsTraceArgumentsOf};
+ghost use Rattle.bp_arguments.specs.CommandArguments.{IsTraceArgumentsOf};
 
 use crate::arguments::Row;
-use crate::explain::explaining;
-use crate::rows::TRACE;
+use crate::files::{TRACE, explaining};
 use bp_tasks::TraceTask;
 use clap::ArgMatches;
 

@@ -3,9 +3,8 @@ ghost use Rattle.std.specs.Prelude.{◌≡◌, codes, map, string_bytes, option_
 ghost use Rattle.clap.specs.Words.{first_of, found_of, one_of, rows_of};
 ghost use Rattle.bp_arguments.specs.Values.{bits_given, bits_in, entries_in, expected_in, has_bad_init, has_bad_verdict, init_in, is_bits, is_init, named_in, names_given, verdict_named, IsFlagOf, IsNumberIn, IsNumberOf};
 
-use bp_init::{NamedBits, are_named_bits, gives_names, named_bits};
 use bp_machine::limits::DEFAULT_ENTRY;
-use bp_tasks::Verdict;
+use bp_tasks::{NamedBits, Verdict, are_named_bits, gives_names, named_bits};
 use clap::ArgMatches;
 use std::alloc::{AllocError, Global};
 

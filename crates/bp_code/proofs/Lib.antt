@@ -1,11 +1,8 @@
 mod BlockItems
 mod CompiledStandsFor
-mod DeclaredIsKnown
-mod FirstNames
 pub mod LawfulIsCompilable
-mod ListingLines
-mod NamesOfHeadings
-mod NotedStatements
-mod SizesInLayout
 mod SlotsAreVariables
-mod StartsOfPlaces
+mod ListingLines
+pub mod FaultsOfParts
+pub mod RepeatedNames
+pub mod OneRefusal

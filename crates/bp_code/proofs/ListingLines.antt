@@ -1,8 +1,19 @@
 -- The lines of a listing from one number on.
-use Rattle.std.proofs.Common.{◌≡◌, refl, sym, ap, ◌∙◌, ℕ, zero, suc, ◌+◌, ◌-◌, ◌<◌, ◌≤◌, List, [], ◌∷◌, ◌++◌, length, take, drop, get_or, arith}
-use Rattle.bp_flat.specs.Flat.{Instruction, Heading}
+use Rattle.std.proofs.Common.{◌≡◌, ℕ, ◌+◌, map, List, [], ◌∷◌, refl, ap, sym, ◌∙◌, zero, suc, ◌-◌, ◌<◌, ◌≤◌, ◌++◌, length, take, drop, get_or, arith}
+use Rattle.bp_language.specs.Ast.{Name, Procedure}
+use Rattle.bp_flat.specs.Flat.{Heading, Instruction}
+use Rattle.bp_flat.proofs.ProceduresOfPlaces.{drop_item, dropped_all}
+use Rattle.bp_code.specs.Compiled.{block_size, headings_from}
 use Rattle.bp_code.specs.Listing.{heading_line, instruction_line, instruction_lines, lines_between, end_before, procedure_lines}
-use Rattle.bp_flat.proofs.ListItems.{drop_item, dropped_all}
+
+-- The names of headings.
+
+-- headings have the names of their procedures, in order
+pub names_of_headings : (n : ℕ) (ps : List Procedure)
+    → map (λ (h : Heading). h.name) (headings_from n ps)
+    ≡ map (λ (m : Name). m.text) (map (λ (p : Procedure). p.name) ps)
+names_of_headings n [] = refl
+names_of_headings n (p ∷ ps) = ap (λ ns. p.name.text ∷ ns) (names_of_headings (n + block_size p.body + 1) ps)
 
 take_one : (is : List Instruction) (n k : ℕ) (i : Instruction)
     → instruction_lines n (take (suc k) (i ∷ is)) ≡ instruction_line n i ++ instruction_lines (n + 1) (take k is)

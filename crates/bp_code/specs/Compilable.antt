@@ -1,14 +1,61 @@
 -- Programs that have a code; no public contract names them, since each lawful program is one. Each
 -- name in them is declared, calls have as many arguments as formals, and slots and numbers of
 -- instructions fit.
-use Rattle.std.specs.Prelude.{◌≡◌, ◌^◌, ◌<◌, ◌≤◌, List, [], ◌∷◌, ◌++◌, Some, IsSome, length}
-use Rattle.bp_tree.specs.Ast.{Name, Expression, Block, Done, Statement, Procedure, Program}
+use Rattle.std.specs.Prelude.{◌≡◌, ℕ, ◌+◌, List, [], ◌∷◌, ◌++◌, drop, ◌^◌, ◌<◌, ◌≤◌, Some, IsSome, length}
+use Rattle.bp_language.specs.Ast.{Block, Done, Then, Statement, Branches, Loops, size, Name, Expression, Skips, GoesTo, Returns, Assigns, Asserts, Assumes, Prints, Calls, Procedure, Program}
+use Rattle.bp_language.specs.NamesIn.{EachName, NamesInExpressions, NamesInDecision}
 use Rattle.bp_flat.specs.declared.limits.TheConstants.{SLOTS}
-use Rattle.bp_flat.specs.Continuations.{from_label}
-use Rattle.bp_flat.specs.Configurations.{procedure_named}
-use Rattle.bp_code.specs.Slots.{HasSlot}
-use Rattle.bp_code.specs.Resolved.{IsResolved, IsResolvedIn}
-use Rattle.bp_code.specs.Compiled.{procedures_size}
+use Rattle.bp_flat.specs.Moves.{from_label, procedure_named}
+use Rattle.bp_code.specs.declared.layout.Layout.{Layout}
+use Rattle.bp_code.specs.Compiled.{HasSlot, procedures_size}
+
+-- What the table of a procedure's layout has. Only private contracts name it.
+
+-- the sizes of the statements of a block, at any depth, in the order of the text, and of those
+-- inside a statement
+abbrev mutual
+  pub block_sizes : Block → List ℕ
+  block_sizes Done = []
+  block_sizes (Then label at s t) = size s ∷ (inner_sizes s ++ block_sizes t)
+
+  pub inner_sizes : Statement → List ℕ
+  inner_sizes (Branches d a b) = block_sizes a ++ block_sizes b
+  inner_sizes (Loops d a) = block_sizes a
+  inner_sizes s = []
+
+-- in a table that begins at the statement of number start, these sizes are those from the
+-- statement of number n on
+pub record AreSizesAt (table : List ℕ) (start n : ℕ) (sizes : List ℕ) : Type 0 where
+  pub index : ℕ
+  pub number : start + index ≡ n
+  pub rest : List ℕ
+  pub are : drop index table ≡ sizes ++ rest
+
+-- the same in the table of a layout
+abbrev pub AreSizesOf : Layout → ℕ → List ℕ → Type 0
+AreSizesOf layout n sizes = AreSizesAt layout.sizes.items layout.start n sizes
+
+-- What holds of each name in a statement, by what it is the name of. Only private contracts name
+-- it.
+
+-- of a variable, of a label, and of a called procedure with the arguments of the call
+module _ (IsVariable IsLabel : Name → Type 0) (IsCallee : Name → List Expression → Type 0) where
+  abbrev mutual
+    pub IsResolved : Block → Type 0
+    IsResolved Done = Unit {0}
+    IsResolved (Then label at s r) = IsResolvedIn s × IsResolved r
+
+    pub IsResolvedIn : Statement → Type 0
+    IsResolvedIn Skips = Unit {0}
+    IsResolvedIn (GoesTo x) = IsLabel x
+    IsResolvedIn Returns = Unit {0}
+    IsResolvedIn (Assigns xs es) = EachName IsVariable xs × NamesInExpressions IsVariable es
+    IsResolvedIn (Branches d a b) = NamesInDecision IsVariable d × IsResolved a × IsResolved b
+    IsResolvedIn (Loops d a) = NamesInDecision IsVariable d × IsResolved a
+    IsResolvedIn (Asserts d) = NamesInDecision IsVariable d
+    IsResolvedIn (Assumes d) = NamesInDecision IsVariable d
+    IsResolvedIn (Prints es) = NamesInExpressions IsVariable es
+    IsResolvedIn (Calls x es) = NamesInExpressions IsVariable es × IsCallee x es
 
 module _ (t : Program) (p : Procedure) where
   -- a label that stands in the procedure

@@ -1,15 +1,27 @@
 -- What a program is compiled to: its instructions in text order, one for each statement, numbered
 -- from 0 over all procedures, and one return after each procedure's statements.
-use Rattle.std.specs.Prelude.{if◌then◌else◌, ℕ, ◌+◌, List, [], ◌∷◌, ◌++◌, Option, None, Some, length, map, option_map, unwrap_or}
+use Rattle.std.specs.Prelude.{ℕ, List, Option, IsSome, option_map, if◌then◌else◌, ◌+◌, [], ◌∷◌, ◌++◌, None, Some, length, map, unwrap_or}
 use Rattle.std.specs.Option.{option_or}
-pub use Rattle.bp_tree.specs.Sizes.{block_size, size, procedures_size}
-use Rattle.bp_tree.specs.Ast.{Name, Expression, Constant, Variable, Negation, Operation, Decision, Choose, Decide, Block, Done, Then, Statement, Skips, GoesTo, Returns, Assigns, Branches, Loops, Asserts, Assumes, Prints, Calls, Procedure, Program}
+use Rattle.bp_language.specs.Ast.{Name, Procedure, variables, Expression, Constant, Variable, Negation, Operation, Decision, Choose, Decide, Block, Done, Then, Statement, Skips, GoesTo, Returns, Assigns, Branches, Loops, Asserts, Assumes, Prints, Calls, Program}
+pub use Rattle.bp_language.specs.Ast.{block_size, size, procedures_size}
+use Rattle.bp_language.specs.Faults.{first_index}
 use Rattle.bp_flat.specs.declared.slots.Slot.{Slot}
-use Rattle.bp_flat.specs.declared.slots.Slot.TheVariants.{Global}
-use Rattle.bp_flat.specs.Flat.{Formula, Bit, At, Inverse, Joined, Instruction, Skip, Goto, Return, Assign, If, While, Assert, Assume, Print, Call, Heading, heading, Flat, flat}
-use Rattle.bp_flat.specs.Headings.{heading_named}
-use Rattle.bp_flat.specs.Continuations.{has_label}
-use Rattle.bp_code.specs.Slots.{slot_of}
+use Rattle.bp_flat.specs.declared.slots.Slot.TheVariants.{Global, Local}
+use Rattle.bp_flat.specs.Flat.{Formula, Bit, At, Inverse, Joined, Instruction, Skip, Goto, Return, Assign, If, While, Assert, Assume, Print, Call, Heading, heading, Flat, flat, heading_named}
+use Rattle.bp_flat.specs.Moves.{has_label}
+
+-- Slots of variables.
+
+-- the slot of a variable: its place among the formals and then the locals, or else among the
+-- globals
+abbrev pub slot_of : List Name → Procedure → List ℕ → Option Slot
+slot_of globals p x =
+    let own = option_map Local (first_index (variables p) x) in
+    option_or own (option_map Global (first_index globals x))
+
+-- the variable is a formal, a local or a global
+abbrev pub HasSlot : List Name → Procedure → Name → Type 0
+HasSlot globals p x = IsSome (slot_of globals p x.text)
 
 -- what the names in a procedure's statements mean: the number of its first instruction goes with it
 pub record Environment : Type 0 where

@@ -1,11 +1,11 @@
 -- Blocks whose names mean something in an environment. Only private contracts name them.
 use Rattle.std.specs.Prelude.{◌≤◌, List, IsSome, length}
-use Rattle.bp_tree.specs.Ast.{Name, Expression, Block, Statement}
+use Rattle.bp_language.specs.Ast.{Name, Expression, Block, Statement}
 use Rattle.bp_flat.specs.declared.limits.TheConstants.{SLOTS}
-use Rattle.bp_code.specs.Slots as slots
-use Rattle.bp_code.specs.Resolved.{IsResolved, IsResolvedIn}
+use Rattle.bp_code.specs.Compiled as slots
+use Rattle.bp_code.specs.Compilable.{IsResolved, IsResolvedIn}
 use Rattle.bp_code.specs.Compiled.{Environment, label_number}
-use Rattle.bp_flat.specs.Headings.{heading_named}
+use Rattle.bp_flat.specs.Flat.{heading_named}
 
 module _ (environment : Environment) where
   abbrev pub HasSlot : Name → Type 0

@@ -1,13 +1,12 @@
 -- The lawful program of a text and its code, and why a text has none.
 use Rattle.std.specs.Prelude.{ℕ, List, Option}
-use Rattle.bp_tree.specs.Ast.{Program}
+use Rattle.bp_language.specs.Ast.{Program}
 use Rattle.bp_flat.specs.Flat.{Flat}
 use Rattle.bp_flat.specs.StandsFor.{StandsFor}
 use Rattle.bp_language.specs.Texts.{IsTextOf}
-use Rattle.bp_syntax.specs.Refusals.{IsRefusal as IsReadRefusal}
-use Rattle.bp_syntax.specs.Faults.{read_fault_place}
+use Rattle.bp_syntax.specs.Refusals.{IsRefusal as IsReadRefusal, read_fault_place}
 use Rattle.bp_language.specs.Faults.{IsLawful, check_fault_place}
-use Rattle.bp_check.specs.Refusals.{IsRefusal}
+use Rattle.bp_code.specs.Refusals.{IsRefusal}
 use Rattle.bp_code.specs.declared.texts.ProgramFault.{ProgramFault}
 use Rattle.bp_code.specs.declared.texts.ProgramFault.TheVariants.{Read, Check}
 use Rattle.bp_code.specs.declared.texts.CodeFault.{CodeFault}

@@ -3,7 +3,6 @@ pub mod Compiled
 pub mod Environments
 pub mod Known
 pub mod LawfulTexts
-pub mod Layouts
 pub mod Listing
-pub mod Resolved
-pub mod Slots
+pub mod Refusals
+pub mod Sets

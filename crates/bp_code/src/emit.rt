@@ -1,11 +1,11 @@
 //! The instructions of the statements of a procedure, in text order.
 ghost use Rattle.std.specs.Prelude.{◌≡◌, ◌+◌, ◌^◌, ◌<◌, ◌≤◌, ◌++◌, ◌∷◌, [], OnOk, drop, length};
-ghost use Rattle.bp_tree.specs.Ast.{Branches, Loops};
-ghost use Rattle.bp_tree.specs.Views.{decision_of};
-ghost use Rattle.bp_tree.specs.Blocks.{block_of, statement_of};
+ghost use Rattle.bp_language.specs.Ast.{Branches, Loops};
+ghost use Rattle.bp_language.specs.Views.{decision_of};
+ghost use Rattle.bp_language.specs.Blocks.{block_of, statement_of};
 ghost use Rattle.bp_code.specs.Environments.{environment_of};
 ghost use Rattle.bp_code.specs.Known.{IsKnown, IsKnownIn};
-ghost use Rattle.bp_code.specs.Layouts.{block_sizes, inner_sizes, AreSizesOf};
+ghost use Rattle.bp_code.specs.Compilable.{block_sizes, inner_sizes, AreSizesOf};
 ghost use Rattle.bp_code.specs.Compiled.{block_entry, block_size, size, with_block, with_statement};
 
 use crate::environments::Environment;
@@ -13,7 +13,7 @@ use crate::translate::{exprs, slots, test};
 use bp_flat::actions::{Action, Assignment, Branch, Call};
 use bp_flat::expr_lists::Arguments;
 use bp_flat::instrs::Instr;
-use bp_tree::{Block, Decider, Form, Stmt};
+use bp_language::{Block, Decider, Form, Stmt};
 use std::alloc::AllocError;
 
 /// One more instruction.

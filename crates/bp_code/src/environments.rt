@@ -1,14 +1,14 @@
 //! What the names in the statements of a procedure mean.
 ghost use Rattle.std.specs.Prelude.{◌≡◌, ◌+◌, ◌^◌, ◌<◌, ◌≤◌, ℕ, List, length, map};
-ghost use Rattle.bp_tree.specs.Lookup.{variables};
-ghost use Rattle.bp_check.specs.Tables.{index_in};
+ghost use Rattle.bp_language.specs.Ast.{variables};
+ghost use Rattle.bp_code.specs.Sets.{index_in};
 ghost use Rattle.bp_flat.specs.declared.limits.TheConstants.{SLOTS};
 ghost use Rattle.bp_code.specs.Compiled.{block_size, label_number};
 
 use crate::layout::Layout;
-use bp_check::NameTable;
+use crate::tables::NameTable;
 use bp_flat::headings::Heading;
-use bp_tree::Proc;
+use bp_language::Proc;
 
 /// The globals, the procedures and their headings, and of one procedure its variables and the
 /// layout of its instructions.

@@ -1,14 +1,15 @@
 //! How the instructions of a procedure are laid out: how many each of its statements has, and the
 //! numbers of its labels. Both are written down in one walk.
+//! How many instructions statements have.
 ghost use Rattle.std.specs.Prelude.{◌≡◌, ◌+◌, ◌^◌, ◌<◌, ◌≤◌, ◌++◌, ◌∷◌, ℕ, List, None, Some, if◌then◌else◌, IfOk, OnOk, IfSome, length};
 ghost use Rattle.std.specs.Option.{option_or};
-ghost use Rattle.bp_tree.specs.Blocks.{block_of, statement_of};
-ghost use Rattle.bp_check.specs.Tables.{index_in};
-ghost use Rattle.bp_flat.specs.Continuations.{has_label};
+ghost use Rattle.bp_language.specs.Blocks.{block_of, statement_of};
+ghost use Rattle.bp_flat.specs.Moves.{has_label};
+ghost use Rattle.bp_code.specs.Sets.{index_in};
 ghost use Rattle.bp_code.specs.Compiled.{block_size, size, label_number, inner_number};
-ghost use Rattle.bp_code.specs.Layouts.{block_sizes, inner_sizes, AreSizesOf};
+ghost use Rattle.bp_code.specs.Compilable.{block_sizes, inner_sizes, AreSizesOf};
 
-use bp_tree::{Form, Name, Proc, Stmt};
+use bp_language::{Form, Name, Proc, Stmt};
 use std::alloc::{AllocError, Global};
 use std::collections::BTreeMap;
 
@@ -177,4 +178,30 @@ fn note_label<'a>(
         labels.insert(text, number)?;
     }
     Ok(())
+}
+
+/// How many instructions the statements have.
+#[cycle(size)]
+pub(crate) fn size_of_block(stmts: &[Stmt]) -> u32
+    requires { block_size (block_of stmts.now) < 2 ^ 32 }
+    ensures { result ≡ block_size (block_of stmts.now) }
+{
+    let mut total = 0;
+    for stmt in stmts {
+        total += size_of(stmt.form());
+    }
+    total
+}
+
+/// How many instructions a statement has.
+#[cycle(size)]
+fn size_of(form: &Form) -> u32
+    requires { size (statement_of form.now) < 2 ^ 32 }
+    ensures { result ≡ size (statement_of form.now) }
+{
+    match form {
+        Form::If(_, a, b) => 1 + (size_of_block(a.as_slice()) + size_of_block(b.as_slice())),
+        Form::While(_, body) => 1 + size_of_block(body.as_slice()),
+        _ => 1,
+    }
 }

@@ -1,23 +1,31 @@
 //! Programs as flat code: each lawful program is compiled to a code that stands for it.
 #![tactic(auto)]
 
+mod checks;
 mod emit;
 mod environments;
+mod forms;
+mod laws;
 mod layout;
 pub mod listing;
-mod names;
+mod procedures;
 mod programs;
-mod sizes;
 pub mod starts;
+mod tables;
 pub mod texts;
 mod translate;
+mod uses;
 
 pub use bp_flat::{
     Code, Effect, Heading, Instr, Kind, Store, Touched, bit_of, global_value, limits,
     local_slot_of, local_value, slot_of, steps_alike,
 };
+pub use bp_language::CheckFault;
 pub use bp_text::{WriteFault, put};
+pub use checks::{CheckRefusal, Checked, check};
+pub use laws::has_one_refusal;
 pub use listing::list;
 pub use programs::compile;
 pub use starts::statement_starts;
+pub use tables::NameTable;
 pub use texts::{CodeFault, ProgramFault, code_of, lawful_program};

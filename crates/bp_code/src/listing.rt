@@ -1,8 +1,7 @@
 //! The listing of a code.
 ghost use Rattle.std.specs.Prelude.{◌≡◌, ◌≤◌, drop, flat_map, take};
 ghost use Rattle.bp_text.specs.Pieces.{piece_text};
-ghost use Rattle.bp_text.specs.Sinks.{Given};
-ghost use Rattle.bp_text.specs.Writing.{Writes};
+ghost use Rattle.bp_text.specs.Writing.{Given, Writes};
 ghost use Rattle.bp_flat.specs.Instructions.{instruction_of};
 ghost use Rattle.bp_code.specs.Listing as listing;
 ghost use Rattle.bp_code.specs.Listing.{number_field, line, heading_line, instruction_line, instruction_word, lines_between, end_before, listing_text};

@@ -1,7 +1,7 @@
 //! The code of a whole program.
 ghost use Rattle.std.specs.Prelude.{◌≡◌, ◌+◌, ◌^◌, ◌<◌, ◌≤◌, ◌++◌, ◌∷◌, [], IfOk, OnOk, length, map};
 ghost use Rattle.bp_flat.specs.declared.limits.TheConstants.{SLOTS};
-ghost use Rattle.bp_tree.specs.Ast.{Program};
+ghost use Rattle.bp_language.specs.Ast.{Program};
 ghost use Rattle.bp_code.specs.Known.{IsKnown};
 ghost use Rattle.bp_code.specs.Compiled.{block_size, procedures_size, headings_from, environment_at, procedure_code, flat_of};
 ghost use Rattle.bp_language.specs.Texts.{HasText};
@@ -9,16 +9,16 @@ ghost use Rattle.bp_language.specs.Faults.{IsLawful};
 ghost use Rattle.bp_code.specs.Compilable.{IsCompilable, HaveFew};
 ghost use Rattle.bp_flat.specs.StandsFor.{StandsFor};
 
+use crate::checks::Checked;
 use crate::emit::{emit_block, push};
 use crate::environments::Environment;
-use crate::layout::Layout;
-use crate::sizes::size_of_block;
-use bp_check::{Checked, NameTable};
+use crate::layout::{Layout, size_of_block};
+use crate::tables::NameTable;
 use bp_flat::actions::Action;
 use bp_flat::code::Code;
 use bp_flat::headings::Heading;
 use bp_flat::instrs::Instr;
-use bp_tree::{Name, Proc};
+use bp_language::{Name, Proc};
 use std::alloc::{AllocError, Global};
 
 /// The headings of the procedures. The instructions of each begin where those of the one before it

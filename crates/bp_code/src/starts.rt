@@ -1,10 +1,10 @@
 //! Where in the text the statements of a program begin, in the order of its instructions.
 ghost use Rattle.std.specs.Prelude.{◌≡◌, ◌++◌, IfOk, OnOk};
-ghost use Rattle.bp_tree.specs.Blocks.{block_of, statement_of};
-ghost use Rattle.bp_flat.specs.Starts.{block_starts, inner_starts, starts_of};
+ghost use Rattle.bp_language.specs.Blocks.{block_of, statement_of};
+ghost use Rattle.bp_flat.specs.StandsFor.{block_starts, inner_starts, starts_of};
 
-use bp_check::Checked;
-use bp_tree::{Form, Stmt};
+use crate::checks::Checked;
+use bp_language::{Form, Stmt};
 use std::alloc::{AllocError, Global};
 
 /// Notes where statements begin, and those inside them.

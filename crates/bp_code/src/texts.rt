@@ -2,9 +2,10 @@
 ghost use Rattle.std.specs.Prelude.{MatchResult};
 ghost use Rattle.bp_code.specs.LawfulTexts.{IsCodeRefusal, IsLawfulText, IsProgramCode, IsProgramRefusal};
 
+use crate::checks::{Checked, check};
 use crate::programs::compile;
-use bp_check::{CheckFault, Checked, check};
 use bp_flat::code::Code;
+use bp_language::CheckFault;
 use bp_syntax::{ReadFault, read};
 use std::alloc::{AllocError, Global};
 use std::error::Error;

@@ -1,17 +1,18 @@
 //! From program trees to flat code.
+//! The slots, labels and first instructions that names stand for.
 ghost use Rattle.std.specs.Prelude.{◌≡◌, IfOk};
-ghost use Rattle.bp_tree.specs.Views.{expression_of, decision_of};
+ghost use Rattle.bp_language.specs.Views.{expression_of, decision_of};
+ghost use Rattle.bp_language.specs.NamesIn.{EachName, NamesInExpression, NamesInExpressions, NamesInDecision};
 ghost use Rattle.bp_flat.specs.Views.{formula_of, test_of};
 ghost use Rattle.bp_code.specs.Environments.{environment_of};
-ghost use Rattle.bp_language.specs.NamesIn.{EachName, NamesInExpression, NamesInExpressions, NamesInDecision};
-ghost use Rattle.bp_code.specs.Known.{HasSlot};
-ghost use Rattle.bp_code.specs.Compiled.{slots_in, formula_in, formulas_in, test_in};
+ghost use Rattle.bp_code.specs.Known.{HasSlot, HasLabel, HasHeading};
+ghost use Rattle.bp_code.specs.Compiled.{slots_in, formula_in, formulas_in, test_in, slot_in, label_in, callee_in};
 
 use crate::environments::Environment;
 use bp_flat::expr_lists::SlotExprs;
 use bp_flat::exprs::{SlotExpr, SlotSub, Test};
-use bp_flat::slots::Slots;
-use bp_tree::{Decider, Expr, Exprs, Names};
+use bp_flat::slots::{Index, Slot, Slots};
+use bp_language::{Decider, Expr, Exprs, Name, Names};
 use std::alloc::{AllocError, Global};
 
 /// The slots of declared variables, in order.
@@ -85,5 +86,39 @@ pub(crate) fn test(
     match d {
         Decider::Choice => Ok(Test::Choice),
         Decider::Value(e) => Ok(Test::Value(expr(alloc, environment, e)?)),
+    }
+}
+
+impl<'s, 'a> Environment<'s, 'a> {
+    /// The slot of a declared variable: its place among the formals and then the locals, or else
+    /// among the globals.
+    pub(crate) fn slot(&self, name: &Name) -> Slot
+        requires { HasSlot (environment_of self.now) name.now }
+        ensures { result ≡ slot_in (environment_of self.now) name.now.text }
+    {
+        match self.own.first(name.text()) {
+            Some(index) => Slot::Local(Index::new(index as u8)),
+            None => {
+                let index = self.globals.first(name.text()).unwrap();
+                Slot::Global(Index::new(index as u8))
+            }
+        }
+    }
+
+    /// The number of the statement with this label.
+    pub(crate) fn label(&self, name: &Name) -> u32
+        requires { HasLabel (environment_of self.now) name.now }
+        ensures { result ≡ label_in (environment_of self.now) name.now.text }
+    {
+        self.layout.label(name.text()).unwrap()
+    }
+
+    /// The number of a procedure's first instruction.
+    pub(crate) fn callee(&self, name: &Name) -> u32
+        requires { HasHeading (environment_of self.now) name.now }
+        ensures { result ≡ callee_in (environment_of self.now) name.now.text }
+    {
+        let index = self.procs.first(name.text()).unwrap();
+        self.headings[index].entry()
     }
 }

@@ -1,18 +1,20 @@
 -- What a run tells of a fault is of the inputs that were read, or of why they were not.
-use Rattle.std.proofs.Common.{◌≡◌, ◌⊎◌, ℕ, List, Option, Result, Ok, Err, refl, inl, inr}
-use Rattle.bp_tasks.specs.declared.fault_formats.FaultFormat.{FaultFormat}
-use Rattle.bp_tasks.specs.declared.fault_formats.FaultFormat.TheVariants as format
+use Rattle.std.proofs.Common.{◌≡◌, ◌⊎◌, ℕ, List, Option, Result, Ok, Err, refl, inl, inr, true, None, Some, IfOk, Vec, ◌∙◌, subst}
+use Rattle.std.specs.declared.alloc.AllocError.{AllocError}
+use Rattle.std.specs.declared.alloc.Global.{Global}
+use Rattle.bp_text.specs.declared.sinks.WriteFault.{WriteFault}
+use Rattle.bp_text.specs.Writing.{Writes}
 use Rattle.bp_advice.specs.declared.explanations.Explanation.{Explanation}
+use Rattle.bp_tasks.specs.declared.tasks.FaultFormat.{FaultFormat}
+use Rattle.bp_tasks.specs.declared.tasks.FaultFormat.TheVariants as format
+use Rattle.bp_tasks.specs.FaultFormats.{is_explained}
 use Rattle.bp_messages.specs.declared.faults.Fault.{Fault}
 use Rattle.bp_messages.specs.declared.faults.Fault.TheVariants.{Write}
-use Rattle.bp_text.specs.declared.writing.WriteFault.{WriteFault}
 use Rattle.bp_commands.specs.declared.run_ends.Explained.{Explained}
 use Rattle.bp_commands.specs.declared.run_ends.RunEnd.{RunEnd}
-use Rattle.bp_commands.specs.RunEnds.{AnswerRule, IsEndOf}
-use Rattle.bp_commands.specs.Explanations.{AreReadOr, AreReadOrNot, IsSaid, IsSaidOfRead, IsTold}
-use Rattle.bp_commands.specs.Flushes.{IsFlushed}
-use Rattle.bp_commands.specs.Given.{Inputs}
-use Rattle.bp_commands.specs.FaultReports.{IsConcluded, IsObjectRead, IsReported}
+use Rattle.bp_commands.specs.FaultReports.{AnswerRule, IsEndOf, AreReadOr, AreReadOrNot, IsSaid, IsSaidOfRead, IsTold, IsConcluded, IsObjectRead, IsReported, IsSaidFor, IsTextOf}
+use Rattle.bp_commands.specs.Jobs.{IsFlushed}
+use Rattle.bp_commands.specs.Commands.{Inputs}
 
 module _ {X : Type 0} (inputs : Inputs X) (given : X) (IsObject : X → Explained → Fault → List ℕ → Type 0) (e : Explained) where
   reports : (kind : FaultFormat) (f : Fault) (old new : Option (List ℕ)) (told : Result (Unit {0}) WriteFault) → AreReadOrNot inputs given f
@@ -64,3 +66,26 @@ module _ {X R : Type 0} (inputs : Inputs X) (given : X) where
     ends_read IsObject e.explained rule kind done final held now e old between read flushed ends,
     tells Explains kind done final held now e.explained between new read flushed told,
   )
+
+-- What is told of a fault explains it.
+
+-- what is said of a fault, where its lines were made or memory for them was refused
+pub says : (Explains : Explanation → Type 0) (e : Explained) (r : Result (Option (Vec ℕ Global)) AllocError) (said : List ℕ)
+    → IfOk r (IsTextOf true Explains) → IsSaidFor r e said → IsSaid Explains e said
+says Explains e (Ok (Some lines)) said (x, is, lines_are) (made, same) = inl (made, inl (x, is, same ∙ lines_are))
+says Explains e (Ok None) said none (made, sentence) = inl (made, inr (none, sentence))
+says Explains e (Err x) said made (refused, sentence) = inr (refused, sentence)
+
+-- a run whose refusal is explained by lines is concluded by how it ends and by what is said then
+module _ {R : Type 0} (rule : AnswerRule R) (IsObject : Explained → Fault → List ℕ → Type 0) (Explains : Fault → Explanation → Type 0)
+    (e : RunEnd) (old between new : Option (List ℕ)) where
+  pub by_lines : (x : Explained) (f : Fault) (kind : FaultFormat) (done : Result R Fault) → is_explained kind ≡ true → done ≡ Err f
+      → IsEndOf rule (IsReported kind (IsObject e.explained)) done e old between
+      → (said : List ℕ) × IsSaid (Explains f) x said × Writes between new said x.told
+      → IsConcluded rule kind IsObject (λ g. IsSaid (Explains g)) done (record { status = e.status; told = e.told; explained = x }) old new
+  by_lines x f format.Explained (Err g) on is ends (said, saying, written) =
+      let same : f ≡ g = cc in
+      (between, ends, (said, subst (λ h. IsSaid (Explains h) x said) same saying, written))
+  by_lines x f format.Explained (Ok r) on is ends said = cc
+  by_lines x f format.Line done on is ends said = cc
+  by_lines x f format.Json done on is ends said = cc

@@ -1,21 +1,25 @@
 -- What driving a program says of the command `drive`.
-use Rattle.std.proofs.Common.{◌≡◌, refl, sym, subst, inl, inr, List, ℕ, Option, None}
+use Rattle.std.proofs.Common.{◌≡◌, refl, sym, subst, inl, inr, List, ℕ, Option, None, arith, [], ◌∷◌, ◌∙◌, ap, ◌+◌, ◌-◌, ◌<◌, ◌≤◌, ◌==◌, true, false, ◌++◌, length, take, drop, get_or, add-one, take-suc, take-append-drop, length-take-le}
 use Rattle.std.specs.Io.KnownBytes.{Keeps}
 use Rattle.std.proofs.KnownBytes.{Keeps-refl}
+use Rattle.std.proofs.Math.Seq.{take-append_seam, drop-append_seam}
+use Rattle.std.proofs.lemmas.Bool.{cases_lt, true≢false}
+use Rattle.bp_text.proofs.Givings.{all_from}
 use Rattle.bp_flat.specs.Flat.{Flat}
-use Rattle.bp_code.specs.LawfulTexts.{IsProgramCode}
-use Rattle.bp_machine.specs.declared.reports.Report.{Report}
+use Rattle.bp_machine.specs.declared.calls.Report.{Report}
 use Rattle.bp_machine.specs.declared.setup_faults.SetupFault.{SetupFault}
-use Rattle.bp_machine.specs.Setups.{SetupOf, setup_fault, IsSetupRefusal}
-use Rattle.bp_machine.specs.Starts.{StartOf, setup_from}
+use Rattle.bp_machine.specs.Setups.{SetupOf, setup_fault, IsSetupRefusal, StartOf, setup_from}
 use Rattle.bp_trace.specs.declared.faults.DriveFault.{DriveFault}
 use Rattle.bp_trace.specs.declared.faults.DriveFault.TheVariants.{TooLong, Line, AfterFinish, Memory, Write}
 use Rattle.bp_trace.specs.Drives.{DrivesTo, IsRefusal, IsScheduleRefusal}
-use Rattle.bp_trace.specs.TraceText.{trace_text}
-use Rattle.bp_commands.specs.Commands.{IsDoneWith, IsRefusedWith}
-use Rattle.bp_commands.specs.Drives.{drives, IsDriveRefused}
-use Rattle.bp_messages.specs.Faults.{fault_of_schedule, fault_of_setup}
-use Rattle.bp_commands.specs.Given.{Pair}
+use Rattle.bp_trace.specs.TraceText.{trace_text, trace_text_2}
+use Rattle.bp_trace.specs.declared.faults.MigrateFault.{MigrateFault}
+use Rattle.bp_trace.specs.declared.faults.MigrateFault.TheVariants as migrate
+use Rattle.bp_trace.specs.Replays.{IsMigrated, IsMigrateRefusal}
+use Rattle.bp_code.specs.LawfulTexts.{IsProgramCode}
+use Rattle.bp_messages.specs.FaultTable.{fault_of_schedule, fault_of_setup, fault_of_migration}
+use Rattle.bp_commands.specs.Commands.{IsDoneWith, IsRefusedWith, Pair}
+use Rattle.bp_commands.specs.Traces.{drives, IsDriveRefused, migrates, IsSeparated, HasNoSeparator, ends_line, HasNoneBefore, IsSplit}
 
 module _ (start : StartOf) (given : Pair) (c : Flat) (code : IsProgramCode given.text c) (s : SetupOf)
     (setup : s ≡ setup_from start None code.program)
@@ -92,3 +96,100 @@ setup_refused start given c code out cause why = inl (
     is = refl;
   })),
 )
+
+-- What migrating a trace says of the command `migrate`.
+
+module _ (given : Pair) (c : Flat) (code : IsProgramCode given.text c) (old new : Option (List ℕ)) where
+  pub migrated : (r : Report) → IsMigrated code.program given.input old new r → IsDoneWith migrates old new given r
+  migrated r is = record {
+    text = trace_text_2 is.setup is.history;
+    reports = record {
+      trace = record {
+        program = code.program;
+        setup = is.setup;
+        history = is.history;
+        legal = record { of = code.of; version = is.version; is = is.trace };
+        is = refl;
+      };
+      reported = is.report;
+    };
+    written = is.written;
+  }
+
+  pub not_migrated : (f : MigrateFault) → IsMigrateRefusal code.program given.input old new f → IsRefusedWith migrates old new given (fault_of_migration f)
+  not_migrated (migrate.Replay f) found = inl (
+    subst (Keeps old) (sym (found.0)) (Keeps-refl old),
+    inr (record {
+      program = code.program;
+      lawful = code.of;
+      cause = f;
+      why = found.1;
+      is = refl;
+    }),
+  )
+  not_migrated migrate.Write found = inr (inl (
+    refl,
+    record {
+      text = trace_text_2 found.setup found.history;
+      writes = record {
+        program = code.program;
+        setup = found.setup;
+        history = found.history;
+        legal = record { of = code.of; version = found.version; is = found.trace };
+        is = refl;
+      };
+      written = found.written;
+    },
+  ))
+
+-- The first line that is a separator, found one place after the other.
+
+ends_line-append : (bs : List ℕ) (b : ℕ) → ends_line (bs ++ b ∷ []) ≡ (b == 10)
+ends_line-append [] b = refl
+ends_line-append (c ∷ []) b = refl
+ends_line-append (c ∷ d ∷ bs) b = ends_line-append (d ∷ bs) b
+
+-- the first bytes end a line where the last of them is a line feed
+pub line_next : (input : List ℕ) (at : ℕ) → at < length input → ends_line (take (at + 1) input) ≡ (get_or input at 0 == 10)
+line_next input at within =
+    ap (λ n. ends_line (take n input)) (add-one at) ∙ ap ends_line (take-suc input at 0 within) ∙ ends_line-append (take at input) (get_or input at 0)
+
+-- no separator is at this place
+abbrev pub HasNoneAt : List ℕ → ℕ → Type 0
+HasNoneAt input at = (front bytes rest : List ℕ) → ends_line front ≡ true → IsSeparated bytes rest → input ≡ front ++ bytes → length front ≡ at → ⊥
+
+pub none_next : (input : List ℕ) (at : ℕ) → HasNoneBefore input at → HasNoneAt input at → HasNoneBefore input (at + 1)
+none_next input at before here front bytes rest line separated whole =
+    let least = before front bytes rest line separated whole in
+    elim (cases_lt at (length front)) [
+      | inl less ↦ omega arith
+      | inr more ↦ absurd (here front bytes rest line separated whole (omega arith))
+    ]
+
+-- a front of this length is what stands before the place
+front_is : (input front bytes : List ℕ) (at : ℕ) → input ≡ front ++ bytes → length front ≡ at → take at input ≡ front
+front_is input front bytes at whole here = ap (λ n. take n input) (sym here) ∙ (ap (take (length front)) whole ∙ take-append_seam front bytes)
+
+bytes_are : (input front bytes : List ℕ) (at : ℕ) → input ≡ front ++ bytes → length front ≡ at → drop at input ≡ bytes
+bytes_are input front bytes at whole here = ap (λ n. drop n input) (sym here) ∙ (ap (drop (length front)) whole ∙ drop-append_seam front bytes)
+
+-- a line does not begin here
+pub none_within : (input : List ℕ) (at : ℕ) → ends_line (take at input) ≡ false → HasNoneAt input at
+none_within input at inside front bytes rest line separated whole here =
+    true≢false (sym line ∙ (ap ends_line (sym (front_is input front bytes at whole here)) ∙ inside))
+
+-- something else begins here
+pub none_other : (input : List ℕ) (at : ℕ) → HasNoSeparator (take (length input - at) (drop at input)) → HasNoneAt input at
+none_other input at other front bytes rest line separated whole here =
+    other rest (subst (λ bs. IsSeparated bs rest) (sym (all_from input at ∙ bytes_are input front bytes at whole here)) separated)
+
+-- a separator begins here, where a line does
+pub split_at : (input rest : List ℕ) (at : ℕ) → at ≤ length input → ends_line (take at input) ≡ true
+    → IsSeparated (take (length input - at) (drop at input)) rest → HasNoneBefore input at → IsSplit input (take at input) rest
+split_at input rest at within line separated none = record {
+  separated = drop at input;
+  whole = sym (take-append-drop at input);
+  separator = subst (λ bs. IsSeparated bs rest) (all_from input at) separated;
+  line = line;
+  first = subst (HasNoneBefore input) (sym (length-take-le at input within)) none;
+}

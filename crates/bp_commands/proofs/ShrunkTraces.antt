@@ -1,28 +1,24 @@
 -- What shrinking the history of a trace says of the command `shrink`.
 use Rattle.std.proofs.Common.{◌≡◌, ◌<◌, ◌⊎◌, ◌^◌, ℕ, true, List, Some, None, refl, ap, sym, ◌∙◌, subst, arith, inl, inr}
-use Rattle.bp_tree.specs.Ast.{Program}
+use Rattle.bp_language.specs.Ast.{Program}
 use Rattle.bp_code.specs.LawfulTexts.{IsLawfulText}
 use Rattle.bp_machine.specs.declared.calls.Call.{Call}
-use Rattle.bp_machine.specs.Reports.{outcome_of, is_failure}
-use Rattle.bp_machine.proofs.GrantedSteps.{within as within_contexts}
+use Rattle.bp_machine.specs.Histories.{outcome_of, is_failure}
+use Rattle.bp_machine.proofs.RealFailures.{within as within_contexts}
 use Rattle.bp_machine.specs.Setups.{SetupOf}
 use Rattle.bp_test.specs.Tests.{IsDeadlock}
-use Rattle.bp_shrink.specs.declared.history_ends.HistoryEnd.{HistoryEnd}
-use Rattle.bp_shrink.specs.declared.history_ends.HistoryEnd.TheVariants.{Failure, Deadlock, Other}
-use Rattle.bp_shrink.specs.declared.shrinking.Shrunk.{Shrunk}
-use Rattle.bp_shrink.specs.HistoryEnds.{IsEnd}
-use Rattle.bp_shrink.specs.Shrinks.{budgeted, IsShrunk}
+use Rattle.bp_test.specs.declared.shrinking.HistoryEnd.{HistoryEnd}
+use Rattle.bp_test.specs.declared.shrinking.HistoryEnd.TheVariants.{Failure, Deadlock, Other}
+use Rattle.bp_test.specs.declared.shrinking.Shrunk.{Shrunk}
+use Rattle.bp_test.specs.Shrinks.{IsEnd, budgeted, IsShrunk}
 use Rattle.bp_trace.specs.declared.replaying.Replayed.{Replayed}
-use Rattle.bp_trace.specs.declared.versions.Version.TheVariants.{One}
-use Rattle.bp_trace.specs.Heads.{HasHead}
-use Rattle.bp_trace.specs.Replayed.{IsReplayed}
-use Rattle.bp_trace.specs.Replays.{IsTrace}
-use Rattle.bp_trace.specs.TraceText.{trace_text}
+use Rattle.bp_trace.specs.declared.traces.Version.TheVariants.{One}
+use Rattle.bp_trace.specs.TraceText.{HasHead, trace_text}
+use Rattle.bp_trace.specs.Replays.{IsReplayed, IsTrace}
 use Rattle.bp_messages.specs.declared.faults.Fault.{Fault}
 use Rattle.bp_messages.specs.declared.faults.Fault.TheVariants.{Memory, NoFailure}
-use Rattle.bp_commands.specs.Given.{Pair}
-use Rattle.bp_commands.specs.Traces.{IsOfTrace, IsTraceOf, IsTraceReport}
-use Rattle.bp_commands.specs.Shrinks.{FailAlike, DeadlockAlike, IsEndRefusal, IsShrunkText, HasNoFailure, LacksMemory}
+use Rattle.bp_commands.specs.Commands.{Pair}
+use Rattle.bp_commands.specs.Traces.{IsOfTrace, IsTraceOf, IsTraceReport, FailAlike, DeadlockAlike, IsEndRefusal, IsShrunkText, HasNoFailure, LacksMemory}
 
 -- the setup with other contexts and without a seed has a head
 head_of : (s : SetupOf) (k : ℕ) → HasHead s → k < 2 ^ 64 → HasHead (budgeted s k)

@@ -2,33 +2,30 @@
 use Rattle.std.proofs.Common.{◌≡◌, ◌∙◌, refl, sym, subst, inl, inr, ℕ, ◌<◌, ◌≤◌, ◌^◌, length, Bool, List, [], ◌∷◌, ◌++◌, Option, None, Some, map}
 use Rattle.std.specs.Io.KnownBytes.{Appends, Keeps}
 use Rattle.std.proofs.KnownBytes.{Appends-nil, Keeps-refl}
-use Rattle.bp_tree.specs.Ast.{Program}
+use Rattle.bp_language.specs.Ast.{Program}
 use Rattle.bp_code.specs.LawfulTexts.{IsLawfulText}
 use Rattle.bp_flat.specs.StandsFor.{places_of}
 use Rattle.bp_text.specs.Writing.{AppendsAll}
 use Rattle.bp_machine.specs.declared.calls.Call.{Call}
-use Rattle.bp_machine.specs.declared.reports.Report.{Report}
+use Rattle.bp_machine.specs.declared.calls.Report.{Report}
 use Rattle.bp_machine.specs.declared.setup_faults.SetupFault.{SetupFault}
 use Rattle.bp_machine.specs.declared.setup_faults.SetupFault.TheVariants.{OutOfRange}
-use Rattle.bp_machine.specs.Setups.{SetupOf, setup_fault, IsSetupRefusal}
-use Rattle.bp_machine.specs.Starts.{StartOf, setup_from}
+use Rattle.bp_machine.specs.Setups.{SetupOf, setup_fault, IsSetupRefusal, StartOf, setup_from}
 use Rattle.bp_trace.specs.TraceText.{trace_text}
-use Rattle.bp_test.specs.declared.faults.TestFault.{TestFault}
-use Rattle.bp_test.specs.declared.faults.TestFault.TheVariants as fault
+use Rattle.bp_test.specs.declared.testing.TestFault.{TestFault}
+use Rattle.bp_test.specs.declared.testing.TestFault.TheVariants as fault
 use Rattle.bp_tasks.specs.declared.limits.TheConstants.{MAX_JOBS}
-use Rattle.bp_tasks.specs.declared.test_options.TestOptions.{TestOptions}
+use Rattle.bp_tasks.specs.declared.options.TestOptions.{TestOptions}
 use Rattle.bp_test.specs.declared.testing.Found.{Found}
 use Rattle.bp_test.specs.declared.testing.Found.TheVariants.{Nothing, Failed, Deadlock}
 use Rattle.bp_test.specs.declared.testing.Tested.{Tested as Made}
 use Rattle.bp_test.specs.declared.waiting.Waiting.{Waiting}
-use Rattle.bp_test.specs.Counts.{AreCounts}
-use Rattle.bp_test.specs.Distinct.{AreDistinct}
-use Rattle.bp_test.specs.Tallies.{MadeRun, made as made_of, HasReached, IsCounted}
+use Rattle.bp_test.specs.Tallies.{AreCounts, AreDistinct, MadeRun, made as made_of, HasReached, IsCounted}
 use Rattle.bp_test.specs.Tests.{setup_of_run, IsFound, IsTest, IsTestRefusal, IsWrittenRun}
 use Rattle.bp_commands.specs.Commands.{IsDoneWith, IsRefusedWith}
-use Rattle.bp_messages.specs.Faults.{fault_of_setup, fault_of_test}
+use Rattle.bp_messages.specs.FaultTable.{fault_of_setup, fault_of_test}
 use Rattle.bp_messages.specs.declared.faults.Fault.TheVariants.{Memory}
-use Rattle.bp_messages.specs.declared.test_reports.TestReport.{TestReport}
+use Rattle.bp_messages.specs.declared.summaries.TestReport.{TestReport}
 use Rattle.bp_commands.specs.Tests.{tests, AreListed, IsTestable}
 use Rattle.bp_source.specs.SourceStatements.{AreStatements}
 use Rattle.bp_source.specs.StatementLines.{positions_of}

@@ -1,10 +1,114 @@
--- What a command is, and what it answers and writes.
-use Rattle.std.specs.Prelude.{◌≡◌, ◌⊎◌, ℕ, List, Option, Result, MatchResult}
-use Rattle.std.specs.Io.KnownBytes.{Keeps}
+-- What a command is, what its inputs hold, and what it answers and writes.
+use Rattle.std.specs.Prelude.{◌≡◌, ℕ, ◌+◌, ◌≤◌, List, Option, length, ⊤, ◌⊎◌, [], Result, MatchResult}
+use Rattle.std.specs.Io.KnownBytes.{Consumes, IsAtEnd, Keeps}
+use Rattle.std.specs.declared.io.ErrorKind.{ErrorKind}
+use Rattle.std.specs.declared.io.ErrorKind.TheVariants.{OutOfMemory}
 use Rattle.bp_text.specs.Writing.{AppendsAll, AppendsPart}
+use Rattle.bp_language.specs.declared.limits.TheConstants.{TEXT_LIMIT}
+use Rattle.bp_messages.specs.declared.fault_lines.InputFault.{InputFault}
+use Rattle.bp_messages.specs.declared.fault_lines.InputFault.TheVariants.{Device, TooLong, Memory}
 use Rattle.bp_messages.specs.declared.faults.Fault.{Fault}
+use Rattle.bp_messages.specs.FaultTable.{fault_of_input, fault_of_text}
 use Rattle.bp_messages.specs.declared.faults.Fault.TheVariants.{Write}
-use Rattle.bp_commands.specs.Given.{Inputs}
+use Rattle.bp_commands.specs.declared.limits.TheConstants.{MAX_BUNDLE}
+
+-- What reading an input within its limit takes and answers.
+
+-- why an input is not opened or read, by the kind of the system's error
+abbrev pub reading_fault_of : ErrorKind → InputFault
+reading_fault_of OutOfMemory = Memory
+reading_fault_of _ = Device
+
+-- all bytes that the reader had, within the limit
+pub record IsInput (limit : ℕ) (old new : Option (List ℕ)) (bytes : List ℕ) : Type 0 where
+  pub taken : Consumes old new bytes
+  pub ended : IsAtEnd new
+  pub short : length bytes ≤ limit
+
+pub record TookAtMost (old new : Option (List ℕ)) (n : ℕ) : Type 0 where
+  pub bytes : List ℕ
+  pub taken : Consumes old new bytes
+  pub short : length bytes ≤ n
+
+-- the reader gave one byte more than the limit
+pub record IsTooLong (limit : ℕ) (old new : Option (List ℕ)) : Type 0 where
+  pub bytes : List ℕ
+  pub taken : Consumes old new bytes
+  pub long : length bytes ≡ limit + 1
+
+-- nothing is said of when a read fails or memory is refused
+abbrev pub IsInputRefusal : ℕ → Option (List ℕ) → Option (List ℕ) → InputFault → Type 0
+IsInputRefusal limit old new Device = ⊤
+IsInputRefusal limit old new TooLong = IsTooLong limit old new
+IsInputRefusal limit old new Memory = TookAtMost old new limit
+
+-- The inputs of a command: what they hold where they are read, and why they are not read.
+
+-- what was read of the inputs, and for which faults they are not read
+pub record Inputs (X : Type 0) : Type 1 where
+  pub Holds : X → Type 0
+  pub Unread : Fault → Type 0
+
+-- The bytes that a reader had left before and after it was read, where they are known. At most one
+-- byte more than the limit is taken. Nothing is said of when a read fails or memory is refused.
+module _ (fault_of : InputFault → Fault) (limit : ℕ) (old new : Option (List ℕ)) where
+  pub record IsRefusedInput (f : Fault) : Type 0 where
+    pub cause : InputFault
+    pub why : IsInputRefusal limit old new cause
+    pub within : TookAtMost old new (limit + 1)
+    pub is : f ≡ fault_of cause
+
+-- an input other than a program text
+abbrev pub IsReadRefused : ℕ → Option (List ℕ) → Option (List ℕ) → Fault → Type 0
+IsReadRefused limit old new f = IsRefusedInput fault_of_input limit old new f
+
+-- a bundle
+abbrev pub bundle_alone : Option (List ℕ) → Option (List ℕ) → Inputs (List ℕ)
+bundle_alone old new = record {
+  Holds = IsInput MAX_BUNDLE old new;
+  Unread = IsReadRefused MAX_BUNDLE old new;
+}
+
+-- a program text
+module _ (old new : Option (List ℕ)) where
+  abbrev pub IsText : List ℕ → Type 0
+  IsText text = IsInput TEXT_LIMIT old new text
+
+  abbrev pub IsTextUnread : Fault → Type 0
+  IsTextUnread f = IsRefusedInput fault_of_text TEXT_LIMIT old new f
+
+  abbrev pub text_alone : Inputs (List ℕ)
+  text_alone = record { Holds = IsText; Unread = IsTextUnread }
+
+-- what a program and an input beside it hold
+pub record Pair : Type 0 where
+  pub text : List ℕ
+  pub input : List ℕ
+
+-- a program text with nothing beside it
+abbrev pub text_alone_of : List ℕ → Pair
+text_alone_of text = record { text = text; input = [] }
+
+-- a program text, and then an input beside it, which has a limit
+module _ (limit : ℕ) (text_old text_new old new : Option (List ℕ)) where
+  pub record IsPairIn (pair : Pair) : Type 0 where
+    pub text : IsText text_old text_new pair.text
+    pub input : IsInput limit old new pair.input
+
+  -- the text was read, and the input beside it was not
+  pub record IsInputUnread (f : Fault) : Type 0 where
+    pub text : List ℕ
+    pub whole : IsText text_old text_new text
+    pub unread : IsReadRefused limit old new f
+
+  -- the text was not read, and the input beside it not touched
+  abbrev pub IsPairUnread : Fault → Type 0
+  IsPairUnread f = ((new ≡ old) × IsTextUnread text_old text_new f) ⊎ IsInputUnread f
+
+  abbrev pub text_and : Inputs Pair
+  text_and = record { Holds = IsPairIn; Unread = IsPairUnread }
+
+-- What a command is, and what it answers and writes.
 
 -- A command: the texts that it may write of its inputs; what it reports where it has written one
 -- whole; for which faults it refuses the inputs; and which faults end it after this was written.

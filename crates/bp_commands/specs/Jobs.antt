@@ -1,18 +1,44 @@
 -- Runs of commands, from their inputs to the exit status, and what they leave on both streams.
-use Rattle.std.specs.Prelude.{ℕ, List, Option, Result}
-use Rattle.bp_machine.specs.declared.reports.Report.{Report}
-use Rattle.bp_commands.specs.Bundles.{bundles}
-use Rattle.bp_commands.specs.Commands.{Command, Answers}
+use Rattle.std.specs.Prelude.{ℕ, List, Option, None, Some, ◌≡◌, ◌≢◌, ◌⊎◌, [], Result, Err}
+use Rattle.std.specs.Io.KnownBytes.{append_known, Keeps}
+use Rattle.bp_machine.specs.declared.calls.Report.{Report}
+use Rattle.bp_tasks.specs.declared.tasks.FaultFormat.{FaultFormat}
+use Rattle.bp_messages.specs.declared.faults.Fault.{Fault}
+use Rattle.bp_messages.specs.declared.faults.Fault.TheVariants.{Write}
+use Rattle.bp_commands.specs.Commands.{text_and, Inputs, Pair, Command, Answers, bundle_alone, text_alone}
+use Rattle.bp_commands.specs.Traces.{bundles}
 use Rattle.bp_commands.specs.declared.run_ends.RunEnd.{RunEnd}
 use Rattle.bp_commands.specs.declared.explanations.SecondInput.{SecondInput}
-use Rattle.bp_tasks.specs.declared.fault_formats.FaultFormat.{FaultFormat}
-use Rattle.bp_messages.specs.declared.faults.Fault.{Fault}
-use Rattle.bp_commands.specs.RunEnds.{of_report, AnswerRule}
-use Rattle.bp_commands.specs.Explanations.{IsSaidOfRead}
-use Rattle.bp_commands.specs.Files.{pair_of_files}
-use Rattle.bp_commands.specs.Flushes.{IsFlushed}
-use Rattle.bp_commands.specs.Given.{bundle_alone, text_alone, Inputs, Pair}
-use Rattle.bp_commands.specs.FaultReports.{FaultReport, on_bytes, on_pair, on_text, IsConcluded, IsObjectRead}
+use Rattle.bp_commands.specs.FaultReports.{of_report, AnswerRule, IsSaidOfRead, FaultReport, on_bytes, on_pair, on_text, IsConcluded, IsObjectRead}
+
+-- What is left of files.
+
+-- what is left of a file that is opened or not
+abbrev pub rest_of
+    : {A : Type 0} → Option (List ℕ) → (A → Option (List ℕ)) → Option A → Option (List ℕ)
+rest_of unopened remaining None = unopened
+rest_of unopened remaining (Some file) = remaining file
+
+-- the inputs of a command on the program of one file and the input of another; this is left of them
+abbrev pub pair_of_files
+    : ℕ → Option (List ℕ) → Option (List ℕ) → Option (List ℕ) × Option (List ℕ) → Inputs Pair
+pair_of_files limit text input left = text_and limit text left.0 input left.1
+
+-- What is left where a command wrote through a buffer.
+
+-- the output has the bytes, but for one or more at their end
+pub record LacksEnd (held now : Option (List ℕ)) : Type 0 where
+  pub lost : List ℕ
+  pub some : lost ≢ []
+  pub rest : Keeps held (append_known now lost)
+
+-- The output has all that the buffer held, also before a refusal, and the answer is the command's;
+-- or it lacks some of the end, and the answer is that it was not written.
+abbrev pub IsFlushed
+    : {T : Type 0}
+    → Result T Fault → Option (List ℕ) → Result T Fault → Option (List ℕ) → Type 0
+IsFlushed done held answer now =
+    (Keeps held now × (answer ≡ done)) ⊎ (LacksEnd held now × (answer ≡ Err Write))
 
 -- a command on the inputs that it may leave unread in part, how it ends, what is told of faults of
 -- the inputs, and in which format

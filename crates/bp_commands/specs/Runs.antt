@@ -2,21 +2,19 @@
 use Rattle.std.specs.Prelude.{◌≡◌, ◌⊎◌, ℕ, List, [], None, Some}
 use Rattle.bp_machine.specs.declared.calls.Call.{Call}
 use Rattle.bp_machine.specs.declared.setup_faults.SetupFault.{SetupFault}
-use Rattle.bp_machine.specs.Histories.{IsLegal}
-use Rattle.bp_machine.specs.SeededHistories.{HasSeededBits}
+use Rattle.bp_machine.specs.Histories.{IsLegal, HasSeededBits}
 use Rattle.bp_run.specs.declared.answers.RunReport.{RunReport}
-use Rattle.bp_run.specs.declared.run_faults.RunFault.TheVariants as run
-use Rattle.bp_init.specs.NamedBits.{NamedBitOf}
+use Rattle.bp_run.specs.declared.answers.RunFault.TheVariants as run
+use Rattle.bp_tasks.specs.NamedBits.{NamedBitOf}
 use Rattle.bp_tasks.specs.RunOptions.{OptionsOf, options_of}
 use Rattle.bp_run.specs.Options.{setup_under, options_fault, IsOptionsRefusal}
 use Rattle.bp_run.specs.Runs.{OfProgram, IsTracedRun, IsRefusedInPlay}
 use Rattle.bp_trace.specs.TraceText.{trace_text}
 use Rattle.bp_messages.specs.declared.faults.Fault.{Fault}
 use Rattle.bp_messages.specs.declared.faults.Fault.TheVariants.{Start, Early, Memory}
-use Rattle.bp_commands.specs.Checks.{IsUnlawful}
+use Rattle.bp_commands.specs.Programs.{IsUnlawful, by_names}
 use Rattle.bp_commands.specs.Commands.{Command}
-use Rattle.bp_commands.specs.NamedStarts.{by_names}
-use Rattle.bp_messages.specs.Faults.{fault_of_setup}
+use Rattle.bp_messages.specs.FaultTable.{fault_of_setup}
 
 -- The program of a text is run by real threads, under these options.
 module _ (o : OptionsOf) (text : List ℕ) where

@@ -1,34 +1,28 @@
 -- The command `test`.
 use Rattle.std.specs.Prelude.{if◌then◌else◌, ◌≡◌, ◌<◌, ◌≤◌, ◌⊎◌, ℕ, Bool, true, false, List, [], None, Some, map}
-use Rattle.bp_tree.specs.Ast.{Program}
+use Rattle.bp_language.specs.Ast.{Program}
 use Rattle.bp_code.specs.LawfulTexts.{IsLawfulText}
 use Rattle.bp_flat.specs.StandsFor.{places_of}
-use Rattle.bp_machine.specs.declared.reports.Report.{Report}
+use Rattle.bp_machine.specs.declared.calls.Report.{Report}
 use Rattle.bp_machine.specs.declared.setup_faults.SetupFault.TheVariants.{OutOfRange}
-use Rattle.bp_machine.specs.Setups.{setup_fault}
-use Rattle.bp_machine.specs.Starts.{StartOf, setup_from}
+use Rattle.bp_machine.specs.Setups.{setup_fault, StartOf, setup_from}
 use Rattle.bp_tasks.specs.declared.limits.TheConstants.{MAX_JOBS}
-use Rattle.bp_tasks.specs.declared.test_options.TestOptions.{TestOptions}
-use Rattle.bp_test.specs.Counts.{AreCounts}
-use Rattle.bp_test.specs.Distinct.{AreDistinctRuns}
-use Rattle.bp_test.specs.Tallies.{MadeRun, HasReached}
+use Rattle.bp_tasks.specs.declared.options.TestOptions.{TestOptions}
+use Rattle.bp_test.specs.Tallies.{AreCounts, AreDistinctRuns, MadeRun, HasReached}
 use Rattle.bp_test.specs.Tests.{IsFound, IsSought, IsWrittenRun}
 use Rattle.bp_messages.specs.declared.faults.Fault.{Fault}
 use Rattle.bp_messages.specs.declared.faults.Fault.TheVariants.{Memory}
-use Rattle.bp_messages.specs.declared.test_reports.TestReport.{TestReport}
-use Rattle.bp_init.specs.NamedBits.{NamedBitOf}
+use Rattle.bp_messages.specs.declared.summaries.TestReport.{TestReport}
+use Rattle.bp_tasks.specs.NamedBits.{NamedBitOf}
 use Rattle.bp_commands.specs.Commands.{Command}
-use Rattle.bp_commands.specs.RunEnds.{AnswerRule}
-use Rattle.bp_messages.specs.Faults.{fault_of_setup}
-use Rattle.bp_commands.specs.Listings.{HasNoCode}
-use Rattle.bp_commands.specs.NamedStarts.{by_names, IsSetupRefused}
-use Rattle.bp_messages.specs.FaultTable.{exit_status}
+use Rattle.bp_commands.specs.FaultReports.{AnswerRule}
+use Rattle.bp_messages.specs.FaultTable.{fault_of_setup, exit_status}
+use Rattle.bp_commands.specs.Programs.{HasNoCode, by_names, IsSetupRefused}
 use Rattle.bp_messages.specs.Notes.{has_found}
 use Rattle.bp_messages.specs.Summaries.{summary_text}
 use Rattle.bp_messages.specs.SummaryObjects.{summary_objects}
 use Rattle.bp_source.specs.SourceStatements.{AreStatements}
-use Rattle.bp_source.specs.StatementLines.{positions_of, AreStatementLines}
-use Rattle.bp_source.specs.Unreached.{AreUnreachedObjects}
+use Rattle.bp_source.specs.StatementLines.{positions_of, AreStatementLines, AreUnreachedObjects}
 
 -- what a user reads of a test, as JSON or not
 abbrev pub summary_of : TestReport → List ℕ

@@ -1,23 +1,31 @@
--- The commands on a trace of a program, `replay` and `migrate` among them.
-use Rattle.std.specs.Prelude.{◌≡◌, ◌⊎◌, ◌++◌, ℕ, List}
-use Rattle.bp_tree.specs.Ast.{Program}
-use Rattle.bp_code.specs.LawfulTexts.{IsLawfulText}
+-- The commands on a trace or a schedule of a program, and on a bundle.
+use Rattle.std.specs.Prelude.{◌≡◌, ◌⊎◌, ◌++◌, ℕ, List, ◌≤◌, ◌==◌, Bool, true, [], ◌∷◌, length, None}
+use Rattle.bp_language.specs.Ast.{Program}
 use Rattle.bp_machine.specs.declared.calls.Call.{Call}
-use Rattle.bp_machine.specs.declared.reports.Report.{Report}
-use Rattle.bp_machine.specs.PrintedRows.{printed_rows}
-use Rattle.bp_machine.specs.Reports.{outcome_of, IsReport}
-use Rattle.bp_machine.specs.Setups.{SetupOf}
-use Rattle.bp_trace.specs.declared.replay_faults.ReplayFault.{ReplayFault}
-use Rattle.bp_trace.specs.declared.versions.Version.{Version}
+use Rattle.bp_machine.specs.declared.calls.Report.{Report}
+use Rattle.bp_machine.specs.Runs.{printed_rows}
+use Rattle.bp_machine.specs.Histories.{outcome_of, IsReport, IsLeastWithin, granted_calls, granted_threads, is_failure}
+use Rattle.bp_machine.specs.Setups.{SetupOf, setup_fault, StartOf, setup_from, default_start}
+use Rattle.bp_trace.specs.declared.faults.ReplayFault.{ReplayFault}
+use Rattle.bp_trace.specs.declared.traces.Version.{Version}
 use Rattle.bp_trace.specs.Replays.{IsTrace, IsReplayRefusal}
-use Rattle.bp_trace.specs.TraceText.{trace_text_2}
+use Rattle.bp_trace.specs.TraceText.{trace_text_2, trace_text}
+use Rattle.bp_trace.specs.declared.faults.DriveFault.{DriveFault}
+use Rattle.bp_trace.specs.Drives.{IsDriven, IsScheduleRefusal}
+use Rattle.bp_trace.specs.declared.traces.Version.TheVariants.{One}
+use Rattle.bp_code.specs.LawfulTexts.{IsLawfulText}
+use Rattle.bp_tasks.specs.NamedBits.{NamedBitOf}
+use Rattle.bp_test.specs.declared.waiting.Waiting.{Waiting}
+use Rattle.bp_test.specs.Tests.{FailsAt, IsDeadlock}
+use Rattle.bp_test.specs.Shrinks.{DeadlocksAt, IsOtherEnd, budgeted}
 use Rattle.bp_messages.specs.declared.faults.Fault.{Fault}
-use Rattle.bp_messages.specs.declared.faults.Fault.TheVariants.{Memory}
-use Rattle.bp_commands.specs.Commands.{Command}
-use Rattle.bp_messages.specs.Faults.{fault_of_trace}
-use Rattle.bp_commands.specs.Given.{Pair}
-use Rattle.bp_commands.specs.Listings.{HasNoCode}
+use Rattle.bp_messages.specs.declared.faults.Fault.TheVariants.{Memory, NoFailure}
+use Rattle.bp_messages.specs.FaultTable.{fault_of_trace, fault_of_schedule}
 use Rattle.bp_messages.specs.ReplayLines.{shown_text}
+use Rattle.bp_commands.specs.Commands.{Command, Pair}
+use Rattle.bp_commands.specs.Programs.{HasNoCode, by_names, IsSetupRefused}
+
+-- The commands on a trace of a program, `replay` and `migrate` among them.
 
 -- What a command writes of a history, as a rule on the program text, the program, the setup, the
 -- history and what is written of them.
@@ -83,3 +91,179 @@ replays = on_trace IsReplayText
 -- it writes the trace of version 2 of the same history
 abbrev pub migrates : Command Pair Report
 migrates = on_trace IsMigrationText
+
+-- The parts of a bundle: a program text, a line that is exactly `%`, and a schedule.
+
+-- a line `%` begins the bytes; it ends with its line feed or with the bytes
+abbrev pub IsSeparated : List ℕ → List ℕ → Type 0
+IsSeparated bytes rest = (bytes ≡ 37 ∷ 10 ∷ rest) ⊎ ((bytes ≡ 37 ∷ []) × (rest ≡ []))
+
+abbrev pub HasNoSeparator : List ℕ → Type 0
+HasNoSeparator bytes = (rest : List ℕ) → IsSeparated bytes rest → ⊥
+
+-- the bytes end a line: they are none, or a line feed is the last of them
+abbrev pub ends_line : List ℕ → Bool
+ends_line [] = true
+ends_line (b ∷ []) = b == 10
+ends_line (b ∷ c ∷ bs) = ends_line (c ∷ bs)
+
+-- no line `%` begins in front of the n-th byte
+abbrev pub HasNoneBefore : List ℕ → ℕ → Type 0
+HasNoneBefore input n =
+    (front bytes rest : List ℕ)
+    → ends_line front ≡ true
+    → IsSeparated bytes rest
+    → input ≡ front ++ bytes
+    → n ≤ length front
+
+-- the first line `%` is between text and schedule
+pub record IsSplit (input text schedule : List ℕ) : Type 0 where
+  pub separated : List ℕ
+  pub whole : input ≡ text ++ separated
+  pub separator : IsSeparated separated schedule
+  pub line : ends_line text ≡ true
+  pub first : HasNoneBefore input (length text)
+
+-- no line is `%`, and the whole input is the text
+pub record IsAllText (input text schedule : List ℕ) : Type 0 where
+  pub none : HasNoneBefore input (length input)
+  pub all : text ≡ input
+  pub rest : schedule ≡ []
+
+abbrev pub IsParted : List ℕ → List ℕ → List ℕ → Type 0
+IsParted input text schedule = IsSplit input text schedule ⊎ IsAllText input text schedule
+
+-- The command `drive`.
+
+-- The program of a text is driven by a schedule from this start, with the schedule's choice bits.
+module _ (start : StartOf) (given : Pair) where
+  -- the schedule drives the program to a history, whose trace is written
+  pub record IsOfSchedule (written : List ℕ) : Type 0 where
+    pub program : Program
+    pub lawful : IsLawfulText given.text program
+    pub fine : setup_fault program (setup_from start None program) ≡ None
+    pub history : List Call
+    pub driven : IsDriven program (setup_from start None program) given.input history
+    pub is : written ≡ trace_text (setup_from start None program) history
+
+  -- and this is its report
+  pub record IsScheduleReport (written : List ℕ) (report : Report) : Type 0 where
+    pub trace : IsOfSchedule written
+    pub reported : IsReport (setup_from start None trace.program) trace.history report
+
+  -- the program takes the setup, and the schedule does not drive it
+  pub record IsScheduleRefused (f : Fault) : Type 0 where
+    pub program : Program
+    pub lawful : IsLawfulText given.text program
+    pub fine : setup_fault program (setup_from start None program) ≡ None
+    pub cause : DriveFault
+    pub why : IsScheduleRefusal program (setup_from start None program) given.input cause
+    pub is : f ≡ fault_of_schedule cause
+
+  abbrev pub IsDriveRefused : Fault → Type 0
+  IsDriveRefused f =
+      HasNoCode given.text f
+      ⊎ (IsSetupRefused start given.text f ⊎ IsScheduleRefused f)
+
+-- it writes the trace of the history to which the schedule drives the program
+abbrev pub drives : StartOf → Command Pair Report
+drives start = record {
+  Writes = IsOfSchedule start;
+  Reports = IsScheduleReport start;
+  Refuses = IsDriveRefused start;
+  Spoils = λ _ _ _. ⊥;
+}
+
+-- the same from a start in which these globals have their bits by name
+abbrev pub drives_by_names : StartOf → List NamedBitOf → Command Pair Report
+drives_by_names start named = by_names (λ given. given.text) start named drives
+
+-- The command without a name, which drives a bundle.
+
+-- this holds of the program text and the schedule of a bundle
+pub record OfBundle (Holds : Pair → Type 0) (bytes : List ℕ) : Type 0 where
+  pub parts : Pair
+  pub parted : IsParted bytes parts.text parts.input
+  pub holds : Holds parts
+
+-- it drives the program of the bundle by its schedule, from the defaults
+abbrev pub bundles : Command (List ℕ) Report
+bundles =
+    let drives = drives default_start in
+    record {
+      Writes = λ bytes written. OfBundle (λ parts. drives.Writes parts written) bytes;
+      Reports = λ bytes written r. OfBundle (λ parts. drives.Reports parts written r) bytes;
+      Refuses = λ bytes f. (f ≡ Memory) ⊎ OfBundle (λ parts. drives.Refuses parts f) bytes;
+      Spoils = λ _ _ _. ⊥;
+    }
+
+-- What `shrink` writes of a trace that ends in a failure or a deadlock, and its refusals.
+
+-- two histories of a program, each of its own setup
+module _ (t : Program) (s z : SetupOf) (h g : List Call) where
+  -- in both an assertion failed, at the instruction of one number
+  pub record FailAlike : Type 0 where
+    pub number : ℕ
+    pub one : FailsAt t s h number
+    pub other : FailsAt t z g number
+
+  -- both end in a deadlock, in which the same threads wait at the same instructions
+  pub record DeadlockAlike : Type 0 where
+    pub waiting : List Waiting
+    pub one : DeadlocksAt t s h waiting
+    pub other : DeadlocksAt t z g waiting
+
+-- The trace of a history in which the same assertion of the same thread failed as in h, or which
+-- ends in the same deadlock, by no more calls and no more contexts. Each of its calls made a step.
+-- Its setup is that of h but for the seed, of which there is none, and the contexts, which are
+-- those that it uses.
+pub record IsShrunkText
+    (text : List ℕ) (t : Program) (s : SetupOf) (h : List Call) (written : List ℕ)
+    : Type 0 where
+  pub setup : SetupOf
+  pub history : List Call
+  pub trace : IsTrace t One setup history written
+  pub same : setup ≡ budgeted s setup.contexts
+  pub used : IsLeastWithin setup.contexts (granted_threads history)
+  pub steps : granted_calls history ≡ history
+  pub alike : FailAlike t s setup h history ⊎ DeadlockAlike t s setup h history
+  pub outcome : outcome_of history ≡ outcome_of h
+  pub calls : length history ≤ length h
+  pub contexts : (n : ℕ) → IsLeastWithin n (granted_threads h) → setup.contexts ≤ n
+
+-- the trace is accepted, and ends neither in a failure nor in a deadlock
+pub record HasNoFailure (given : Pair) (f : Fault) : Type 0 where
+  pub program : Program
+  pub setup : SetupOf
+  pub history : List Call
+  pub legal : IsTraceOf given.text given.input program setup history
+  pub other : IsOtherEnd program setup history
+  pub is : f ≡ NoFailure
+
+-- the trace is accepted, ends in a failure or in a deadlock, and memory was refused after that
+pub record LacksMemory (given : Pair) (f : Fault) : Type 0 where
+  pub program : Program
+  pub setup : SetupOf
+  pub history : List Call
+  pub legal : IsTraceOf given.text given.input program setup history
+  pub ended : (is_failure (outcome_of history) ≡ true) ⊎ IsDeadlock program setup history
+  pub is : f ≡ Memory
+
+-- why no end is kept: there is none, or memory was refused in a deadlock
+abbrev pub IsEndRefusal : Program → SetupOf → List Call → Fault → Type 0
+IsEndRefusal t s h NoFailure = IsOtherEnd t s h
+IsEndRefusal t s h Memory = IsDeadlock t s h
+IsEndRefusal t s h f = ⊥
+
+-- it writes such a trace, and reports the history of the one that was read
+abbrev pub shrinks : Command Pair Report
+shrinks = record {
+  Writes = IsOfTrace IsShrunkText;
+  Reports = IsTraceReport IsShrunkText;
+  Refuses = λ given f.
+      HasNoCode given.text f
+      ⊎ (IsNoTrace given f
+      ⊎ (HasNoFailure given f
+      ⊎ LacksMemory given f));
+  Spoils = λ _ _ _. ⊥;
+}

@@ -1,15 +1,22 @@
 //! The command `check`.
+//! The command `code`.
+ghost use Rattle.std.specs.Prelude.{◌≡◌, IfOk};
 ghost use Rattle.bp_text.specs.Writing.{Writes};
-ghost use Rattle.bp_commands.specs.Checks.{check_line};
+ghost use Rattle.bp_flat.specs.StandsFor.{StandsFor};
+ghost use Rattle.bp_code.specs.Compiled.{flat_of};
+ghost use Rattle.bp_code.specs.Listing.{listing_text};
+ghost use Rattle.bp_source.specs.Listings.{IsSourcedListing};
+ghost use Rattle.bp_commands.specs.Programs.{check_line, IsListingText};
 
 use crate::commands::ProgramCommand;
-use bp_check::Checked;
-use bp_code::lawful_program;
+use bp_code::{Checked, compile, lawful_program, list};
+use bp_flat::Code;
 use bp_messages::Fault;
-use bp_source::program_object;
+use bp_source::{code_objects, program_object, sourced_listing};
+use bp_tasks::ListingForm;
 use bp_text::Piece::{Bytes, Number};
 use bp_text::{WriteFault, put, put_pieces};
-use std::alloc::Global;
+use std::alloc::{AllocError, Global};
 use std::io::Write;
 
 /// Writes `ok P G` and a line feed: the numbers of procedures and of globals that a lawful program
@@ -39,7 +46,7 @@ pub struct Check {
 }
 
 impl ProgramCommand for Check {
-    ghost use Rattle.bp_commands.specs.Checks.{checks};
+    ghost use Rattle.bp_commands.specs.Programs.{checks};
 
     type Answer = ();
 
@@ -54,6 +61,75 @@ impl ProgramCommand for Check {
         } else {
             show_check(&checked, out)?;
         }
+        Ok(())
+    }
+}
+
+/// The listing of a program's code.
+fn plain(alloc: Global, code: &Code) -> Result<Vec<u8>, AllocError>
+    ensures { IfOk result (λ v. v.items ≡ listing_text code.now) }
+{
+    let mut listing = Vec::new(alloc);
+    // A vector takes all that is written, unless memory is refused.
+    match list(code, &mut listing) {
+        Ok(()) => Ok(listing),
+        Err(_) => Err(AllocError),
+    }
+}
+
+/// The same with the source of each instruction.
+fn sourced(
+    alloc: Global,
+    text: &[u8],
+    checked: &Checked,
+    code: &Code,
+) -> Result<Vec<u8>, AllocError>
+    ensures { let listing = listing_text code.now in
+        IfOk result (λ v. IsSourcedListing text.now checked.now listing v.items) }
+{
+    let listing = plain(alloc, code)?;
+    sourced_listing(alloc, text, checked, &listing)
+}
+
+/// The listing of a program's code in this form.
+fn listing_in(
+    alloc: Global,
+    form: ListingForm,
+    text: &[u8],
+    checked: &Checked,
+    code: &Code,
+) -> Result<Vec<u8>, AllocError>
+    requires stands { StandsFor code.now checked.now }
+    requires compiled { code.now ≡ flat_of checked.now }
+    ensures { IfOk result (λ v. IsListingText form text.now checked.now v.items) }
+{
+    match form {
+        ListingForm::Lines => plain(alloc, code),
+        ListingForm::Sourced => sourced(alloc, text, checked, code),
+        ListingForm::Json => code_objects(alloc, text, checked, code),
+    }
+}
+
+/// `code`: writes the listing of a program's code, with the source of each instruction or without.
+#[derive(Clone, Copy)]
+pub struct ListCode {
+    pub form: ListingForm,
+}
+
+impl ProgramCommand for ListCode {
+    ghost use Rattle.bp_commands.specs.Programs.{lists};
+
+    type Answer = ();
+
+    ghost command = { λ x. lists x.form };
+
+    ghost allowed = { λ _. Unit {0} };
+
+    fn apply<W: Write>(&self, alloc: Global, text: &[u8], out: &mut W) -> Result<(), Fault> {
+        let checked = lawful_program(alloc, text)?;
+        let code = compile(alloc, &checked)?;
+        let listing = listing_in(alloc, self.form, text, &checked, &code)?;
+        put(out, &listing)?;
         Ok(())
     }
 }

@@ -1,18 +1,17 @@
 //! Commands on what they are given, and on what they read.
 ghost use Rattle.std.specs.Prelude.{◌≡◌, List, ℕ};
-ghost use Rattle.bp_commands.specs.Commands.{Answers, AnswersOf, Command};
+ghost use Rattle.bp_commands.specs.Commands.{Answers, AnswersOf, Command, text_alone, text_and, Pair};
 ghost use Rattle.bp_commands.specs.declared.explanations.SecondInput.{SecondInput};
-ghost use Rattle.bp_commands.specs.Explanations.{AreReadOr};
-ghost use Rattle.bp_commands.specs.Given.{text_alone, text_and, Pair};
-ghost use Rattle.bp_machine.specs.declared.reports.Report.{Report};
+ghost use Rattle.bp_commands.specs.FaultReports.{AreReadOr};
+ghost use Rattle.bp_machine.specs.declared.calls.Report.{Report};
 ghost use Rattle.bp_trace.specs.declared.limits.TheConstants.{MAX_TRACE};
 
 use crate::explanations::SecondInput;
 use crate::inputs::{Source, read_pair, read_text};
 use crate::run_ends::CommandAnswer;
-use bp_init::NamedStart;
 use bp_machine::Report;
 use bp_messages::Fault;
+use bp_tasks::NamedStart;
 use bp_trace::limits::MAX_TRACE;
 use std::alloc::Global;
 use std::io::{Read, Write};

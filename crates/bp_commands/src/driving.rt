@@ -1,19 +1,24 @@
 //! The command `drive`.
-ghost use Rattle.bp_commands.specs.Commands.{AnswersOf};
-ghost use Rattle.bp_commands.specs.Drives.{drives};
-ghost use Rattle.bp_commands.specs.Given.{Pair};
+//! The command without a name: it drives a bundle.
+//! The parts of a bundle.
+ghost use Rattle.std.specs.Prelude.{◌≡◌, length, take, MatchOption};
+ghost use Rattle.bp_commands.specs.Commands.{AnswersOf, Pair, Answers, bundle_alone};
+ghost use Rattle.bp_commands.specs.Traces.{drives, bundles, IsSeparated, HasNoSeparator, HasNoneBefore, IsSplit, IsParted};
+ghost use Rattle.bp_commands.specs.FaultReports.{AreReadOr};
 
 use crate::commands::PairCommand;
 use crate::explanations::SecondInput;
-use crate::named_starts::start_by_names;
+use crate::inputs::{Source, read_input};
+use crate::limits::MAX_BUNDLE;
+use crate::programs::start_by_names;
 use bp_code::code_of;
-use bp_init::NamedStart;
 use bp_machine::{Report, Start};
 use bp_messages::Fault;
+use bp_tasks::NamedStart;
 use bp_trace::drive;
 use bp_trace::limits::MAX_SCHEDULE;
 use std::alloc::Global;
-use std::io::Write;
+use std::io::{Read, Write};
 
 /// `drive`: drives a program by a schedule, and writes the trace.
 #[derive(Clone, Copy)]
@@ -41,7 +46,7 @@ pub(crate) fn drive_from<W: Write>(
 impl PairCommand for Drive<'_> {
     ghost use Rattle.bp_commands.specs.declared.explanations.SecondInput.{SecondInput};
     ghost use Rattle.bp_trace.specs.declared.limits.TheConstants.{MAX_SCHEDULE};
-    ghost use Rattle.bp_commands.specs.Drives.{drives_by_names};
+    ghost use Rattle.bp_commands.specs.Traces.{drives_by_names};
 
     type Answer = Report;
 
@@ -75,5 +80,71 @@ impl PairCommand for Drive<'_> {
 
     fn start(&self) -> Option<NamedStart<'_>> {
         Some(self.start)
+    }
+}
+
+/// Why a bundle is not driven.
+pub type BundleFault = Fault;
+
+/// Reads a bundle, a program and a schedule, drives the program by the schedule, and writes the
+/// trace: one thread begins with `main`, all globals are 0, and at most 2 contexts and 1,000 calls
+/// are allowed. At most 1,048,577 bytes are read.
+pub fn drive_bundle<R: Read, W: Write>(
+    alloc: Global,
+    bundle: &mut Source<R>,
+    out: &mut W,
+) -> Result<Report, BundleFault>
+    ensures answers { let inputs = bundle_alone
+        (R.remaining bundle.old.reader) (R.remaining bundle.new.reader) in
+        Answers bundles inputs (W.contents out.old) (W.contents out.new) result }
+    ensures holds { let inputs = bundle_alone
+        (R.remaining bundle.old.reader) (R.remaining bundle.new.reader) in
+        AreReadOr inputs bundle.new.bytes.items result }
+{
+    read_input(alloc, MAX_BUNDLE, bundle)?;
+    let start = Start::defaults(alloc)?;
+    let (text, schedule) = parts(&bundle.bytes);
+    drive_from(alloc, &start, text, schedule, out)
+}
+
+/// What follows a line that is exactly `%`, where the bytes begin with one.
+fn after_separator(bytes: &[u8]) -> Option<&[u8]>
+    ensures { MatchOption result
+        (HasNoSeparator bytes.now)
+        (λ rest. IsSeparated bytes.now rest.now) }
+{
+    match bytes {
+        [b'%'] => Some(&[]),
+        [b'%', b'\n', rest @ ..] => Some(rest),
+        _ => None,
+    }
+}
+
+/// Where the first line that is exactly `%` begins, and what follows it.
+fn first_separator(input: &[u8]) -> Option<(usize, &[u8])>
+    ensures { MatchOption result
+        (HasNoneBefore input.now (length input.now))
+        (λ x. IsSplit input.now (take x.0 input.now) x.1.now) }
+{
+    let mut begins = true;
+    for at in 0..input.len() {
+        if begins {
+            if let Some(rest) = after_separator(&input[at..]) {
+                return Some((at, rest));
+            }
+        }
+        begins = input[at] == b'\n';
+    }
+    None
+}
+
+/// The program text and the schedule of a bundle: what comes before the first line that is exactly
+/// `%` and what stands after it. Without such a line all is the text.
+pub fn parts(input: &[u8]) -> (&[u8], &[u8])
+    ensures { IsParted input.now result.0.now result.1.now }
+{
+    match first_separator(input) {
+        Some((at, schedule)) => (&input[..at], schedule),
+        None => (input, &[]),
     }
 }

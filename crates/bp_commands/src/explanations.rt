@@ -2,18 +2,17 @@
 ghost use Rattle.std.specs.Prelude.{ℕ, List, IfOk};
 ghost use Rattle.bp_advice.specs.Explanations.{IsExplanationOf};
 ghost use Rattle.bp_text.specs.Writing.{Writes};
-ghost use Rattle.bp_commands.specs.Explanations.{ExplainsInput, ExplainsPair, ExplainsText, IsSentenceLine, IsSaidFor};
-ghost use Rattle.bp_commands.specs.Given.{Pair};
+ghost use Rattle.bp_commands.specs.FaultReports.{ExplainsInput, ExplainsPair, ExplainsText, IsSentenceLine, IsSaidFor};
+ghost use Rattle.bp_commands.specs.Commands.{Pair};
 
-use crate::fault_contexts::FaultContext;
-use crate::messages::shown_sentence;
-use crate::named_starts::start_of_run;
+use crate::fault_contexts::{FaultContext, shown_sentence};
+use crate::programs::start_of_run;
 use crate::run_ends::Explained;
 use bp_advice::{Explanation, explain_program};
 use bp_explain::{explain_schedule, explain_steps, explain_trace};
-use bp_init::{NamedBits, NamedStart};
 use bp_machine::Start;
 use bp_messages::Fault;
+use bp_tasks::{NamedBits, NamedStart};
 use bp_text::Piece::Bytes;
 use bp_text::{WriteFault, first_line, put, put_pieces};
 use bp_trace::ReplayFault;

@@ -1,19 +1,19 @@
 //! What the sentence of a fault says of the command line: which file, or which option.
-
-use crate::files::Failure;
-use bp_board::limits::{MAX_RING, MAX_TURN};
+//! The sentence that says what a fault is, alone.
+use crate::inputs::Failure;
 use bp_code::ProgramFault;
 use bp_explain::{global_sentence, start_sentence, variable_sentence};
-use bp_facts::watched_names;
-use bp_init::NamedStart;
 use bp_language::limits::TEXT_LIMIT;
 use bp_machine::limits::{MAX_CALLS, MAX_CONTEXTS};
 use bp_machine::{SetupFault, Start};
 use bp_messages::Fault;
+use bp_run::limits::{MAX_RING, MAX_TURN};
 use bp_syntax::ReadFault;
-use bp_tasks::RunOptions;
 use bp_tasks::limits::MAX_JOBS;
-use std::alloc::Global;
+use bp_tasks::{NamedStart, RunOptions};
+use bp_text::{push_bytes, push_displayed};
+use bp_view::watched_names;
+use std::alloc::{AllocError, Global};
 
 /// The numbers among the options of a command that have a range.
 #[derive(Clone, Copy, PartialEq, Eq)]
@@ -229,4 +229,31 @@ impl FaultContext<'_, '_> {
             _ => None,
         }
     }
+}
+
+/// The fault in a sentence, which says what is known of the command line.
+pub(crate) fn sentence(
+    alloc: Global,
+    fault: &Fault,
+    context: FaultContext<'_, '_>,
+) -> Result<Vec<u8>, AllocError> {
+    if let Some(sentence) = context.sentence(alloc, fault) {
+        return Ok(sentence);
+    }
+    let text = format!(in alloc; "{fault}")?;
+    let mut sentence = Vec::new(alloc);
+    push_bytes(&mut sentence, text.as_bytes())?;
+    Ok(sentence)
+}
+
+/// The same sentence for a terminal, with `?` for each byte of a control character.
+pub(crate) fn shown_sentence(
+    alloc: Global,
+    fault: &Fault,
+    context: FaultContext<'_, '_>,
+) -> Result<Vec<u8>, AllocError> {
+    let sentence = sentence(alloc, fault, context)?;
+    let mut shown = Vec::new(alloc);
+    push_displayed(&mut shown, sentence.as_slice())?;
+    Ok(shown)
 }

@@ -1,24 +1,20 @@
 //! What is told of the faults of the texts that a command was given.
 ghost use Rattle.std.specs.Prelude.{◌≡◌, ℕ, List, Option, None, Result, IfOk};
 ghost use Rattle.bp_text.specs.Writing.{Writes};
-ghost use Rattle.bp_commands.specs.RunEnds.{IsEndOf};
+ghost use Rattle.bp_commands.specs.FaultReports.{IsEndOf, ExplainsPair, ExplainsText, IsSaid, IsTextOf, IsUntold, IsConcluded, IsFileOfPair, IsFileOfText, IsObjectIn, IsObjectWith, IsReported};
 ghost use Rattle.bp_advice.specs.declared.explanations.Explanation.{Explanation};
 ghost use Rattle.bp_advice.specs.Explanations.{IsExplanationOf};
-ghost use Rattle.bp_commands.specs.Explanations.{ExplainsPair, ExplainsText, IsSaid, IsTextOf, IsUntold};
 ghost use Rattle.bp_messages.specs.FaultObjects.{name_in};
 ghost use Rattle.bp_messages.specs.FaultTable.{status_of};
-ghost use Rattle.bp_commands.specs.Given.{text_alone_of, Pair};
-ghost use Rattle.bp_commands.specs.FaultReports.{IsConcluded, IsFileOfPair, IsFileOfText, IsObjectIn, IsObjectWith, IsReported};
+ghost use Rattle.bp_commands.specs.Commands.{text_alone_of, Pair};
 ghost use Rattle.bp_messages.specs.declared.faults.Fault.{Fault as SomeFault};
 
 use crate::explanations::{NamedText, SecondInput, of_pair, of_program, put_explanation};
-use crate::fault_contexts::FaultContext;
-use crate::messages::sentence;
+use crate::fault_contexts::{FaultContext, sentence};
 use crate::run_ends::{CommandAnswer, Explained, RunEnd, end};
 use bp_advice::{Explanation, lines_of, sentence_of};
-use bp_init::NamedStart;
 use bp_messages::{Fault, put_fault_object, value_in};
-use bp_tasks::FaultFormat;
+use bp_tasks::{FaultFormat, NamedStart};
 use bp_text::WriteFault;
 use std::alloc::{AllocError, Global};
 use std::io::Write;

@@ -1,9 +1,20 @@
 //! The command `replay`.
+//! The command `migrate`.
+//! The command `shrink`.
+ghost use Rattle.std.specs.Prelude.{◌≡◌, List, MatchResult};
+ghost use Rattle.bp_language.specs.Ast.{Program};
+ghost use Rattle.bp_flat.specs.StandsFor.{StandsFor};
+ghost use Rattle.bp_machine.specs.declared.calls.Call.{Call as Answered};
+ghost use Rattle.bp_machine.specs.Sessions.{Stands};
+ghost use Rattle.bp_test.specs.Shrinks.{EndsIn};
+ghost use Rattle.bp_commands.specs.Traces.{IsEndRefusal};
+
 use crate::commands::TraceCommand;
 use bp_code::code_of;
-use bp_machine::Report;
+use bp_machine::{Report, Session};
 use bp_messages::{Fault, show_replay};
-use bp_trace::replay;
+use bp_test::{HistoryEnd, history_end, shrink};
+use bp_trace::{Unwatched, migrate, replay, replay_watched, write_trace};
 use std::alloc::Global;
 use std::io::Write;
 
@@ -27,5 +38,71 @@ impl TraceCommand for Replay {
         let replayed = replay(alloc, &code, trace)?;
         show_replay(&replayed, out)?;
         Ok(replayed.report)
+    }
+}
+
+/// `migrate`: writes the trace of version 2 of the history of a trace, which is in either version.
+#[derive(Clone, Copy)]
+pub struct Migrate;
+
+impl TraceCommand for Migrate {
+    ghost use Rattle.bp_commands.specs.Traces.{migrates};
+
+    ghost command = { λ _. migrates };
+
+    fn apply_to_trace<W: Write>(
+        &self,
+        alloc: Global,
+        text: &[u8],
+        trace: &[u8],
+        out: &mut W,
+    ) -> Result<Report, Fault> {
+        let code = code_of(alloc, text)?;
+        Ok(migrate(alloc, &code, trace, out)?)
+    }
+}
+
+/// The end that a history of a session is to keep: a failure or a deadlock.
+fn kept_end(alloc: Global, session: &Session) -> Result<HistoryEnd, Fault>
+    ensures { MatchResult result
+        (λ end. EndsIn session.now end × (end ≡ HistoryEnd.Other → ⊥))
+        (λ f.
+        (t : Program) (h : List Answered)
+        → StandsFor session.now.code t
+        → Stands t session.now h
+        → IsEndRefusal t session.now.setup h f) }
+{
+    let end = history_end(alloc, session)?;
+    if matches!(end, HistoryEnd::Other) {
+        return Err(Fault::NoFailure);
+    }
+    Ok(end)
+}
+
+/// `shrink`: writes the trace of a history that fails where that of a trace does, or ends in the
+/// same deadlock, by no more calls and no more contexts.
+#[derive(Clone, Copy)]
+pub struct Shrink;
+
+impl TraceCommand for Shrink {
+    ghost use Rattle.bp_commands.specs.Traces.{shrinks};
+
+    ghost command = { λ _. shrinks };
+
+    fn apply_to_trace<W: Write>(
+        &self,
+        alloc: Global,
+        text: &[u8],
+        trace: &[u8],
+        out: &mut W,
+    ) -> Result<Report, Fault> {
+        let code = code_of(alloc, text)?;
+        let watched = replay_watched(alloc, &code, trace, Unwatched)?;
+        let replayed = &watched.replayed;
+        let end = kept_end(alloc, &watched.session)?;
+        let (history, report) = (replayed.history.as_slice(), replayed.report);
+        let shrunk = shrink(alloc, &code, &replayed.setup, history, &report, end)?;
+        write_trace(&shrunk.setup, shrunk.history.as_slice(), out)?;
+        Ok(report)
     }
 }

@@ -1,14 +1,17 @@
 //! How a run ends: the line on standard error, and the exit status.
+//! What follows a command that wrote through a buffer.
 ghost use Rattle.std.specs.Prelude.{◌≡◌, None};
+ghost use Rattle.std.specs.Io.Buffered.{writer_contents};
 ghost use Rattle.bp_messages.specs.FaultTable.{exit_status};
-ghost use Rattle.bp_commands.specs.RunEnds.{AnswerRule, IsEndOf, HasFaultLine, HasSummary, done, nothing_explained, of_report, of_run, report_failed};
+ghost use Rattle.bp_commands.specs.FaultReports.{AnswerRule, IsEndOf, HasFaultLine, HasSummary, done, nothing_explained, of_report, of_run, report_failed};
+ghost use Rattle.bp_commands.specs.Jobs.{IsFlushed};
 
 use bp_machine::{Outcome, Report};
 use bp_messages::{Fault, exit_status, show_fault};
 use bp_run::RunReport;
 use bp_text::WriteFault;
 use std::alloc::AllocError;
-use std::io::Write;
+use std::io::{BufWriter, Write};
 
 /// What a command answers.
 pub trait CommandAnswer {
@@ -110,5 +113,26 @@ pub fn end<T: CommandAnswer, E: Write>(done: &Result<T, Fault>, errors: &mut E) 
         status,
         told,
         explained: Explained::NOTHING,
+    }
+}
+
+/// Flushes a buffer after a command's answer, and gives back the output. Where bytes are lost, the
+/// answer is that the output could not be written, whatever the command answered.
+pub fn flushed<T: Drop, W: Write + Drop>(
+    done: Result<T, Fault>,
+    out: BufWriter<W>,
+) -> (Result<T, Fault>, W)
+    ensures { let held = writer_contents W.contents out in
+        IsFlushed done held result.0 (W.contents result.1) }
+{
+    match out.into_inner() {
+        Ok(output) => (done, output),
+        Err(error) => {
+            let (output, lost) = error.into_inner().into_parts();
+            if lost.is_empty() {
+                return (done, output);
+            }
+            (Err(Fault::Write), output)
+        }
     }
 }

@@ -1,16 +1,14 @@
 //! The command `run`. It is no `ProgramCommand`: what starts threads and the gate of a run are
 //! known in its workers as a function's own parameters alone.
-ghost use Rattle.bp_commands.specs.Commands.{Answers, AnswersOf};
-ghost use Rattle.bp_commands.specs.Explanations.{AreReadOr};
-ghost use Rattle.bp_commands.specs.Given.{text_alone};
+ghost use Rattle.bp_commands.specs.Commands.{Answers, AnswersOf, text_alone};
+ghost use Rattle.bp_commands.specs.FaultReports.{AreReadOr};
 ghost use Rattle.bp_commands.specs.Runs.{runs, runs_by_names};
 
 use crate::inputs::{Source, read_text};
-use crate::named_starts::start_by_names;
-use bp_init::{NamedBits, NamedStart};
+use crate::programs::start_by_names;
 use bp_messages::Fault;
 use bp_run::{Gate, RunReport, run};
-use bp_tasks::RunOptions;
+use bp_tasks::{NamedBits, NamedStart, RunOptions};
 use std::alloc::Global;
 use std::io::{Read, Write};
 use std::sync::Wait;

@@ -1,24 +1,20 @@
 //! Runs of the commands, from the paths of their files to the exit status.
 ghost use Rattle.std.specs.Io.Buffered.{writer_contents};
-ghost use Rattle.bp_commands.specs.RunEnds.{of_run};
+ghost use Rattle.bp_commands.specs.FaultReports.{of_run};
 ghost use Rattle.bp_commands.specs.Jobs.{held, on_bundle, on_file, on_files, IsRun};
 ghost use Rattle.bp_commands.specs.Runs.{runs_by_names};
 
-use crate::bundle_parts::parts;
-use crate::bundles::drive_bundle;
 use crate::commands::{PairCommand, ProgramCommand, do_on_pair, do_on_program};
+use crate::driving::{drive_bundle, parts};
 use crate::explanations::NamedText;
 use crate::fault_contexts::{Asked, FailedFile, FaultContext, Limited, OptionNumbers};
 use crate::fault_reports::{NamedPair, ReadBundle, conclude};
-use crate::files::{Files, InputFile};
-use crate::flushes::flushed;
-use crate::inputs::Source;
+use crate::inputs::{Files, InputFile, Source};
 use crate::limits::MAX_BUNDLE;
-use crate::run_ends::RunEnd;
+use crate::run_ends::{RunEnd, flushed};
 use crate::running::{Run, run_program};
-use bp_init::NamedStart;
 use bp_run::Gate;
-use bp_tasks::FaultFormat;
+use bp_tasks::{FaultFormat, NamedStart};
 use std::alloc::Global;
 use std::io::{BufWriter, Read, Write};
 use std::sync::Wait;

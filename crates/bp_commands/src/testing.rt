@@ -8,14 +8,13 @@ ghost use Rattle.bp_commands.specs.Commands.{AnswersOf};
 ghost use Rattle.bp_commands.specs.Tests.{tests, AreListed};
 
 use crate::commands::ProgramCommand;
-use crate::named_starts::start_by_names;
-use crate::programs::program_of;
+use crate::programs::{program_of, start_by_names};
 use crate::run_ends::CommandAnswer;
-use bp_check::Checked;
-use bp_init::NamedStart;
+use bp_code::Checked;
 use bp_machine::{SetupFault, Start};
 use bp_messages::{Fault, TestReport, exit_status, put_summary, put_summary_objects};
 use bp_source::{statement_lines, statement_positions, statement_texts, unreached_objects};
+use bp_tasks::NamedStart;
 use bp_tasks::limits::MAX_JOBS;
 use bp_test::{
     Counts, Distinct, Found, Progress, Runtimes, Tally, TestOptions, Waiting, distinct_of, test,

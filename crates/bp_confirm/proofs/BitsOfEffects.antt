@@ -1,24 +1,21 @@
 -- The bit by the effects of an instruction is that of the statement which it stands for.
-use Rattle.std.proofs.Common.{◌≡◌, ◌==◌, ℕ, arith, Bool, true, false, cond, not, ◌&&◌, List, [], Option, None, Some, refl, ap, sym, ◌∙◌, subst, option_map}
-use Rattle.std.specs.Prelude.{slice_get, is_none, MatchBool}
+use Rattle.std.proofs.Common.{◌≡◌, ◌==◌, ℕ, arith, Bool, true, false, cond, not, ◌&&◌, List, [], Option, None, Some, refl, ap, sym, ◌∙◌, subst, option_map, slice_get, is_none, MatchBool}
 use Rattle.std.proofs.lemmas.Option.{slice_get-map}
 use Rattle.std.proofs.lemmas.Bool.{false≢true}
 use Rattle.std.proofs.lemmas.Bool.Decides.{nat_tests}
-use Rattle.bp_tree.specs.Ast.{Block, Done, Then, Skips, GoesTo, Returns, Assigns, Branches, Loops, Asserts, Assumes, Prints, Calls, Choose, Decide, Procedure, Program, Expression}
+use Rattle.bp_language.specs.Ast.{Block, Done, Then, Skips, GoesTo, Returns, Assigns, Branches, Loops, Asserts, Assumes, Prints, Calls, Choose, Decide, Procedure, Program, Expression}
 use Rattle.bp_flat.specs.declared.effects.Effect.{Effect}
 use Rattle.bp_flat.specs.declared.effects.Effect.TheVariants as instr
 use Rattle.bp_flat.specs.declared.stores.Store.{Store}
-use Rattle.bp_flat.specs.Bits.{bits_of, store_of}
-use Rattle.bp_flat.specs.Continuations.{chain}
-use Rattle.bp_flat.specs.Effects as effects
+use Rattle.bp_flat.specs.InstrEffects.{bits_of, store_of, effect_of}
+use Rattle.bp_flat.specs.Moves.{chain}
+use Rattle.bp_flat.specs.Moves as effects
 use Rattle.bp_flat.specs.Flat.{Formula, Instruction, If, While}
-use Rattle.bp_flat.specs.InstrEffects.{effect_of}
-use Rattle.bp_flat.specs.StandsFor.{Place, place, places_of, Remains, Does, IsTestOf}
-use Rattle.bp_flat.specs.Starts.{start_of_block, starts_of}
+use Rattle.bp_flat.specs.StandsFor.{Place, place, places_of, Remains, Does, IsTestOf, start_of_block, starts_of}
 use Rattle.bp_flat.specs.Steps.{Bits, Activation, activation, instruction_effect, step_to, test_value}
-use Rattle.bp_confirm.specs.Places as point
+use Rattle.bp_confirm.specs.Steps as point
 use Rattle.bp_confirm.specs.Inferred.{bit_towards, bit_of_block, IsClearWay, IsClear, AreBothWays, IsAmbiguous}
-use Rattle.bp_confirm.specs.EffectBits.{NextNumbers, bit_towards_number, bit_of_effects, bit_of_instruction, are_both_there, is_fork, is_fork_block, splits}
+use Rattle.bp_confirm.specs.FollowedSteps.{NextNumbers, bit_towards_number, bit_of_effects, bit_of_instruction, are_both_there, is_fork, is_fork_block, splits}
 
 and_not : (b : Bool) → (b && not b) ≡ false
 and_not true = refl

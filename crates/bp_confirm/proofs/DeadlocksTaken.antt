@@ -1,29 +1,21 @@
 -- If a history takes steps and ends in a deadlock, the one that confirms them ends in one.
-use Rattle.std.proofs.Common.{◌≡◌, ◌≢◌, ◌==◌, ◌&&◌, ℕ, Bool, true, false, not, List, [], ◌∷◌, ◌++◌, Option, None, Some, refl, ap, sym, ◌∙◌, subst, arith, inl, inr, ◌⊎◌}
+use Rattle.std.proofs.Common.{◌≡◌, ◌≢◌, ◌==◌, ◌&&◌, ℕ, Bool, true, false, not, List, [], ◌∷◌, ◌++◌, Option, None, Some, refl, ap, sym, ◌∙◌, subst, arith, inl, inr, ◌⊎◌, append-nil}
 use Rattle.std.proofs.lemmas.Bool.{false≢true}
 use Rattle.std.proofs.lemmas.Bool.Decides.{nat_tests}
-use Rattle.std.proofs.lemmas.List.{append-nil}
-use Rattle.bp_text.proofs.GrownLists.{regrouped}
-use Rattle.bp_tree.specs.Ast.{Program}
-use Rattle.bp_flat.specs.Configurations.{Frame, Configuration}
-use Rattle.bp_flat.specs.Moves.{StatementEffect, effect, after_effect}
-use Rattle.bp_flat.specs.Values.{Valuation}
+use Rattle.bp_text.proofs.PartsOfTexts.{regrouped}
+use Rattle.bp_language.specs.Ast.{Program}
+use Rattle.bp_flat.specs.Moves.{Frame, Configuration, StatementEffect, effect, after_effect, Valuation}
 use Rattle.bp_machine.specs.declared.calls.Call.{Call}
 use Rattle.bp_machine.specs.declared.calls.Reply.{Reply}
-use Rattle.bp_machine.specs.Answers.{stack_of, reply_on_stack}
-use Rattle.bp_machine.specs.Deadlocks.{is_left, has_frames, IsDeadlocked}
-use Rattle.bp_machine.specs.Histories.{configuration_after}
+use Rattle.bp_machine.specs.Histories.{stack_of, reply_on_stack, configuration_after}
+use Rattle.bp_machine.specs.Runs.{is_left, has_frames, IsDeadlocked, is_blocked, waits}
 use Rattle.bp_machine.specs.Setups.{SetupOf}
-use Rattle.bp_machine.specs.Waiting.{is_blocked, waits}
-use Rattle.bp_confirm.specs.Confirmations.{DeadlockIsTaken}
-use Rattle.bp_confirm.specs.Inferred.{LastBits, zeros, ones, bit_of_block, bit_of_stack, some_follow, IsClear, IsClearOnStack, Follows, FollowAfter}
-use Rattle.bp_confirm.specs.LastChoices.{waiting_bits, waits_after}
-use Rattle.bp_confirm.specs.Places.{Place}
-use Rattle.bp_confirm.specs.Steps.{StepOf, IsStepOf, TakeAfter, next_place}
+use Rattle.bp_confirm.specs.Laws.{DeadlockIsTaken}
+use Rattle.bp_confirm.specs.Inferred.{LastBits, zeros, ones, bit_of_block, bit_of_stack, some_follow, IsClear, IsClearOnStack, Follows, FollowAfter, waiting_bits, waits_after}
+use Rattle.bp_confirm.specs.Steps.{Place, StepOf, IsStepOf, TakeAfter, next_place}
 use Rattle.bp_confirm.proofs.Agreeing.{next_here, next_other}
 use Rattle.bp_confirm.proofs.LastWays.{Among, LeaveAmong, FailAll, leaves_among}
-use Rattle.bp_confirm.proofs.StepMoves.{IsMove, move_of, HasLeft, has_left, has_failed, leaves_some}
-use Rattle.bp_confirm.proofs.WaysOfChoices.{same_stack}
+use Rattle.bp_confirm.proofs.StepMoves.{IsMove, move_of, HasLeft, has_left, has_failed, leaves_some, same_stack}
 
 -- a move from a known stack and known globals
 moved_from : (t : Program) (c d : Configuration) (i : ℕ) (bit : Bool) (r : Reply) (m : IsMove t c i bit r d) (g : Valuation) (f : Frame) (fs : List Frame)

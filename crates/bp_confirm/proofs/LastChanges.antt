@@ -1,9 +1,20 @@
 -- At most one step changes last what is seen, and a call does not change what is seen before it.
-use Rattle.std.proofs.Common.{◌≡◌, ◌∙◌, ◌<◌, ◌≤◌, ◌-◌, ◌⊎◌, inl, inr, ℕ, Bool, List, [], ◌∷◌, ◌++◌, length, take, Option, None, Some, refl, ap, sym, subst, arith, length-append}
+use Rattle.std.proofs.Common.{◌≡◌, ◌∙◌, ◌<◌, ◌≤◌, ◌-◌, ◌⊎◌, inl, inr, ℕ, Bool, List, [], ◌∷◌, ◌++◌, length, take, Option, None, Some, refl, ap, sym, subst, arith, length-append, ◌+◌, ◌==◌, zero, suc, true, false, cond, drop, get_or, map, option_map, slice_get}
 use Rattle.std.proofs.Math.Nat.{eq-or-lt_of_le}
 use Rattle.std.proofs.lemmas.Bool.{cases_order}
 use Rattle.std.proofs.lemmas.List.{take_all, take-append-le}
-use Rattle.bp_confirm.specs.Changes.{ChangesLast, IsLastChange, NoneChanges}
+use Rattle.std.proofs.Math.Seq.{drop-cons}
+use Rattle.std.proofs.Math.ListN.{drop_of_length-le}
+use Rattle.bp_language.specs.Ast.{Program}
+use Rattle.bp_flat.specs.Moves.{Valuation}
+use Rattle.bp_machine.specs.declared.calls.Call.{Call}
+use Rattle.bp_machine.specs.Histories.{configuration_after, IsLeastWithin}
+use Rattle.bp_machine.specs.Setups.{SetupOf}
+use Rattle.bp_machine.specs.Sessions.{contexts_opened}
+use Rattle.bp_machine.proofs.ContextCounts.{opened, opened_none, opened_more, opened_least}
+use Rattle.bp_confirm.specs.Confirms.{ChangesLast, IsLastChange, NoneChanges, seen_by, seen_after, IsDifference}
+use Rattle.bp_confirm.specs.Steps.{IsFirstUnseen, StepLineOf}
+use Rattle.bp_confirm.specs.ConfirmedTexts.{thread_of}
 
 -- where two see the same after each of the first n steps
 module _ (f g : ℕ → Option Bool) (n : ℕ) (same : (k : ℕ) → k ≤ n → f k ≡ g k) where
@@ -79,3 +90,94 @@ module _ {X : Type 0} (look : List X → Option Bool) (h : List X) where
   pub change_in_front : (a : X) (o : Option ℕ) → IsLastChange (λ k. look (take k h)) (length h) o → IsLastChange (λ k. look (take k (h ++ a ∷ []))) (length h) o
   change_in_front a o change =
       same_change (λ k. look (take k h)) (λ k. look (take k (h ++ a ∷ []))) (length h) (λ k within. sym (seen_in_front a k within)) o change
+
+-- The first value that a thread does not see after a call, and the last call that changed what it sees.
+
+module _ (t : Program) (s : SetupOf) (h : List Call) (a : Call) (i : ℕ) (vs : Valuation) (name : List ℕ) (place : ℕ) (seen : Option Bool)
+    (named : option_map (λ v. v.0) (slice_get vs place) ≡ Some name) (unseen : IsFirstUnseen (configuration_after t s (h ++ a ∷ [])) i vs place seen) where
+  -- what is seen of the name of the value, after the first calls of the history with the call
+  abbrev sees : ℕ → Option Bool
+  sees = seen_after t s (h ++ a ∷ []) i name
+
+  name_is : unseen.value.0 ≡ name
+  name_is = let e = sym (ap (option_map (λ v. v.0)) unseen.at) ∙ named in cc
+
+  all_calls : length h + 1 ≡ length (h ++ a ∷ [])
+  all_calls = sym (length-append h (a ∷ []))
+
+  seen_last : seen ≡ sees (length h + 1)
+  seen_last =
+      unseen.is_seen ∙ ap (λ x. seen_by t s i x (h ++ a ∷ [])) name_is ∙ sym (seen_whole (seen_by t s i name) h (h ++ a ∷ [])) ∙ ap sees (sym all_calls)
+
+  -- the last change before the call, and then after it
+  module _ (was : Option Bool) (old changed : Option ℕ)
+      (before : (was ≡ seen_after t s h i name (length h)) × IsLastChange (seen_after t s h i name) (length h) old)
+      (next : (f : ℕ → Option Bool) (m : ℕ) → length h + 1 ≡ m + 1 → was ≡ f m → IsLastChange f m old
+      → seen ≡ f (length h + 1) → IsLastChange f (length h + 1) changed) where
+    changed_last : IsLastChange sees (length h + 1) changed
+    changed_last =
+        let all : length h ≤ length h = omega arith in
+        next sees (length h) refl (before.0 ∙ sym (seen_in_front (seen_by t s i name) h a (length h) all))
+        (change_in_front (seen_by t s i name) h a old before.1) seen_last
+
+    pub difference_is : IsDifference t s (h ++ a ∷ []) i vs (record { place = place; seen = seen; changed = changed })
+    difference_is = record {
+      unseen = unseen;
+      changed =
+          subst (λ x. IsLastChange (seen_after t s (h ++ a ∷ []) i x) (length (h ++ a ∷ [])) changed) (sym name_is)
+          (subst (λ m. IsLastChange sees m changed) all_calls changed_last);
+    }
+
+-- The contexts that the steps of lines use, one line after the other.
+
+opened_small : (l : Option ℕ) (i : ℕ) → contexts_opened l i ≤ 1
+opened_small None i = omega arith
+opened_small (Some j) i = small (j == i)
+  where
+    small : (b : Bool) → cond b 0 1 ≤ 1
+    small true = omega arith
+    small false = omega arith
+
+module _ (xs : List StepLineOf) (n : ℕ) (d : StepLineOf) (last : Option ℕ) (used : ℕ) where
+  -- one more line
+  pub used_more : n < length xs → used + opened last (map thread_of (drop n xs)) ≡ opened None (map thread_of xs)
+      → used + contexts_opened last (get_or xs n d).thread
+      + opened (Some (get_or xs n d).thread) (map thread_of (drop (n + 1) xs)) ≡ opened None (map thread_of xs)
+  used_more within before =
+      let one : suc n ≡ n + 1 = omega arith in
+      let rest : drop n xs ≡ get_or xs n d ∷ drop (n + 1) xs = drop-cons xs n d within ∙ ap (λ k. get_or xs n d ∷ drop k xs) one in
+      let here = ap (λ ys. opened last (map thread_of ys)) rest ∙ opened_more last (get_or xs n d).thread (map thread_of (drop (n + 1) xs)) in
+      omega (arith, before, here)
+
+  pub used_small : used ≤ n → used + contexts_opened last (get_or xs n d).thread ≤ n + 1
+  used_small few = omega (arith, few, opened_small last (get_or xs n d).thread)
+
+  -- all lines
+  pub used_all : length xs ≤ n → used + opened last (map thread_of (drop n xs)) ≡ opened None (map thread_of xs) → IsLeastWithin used (map thread_of xs)
+  used_all past before =
+      let none = ap (λ ys. opened last (map thread_of ys)) (drop_of_length-le xs past) ∙ opened_none last in
+      let same : opened None (map thread_of xs) ≡ used = omega (arith, before, none) in
+      subst (λ k. IsLeastWithin k (map thread_of xs)) same (opened_least (map thread_of xs))
+
+-- the elements before the n-th, and the n-th
+module _ {X : Type 0} where
+  take_next : (xs : List X) (n : ℕ) (x : X) → slice_get xs n ≡ Some x → take (suc n) xs ≡ take n xs ++ x ∷ []
+  take_next [] n x at = absurd cc
+  take_next (y ∷ xs) zero x at = let same : y ≡ x = cc in ap (λ z. z ∷ []) same
+  take_next (y ∷ xs) (suc n) x at = ap (λ ys. y ∷ ys) (take_next xs n x at)
+
+  pub take_got : (xs : List X) (n : ℕ) (x : X) → slice_get xs n ≡ Some x → take (n + 1) xs ≡ take n xs ++ x ∷ []
+  take_got xs n x at = let one : n + 1 ≡ suc n = omega arith in ap (λ k. take k xs) one ∙ take_next xs n x at
+
+  past_none : (xs : List X) (n : ℕ) → slice_get xs n ≡ None → take n xs ≡ xs
+  past_none [] zero at = refl
+  past_none [] (suc n) at = refl
+  past_none (y ∷ xs) zero at = absurd cc
+  past_none (y ∷ xs) (suc n) at = ap (λ ys. y ∷ ys) (past_none xs n at)
+
+  -- all of them
+  pub take_whole : (ys xs : List X) (n : ℕ) → ys ≡ take n xs → slice_get xs n ≡ None → ys ≡ xs
+  take_whole ys xs n is at = is ∙ past_none xs n at
+
+  pub take_and : (old new xs : List X) (n : ℕ) (x : X) → slice_get xs n ≡ Some x → old ≡ take n xs → new ≡ old ++ x ∷ [] → new ≡ take (n + 1) xs
+  take_and old new xs n x at done is = is ∙ ap (λ ys. ys ++ x ∷ []) done ∙ sym (take_got xs n x at)

@@ -1,13 +1,22 @@
 -- Lines that are kept, and the places at which they are found.
-use Rattle.std.proofs.Common.{◌≡◌, ◌∙◌, ◌++◌, ◌∷◌, [], ◌<◌, ◌-◌, ◌≢◌, ℕ, zero, suc, List, Option, None, Some, Bor, length, take, get_or, refl, ap, sym, subst, arith, length-append}
-use Rattle.std.specs.Prelude.{slice_get, IfSome, MatchOption}
-use Rattle.std.specs.List.{AllByRecursion}
-use Rattle.std.proofs.lemmas.List.{map-append, get_or_append_left, take_at, append_assoc}
+use Rattle.std.proofs.Common.{◌≡◌, ◌∙◌, ◌++◌, ◌∷◌, [], ◌<◌, ◌-◌, ◌≢◌, ℕ, zero, suc, List, Option, None, Some, Bor, length, take, get_or, refl, ap, sym, subst, arith, length-append, ◌&&◌, ◌==◌, Bool, true, false, not, ap₂, ◌≤◌, ◌+◌, inl, inr, slice_get, IfSome, MatchOption, option_map, is_some}
+use Rattle.std.specs.List.{AllByRecursion, list_all}
+use Rattle.std.proofs.lemmas.List.{map-append, get_or_append_left, take_at, append_assoc, get_or_past}
+use Rattle.std.proofs.lemmas.Option.{slice_get-get_or, slice_get-map}
+use Rattle.std.proofs.lemmas.Bool.{cases_lt}
+use Rattle.bp_language.specs.Ast.{Program}
+use Rattle.bp_flat.specs.Moves.{Configuration, Valuation, Frame}
+use Rattle.bp_machine.specs.Histories.{stack_of, reply_on_stack, configuration_after}
+use Rattle.bp_machine.specs.declared.calls.Call.{Call}
+use Rattle.bp_machine.specs.Sessions.{SessionOf, Stands}
+use Rattle.bp_machine.specs.Setups.{threads}
+use Rattle.bp_machine.specs.Runs.{is_blocked}
 use Rattle.bp_confirm.specs.declared.kept_lines.KeptLine.{KeptLine}
 use Rattle.bp_confirm.specs.KeptLines.{kept_lines, lines_at, no_line, AreWithin, GrowsByOne, IsKeptLine, IsStepThere}
 use Rattle.bp_confirm.specs.LineReading.{IsStepAt}
-use Rattle.bp_confirm.specs.StepLines.{StepLineOf}
-use Rattle.bp_confirm.specs.StepTexts.{line_text}
+use Rattle.bp_confirm.specs.Steps.{StepLineOf, line_text, stands_at, step_of, steps_of, StepOf, value_seen, IsFirstUnseen, SeesValues}
+use Rattle.bp_confirm.specs.OwnSteps.{is_step, is_value, sees_values}
+use Rattle.bp_confirm.specs.Inferred.{waits_after}
 
 -- where more lines are kept, those at the same places are the same
 lines_same : (xs more : List StepLineOf) (ks : List ℕ) → AreWithin xs ks → lines_at (xs ++ more) ks ≡ lines_at xs ks
@@ -95,3 +104,104 @@ all_at P xs (k ∷ ks) all within = (each_at xs k all within.0, all_at P xs ks a
     each_at [] k all inside = absurd (omega (arith, inside))
     each_at (y ∷ ys) zero all inside = all.0
     each_at (y ∷ ys) (suc k) all inside = each_at ys k all.1 (omega (arith, inside))
+
+-- Values that are seen and places that are stood at, by tests and by relations.
+
+own_value_is : (b : Bool) → is_value (Some b) b ≡ true
+own_value_is true = refl
+own_value_is false = refl
+
+no_other_value : (o : Option Bool) (b : Bool) → o ≢ Some b → is_value o b ≡ false
+no_other_value None b other = refl
+no_other_value (Some true) true other = absurd (other refl)
+no_other_value (Some true) false other = refl
+no_other_value (Some false) true other = refl
+no_other_value (Some false) false other = absurd (other refl)
+
+and_off : (b : Bool) → (b && false) ≡ false
+and_off true = refl
+and_off false = refl
+
+module _ (c : Configuration) (i : ℕ) where
+  abbrev test : List ℕ × Bool → Bool
+  test v = is_value (value_seen c.globals (stack_of c i) v.0) v.1
+
+  all_seen : (vs : Valuation) → SeesValues c i vs → sees_values c i vs ≡ true
+  all_seen [] sees = refl
+  all_seen (v ∷ vs) sees =
+      ap₂ (λ a b. a && b) (ap (λ o. is_value o v.1) sees.0 ∙ own_value_is v.1) (all_seen vs sees.1)
+
+  one_unseen : (vs : Valuation) (n : ℕ) (v : List ℕ × Bool) → slice_get vs n ≡ Some v → test v ≡ false → sees_values c i vs ≡ false
+  one_unseen [] n v at off = absurd cc
+  one_unseen (w ∷ vs) zero v at off =
+      let same : w ≡ v = cc in
+      ap (λ b. b && list_all test vs) (ap test same ∙ off)
+  one_unseen (w ∷ vs) (suc n) v at off = ap (λ b. test w && b) (one_unseen vs n v at off) ∙ and_off (test w)
+
+  pub seen_or_not : {X : Type 0} (o : Option X) (vs : Valuation) (place : X → ℕ) (seen : X → Option Bool) (all : Bool)
+      → is_some o ≡ not all
+      → MatchOption o (SeesValues c i vs) (λ r. IsFirstUnseen c i vs (place r) (seen r))
+      → all ≡ sees_values c i vs
+  seen_or_not None vs place seen true is found = sym (all_seen vs found)
+  seen_or_not None vs place seen false is found = absurd cc
+  seen_or_not (Some r) vs place seen true is first = absurd cc
+  seen_or_not (Some r) vs place seen false is first =
+      sym (one_unseen vs (place r) first.value first.at
+      (no_other_value (value_seen c.globals (stack_of c i) first.value.0) first.value.1 (λ same. first.differs (first.is_seen ∙ same))))
+
+-- a step of thread i from c to d, and a reported one
+module _ (x : StepOf) (c d : Configuration) (i : ℕ) where
+  pub other_thread : (i == x.thread) ≡ false → is_step x c i d ≡ false
+  other_thread other = ap (λ b. (b && stands_at x.place (stack_of c i)) && sees_values d i x.values) other
+
+  pub elsewhere : stands_at x.place (stack_of c i) ≡ false → is_step x c i d ≡ false
+  elsewhere away = ap (λ b. ((i == x.thread) && b) && sees_values d i x.values) away ∙ ap (λ b. b && sees_values d i x.values) (and_off (i == x.thread))
+
+  pub if_it_sees : (i == x.thread) ≡ true → stands_at x.place (stack_of c i) ≡ true → is_step x c i d ≡ sees_values d i x.values
+  if_it_sees own here = λ j. (own j && here j) && sees_values d i x.values
+
+-- the line of a number is that of the step of this number
+pub step_listed : (text : List ℕ) (lines : List StepLineOf) (n : ℕ) (x : StepLineOf) → n < length lines → x ≡ get_or lines n x
+    → slice_get (steps_of text lines) n ≡ Some (step_of text x)
+step_listed text lines n x within is =
+    slice_get-map (step_of text) lines n ∙ ap (option_map (step_of text)) (sym (ap Some is ∙ sym (slice_get-get_or lines n x within)))
+
+-- A table that tells of each thread whether it waits.
+
+at_front : (xs : List Bool) (b : Bool) (i : ℕ) → i < length xs → get_or (xs ++ b ∷ []) i false ≡ get_or xs i false
+at_front [] b i within = absurd (omega (arith, within))
+at_front (x ∷ xs) b zero within = refl
+at_front (x ∷ xs) b (suc i) within = at_front xs b i (omega (arith, within))
+
+at_end : (xs : List Bool) (b : Bool) → get_or (xs ++ b ∷ []) (length xs) false ≡ b
+at_end [] b = refl
+at_end (x ∷ xs) b = at_end xs b
+
+-- one more thread
+pub table_more : (f : ℕ → Bool) (xs new : List Bool) (b : Bool) (n : ℕ) → length xs ≡ n → new ≡ xs ++ b ∷ [] → b ≡ f n
+    → ((i : ℕ) → i < n → get_or xs i false ≡ f i) → (i : ℕ) → i < n + 1 → get_or new i false ≡ f i
+table_more f xs new b n size is here each i within =
+    ap (λ ys. get_or ys i false) is ∙ elim (cases_lt i n) [
+      | inl front ↦ at_front xs b i (omega (arith, front, size)) ∙ each i front
+      | inr past ↦
+          let same : i ≡ n = omega (arith, within, past) in
+          let last : i ≡ length xs = omega (arith, same, size) in
+          ap (λ k. get_or (xs ++ b ∷ []) k false) last ∙ at_end xs b ∙ here ∙ ap f (sym same)
+    ]
+
+-- no thread past the last one waits
+pub table_whole : (t : Program) (x : SessionOf) (h : List Call) (xs : List Bool) (n : ℕ) → Stands t x h → threads x.setup ≤ n → length xs ≡ n
+    → ((i : ℕ) → i < n → get_or xs i false ≡ waits_after t x.setup h i) → (i : ℕ) → get_or xs i false ≡ waits_after t x.setup h i
+table_whole t x h xs n stands all size each i =
+    elim (cases_lt i n) [
+      | inl front ↦ each i front
+      | inr past ↦
+          let none : stack_of (configuration_after t x.setup h) i ≡ [] =
+          get_or_past (configuration_after t x.setup h).stacks i [] (omega (arith, past, all, stands.state.stacks)) in
+          get_or_past xs i false (omega (arith, past, size)) ∙ sym (ap waits_on none)
+    ]
+  where
+    waits_on : List Frame → Bool
+    waits_on S =
+        let g = (configuration_after t x.setup h).globals in
+        is_blocked (reply_on_stack t true g S false) && is_blocked (reply_on_stack t true g S true)

@@ -1,20 +1,15 @@
 -- Where the call with the inferred bit does not take a step, no call with another bit does.
 use Rattle.std.proofs.Common.{◌≡◌, ◌↔◌, IsTrue, ◌++◌, ◌∷◌, ◌&&◌, nat_le, ℕ, Bool, true, false, cond, not, List, [], length, Option, None, Some, refl, ap, sym, ◌∙◌, subst, ◌<◌}
 use Rattle.std.proofs.lemmas.Bool.{false≢true}
-use Rattle.bp_tree.specs.Ast.{Block, Done, Then, Skips, GoesTo, Returns, Assigns, Branches, Loops, Asserts, Assumes, Prints, Calls, Choose, Decide, Procedure, Program}
-use Rattle.bp_flat.specs.Configurations.{Frame, Configuration, is_call}
-use Rattle.bp_flat.specs.Moves.{StatementEffect, Leaves, Fails, Blocks, Misses, effect, after_effect}
-use Rattle.bp_flat.specs.Values.{Valuation}
+use Rattle.bp_language.specs.Ast.{Block, Done, Then, Skips, GoesTo, Returns, Assigns, Branches, Loops, Asserts, Assumes, Prints, Calls, Choose, Decide, Procedure, Program}
+use Rattle.bp_flat.specs.Moves.{Frame, Configuration, is_call, StatementEffect, Leaves, Fails, Blocks, Misses, effect, after_effect, Valuation}
 use Rattle.bp_machine.specs.declared.calls.Reply.{Reply}
 use Rattle.bp_machine.specs.declared.calls.Reply.TheVariants.{Stopped, NoContexts, Full, Failed, Stepped}
 use Rattle.bp_machine.specs.declared.calls.Call.{Call}
 use Rattle.bp_machine.specs.declared.limits.TheConstants.{MAX_FRAMES}
-use Rattle.bp_machine.specs.Answers.{stack_of, reply_to_effect, reply_on_stack, reply_of, Answers}
-use Rattle.bp_machine.specs.Histories.{configuration_after, granted_threads, IsAllowed}
-use Rattle.bp_machine.specs.Replies.{is_granted}
+use Rattle.bp_machine.specs.Histories.{stack_of, reply_to_effect, reply_on_stack, reply_of, Answers, configuration_after, granted_threads, IsAllowed, is_granted}
 use Rattle.bp_machine.specs.Setups.{SetupOf}
-use Rattle.bp_confirm.specs.Places.{Place}
-use Rattle.bp_confirm.specs.Steps.{StepOf, value_seen, SeesValues, IsStepOf}
+use Rattle.bp_confirm.specs.Steps.{Place, StepOf, value_seen, SeesValues, IsStepOf}
 use Rattle.bp_confirm.specs.Inferred.{LastBits, bit_of_block, bit_of_stack, some_follow}
 use Rattle.bp_confirm.proofs.StepMoves.{move_of, has_left, has_failed}
 

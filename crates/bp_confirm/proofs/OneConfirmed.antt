@@ -1,22 +1,28 @@
 -- Steps have one history, and refused steps have none.
-use Rattle.std.proofs.Common.{◌≡◌, ◌∙◌, ◌⊎◌, inl, inr, ℕ, List, [], ◌∷◌, ◌++◌, refl, ap, sym, subst}
+use Rattle.std.proofs.Common.{◌≡◌, ◌∙◌, ◌⊎◌, inl, inr, ℕ, List, [], ◌∷◌, ◌++◌, refl, ap, sym, subst, ◌+◌, zero, suc, Bool, true, false, cond, not, get_or, arith, Option, Some, IfSome}
 use Rattle.std.proofs.lemmas.List.{map-append, map_push}
-use Rattle.bp_tree.specs.Ast.{Program}
+use Rattle.std.proofs.Math.Path.{fun_ext}
+use Rattle.bp_language.specs.Ast.{Program}
+use Rattle.bp_flat.specs.Moves.{Configuration}
 use Rattle.bp_machine.specs.declared.calls.Call.{Call}
-use Rattle.bp_machine.specs.Deadlocks.{IsDeadlocked}
-use Rattle.bp_machine.specs.Histories.{configuration_after}
-use Rattle.bp_machine.specs.Setups.{SetupOf, threads}
-use Rattle.bp_trace.specs.Schedules.{line_of_call}
+use Rattle.bp_machine.specs.Runs.{IsDeadlocked, has_frames, waits, reply_of_step, history_of_run}
+use Rattle.bp_machine.specs.Histories.{configuration_after, stack_of, configuration_after_call, IsLegalAfter}
+use Rattle.bp_machine.specs.Setups.{SetupOf, threads, start}
+use Rattle.bp_machine.specs.Sessions.{SessionOf, Stands}
+use Rattle.bp_machine.specs.Laws.{RunsAreHistories}
+use Rattle.bp_machine.proofs.Deadlocks.{AreSeen, seen_none, seen_ended, seen_waiting, not_waiting, all_seen}
+use Rattle.bp_machine.proofs.HistoryWithCall.{configuration_after-append}
+use Rattle.bp_machine.proofs.RunsAreHistories.{reply_granted, goes_there}
+use Rattle.bp_trace.specs.TraceText.{line_of_call}
 use Rattle.bp_trace.proofs.LinesDriveAgain.{same_call}
-use Rattle.bp_confirm.specs.declared.faults.StepReason.{StepReason}
-use Rattle.bp_confirm.specs.declared.faults.StepReason.TheVariants.{Elsewhere, Ambiguous, Finished, Refused, Differs}
-use Rattle.bp_confirm.specs.declared.faults.StepRefusal.{StepRefusal}
+use Rattle.bp_confirm.specs.declared.confirming.StepReason.{StepReason}
+use Rattle.bp_confirm.specs.declared.confirming.StepReason.TheVariants.{Elsewhere, Ambiguous, Finished, Refused, Differs}
+use Rattle.bp_confirm.specs.declared.confirming.StepRefusal.{StepRefusal}
 use Rattle.bp_confirm.specs.Confirms.{ForStuck, IsStepRefusal}
-use Rattle.bp_confirm.specs.StepLines.{StepLineOf, step_of, steps_of}
-use Rattle.bp_confirm.specs.Steps.{StepOf, TakeAfter, Takes}
-use Rattle.bp_confirm.specs.Inferred.{LastBits, zeros, ones, Follows, FollowAfter, IsFollowed}
-use Rattle.bp_confirm.specs.LastChoices.{waits_after, waiting_bits, deciding, EndsDeadlocked, EndsOtherwise}
-use Rattle.bp_confirm.specs.Confirmations.{OneConfirmed, RefusedIsNotTaken}
+use Rattle.bp_confirm.specs.Steps.{StepLineOf, step_of, steps_of, StepOf, TakeAfter, Takes, stands_at, SeesValues}
+use Rattle.bp_confirm.specs.Inferred.{LastBits, zeros, ones, Follows, FollowAfter, IsFollowed, waits_after, waiting_bits, deciding, EndsDeadlocked, EndsOtherwise, differ, IsConfirmed, IsTaken}
+use Rattle.bp_confirm.specs.Laws.{OneConfirmed, RefusedIsNotTaken, MovesTake, IsRunOfSteps, RefusedFrontHasNoRun, RefusedHasNoRun}
+use Rattle.bp_confirm.specs.declared.choices.LastChoice.{LastChoice}
 
 module _ (t : Program) (s : SetupOf) (last : LastBits) where
   one_call : (h : List Call) (x : StepOf) (later : List StepOf) (a b : Call) → Follows t s last h x later a → Follows t s last h x later b → a ≡ b
@@ -94,3 +100,123 @@ module _ (text : List ℕ) (t : Program) (s : SetupOf) (last : LastBits) (lines 
 
 pub refused_is_not_taken : RefusedIsNotTaken
 refused_is_not_taken text t s last lines r refused = by_reason text t s last lines r refused r.reason refused.none
+
+-- Which of the histories that take steps confirms them, by the bits at last steps.
+
+-- the threads below n are looked through for a deadlock
+module _ (t : Program) (c : Configuration) where
+  abbrev Seen : ℕ → Type 0
+  Seen n = ((any : Bool) × AreSeen t c n any) ⊎ (IsDeadlocked t c → ⊥)
+
+  one_more : (n : ℕ) → Seen n → (f w : Bool) → has_frames c n ≡ f → waits t c n ≡ w → Seen (n + 1)
+  one_more n (inr none) f w is waiting = inr none
+  one_more n (inl (any, seen)) false w is waiting = inl (any, seen_ended t c n any seen is)
+  one_more n (inl (any, seen)) true true is waiting = inl (true, seen_waiting t c n any seen is waiting)
+  one_more n (inl (any, seen)) true false is waiting = inr (not_waiting t c n is waiting)
+
+  seen_up_to : (n : ℕ) → Seen n
+  seen_up_to zero = inl (false, seen_none t c)
+  seen_up_to (suc n) =
+      let one : n + 1 ≡ suc n = omega arith in
+      subst Seen one (one_more n (seen_up_to n) (has_frames c n) (waits t c n) refl refl)
+
+-- so there is one, or there is none
+pub decided : (t : Program) (x : SessionOf) (h : List Call) → Stands t x h
+    → IsDeadlocked t (configuration_after t x.setup h) ⊎ (IsDeadlocked t (configuration_after t x.setup h) → ⊥)
+decided t x h stands = by_seen (seen_up_to t (configuration_after t x.setup h) (threads x.setup))
+  where
+    by_any : (any : Bool) → AreSeen t (configuration_after t x.setup h) (threads x.setup) any
+        → IsDeadlocked t (configuration_after t x.setup h) ⊎ (IsDeadlocked t (configuration_after t x.setup h) → ⊥)
+    by_any true seen = inl ((all_seen t x.setup x.machine.state h stands.state (threads x.setup) (omega arith) true seen).0 refl)
+    by_any false seen =
+        inr (λ dead. let no = (all_seen t x.setup x.machine.state h stands.state (threads x.setup) (omega arith) false seen).1 dead in absurd cc)
+
+    by_seen : Seen t (configuration_after t x.setup h) (threads x.setup)
+        → IsDeadlocked t (configuration_after t x.setup h) ⊎ (IsDeadlocked t (configuration_after t x.setup h) → ⊥)
+    by_seen (inl (any, seen)) = by_any any seen
+    by_seen (inr none) = inr none
+
+-- where both bits do the same, none decides
+differ_same : (b : Bool) → differ b b ≡ false
+differ_same true = refl
+differ_same false = refl
+
+deciding_same : (f : ℕ → Bool) (n : ℕ) → deciding f f n ≡ []
+deciding_same f zero = refl
+deciding_same f (suc n) =
+    ap (λ k. cond k (deciding f f n ++ record { thread = n; bit = not (f n) } ∷ []) (deciding f f n)) (differ_same (f n)) ∙ deciding_same f n
+
+-- one that takes them with 0 at each last `?` takes them
+pub taken_by_zeros : (t : Program) (s : SetupOf) (steps : List StepOf) (h : List Call)
+    → IsFollowed t s zeros steps h
+    → IsTaken t s steps h
+taken_by_zeros t s steps h followed = record { last = zeros; followed = followed; by_zeros = λ _. followed }
+
+-- a history that takes the steps whatever the last bits are confirms them
+pub plain_confirmed : (t : Program) (s : SetupOf) (steps : List StepOf) (h : List Call) → ((other : LastBits) → IsFollowed t s other steps h)
+    → (IsDeadlocked t (configuration_after t s h) ⊎ (IsDeadlocked t (configuration_after t s h) → ⊥))
+    → (choices : List LastChoice) → choices ≡ [] → IsConfirmed t s steps h choices
+plain_confirmed t s steps h any dead choices none = record {
+  zeroed = h;
+  oned = h;
+  waiting = h;
+  take = record { by_zeros = any zeros; by_ones = any ones; by_waiting = any (waiting_bits (waits_after t s h)) };
+  ends = elim dead [
+    | inl is ↦ inl (record { deadlock = is; is = refl; depends = none ∙ sym (deciding_same (waits_after t s h) (threads s)) })
+    | inr not ↦ inr (record { none = not; is = refl; depends = none })
+  ];
+}
+
+-- what holds of what is there
+pub of_some : {X : Type 0} (P : X → Type 0) (o : Option X) (x : X) → o ≡ Some x → IfSome o P → P x
+of_some P o x is all = subst (λ o. IfSome o P) is all
+
+-- what a table says of each thread
+pub table_is : (xs : List Bool) (f : ℕ → Bool) → ((i : ℕ) → get_or xs i false ≡ f i) → (λ i. get_or xs i false) ≡ f
+table_is xs f each = fun_ext each
+
+-- A run that takes steps is a history that takes them.
+
+module _ (t : Program) (s : SetupOf) where
+  takes_from : (p : List Call) (c : Configuration) (steps : List StepOf) (calls : List Call) (failed : Bool) → configuration_after t s p ≡ c
+      → IsLegalAfter t s p (history_of_run calls failed) → MovesTake t c steps calls → TakeAfter t s p steps (history_of_run calls failed)
+  takes_from p c [] [] failed is legal taking = tt
+  takes_from p c [] (a ∷ calls) failed is legal taking = absurd taking
+  takes_from p c (x ∷ xs) [] failed is legal taking = absurd taking
+  takes_from p c (x ∷ xs) (a ∷ calls) failed is (allowed, rest) (first, others) =
+      let own : Call = record a { reply = reply_of_step calls failed } in
+      let there : configuration_after t s (p ++ own ∷ []) ≡ first.next =
+      configuration_after-append t s p own
+      ∙ ap (λ k. configuration_after_call t k a.thread a.bit (reply_of_step calls failed)) is
+      ∙ goes_there t c a.thread a.bit first.next (reply_of_step calls failed) (reply_granted calls failed) first.move in (
+        record {
+          thread = first.thread;
+          allowed = allowed;
+          granted = reply_granted calls failed;
+          at = ap (λ k. stands_at x.place (stack_of k x.thread)) is ∙ first.at;
+          values = subst (λ k. SeesValues k x.thread x.values) (sym there) first.values;
+        },
+        takes_from (p ++ own ∷ []) first.next xs calls failed there rest others,
+      )
+
+  pub run_takes : RunsAreHistories → (steps : List StepOf) (calls : List Call) (run : IsRunOfSteps t s steps calls)
+      → Takes t s steps (history_of_run calls run.last.failed)
+  run_takes each steps calls run = takes_from [] (start t s) steps calls run.last.failed refl (each t s calls run.last run.run).legal run.takes
+
+  none_runs : RunsAreHistories → (steps : List StepOf) → ((g : List Call) → Takes t s steps g → ⊥) → (calls : List Call) → IsRunOfSteps t s steps calls → ⊥
+  none_runs each steps none calls run = none (history_of_run calls run.last.failed) (run_takes each steps calls run)
+
+module _ (text : List ℕ) (t : Program) (s : SetupOf) (lines : List StepLineOf) (each : RunsAreHistories) where
+  none_runs_by_reason : (reason : StepReason) → ForStuck reason ((g : List Call) → Takes t s (steps_of text lines) g → ⊥)
+      → ForStuck reason ((calls : List Call) → IsRunOfSteps t s (steps_of text lines) calls → ⊥)
+  none_runs_by_reason Elsewhere none = none_runs t s each (steps_of text lines) none
+  none_runs_by_reason Ambiguous none = tt
+  none_runs_by_reason Finished none = none_runs t s each (steps_of text lines) none
+  none_runs_by_reason (Refused q) none = none_runs t s each (steps_of text lines) none
+  none_runs_by_reason (Differs d) none = none_runs t s each (steps_of text lines) none
+
+pub refused_front_has_no_run : RunsAreHistories → RefusedFrontHasNoRun
+refused_front_has_no_run each text t s last lines r refused = none_runs_by_reason text t s (refused.before ++ refused.step ∷ []) each r.reason refused.none
+
+pub refused_has_no_run : RunsAreHistories → RefusedHasNoRun
+refused_has_no_run each text t s last lines r refused = none_runs_by_reason text t s lines each r.reason (refused_is_not_taken text t s last lines r refused)

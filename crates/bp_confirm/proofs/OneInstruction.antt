@@ -1,17 +1,15 @@
 -- A place in the lawful program of a text is that of one instruction.
-use Rattle.std.proofs.Common.{◌≡◌, ◌∙◌, ◌<◌, ◌||◌, subst, ◌⊎◌, inl, inr, ℕ, zero, suc, Bool, true, false, List, [], ◌∷◌, Option, None, Some, slice_get, map, take, refl, ap, sym, arith}
-use Rattle.std.specs.Prelude.{option_map}
+use Rattle.std.proofs.Common.{◌≡◌, ◌∙◌, ◌<◌, ◌||◌, subst, ◌⊎◌, inl, inr, ℕ, zero, suc, Bool, true, false, List, [], ◌∷◌, Option, None, Some, slice_get, map, take, refl, ap, sym, arith, option_map}
 use Rattle.std.specs.Str.{bytes_eq}
 use Rattle.std.proofs.lemmas.Bool.{false≢true}
 use Rattle.std.proofs.lemmas.Option.{slice_get-map}
 use Rattle.std.proofs.lemmas.Slice.Eq.{bytes_eq-Decides}
-use Rattle.bp_tree.specs.Ast.{Name, Block, Done, Then, Procedure, Program}
-use Rattle.bp_language.specs.Scopes.{has}
+use Rattle.bp_language.specs.Ast.{Name, Block, Done, Then, Procedure, Program}
+use Rattle.bp_language.specs.Faults.{has}
 use Rattle.bp_language.proofs.LawsOfLawfulPrograms.{distinct_names}
-use Rattle.bp_flat.specs.Configurations.{Configuration}
+use Rattle.bp_flat.specs.Moves.{Configuration}
 use Rattle.bp_code.specs.LawfulTexts.{IsLawfulText}
-use Rattle.bp_flat.specs.StandsFor.{Place, Remains, place, places_of}
-use Rattle.bp_flat.specs.Starts.{start_of_block, starts_of}
+use Rattle.bp_flat.specs.StandsFor.{Place, Remains, place, places_of, start_of_block, starts_of}
 use Rattle.bp_flat.proofs.ProceduresOfPlaces.{ends, starts, procedure_of}
 use Rattle.bp_confirm.specs.Confirms.{GoesOnAt}
 use Rattle.bp_confirm.proofs.StartsInOrder.{starts_distinct}

@@ -1,17 +1,17 @@
 -- A text begins with at most one name, and with at most one value.
-use Rattle.std.proofs.Common.{◌≡◌, ◌≢◌, ◌<◌, ◌≤◌, ◌==◌, ◌&&◌, ◌||◌, ℕ, suc, Bool, true, false, not, List, [], ◌∷◌, ◌++◌, Option, None, Some, Bor, refl, sym, ap, ◌∙◌, subst, ◌+◌, length, take, drop, get_or, length-append, arith}
-use Rattle.std.specs.Prelude.{MatchOption}
-use Rattle.std.proofs.lemmas.Bool.{eq-eqb, eqb-true, false≢true}
+use Rattle.std.proofs.Common.{◌≡◌, ◌≢◌, ◌<◌, ◌≤◌, ◌==◌, ◌&&◌, ◌||◌, ℕ, suc, Bool, true, false, not, List, [], ◌∷◌, ◌++◌, Option, None, Some, Bor, refl, sym, ap, ◌∙◌, subst, ◌+◌, length, take, drop, get_or, length-append, arith, cond, MatchOption}
+use Rattle.std.proofs.lemmas.Bool.{eq-eqb, eqb-true, false≢true, ne_eqb}
 use Rattle.std.proofs.lemmas.List.{append-nil, append_cancel_left, take_all, take_more, take-append-drop}
 use Rattle.std.proofs.Math.ListN.{length-take}
 use Rattle.std.proofs.Math.Seq.{drop-cons}
-use Rattle.bp_text.proofs.GrownLists.{regrouped}
-use Rattle.bp_source.specs.Lists.{is_braced_after}
-use Rattle.bp_trace.specs.Schedules.{bit_digit}
-use Rattle.bp_trace.specs.Writable.{Without}
-use Rattle.bp_confirm.specs.StepTexts.{value_text, Continues, IsNameRest, IsStepName}
-use Rattle.bp_confirm.specs.LineReading.{IsNameAt, HasNoName, IsValueAt, HasNoValue}
-use Rattle.bp_confirm.proofs.Cuts.{same_head, without_rest}
+use Rattle.bp_text.proofs.PartsOfTexts.{regrouped}
+use Rattle.bp_flat.specs.Moves.{Valuation}
+use Rattle.bp_trace.specs.TraceText.{bit_digit, Without}
+use Rattle.bp_source.specs.Names.{is_braced_after}
+use Rattle.bp_confirm.specs.Steps.{value_text, Continues, IsNameRest, IsStepName, AreNamed, values_text}
+use Rattle.bp_confirm.specs.LineReading.{IsNameAt, HasNoName, IsValueAt, HasNoValue, AreValues, values_from, values_in, SaysValues}
+use Rattle.bp_confirm.specs.LineReading.Reading.{Name, Bit}
+use Rattle.bp_confirm.proofs.OneNumberAt.{same_head, without_rest}
 
 one_rest : (a b x y : List ℕ) (braced : Bool) → IsNameRest a braced → IsNameRest b braced → a ++ 61 ∷ x ≡ b ++ 61 ∷ y → (a ≡ b) × (x ≡ y)
 one_rest [] [] x y braced p q e = (refl, (same_head 61 61 x y e).1)
@@ -211,3 +211,41 @@ module _ (text : List ℕ) where
         name = at.name_is;
         parts = spaced ∙ ap (λ x. 32 ∷ x) (at.parts ∙ ap (λ x. name ++ 61 ∷ x) is) ∙ sym (value_then (name, b) rest);
       }
+
+-- Reading the text of values gives these values.
+
+name_rest_read : (front name : List ℕ) (braced : Bool) → IsNameRest name braced → (rest : List ℕ)
+    → values_from (Name front braced) (name ++ 61 ∷ rest) ≡ values_from (Bit (front ++ name)) rest
+name_rest_read front [] true named rest = absurd named
+name_rest_read front [] false named rest = ap (λ name. values_from (Bit name) rest) (sym (append-nil front))
+name_rest_read front (c ∷ name) true named rest =
+    name_rest_read (front ++ c ∷ []) name (is_braced_after true c) named.1 rest ∙ simp regrouped
+name_rest_read front (c ∷ name) false named rest =
+    ap (λ b. cond b (values_from (Bit front) (name ++ 61 ∷ rest))
+    (values_from (Name (front ++ c ∷ []) (is_braced_after false c)) (name ++ 61 ∷ rest))) (ne_eqb c 61 named.0.2)
+    ∙ name_rest_read (front ++ c ∷ []) name (is_braced_after false c) named.1 rest
+    ∙ simp regrouped
+
+name_read : (name : List ℕ) → IsStepName name → (rest : List ℕ) → values_from (Name [] false) (name ++ 61 ∷ rest) ≡ values_from (Bit name) rest
+name_read name named rest = name_rest_read [] name false named.is rest
+
+bit_read : (b : Bool) → (bit_digit b == 49) ≡ b
+bit_read true = refl
+bit_read false = refl
+
+value_read : (v : List ℕ × Bool) → IsStepName v.0 → (rest : List ℕ) → values_in (value_text v ++ rest) ≡ v ∷ values_in rest
+value_read v is rest =
+    ap values_in (value_then v rest)
+    ∙ name_read v.0 is (bit_digit v.1 ∷ rest)
+    ∙ ap (λ b. (v.0, b) ∷ values_in rest) (bit_read v.1)
+
+pub values_read : (vs : Valuation) → AreNamed vs → values_in (values_text vs) ≡ vs
+values_read [] named = refl
+values_read (v ∷ vs) named = value_read v named.0 (values_text vs) ∙ ap (λ ws. v ∷ ws) (values_read vs named.1)
+
+-- a text that says these values says them when it is read
+pub says : (text : List ℕ) (vs : Valuation) → AreValues text vs → SaysValues text
+says text vs are = subst (AreValues text) (sym (ap values_in are.1 ∙ values_read vs are.0)) are
+
+pub values_are : (text : List ℕ) (vs : Valuation) → AreValues text vs → values_in text ≡ vs
+values_are text vs are = ap values_in are.1 ∙ values_read vs are.0

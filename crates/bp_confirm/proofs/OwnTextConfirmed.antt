@@ -1,47 +1,35 @@
 -- The text of a run's own steps is read as their lines, which are declared and are not refused.
-use Rattle.std.proofs.Common.{◌≡◌, ◌∙◌, ◌≤◌, ℕ, Bool, true, false, cond, List, [], ◌∷◌, ◌++◌, Option, None, Some, map, length, take, refl, ap, sym, subst, arith}
-use Rattle.std.specs.Prelude.{nat_lt}
+use Rattle.std.proofs.Common.{◌≡◌, ◌∙◌, ◌≤◌, ℕ, Bool, true, false, cond, List, [], ◌∷◌, ◌++◌, Option, None, Some, map, length, take, refl, ap, sym, subst, arith, nat_lt, length-take}
 use Rattle.std.specs.List.{AllByRecursion}
 use Rattle.std.proofs.lemmas.Bool.Decides.{nat_tests}
-use Rattle.std.proofs.lemmas.List.{length-take}
-use Rattle.bp_text.proofs.PositionsOfParts.{column_within, line_within}
-use Rattle.bp_tree.specs.Ast.{Program}
-use Rattle.bp_flat.specs.Configurations.{Configuration}
+use Rattle.bp_text.proofs.LinesOfTexts.{column_within, line_within}
+use Rattle.bp_language.specs.Ast.{Program}
+use Rattle.bp_flat.specs.Moves.{Configuration}
 use Rattle.bp_language.specs.declared.limits.TheConstants.{TEXT_LIMIT}
 use Rattle.bp_language.specs.Texts.{IsTextOf}
 use Rattle.bp_machine.specs.declared.calls.Call.{Call}
 use Rattle.bp_machine.specs.declared.limits.TheConstants.{MAX_CONTEXTS, MAX_THREADS}
-use Rattle.bp_machine.specs.Answers.{configuration_after_call, stack_of}
-use Rattle.bp_machine.specs.BoundedRuns.{IsBoundedRun, history_of_run}
-use Rattle.bp_machine.specs.Contexts.{IsWithin}
-use Rattle.bp_machine.specs.Deadlocks.{IsDeadlocked}
-use Rattle.bp_machine.specs.Histories.{configuration_after, granted_calls, IsLegal, IsLegalAfter}
+use Rattle.bp_machine.specs.Histories.{configuration_after_call, stack_of, IsWithin, configuration_after, granted_calls, IsLegal, IsLegalAfter, is_granted}
+use Rattle.bp_machine.specs.Runs.{IsBoundedRun, history_of_run, IsDeadlocked}
 use Rattle.bp_machine.specs.Laws.{HistoriesAreRuns, RunsAreHistories}
-use Rattle.bp_machine.specs.Replies.{is_granted}
 use Rattle.bp_machine.specs.Setups.{SetupOf, start, threads}
-use Rattle.bp_tasks.specs.declared.context_bounds.ContextBound.{ContextBound}
-use Rattle.bp_tasks.specs.declared.context_bounds.ContextBound.TheVariants.{AsUsed, Kept}
+use Rattle.bp_tasks.specs.declared.tasks.ContextBound.{ContextBound}
+use Rattle.bp_tasks.specs.declared.tasks.ContextBound.TheVariants.{AsUsed, Kept}
 use Rattle.bp_confirm.specs.declared.confirming.ConfirmFault.{ConfirmFault}
 use Rattle.bp_confirm.specs.declared.confirming.ConfirmFault.TheVariants.{Line, Memory, NoSteps, NoThread, NoVariable, Step, TooLong}
-use Rattle.bp_confirm.specs.declared.faults.StepRefusal.{StepRefusal}
+use Rattle.bp_confirm.specs.declared.confirming.StepRefusal.{StepRefusal}
 use Rattle.bp_confirm.specs.Confirms.{IsStepRefusal}
-use Rattle.bp_confirm.specs.Inferred.{zeros}
-use Rattle.bp_confirm.specs.ConfirmedTexts.{HasFitLength, IsStepsRefusal}
-use Rattle.bp_confirm.specs.ContextBounds.{IsSetupFor, contexts_allowed, thread_of}
-use Rattle.bp_confirm.specs.DeclaredLines.{AreDeclaredLines, IsFirstStray, IsOfNoThread, IsOfNoVariable}
-use Rattle.bp_confirm.specs.OwnLines.{AreOwnLines, exact_location, next_start}
-use Rattle.bp_confirm.specs.OwnSteps.{lines_of_steps, own_step, own_steps, own_steps_from, own_steps_text}
-use Rattle.bp_confirm.specs.OwnTexts.{OwnDeadlockIsConfirmed, OwnTextIsConfirmed}
-use Rattle.bp_confirm.specs.LastChoices.{IsConfirmed}
-use Rattle.bp_confirm.specs.declared.last_choices.LastChoice.{LastChoice}
-use Rattle.bp_confirm.specs.StepLines.{StepLineOf, steps_of}
-use Rattle.bp_confirm.specs.StepTexts.{AreNamed, HasLine, HasLines, IsBadLine, IsShortLocation}
+use Rattle.bp_confirm.specs.Inferred.{zeros, IsConfirmed}
+use Rattle.bp_confirm.specs.ConfirmedTexts.{HasFitLength, IsStepsRefusal, IsSetupFor, contexts_allowed, thread_of, AreDeclaredLines, IsFirstStray, IsOfNoThread, IsOfNoVariable}
+use Rattle.bp_confirm.specs.OwnSteps.{AreOwnLines, exact_location, next_start, lines_of_steps, own_step, own_steps, own_steps_from, own_steps_text}
+use Rattle.bp_confirm.specs.Laws.{OwnDeadlockIsConfirmed, OwnTextIsConfirmed}
+use Rattle.bp_confirm.specs.declared.choices.LastChoice.{LastChoice}
+use Rattle.bp_confirm.specs.Steps.{StepLineOf, steps_of, AreNamed, HasLine, HasLines, IsBadLine, IsShortLocation}
 use Rattle.bp_confirm.proofs.OneReading.{bad_begins, one_reading}
 use Rattle.bp_confirm.proofs.OneTextRefusal.{IsStray, no_thread, no_variable, stray_alone}
 use Rattle.bp_confirm.proofs.DeadlocksTaken.{deadlock_is_taken}
-use Rattle.bp_confirm.proofs.OwnLinesTaken.{own_lines_confirmed, own_run}
-use Rattle.bp_confirm.proofs.RunsTakeSteps.{run_takes}
-use Rattle.bp_confirm.proofs.OwnStepsMade.{steps_of_the_run, text_of_lines}
+use Rattle.bp_confirm.proofs.OwnStepsMade.{own_lines_confirmed, own_run, steps_of_the_run, text_of_lines}
+use Rattle.bp_confirm.proofs.OneConfirmed.{run_takes}
 
 -- the lines are of threads of the setup, and have no values
 module _ (text : List ℕ) (t : Program) (s : SetupOf) where

@@ -1,16 +1,13 @@
 -- The statements of the program of a text begin in the order of its instructions, each at a byte of its own.
-use Rattle.std.proofs.Common.{◌≡◌, ◌+◌, ◌<◌, ◌≤◌, ℕ, zero, suc, List, [], ◌∷◌, ◌++◌, length, take, map, Option, None, Some, refl, ap, sym, subst, arith}
-use Rattle.std.specs.Prelude.{slice_get}
+use Rattle.std.proofs.Common.{◌≡◌, ◌+◌, ◌<◌, ◌≤◌, ℕ, zero, suc, List, [], ◌∷◌, ◌++◌, length, take, map, Option, None, Some, refl, ap, sym, subst, arith, slice_get}
 use Rattle.std.proofs.lemmas.List.{length-drop, map-append}
-use Rattle.bp_tree.specs.Ast.{Name, Expression, Decision, Block, Done, Statement, Procedure, Program}
-use Rattle.bp_language.specs.Tokens.{Token, kind_of}
+use Rattle.bp_language.specs.Ast.{Name, Expression, Decision, Block, Done, Statement, Procedure, Program}
+use Rattle.bp_language.specs.Tokens.{Token, kind_of, Lexeme, IsCut, ends, fit, open_brace, bad_byte, tokens_of, with_token}
 use Rattle.bp_language.specs.declared.tokens.TokenKind.{TokenKind}
-use Rattle.bp_language.specs.Cut.{Lexeme, IsCut, ends, fit, open_brace, bad_byte, tokens_of, with_token}
 use Rattle.bp_language.specs.Grammar.{IsNames, one_name, more_names, IsAnyNames, no_names, some_names, IsExpr, of_or, implication, IsOr, of_xor, disjunction, IsXor, of_and, exclusion, IsAnd, of_eq, conjunction, IsEq, of_un, equality, difference, IsUn, negation, of_atom, IsAtom, constant_0, constant_1, variable, brackets, IsExprs, one_expr, more_exprs, IsAnyExprs, no_exprs, some_exprs, IsDecider, choice, by_value, IsForm, skip, jump, returning, assignment, branch, loop, assertion, assumption, printing, call, IsStmt, labelled, unlabelled, IsStmts, one_stmt, more_stmts, decl, IsDecls, no_decl, more_decls, IsProc, proc, IsProcs, no_proc, more_procs, Derives, program, first_word, first_name}
 use Rattle.bp_language.specs.Texts.{IsTextOf}
-use Rattle.bp_flat.specs.Continuations.{chain}
-use Rattle.bp_flat.specs.StandsFor.{Place, place, places, places_in, places_of}
-use Rattle.bp_flat.specs.Starts.{start_of_block, starts_of}
+use Rattle.bp_flat.specs.Moves.{chain}
+use Rattle.bp_flat.specs.StandsFor.{Place, place, places, places_in, places_of, start_of_block, starts_of}
 
 abbrev starts : List Place → List (Option ℕ)
 starts ps = map (λ p. start_of_block p.left) ps

@@ -1,40 +1,85 @@
 -- One more step that is followed, and one that is refused.
-use Rattle.std.proofs.Common.{◌≡◌, ◌≤◌, ◌<◌, ◌+◌, ℕ, zero, suc, Bool, true, false, List, [], ◌∷◌, ◌++◌, length, take, drop, get_or, None, Some, refl, ap, sym, ◌∙◌, subst, arith}
-use Rattle.std.specs.Prelude.{is_some, slice_get}
-use Rattle.std.proofs.Common.{Option}
-use Rattle.bp_flat.specs.Configurations.{Configuration}
-use Rattle.bp_flat.specs.Values.{Valuation}
+use Rattle.std.proofs.Common.{◌≡◌, ◌∙◌, ℕ, Bool, List, ◌∷◌, false, Option, None, Some, ap, sym, subst, Bor, ◌<◌, ◌+◌, [], ◌++◌, length, take, drop, get_or, ◌≤◌, zero, suc, true, refl, arith, slice_get, is_some}
+use Rattle.std.specs.Option.{option_copied}
+use Rattle.std.proofs.lemmas.List.{take_more, take-append-drop, append-nil, map_push, take_all}
 use Rattle.std.proofs.lemmas.Bool.{false≢true}
-use Rattle.std.proofs.lemmas.List.{append-nil, map_push, take_all, take_more, take-append-drop}
 use Rattle.std.proofs.Math.ListN.{length-take, drop_of_length-le}
 use Rattle.std.proofs.Math.Seq.{drop-cons}
-use Rattle.bp_text.proofs.GrownLists.{regrouped}
-use Rattle.bp_tree.specs.Ast.{Program}
-use Rattle.bp_machine.specs.declared.ask_faults.AskFault.{AskFault}
-use Rattle.bp_machine.specs.declared.ask_faults.AskFault.TheVariants as refused
+use Rattle.bp_text.proofs.PartsOfTexts.{regrouped}
+use Rattle.bp_language.specs.Ast.{Block, Procedure, Program}
+use Rattle.bp_flat.specs.Moves.{Configuration, Valuation}
+use Rattle.bp_flat.specs.declared.effects.Effect.TheVariants as effect
+use Rattle.bp_flat.specs.Flat.{Flat, Instruction}
+use Rattle.bp_flat.specs.StandsFor.{StandsFor, Does, places_of}
+use Rattle.bp_machine.specs.declared.tops.Top.{Top}
+use Rattle.bp_machine.specs.Histories.{stack_of, configuration_after, is_finished, IsAllowed, is_granted}
+use Rattle.bp_machine.specs.Runs.{IsTop}
 use Rattle.bp_machine.specs.declared.calls.Call.{Call}
-use Rattle.bp_machine.specs.Answers.{stack_of}
-use Rattle.bp_machine.specs.Histories.{configuration_after, is_finished, IsAllowed}
-use Rattle.bp_machine.specs.Replies.{is_granted}
-use Rattle.bp_machine.specs.Sessions.{IsAskRefusal}
+use Rattle.bp_machine.specs.Sessions.{IsNextCall, given_bit, IsAskRefusal}
 use Rattle.bp_machine.specs.Setups.{SetupOf, threads}
-use Rattle.bp_confirm.specs.declared.faults.Difference.{Difference}
-use Rattle.bp_confirm.specs.declared.faults.StepFault.{StepFault}
-use Rattle.bp_confirm.specs.declared.faults.StepFault.TheVariants as fault
-use Rattle.bp_confirm.specs.declared.faults.StepReason.{StepReason}
-use Rattle.bp_confirm.specs.declared.faults.StepReason.TheVariants.{Elsewhere, Ambiguous, Finished, Refused, Differs}
-use Rattle.bp_confirm.specs.declared.faults.StepRefusal.{StepRefusal}
-use Rattle.bp_confirm.specs.StepLines.{StepLineOf, step_of, steps_of}
-use Rattle.bp_confirm.specs.Steps.{StepOf, value_seen, IsFirstUnseen, SeesValues, IsStepOf, TakeAfter, Takes}
-use Rattle.bp_confirm.specs.Inferred.{LastBits, IsFollowed, bit_of_stack, IsAmbiguousOnStack, Follows, FollowAfter}
-use Rattle.bp_confirm.specs.Changes.{IsDifference}
-use Rattle.bp_confirm.specs.Confirms.{GoesOnAt, StandsAtPlace, IsStuck, IsReason, ForStuck, IsStepRefusal, IsNotFollowed}
-use Rattle.bp_confirm.specs.StepRefusals.{IsRefusedHere, IsNotTaken, refusal_of}
+use Rattle.bp_machine.specs.declared.calls.AskFault.{AskFault}
+use Rattle.bp_machine.specs.declared.calls.AskFault.TheVariants as refused
+use Rattle.bp_trace.specs.Replays.{IsPlayable}
+use Rattle.bp_trace.proofs.PlayableFronts.{front, own_is}
+use Rattle.bp_confirm.specs.FollowedSteps.{is_fork, is_fork_on, IsInferred, IsInferredOn, IsRefusedHere, IsNotTaken, refusal_of, source_points_of}
+use Rattle.bp_confirm.specs.Steps as point
+use Rattle.bp_confirm.specs.Steps.{StepOf, next_place, StepLineOf, step_of, steps_of, value_seen, IsFirstUnseen, SeesValues, IsStepOf, TakeAfter, Takes}
+use Rattle.bp_confirm.specs.declared.choices.Inferred.{Inferred}
+use Rattle.bp_confirm.specs.Inferred.{LastBits, some_follow, IsFollowed, bit_of_stack, IsAmbiguousOnStack, Follows, FollowAfter}
+use Rattle.bp_confirm.specs.declared.confirming.Difference.{Difference}
+use Rattle.bp_confirm.specs.declared.confirming.StepFault.{StepFault}
+use Rattle.bp_confirm.specs.declared.confirming.StepFault.TheVariants as fault
+use Rattle.bp_confirm.specs.declared.confirming.StepReason.{StepReason}
+use Rattle.bp_confirm.specs.declared.confirming.StepReason.TheVariants.{Elsewhere, Ambiguous, Finished, Refused, Differs}
+use Rattle.bp_confirm.specs.declared.confirming.StepRefusal.{StepRefusal}
+use Rattle.bp_confirm.specs.Confirms.{IsDifference, GoesOnAt, StandsAtPlace, IsStuck, IsReason, ForStuck, IsStepRefusal, IsNotFollowed}
 use Rattle.bp_confirm.specs.declared.source_points.SourcePoint.{SourcePoint}
-use Rattle.bp_confirm.specs.SourcePoints.{source_points_of}
-use Rattle.bp_confirm.proofs.StandsOfInstructions.{stands_as}
+use Rattle.bp_confirm.proofs.BitsOfEffects.{fork_is}
+use Rattle.bp_confirm.proofs.ValuesSeen.{stands_as}
 use Rattle.bp_confirm.proofs.LocalRefusals.{same_reply, refused_for_all, other_values}
-use Rattle.bp_confirm.proofs.Transfer.{transfer}
+use Rattle.bp_confirm.proofs.Agreeing.{transfer}
+
+-- The bit that is inferred at an instruction is that of the stack which goes on there.
+
+pub inferred_here : (t : Program) (last : LastBits) (code : Flat) (c : Configuration) (i : ℕ) (x : Top) (later : List StepOf) → StandsFor code t → IsTop t c i x
+    → (got : Option (Bor Instruction)) (instr : Bor Instruction) → got ≡ Some instr → option_copied got ≡ slice_get code.instructions x.number
+    → (next : Option point.Place) (bit follow : Bool) (o : Inferred) → next ≡ next_place i later → bit ≡ last i → follow ≡ some_follow later
+    → ((p : Procedure) (left : Block) → Does t (places_of t.procedures) p left instr.now → IsInferred t left next bit follow o)
+    → IsInferredOn t last i later (stack_of c i) o
+inferred_here t last code c i x later stands top got instr got_is copied next bit follow o next_is bit_is follow_is inferred =
+    let found = stands.each x.number top.frame.procedure top.frame.left top.next in
+    let both : Some instr.now ≡ Some found.0 = sym (ap option_copied got_is) ∙ copied ∙ found.1 in
+    let same : found.0 ≡ instr.now = cc in
+    let does = subst (λ k. Does t (places_of t.procedures) top.frame.procedure top.frame.left k) same found.2 in
+    let raw = inferred top.frame.procedure top.frame.left does in
+    let at_next = subst (λ n. IsInferred t top.frame.left n bit follow o) next_is raw in
+    let at_last = subst (λ b. IsInferred t top.frame.left (next_place i later) b follow o) bit_is at_next in
+    let at_both = subst (λ f. IsInferred t top.frame.left (next_place i later) (last i) f o) follow_is at_last in
+    let on_frames : IsInferredOn t last i later (top.frame ∷ top.below) o = at_both in
+    subst (λ S. IsInferredOn t last i later S o) (sym top.stack) on_frames
+
+-- and so is whether it is a branch or a loop of `?`
+pub fork_here : (t : Program) (code : Flat) (c : Configuration) (i : ℕ) (x : Top) → StandsFor code t → IsTop t c i x
+    → (got : Option (Bor Instruction)) (instr : Bor Instruction) → got ≡ Some instr → option_copied got ≡ slice_get code.instructions x.number
+    → is_fork instr.now ≡ is_fork_on (stack_of c i)
+fork_here t code c i x stands top got instr got_is copied =
+    let found = stands.each x.number top.frame.procedure top.frame.left top.next in
+    let both : Some instr.now ≡ Some found.0 = sym (ap option_copied got_is) ∙ copied ∙ found.1 in
+    let same : found.0 ≡ instr.now = cc in
+    let does = subst (λ k. Does t (places_of t.procedures) top.frame.procedure top.frame.left k) same found.2 in
+    fork_is t top.frame.procedure None false x.store effect.Blocks effect.Blocks top.frame.left instr.now does ∙ sym (ap is_fork_on top.stack)
+
+-- A history that is made again call by call.
+
+module _ (t : Program) (s : SetupOf) (h : List Call) (playable : IsPlayable t s h) (n : ℕ) (d : Call) (within : n < length h) where
+  playable_here : IsPlayable t s (take n h ++ get_or h n d ∷ [])
+  playable_here =
+      subst (IsPlayable t s) (take_more h n d within)
+      (front t s (take (n + 1) h) (drop (n + 1) h) (subst (IsPlayable t s) (sym (take-append-drop (n + 1) h)) playable))
+
+  -- the machine's next call is that of the history
+  pub front_again : (own : Call) → IsNextCall t s (take n h) (get_or h n d).thread (given_bit s (get_or h n d).bit) own → take n h ++ own ∷ [] ≡ take (n + 1) h
+  front_again own next = ap (λ c. take n h ++ c ∷ []) (own_is t s (take n h) (get_or h n d) [] playable_here own next) ∙ sym (take_more h n d within)
 
 module _ (t : Program) (s : SetupOf) (last : LastBits) where
   -- what is followed is taken

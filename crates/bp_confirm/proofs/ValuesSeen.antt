@@ -1,23 +1,108 @@
 -- What the names of a thread's top have as values.
-use Rattle.std.proofs.Common.{◌≡◌, ◌∙◌, ◌<◌, ◌≤◌, ℕ, List, [], length, take, Option, None, Some, ap, sym, Bor, get_or, arith, subst}
-use Rattle.std.specs.Prelude.{slice_get, option_map, MatchOption, IfSome, is_some, nat_lt}
+use Rattle.std.proofs.Common.{◌≡◌, ◌∙◌, ◌+◌, ℕ, zero, suc, List, [], ◌∷◌, Option, None, Some, refl, ap, ◌<◌, length, get_or, ◌++◌, take, sym, arith, option_map, ◌≤◌, Bor, subst, ◌≢◌, Bool, true, false, cond, bytes_eq, slice_get, MatchOption, IfSome, is_some, nat_lt}
+use Rattle.std.proofs.Math.Path.{fun_ext}
+use Rattle.std.proofs.lemmas.List.{take_more}
 use Rattle.std.proofs.lemmas.Option.{slice_get_past, slice_get-get_or, slice_get-map}
-use Rattle.bp_tree.specs.Ast.{Procedure, Program}
-use Rattle.bp_flat.specs.Bits.{bits_of}
-use Rattle.bp_flat.specs.Configurations.{Configuration}
-use Rattle.bp_flat.specs.StandsFor.{Place, valuation_of, variables, place, places_of}
-use Rattle.bp_flat.specs.Starts.{start_of_block, starts_of}
+use Rattle.std.specs.Option.{option_or}
+use Rattle.std.proofs.lemmas.Slice.Eq.{bytes_eq-Decides}
+use Rattle.bp_text.specs.Lines.{position_at}
+use Rattle.bp_language.specs.Ast.{Program, Procedure}
+use Rattle.bp_flat.specs.StandsFor.{starts_of, Place, valuation_of, variables, place, places_of, start_of_block}
+use Rattle.bp_flat.specs.InstrEffects.{bits_of}
+use Rattle.bp_flat.specs.Moves.{Configuration, Valuation, lookup}
 use Rattle.bp_flat.proofs.ProceduresOfPlaces.{ends, procedure_of}
 use Rattle.bp_machine.specs.declared.tops.Top.{Top}
-use Rattle.bp_machine.specs.Answers.{stack_of}
-use Rattle.bp_machine.specs.Tops.{IsTop}
-use Rattle.bp_confirm.specs.declared.locations.Location.{Location}
+use Rattle.bp_machine.specs.Histories.{stack_of}
+use Rattle.bp_machine.specs.Runs.{IsTop}
+use Rattle.bp_source.specs.Names.{qualified, declares}
+use Rattle.bp_source.proofs.DecidersOfPlaces.{same_qualified}
 use Rattle.bp_confirm.specs.declared.source_points.SourcePoint.{SourcePoint}
-use Rattle.bp_confirm.specs.Places.{place_of, stands_at}
-use Rattle.bp_confirm.specs.SourcePoints.{is_there, source_points_of}
-use Rattle.bp_confirm.specs.Steps.{local_seen, own_value}
-use Rattle.bp_confirm.proofs.PointsOfInstructions.{procedure_at, is_there_at}
-use Rattle.bp_confirm.proofs.BitsOfEffects.{start_is_at}
+use Rattle.bp_confirm.specs.FollowedSteps.{points_from, source_points_of, is_point_at, is_there}
+use Rattle.bp_confirm.specs.Confirms.{stand_at_point, stand_at_start, stand_in, stand_of}
+use Rattle.bp_confirm.specs.declared.step_lines.Location.{Location}
+use Rattle.bp_confirm.specs.Steps.{place_of, stands_at, local_seen, own_value, qualified_values}
+use Rattle.bp_confirm.specs.ConfirmedTexts.{AreKnown}
+use Rattle.bp_confirm.proofs.BitsOfEffects.{start_is_at, numbers_at}
+
+-- The point of an instruction tells where its statement begins in the text.
+
+module _ (text : List ℕ) where
+  stand_there : (k : ℕ) (starts : List (Option ℕ)) (n : ℕ) → stand_at_point (slice_get (points_from text k starts) n) ≡ stand_at_start text (slice_get starts n)
+  stand_there k [] n = refl
+  stand_there k (None ∷ starts) zero = refl
+  stand_there k (Some at ∷ starts) zero = refl
+  stand_there k (None ∷ starts) (suc n) = stand_there (k + 1) starts n
+  stand_there k (Some at ∷ starts) (suc n) = stand_there k starts n
+
+  pub stands_as : (t : Program) (points : List SourcePoint) (number : Option ℕ) → points ≡ source_points_of text t
+      → stand_in points number ≡ stand_of text t number
+  stands_as t points None are = refl
+  stands_as t points (Some n) are = ap (λ ss. stand_at_point (slice_get ss n)) are ∙ stand_there 0 (starts_of t) n
+
+-- The point of an instruction tells where its statement begins, and in which procedure.
+
+module _ (text : List ℕ) where
+  -- one more instruction
+  pub points_more : (k : ℕ) (starts : List (Option ℕ)) (start : Option ℕ)
+      → points_from text k (starts ++ start ∷ [])
+      ≡ points_from text k starts
+      ++ record { position = option_map (position_at text) start; procedure = k + ends starts } ∷ []
+  points_more k [] None = ap (λ p. record { position = None; procedure = p } ∷ []) (omega arith)
+  points_more k [] (Some at) = ap (λ p. record { position = Some (position_at text at); procedure = p } ∷ []) (omega arith)
+  points_more k (None ∷ starts) start =
+      let number : k + 1 + ends starts ≡ k + suc (ends starts) = omega arith in
+      ap (λ xs. record { position = None; procedure = k } ∷ xs)
+      (points_more (k + 1) starts start
+      ∙ ap (λ p. points_from text (k + 1) starts ++ record { position = option_map (position_at text) start; procedure = p } ∷ []) number)
+  points_more k (Some at ∷ starts) start = ap (λ xs. record { position = Some (position_at text at); procedure = k } ∷ xs) (points_more k starts start)
+
+  -- an instruction is at the location where its statement's beginning is at the place
+  point_there : (k : ℕ) (starts : List (Option ℕ)) (x : Location) (n : ℕ)
+      → is_point_at x (slice_get (points_from text k starts) n) ≡ start_is_at (place_of text x) (slice_get starts n)
+  point_there k [] x n = refl
+  point_there k (None ∷ starts) x zero = refl
+  point_there k (Some at ∷ starts) x zero = refl
+  point_there k (None ∷ starts) x (suc n) = point_there (k + 1) starts x n
+  point_there k (Some at ∷ starts) x (suc n) = point_there k starts x n
+
+  pub is_there_at : (t : Program) (points : List SourcePoint) (x : Location) (n : ℕ) → points ≡ source_points_of text t
+      → is_there points x n ≡ start_is_at (place_of text x) (slice_get (starts_of t) n)
+  is_there_at t points x n are = ap (λ ss. is_point_at x (slice_get ss n)) are ∙ point_there 0 (starts_of t) x n
+
+  -- the instructions at the next location are those at the next place
+  pub numbers_are : (t : Program) (points : List SourcePoint) (next : Option Location) → points ≡ source_points_of text t
+      → option_map (is_there points) next ≡ numbers_at (starts_of t) (option_map (place_of text) next)
+  numbers_are t points None are = refl
+  numbers_are t points (Some x) are = ap Some (fun_ext (λ n. is_there_at t points x n are))
+
+  -- the procedure of an instruction
+  procedure_from : (k : ℕ) (starts : List (Option ℕ)) (n : ℕ) (start : Option ℕ) → slice_get starts n ≡ Some start
+      → option_map (λ (s : SourcePoint). s.procedure) (slice_get (points_from text k starts) n) ≡ Some (k + ends (take n starts))
+  procedure_from k [] n start at = absurd cc
+  procedure_from k (None ∷ starts) zero start at = ap Some (omega arith)
+  procedure_from k (Some a ∷ starts) zero start at = ap Some (omega arith)
+  procedure_from k (None ∷ starts) (suc n) start at = procedure_from (k + 1) starts n start at ∙ ap Some (omega arith)
+  procedure_from k (Some a ∷ starts) (suc n) start at = procedure_from k starts n start at
+
+  pub procedure_at : (t : Program) (points : List SourcePoint) (n : ℕ) (start : Option ℕ)
+      → points ≡ source_points_of text t → slice_get (starts_of t) n ≡ Some start
+      → option_map (λ (s : SourcePoint). s.procedure) (slice_get points n) ≡ Some (ends (take n (starts_of t)))
+  procedure_at t points n start are at =
+      ap (λ ss. option_map (λ (s : SourcePoint). s.procedure) (slice_get ss n)) are ∙ procedure_from 0 (starts_of t) n start at
+      ∙ ap Some (omega arith)
+
+  -- one more point is noted
+  pub points_next : (starts : List (Option ℕ)) (n : ℕ) (d start : Option ℕ) (old new : List SourcePoint) (point : SourcePoint)
+      → n < length starts → get_or starts n d ≡ start
+      → old ≡ points_from text 0 (take n starts) → new ≡ old ++ point ∷ []
+      → point.position ≡ option_map (position_at text) start → point.procedure ≡ ends (take n starts)
+      → new ≡ points_from text 0 (take (n + 1) starts)
+  points_next starts n d start old new point within at done is position number =
+      let procedure : point.procedure ≡ 0 + ends (take n starts) = omega (arith, number) in
+      let point_is : point ≡ record { position = option_map (position_at text) start; procedure = 0 + ends (take n starts) } =
+      (λ j. record { position = position j; procedure = procedure j }) in
+      is ∙ (λ j. done j ++ point_is j ∷ []) ∙ sym (points_more 0 (take n starts) start)
+      ∙ ap (points_from text 0) (sym (take_more starts n d within ∙ ap (λ x. take n starts ++ x ∷ []) at))
 
 -- where a thread's top begins
 pub top_start : (t : Program) (c : Configuration) (i : ℕ) (x : Top) → (is : IsTop t c i x)
@@ -82,3 +167,42 @@ module _ (text : List ℕ) (t : Program) (points : List SourcePoint) (top : Opti
         let e = sym (ap (option_map (λ (q : Bor Procedure). q.now)) is) ∙ is_found in
         let same : p.now ≡ own_top.frame.procedure = cc in
         top_locals t c i x p.now name own_top same
+
+-- The value of a local by its name after that of its procedure and a dot.
+
+module _ (p : List ℕ) where
+  found_qualified : (own : List ℕ) (vs : Valuation) → lookup (qualified_values p vs) (qualified p own) ≡ lookup vs own
+  found_qualified own [] = refl
+  found_qualified own (v ∷ vs) =
+      ap (λ b. cond b (Some v.1) (lookup (qualified_values p vs) (qualified p own))) (same_qualified p v.0 own)
+      ∙ ap (λ o. cond (bytes_eq v.0 own) (Some v.1) o) (found_qualified own vs)
+
+  none_qualified : (x : List ℕ) → ((own : List ℕ) → x ≢ qualified p own) → (vs : Valuation) → lookup (qualified_values p vs) x ≡ None
+  none_qualified x none [] = refl
+  none_qualified x none (v ∷ vs) =
+      ap (λ b. cond b (Some v.1) (lookup (qualified_values p vs) x)) (by_test (bytes_eq (qualified p v.0) x) refl) ∙ none_qualified x none vs
+    where
+      by_test : (b : Bool) → bytes_eq (qualified p v.0) x ≡ b → bytes_eq (qualified p v.0) x ≡ false
+      by_test true is = absurd (none v.0 (sym ((bytes_eq-Decides (qualified p v.0) x).0 is)))
+      by_test false is = is
+
+  module _ (locals : Valuation) (x : List ℕ) where
+    pub by_own_name : (bit : Bool) → lookup locals x ≡ Some bit → Some bit ≡ own_value p locals x
+    by_own_name bit is = sym (ap (λ o. option_or o (lookup (qualified_values p locals) x)) is)
+
+    pub by_qualified_name : lookup locals x ≡ None → (own : List ℕ) → x ≡ qualified p own → lookup locals own ≡ own_value p locals x
+    by_qualified_name none own is =
+        sym (ap (λ o. option_or o (lookup (qualified_values p locals) x)) none ∙ ap (lookup (qualified_values p locals)) is ∙ found_qualified own locals)
+
+    pub by_no_name : lookup locals x ≡ None → ((own : List ℕ) → x ≢ qualified p own) → None ≡ own_value p locals x
+    by_no_name none other = sym (ap (λ o. option_or o (lookup (qualified_values p locals) x)) none ∙ none_qualified x other locals)
+
+-- A text that is known to say which variable is meant.
+
+pub known_there : (t : Program) (names : List (Bor (List ℕ))) (n : ℕ) (name : Bor (List ℕ)) → AreKnown t names → slice_get names n ≡ Some name
+    → declares t name.now ≡ true
+known_there t [] n name known at = absurd cc
+known_there t (x ∷ xs) zero name known at =
+    let same : name ≡ x = cc in
+    subst (λ z. declares t z.now ≡ true) (sym same) known.0
+known_there t (x ∷ xs) (suc n) name known at = known_there t xs n name known.1 at

@@ -1,24 +1,110 @@
 -- When a text of reported steps is confirmed, and how it is refused.
-use Rattle.std.specs.Prelude.{◌≡◌, ◌<◌, ◌≤◌, ℕ, List, length}
-use Rattle.bp_tree.specs.Ast.{Program}
-use Rattle.bp_code.specs.LawfulTexts.{IsLawfulText}
+use Rattle.std.specs.Prelude.{◌≡◌, ◌<◌, ◌≤◌, ℕ, ◌+◌, Bool, true, false, List, ◌∷◌, ◌++◌, length, if◌then◌else◌, map, nat_lt}
+use Rattle.std.specs.List.{AllByRecursion}
+use Rattle.std.specs.Borrow.{Bor}
+use Rattle.bp_language.specs.Ast.{Program}
+use Rattle.bp_flat.specs.Moves.{Valuation}
+use Rattle.bp_machine.specs.Setups.{SetupOf, threads}
+use Rattle.bp_machine.specs.declared.limits.TheConstants.{MAX_CONTEXTS}
+use Rattle.bp_machine.specs.Histories.{IsLeastWithin}
 use Rattle.bp_machine.specs.declared.calls.Call.{Call}
 use Rattle.bp_machine.specs.Sessions.{Stands}
-use Rattle.bp_machine.specs.Setups.{SetupOf}
 use Rattle.bp_trace.specs.declared.limits.TheConstants.{MAX_SCHEDULE}
+use Rattle.bp_code.specs.LawfulTexts.{IsLawfulText}
+use Rattle.bp_source.specs.Names.{declares}
+use Rattle.bp_tasks.specs.declared.tasks.ContextBound.{ContextBound}
+use Rattle.bp_tasks.specs.declared.tasks.ContextBound.TheVariants.{Kept, AsUsed}
+use Rattle.bp_confirm.specs.Steps.{StepLineOf, steps_of, HasLines, IsBadLine}
 use Rattle.bp_confirm.specs.declared.confirming.ConfirmFault.{ConfirmFault}
 use Rattle.bp_confirm.specs.declared.confirming.ConfirmFault.TheVariants as fault
-use Rattle.bp_tasks.specs.declared.context_bounds.ContextBound.{ContextBound}
-use Rattle.bp_confirm.specs.declared.faults.StepRefusal.{StepRefusal}
+use Rattle.bp_confirm.specs.declared.declared.Stray.{Stray}
+use Rattle.bp_confirm.specs.declared.declared.Stray.TheVariants.{Thread, Variable}
+use Rattle.bp_confirm.specs.declared.confirming.StepRefusal.{StepRefusal}
 use Rattle.bp_confirm.specs.declared.histories.Confirmed.{Confirmed}
-use Rattle.bp_confirm.specs.ContextBounds.{IsSetupFor}
-use Rattle.bp_confirm.specs.StepLines.{StepLineOf, steps_of}
-use Rattle.bp_confirm.specs.StepTexts.{HasLines, IsBadLine}
-use Rattle.bp_confirm.specs.DeclaredLines.{AreDeclaredLines, IsFirstStray, IsOfNoThread, IsOfNoVariable}
 use Rattle.bp_confirm.specs.Confirms.{IsStepRefusal}
-use Rattle.bp_confirm.specs.Inferred.{zeros}
-use Rattle.bp_confirm.specs.LastChoices.{IsConfirmed, IsTaken}
-use Rattle.bp_confirm.specs.declared.last_choices.LastChoice.{LastChoice}
+use Rattle.bp_confirm.specs.Inferred.{zeros, IsConfirmed, IsTaken}
+use Rattle.bp_confirm.specs.declared.choices.LastChoice.{LastChoice}
+
+-- Lines of threads and variables that are declared, and the first of another one.
+
+abbrev pub AreDeclared : Program → Valuation → Type 0
+AreDeclared t vs = AllByRecursion (λ v. declares t v.0 ≡ true) vs
+
+-- of these values, that of number n, from 0, is the first whose variable is not declared
+pub record IsFirstUndeclared (t : Program) (vs : Valuation) (n : ℕ) : Type 0 where
+  pub before : Valuation
+  pub value : List ℕ × Bool
+  pub after : Valuation
+  pub parts : vs ≡ before ++ value ∷ after
+  pub first : AreDeclared t before
+  pub number : n ≡ length before
+  pub undeclared : declares t value.0 ≡ false
+
+-- the line is of a thread of the setup and of variables of the program
+pub record IsDeclared (t : Program) (s : SetupOf) (x : StepLineOf) : Type 0 where
+  pub thread : x.thread < threads s
+  pub variables : AreDeclared t x.values
+
+abbrev pub AreDeclaredLines : Program → SetupOf → List StepLineOf → Type 0
+AreDeclaredLines t s lines = AllByRecursion (IsDeclared t s) lines
+
+-- line n is the first that is not
+pub record IsFirstStray
+    (t : Program) (s : SetupOf) (lines : List StepLineOf) (n : ℕ) (Is : StepLineOf → Type 0)
+    : Type 0 where
+  pub before : List StepLineOf
+  pub line : StepLineOf
+  pub later : List StepLineOf
+  pub parts : lines ≡ before ++ line ∷ later
+  pub first : AreDeclaredLines t s before
+  pub number : n ≡ length before + 1
+  pub is : Is line
+
+-- it is of this thread, which the setup does not have
+pub record IsOfNoThread (s : SetupOf) (thread : ℕ) (x : StepLineOf) : Type 0 where
+  pub is : x.thread ≡ thread
+  pub none : threads s ≤ thread
+
+-- its value of this number, from 0, is the first of no variable
+pub record IsOfNoVariable (t : Program) (s : SetupOf) (value : ℕ) (x : StepLineOf) : Type 0 where
+  pub thread : x.thread < threads s
+  pub variable : IsFirstUndeclared t x.values value
+
+-- The bound of contexts of the trace that is written of reported steps.
+
+abbrev pub thread_of : StepLineOf → ℕ
+thread_of x = x.thread
+
+-- as many contexts as a setup can allow
+abbrev pub contexts_allowed : ℕ → ℕ
+contexts_allowed used = if nat_lt MAX_CONTEXTS used then MAX_CONTEXTS else used
+
+-- a setup allows as many contexts as the steps of these lines use
+pub record AllowsAsUsed (s : SetupOf) (lines : List StepLineOf) (r : SetupOf) : Type 0 where
+  pub used : ℕ
+  pub least : IsLeastWithin used (map thread_of lines)
+  pub is : r ≡ record s { contexts = contexts_allowed used }
+
+-- the setup of the trace: the given one, or one that allows as many contexts as are used
+abbrev pub IsSetupFor : SetupOf → List StepLineOf → ContextBound → SetupOf → Type 0
+IsSetupFor s lines Kept r = r ≡ s
+IsSetupFor s lines AsUsed r = AllowsAsUsed s lines r
+
+-- A device: what a line names that is not declared.
+
+-- each of these texts says which variable is meant
+abbrev pub AreKnown : Program → List (Bor (List ℕ)) → Type 0
+AreKnown t names = AllByRecursion (λ name. declares t name.now ≡ true) names
+
+-- line n is the first, and names this
+abbrev pub IsStray : Program → SetupOf → List StepLineOf → ℕ → Stray → Type 0
+IsStray t s lines n (Thread thread) = IsFirstStray t s lines n (IsOfNoThread s thread)
+IsStray t s lines n (Variable value) = IsFirstStray t s lines n (IsOfNoVariable t s value)
+
+-- the fault of line n
+abbrev pub fault_of_stray : ℕ → Stray → ConfirmFault
+fault_of_stray n (Thread thread) = fault.NoThread n thread
+fault_of_stray n (Variable value) = fault.NoVariable n value
 
 -- a text of steps, of a program in this setup
 module _ (t : Program) (s : SetupOf) (steps : List ℕ) where

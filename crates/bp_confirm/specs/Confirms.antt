@@ -1,28 +1,93 @@
 -- When a history confirms reported steps, and why none does.
-use Rattle.std.specs.Prelude.{Option, None, Some, ◌≡◌, ◌<◌, ℕ, ◌+◌, Bool, true, false, List, [], ◌∷◌, ◌++◌, length}
+use Rattle.std.specs.Prelude.{ℕ, List, Option, None, Some, slice_get, ◌≡◌, ◌≢◌, ◌<◌, ◌≤◌, ◌-◌, take, length, Bool, ◌+◌, true, false, [], ◌∷◌, ◌++◌}
 use Rattle.std.specs.List.{AllByRecursion}
-use Rattle.bp_tree.specs.Ast.{Program}
+use Rattle.bp_text.specs.declared.lines.Position.{Position}
+use Rattle.bp_text.specs.Lines.{position_at}
+use Rattle.bp_language.specs.Ast.{Program}
+use Rattle.bp_flat.specs.StandsFor.{starts_of}
+use Rattle.bp_flat.specs.Moves.{Valuation, Configuration}
 use Rattle.bp_machine.specs.declared.calls.Call.{Call}
-use Rattle.bp_machine.specs.declared.calls.Reply.{Reply}
-use Rattle.bp_flat.specs.Configurations.{Configuration}
-use Rattle.bp_machine.specs.declared.tops.Top.{Top}
-use Rattle.bp_machine.specs.Answers.{stack_of}
-use Rattle.bp_machine.specs.Tops.{IsTop}
-use Rattle.bp_machine.specs.Histories.{configuration_after, is_finished, IsAllowed}
-use Rattle.bp_machine.specs.Replies.{is_granted}
+use Rattle.bp_machine.specs.Histories.{stack_of, configuration_after, is_finished, IsAllowed, is_granted}
 use Rattle.bp_machine.specs.Setups.{SetupOf, threads}
-use Rattle.bp_confirm.specs.declared.faults.Difference.{Difference}
-use Rattle.bp_confirm.specs.declared.faults.StepFault.{StepFault}
-use Rattle.bp_confirm.specs.declared.faults.StepFault.TheVariants as fault
-use Rattle.bp_confirm.specs.declared.faults.StepReason.{StepReason}
-use Rattle.bp_confirm.specs.declared.faults.StepReason.TheVariants.{Elsewhere, Ambiguous, Finished, Refused, Differs}
-use Rattle.bp_confirm.specs.declared.faults.StepRefusal.{StepRefusal}
-use Rattle.bp_confirm.specs.Changes.{IsDifference}
-use Rattle.bp_confirm.specs.Places.{stands_at}
-use Rattle.bp_confirm.specs.Stands.{stand_of}
-use Rattle.bp_confirm.specs.Steps.{StepOf, IsStepOf, Takes}
-use Rattle.bp_confirm.specs.StepLines.{StepLineOf, step_of, steps_of}
+use Rattle.bp_machine.specs.declared.calls.Reply.{Reply}
+use Rattle.bp_machine.specs.declared.tops.Top.{Top}
+use Rattle.bp_machine.specs.Runs.{IsTop}
+use Rattle.bp_confirm.specs.declared.source_points.SourcePoint.{SourcePoint}
+use Rattle.bp_confirm.specs.declared.step_lines.Stand.{Stand}
+use Rattle.bp_confirm.specs.declared.step_lines.Stand.TheVariants.{Ended, End, Statement}
+use Rattle.bp_confirm.specs.declared.confirming.Difference.{Difference}
+use Rattle.bp_confirm.specs.Steps.{value_seen, IsFirstUnseen, stands_at, StepOf, IsStepOf, Takes, StepLineOf, step_of, steps_of}
+use Rattle.bp_confirm.specs.declared.confirming.StepFault.{StepFault}
+use Rattle.bp_confirm.specs.declared.confirming.StepFault.TheVariants as fault
+use Rattle.bp_confirm.specs.declared.confirming.StepReason.{StepReason}
+use Rattle.bp_confirm.specs.declared.confirming.StepReason.TheVariants.{Elsewhere, Ambiguous, Finished, Refused, Differs}
+use Rattle.bp_confirm.specs.declared.confirming.StepRefusal.{StepRefusal}
 use Rattle.bp_confirm.specs.Inferred.{IsAmbiguousOnStack, LastBits, FollowAfter}
+
+-- Where a thread stands in the text of a program.
+
+-- it stands where a statement begins at this offset, or at a procedure's end; it has ended where it
+-- has no instruction
+abbrev pub stand_at_start : List ℕ → Option (Option ℕ) → Stand
+stand_at_start text None = Ended
+stand_at_start text (Some None) = End
+stand_at_start text (Some (Some at)) = Statement (position_at text at)
+
+-- where it stands if it goes on at the instruction of this number of a program of the text
+abbrev pub stand_of : List ℕ → Program → Option ℕ → Stand
+stand_of text t None = Ended
+stand_of text t (Some number) = stand_at_start text (slice_get (starts_of t) number)
+
+-- A device: the same by the points of the instructions.
+abbrev pub stand_at : Option Position → Stand
+stand_at None = End
+stand_at (Some position) = Statement position
+
+abbrev pub stand_at_point : Option SourcePoint → Stand
+stand_at_point None = Ended
+stand_at_point (Some point) = stand_at point.position
+
+abbrev pub stand_in : List SourcePoint → Option ℕ → Stand
+stand_in points None = Ended
+stand_in points (Some number) = stand_at_point (slice_get points number)
+
+-- The last of the steps of a history that changed what a thread sees of a variable.
+
+-- seen k is what is seen after the first k steps; none of the steps after step m, up to step n,
+-- changes it
+abbrev pub NoneChanges : (ℕ → Option Bool) → ℕ → ℕ → Type 0
+NoneChanges seen m n = (k : ℕ) → m < k → k ≤ n → seen k ≡ seen (k - 1)
+
+-- step k changes it, and no later one of the first n does
+pub record ChangesLast (seen : ℕ → Option Bool) (n k : ℕ) : Type 0 where
+  pub some : 0 < k
+  pub within : k ≤ n
+  pub changes : seen k ≢ seen (k - 1)
+  pub last : NoneChanges seen k n
+
+-- the last of the first n steps that changes it, from 1; none if no step does
+abbrev pub IsLastChange : (ℕ → Option Bool) → ℕ → Option ℕ → Type 0
+IsLastChange seen n None = NoneChanges seen 0 n
+IsLastChange seen n (Some k) = ChangesLast seen n k
+
+-- what thread i sees of a variable after a history
+abbrev pub seen_by : Program → SetupOf → ℕ → List ℕ → List Call → Option Bool
+seen_by t s i name h =
+    let c = configuration_after t s h in value_seen c.globals (stack_of c i) name
+
+-- and after the first k calls of it
+abbrev pub seen_after : Program → SetupOf → List Call → ℕ → List ℕ → ℕ → Option Bool
+seen_after t s h i name k = seen_by t s i name (take k h)
+
+-- After a history this is the first of these values that thread i does not see: what it sees in its
+-- place, and the last call that changed what it sees of the name.
+pub record IsDifference
+    (t : Program) (s : SetupOf) (h : List Call) (i : ℕ) (vs : Valuation) (d : Difference)
+    : Type 0 where
+  pub unseen : IsFirstUnseen (configuration_after t s h) i vs d.place d.seen
+  pub changed : IsLastChange (seen_after t s h i unseen.value.0) (length h) d.changed
+
+-- When a history confirms reported steps, and why none does.
 
 -- thread i goes on at the instruction of this number, or has no frame
 abbrev pub GoesOnAt : Program → Configuration → ℕ → Option ℕ → Type 0

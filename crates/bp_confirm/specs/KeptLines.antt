@@ -2,10 +2,9 @@
 use Rattle.std.specs.Prelude.{◌≡◌, ◌<◌, ◌≤◌, ◌++◌, ◌∷◌, ℕ, List, [], length, map, get_or}
 use Rattle.std.specs.List.{AllByRecursion}
 use Rattle.bp_confirm.specs.declared.kept_lines.KeptLine.{KeptLine}
-use Rattle.bp_confirm.specs.declared.locations.Location.TheVariants.{End}
+use Rattle.bp_confirm.specs.declared.step_lines.Location.TheVariants.{End}
 use Rattle.bp_confirm.specs.LineReading.{IsStepAt}
-use Rattle.bp_confirm.specs.StepLines.{StepLineOf}
-use Rattle.bp_confirm.specs.StepTexts.{line_text, HasLine}
+use Rattle.bp_confirm.specs.Steps.{StepLineOf, line_text, HasLine}
 
 abbrev pub kept_lines : List KeptLine → List StepLineOf
 kept_lines kept = map (λ x. x.line) kept

@@ -1,13 +1,13 @@
 -- How a line of reported steps is read: a device of the reader, which no public clause names.
-use Rattle.std.specs.Prelude.{◌≡◌, ◌≢◌, ◌<◌, ◌⊎◌, ℕ, List, [], ◌∷◌, ◌++◌, Bool, decimal}
-use Rattle.bp_flat.specs.Values.{Valuation}
-use Rattle.bp_trace.specs.Writable.{Without}
-use Rattle.bp_confirm.specs.declared.locations.Location.{Location}
-use Rattle.bp_confirm.specs.declared.locations.Location.TheVariants.{End, Line, Column}
+use Rattle.std.specs.Prelude.{◌≡◌, ◌≢◌, ◌<◌, ◌⊎◌, ℕ, List, [], ◌∷◌, ◌++◌, Bool, decimal, zero, suc, ◌-◌, Option, None, Some, slice_get, if◌then◌else◌, ◌&&◌, ◌==◌, false, not, option_map}
+use Rattle.bp_flat.specs.Moves.{Valuation}
+use Rattle.bp_trace.specs.TraceText.{Without}
+use Rattle.bp_source.specs.Names.{is_braced_after}
+use Rattle.bp_confirm.specs.declared.step_lines.Location.{Location}
+use Rattle.bp_confirm.specs.declared.step_lines.Location.TheVariants.{End, Line, Column}
 use Rattle.bp_confirm.specs.declared.step_texts.StepsFault.{StepsFault}
 use Rattle.bp_confirm.specs.declared.step_texts.StepsFault.TheVariants as fault
-use Rattle.bp_confirm.specs.StepLines.{StepLineOf}
-use Rattle.bp_confirm.specs.StepTexts.{location_text, value_text, values_text, line_text, IsShort, IsShortLocation, IsStepName, AreNamed, HasLine, IsBadLine}
+use Rattle.bp_confirm.specs.Steps.{StepLineOf, location_text, value_text, values_text, line_text, IsShort, IsShortLocation, IsStepName, AreNamed, HasLine, IsBadLine, HasLines}
 
 -- the text is what is before the first of this byte, the byte, and the rest
 pub record IsCut (byte : ℕ) (text before rest : List ℕ) : Type 0 where
@@ -86,3 +86,77 @@ HasNoStep text = (x : StepLineOf) (rest : List ℕ) → IsStepAt text x rest →
 abbrev pub IsUnreadable : List ℕ → StepsFault → Type 0
 IsUnreadable text (fault.Line n) = IsBadLine text n
 IsUnreadable text fault.Memory = Unit {0}
+
+-- A value on a line of a text of steps.
+
+-- the value of number k, from 0, of a line
+abbrev pub value_in : Option StepLineOf → (k : ℕ) → Option (List ℕ × Bool)
+value_in None k = None
+value_in (Some x) k = slice_get x.values k
+
+-- the value of number k, from 0, of line n, from 1; there is no line 0
+abbrev pub value_on_line : List StepLineOf → (n k : ℕ) → Option (List ℕ × Bool)
+value_on_line lines zero k = None
+value_on_line lines (suc n) k = value_in (slice_get lines n) k
+
+-- this is that value of a text of steps, if the text has lines
+abbrev pub IsValueOnLine : (text : List ℕ) → (n k : ℕ) → Option (List ℕ × Bool) → Type 0
+IsValueOnLine text n k value =
+    (lines : List StepLineOf) → HasLines text lines → value ≡ value_on_line lines n k
+
+-- A device: the text has no such line, if it has lines.
+abbrev pub HasNoLine : (text : List ℕ) → (n : ℕ) → Type 0
+HasNoLine text n = (lines : List StepLineOf) → HasLines text lines → slice_get lines (n - 1) ≡ None
+
+-- A device: this is line n of the text, if it has lines, without its line feed.
+pub record IsTextOfLine (text : List ℕ) (n : ℕ) (own : List ℕ) : Type 0 where
+  pub line : Without 10 own
+  pub are :
+      (lines : List StepLineOf)
+      → HasLines text lines
+      → (x : StepLineOf) × (slice_get lines (n - 1) ≡ Some x) × IsStepLine own x
+
+-- A device: these are the values of line n, if the text has lines. They have no line feed.
+pub record AreValuesOf (text : List ℕ) (n : ℕ) (values : List ℕ) : Type 0 where
+  pub line : Without 10 values
+  pub are :
+      (lines : List StepLineOf)
+      → HasLines text lines
+      → (x : StepLineOf) × (slice_get lines (n - 1) ≡ Some x) × AreValues values x.values
+
+-- The values that a part of a line says, as its bytes are read one after the other.
+
+-- what the next byte is: a space, one more of a name or the equals sign after it, or its bit
+pub data Reading : Type 0 where
+  Space : Reading
+  Name : (front : List ℕ) → (braced : Bool) → Reading
+  Bit : (name : List ℕ) → Reading
+
+abbrev pub values_from : Reading → List ℕ → Valuation
+values_from reading [] = []
+values_from Space (c ∷ cs) = values_from (Name [] false) cs
+values_from (Name front braced) (c ∷ cs) =
+    if not braced && c == 61 then values_from (Bit front) cs
+    else values_from (Name (front ++ c ∷ []) (is_braced_after braced c)) cs
+values_from (Bit name) (c ∷ cs) = (name, c == 49) ∷ values_from Space cs
+
+-- the values that the text says, if it says values
+abbrev pub values_in : List ℕ → Valuation
+values_in text = values_from Space text
+
+-- it does
+abbrev pub SaysValues : List ℕ → Type 0
+SaysValues text = AreValues text (values_in text)
+
+-- values and a line feed begin the text
+pub record IsValuesLine (text values rest : List ℕ) : Type 0 where
+  pub says : SaysValues values
+  pub parts : text ≡ values ++ 10 ∷ rest
+
+abbrev pub HasNoValuesLine : List ℕ → Type 0
+HasNoValuesLine text =
+    (vs : Valuation) (rest : List ℕ) → AreNamed vs → text ≢ values_text vs ++ 10 ∷ rest
+
+-- the value at this place, from 0, has this name
+abbrev pub IsNameIn : List ℕ → ℕ → List ℕ → Type 0
+IsNameIn text place name = option_map (λ v. v.0) (slice_get (values_in text) place) ≡ Some name

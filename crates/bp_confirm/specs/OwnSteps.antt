@@ -1,21 +1,62 @@
--- The steps that a history makes, and the text of their lines.
-use Rattle.std.specs.Prelude.{if◌then◌else◌, ◌≡◌, ℕ, List, [], ◌∷◌, ◌++◌, codes, flat_map, map, option_map}
-use Rattle.bp_tree.specs.Ast.{Program}
-use Rattle.bp_text.specs.Positions.{position_at}
-use Rattle.bp_flat.specs.Configurations.{Configuration}
+-- The steps that a run makes, and the lists that it makes in their order.
+use Rattle.std.specs.Prelude.{◌≡◌, ℕ, List, [], ◌∷◌, Option, None, Some, option_map, if◌then◌else◌, ◌++◌, codes, flat_map, map, ◌==◌, ◌&&◌, Bool, true, false, MatchOption, length, slice_get}
+use Rattle.std.specs.List.{list_all}
+use Rattle.std.specs.Option.{option_map_or}
+use Rattle.bp_text.specs.declared.lines.Position.{Position}
+use Rattle.bp_text.specs.Lines.{position_at}
+use Rattle.bp_language.specs.Ast.{Program}
+use Rattle.bp_flat.specs.Moves.{Frame, Configuration, Moves, Valuation}
+use Rattle.bp_flat.specs.StandsFor.{start_of_block, valuation_of}
+use Rattle.bp_flat.specs.InstrEffects.{bits_of}
 use Rattle.bp_machine.specs.declared.calls.Call.{Call}
-use Rattle.bp_machine.specs.declared.reports.Report.{Report}
-use Rattle.bp_machine.specs.Answers.{configuration_after_call, stack_of}
-use Rattle.bp_machine.specs.Histories.{granted_calls, IsLegal}
-use Rattle.bp_machine.specs.Replies.{is_granted}
-use Rattle.bp_machine.specs.Reports.{IsReport}
+use Rattle.bp_machine.specs.Histories.{stack_of, configuration_after_call, granted_calls, IsLegal, is_granted, IsReport}
+use Rattle.bp_machine.specs.declared.calls.Report.{Report}
 use Rattle.bp_machine.specs.Setups.{SetupOf, start}
-use Rattle.bp_trace.specs.declared.versions.Version.{Version}
+use Rattle.bp_machine.specs.declared.tops.Top.{Top}
+use Rattle.bp_machine.specs.Runs.{IsTop}
+use Rattle.bp_explore.specs.Explorations.{ListedSteps}
+use Rattle.bp_trace.specs.declared.traces.Version.{Version}
 use Rattle.bp_trace.specs.Replays.{IsTrace}
+use Rattle.bp_confirm.specs.declared.step_lines.Location.{Location}
+use Rattle.bp_confirm.specs.declared.step_lines.Location.TheVariants.{End, Column}
+use Rattle.bp_confirm.specs.Steps.{StepLineOf, line_text, steps_text, stands_at, StepOf, value_seen, steps_of}
 use Rattle.bp_confirm.specs.declared.noted_steps.OwnStep.{OwnStep}
-use Rattle.bp_confirm.specs.OwnLines.{location_at, next_start, AreOwnLines}
-use Rattle.bp_confirm.specs.StepLines.{StepLineOf}
-use Rattle.bp_confirm.specs.StepTexts.{line_text, steps_text}
+
+-- The lines of a run's own steps, each with its column.
+
+-- the line and column of the statement that begins there, or a procedure's end
+abbrev pub location_at : Option Position → Location
+location_at None = End
+location_at (Some p) = Column p.line p.column
+
+-- that of the statement that begins at this offset of a text
+abbrev pub exact_location : List ℕ → Option ℕ → Location
+exact_location text start = location_at (option_map (position_at text) start)
+
+-- where the topmost frame goes on
+abbrev pub next_start : List Frame → Option ℕ
+next_start [] = None
+next_start (f ∷ fs) = start_of_block f.left
+
+-- the line says where the thread of the call stands, and no values
+pub record IsOwnLine (text : List ℕ) (c : Configuration) (call : Call) (x : StepLineOf)
+    : Type 0 where
+  pub thread : x.thread ≡ call.thread
+  pub location : x.location ≡ exact_location text (next_start (stack_of c call.thread))
+  pub values : x.values ≡ []
+
+-- these are the lines of steps that are made from c on
+abbrev pub AreOwnLines
+    : List ℕ → Program → Configuration → List Call → List StepLineOf → Type 0
+AreOwnLines text t c [] [] = Unit {0}
+AreOwnLines text t c (call ∷ calls) (x ∷ xs) =
+    IsOwnLine text c call x
+    × ((next : Configuration)
+    × Moves t c call.thread call.bit next
+    × AreOwnLines text t next calls xs)
+AreOwnLines text t c calls xs = ⊥
+
+-- The steps that a history makes, and the text of their lines.
 
 -- the step of a call that is made in c
 abbrev pub own_step : List ℕ → Configuration → Call → OwnStep
@@ -70,3 +111,37 @@ StepsAreOfTheRun =
 -- law: their text is that of these lines
 abbrev pub TextIsOfLines : Type 0
 TextIsOfLines = (xs : List OwnStep) → own_steps_text xs ≡ steps_text (lines_of_steps xs)
+
+-- Reported steps that a run makes in their order, with any other steps between them.
+
+-- the variable is seen with this value
+abbrev pub is_value : Option Bool → Bool → Bool
+is_value None bit = false
+is_value (Some true) bit = bit
+is_value (Some false) true = false
+is_value (Some false) false = true
+
+-- thread i sees these values
+abbrev pub sees_values : Configuration → ℕ → Valuation → Bool
+sees_values c i vs = list_all (λ v. is_value (value_seen c.globals (stack_of c i) v.0) v.1) vs
+
+-- a step of thread i from c to d is the reported step x: its thread stands at the place before it,
+-- and sees the values after it
+abbrev pub is_step : StepOf → Configuration → ℕ → Configuration → Bool
+is_step x c i d =
+    (i == x.thread && stands_at x.place (stack_of c i)) && sees_values d i x.values
+
+-- the steps of these lines, of the program of a text
+abbrev pub listed_steps : Program → (text : List ℕ) → List StepLineOf → ListedSteps
+listed_steps program text lines = record {
+  count = length lines;
+  makes = λ n c i d.
+      option_map_or (λ x. is_step x c i d) (slice_get (steps_of text lines) n) false;
+  is_of = λ t. t ≡ program;
+}
+
+-- A device: these are the top of thread i, if it has one, and the globals.
+pub record AreShown (t : Program) (c : Configuration) (i : ℕ) (top : Option Top) (globals : ℕ)
+    : Type 0 where
+  pub tops : MatchOption top (stack_of c i ≡ []) (IsTop t c i)
+  pub globals_are : c.globals ≡ valuation_of t.globals (bits_of globals)

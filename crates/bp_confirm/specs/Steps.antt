@@ -1,16 +1,46 @@
--- Reported steps, and the histories that take them.
-use Rattle.std.specs.Prelude.{if◌then◌else◌, slice_get, take, ◌≢◌, ◌≡◌, ◌==◌, ℕ, Bool, true, List, [], ◌∷◌, ◌++◌, Option, None, Some, map}
+-- Reported steps: places, steps, their lines and their text.
+use Rattle.std.specs.Prelude.{ℕ, Bool, true, false, ◌&&◌, ◌==◌, List, [], ◌∷◌, Option, None, Some, option_map, if◌then◌else◌, slice_get, take, ◌≢◌, ◌≡◌, ◌++◌, map, ◌<◌, ◌^◌, ◌+◌, length, flat_map, codes, decimal}
 use Rattle.std.specs.Option.{option_or}
-use Rattle.bp_tree.specs.Ast.{Program}
-use Rattle.bp_flat.specs.Configurations.{Frame, Configuration}
-use Rattle.bp_flat.specs.Values.{Valuation, lookup}
-use Rattle.bp_source.specs.VariableNames.{qualified}
+use Rattle.std.specs.List.{AllByRecursion}
+use Rattle.bp_text.specs.declared.lines.Position.{Position}
+use Rattle.bp_text.specs.Lines.{position_at}
+use Rattle.bp_language.specs.Ast.{Program}
+use Rattle.bp_flat.specs.Moves.{Frame, Configuration, Valuation, lookup}
+use Rattle.bp_flat.specs.StandsFor.{start_of_block}
 use Rattle.bp_machine.specs.declared.calls.Call.{Call}
-use Rattle.bp_machine.specs.Answers.{stack_of}
-use Rattle.bp_machine.specs.Histories.{configuration_after, IsAllowed}
-use Rattle.bp_machine.specs.Replies.{is_granted}
+use Rattle.bp_machine.specs.Histories.{stack_of, configuration_after, IsAllowed, is_granted}
 use Rattle.bp_machine.specs.Setups.{SetupOf}
-use Rattle.bp_confirm.specs.Places.{Place, stands_at}
+use Rattle.bp_trace.specs.TraceText.{bit_digit}
+use Rattle.bp_source.specs.Names.{qualified, is_braced_after}
+use Rattle.bp_confirm.specs.declared.step_lines.Location.{Location}
+use Rattle.bp_confirm.specs.declared.step_lines.Location.TheVariants.{End, Line, Column}
+use Rattle.bp_confirm.specs.declared.step_lines.SeenValue.{SeenValue}
+
+-- Places, at which threads stand.
+
+-- a test of what comes next: the statement that begins at this offset, or a procedure's end
+abbrev pub Place : Type 0
+Place = Option ℕ → Bool
+
+-- whether a thread with this stack stands at the place: its topmost frame goes on there
+abbrev pub stands_at : Place → List Frame → Bool
+stands_at p [] = false
+stands_at p (f ∷ fs) = p (start_of_block f.left)
+
+-- whether a statement that begins at this position, or a procedure's end, is at the location
+abbrev pub is_at : Location → Option Position → Bool
+is_at End None = true
+is_at End (Some p) = false
+is_at (Line n) None = false
+is_at (Line n) (Some p) = p.line == n
+is_at (Column n m) None = false
+is_at (Column n m) (Some p) = p.line == n && p.column == m
+
+-- the place that the location says in a text
+abbrev pub place_of : List ℕ → Location → Place
+place_of text x = λ start. is_at x (option_map (position_at text) start)
+
+-- Reported steps, and the histories that take them.
 
 -- a reported step: its thread, the place at which the thread stands before it, and the values that
 -- some variables have after it
@@ -77,3 +107,109 @@ Takes t s steps h = TakeAfter t s [] steps h
 abbrev pub next_place : ℕ → List StepOf → Option Place
 next_place i [] = None
 next_place i (x ∷ xs) = if x.thread == i then Some x.place else next_place i xs
+
+-- The lines of reported steps, and what they say in the text of a program.
+
+-- a variable's name and value
+abbrev pub value_of : SeenValue → List ℕ × Bool
+value_of v = (v.name.now, v.bit)
+
+-- a step as it is written: its thread, its location before the step, and the values after it
+pub record StepLineOf : Type 0 where
+  pub thread : ℕ
+  pub location : Location
+  pub values : Valuation
+
+-- what the line says in the text of a program
+abbrev pub step_of : List ℕ → StepLineOf → StepOf
+step_of text x = record {
+  thread = x.thread;
+  place = place_of text x.location;
+  values = x.values;
+}
+
+abbrev pub steps_of : List ℕ → List StepLineOf → List StepOf
+steps_of text xs = map (step_of text) xs
+
+-- the location of thread i before its next step
+abbrev pub next_location : ℕ → List StepLineOf → Option Location
+next_location i [] = None
+next_location i (x ∷ xs) = if x.thread == i then Some x.location else next_location i xs
+
+-- the location of the line of this number, from 0, if there is one
+abbrev pub location_in : List StepLineOf → ℕ → Option Location
+location_in xs n = option_map (λ x. x.location) (slice_get xs n)
+
+-- for each line the location of its thread before the thread's next step
+abbrev pub next_locations : List StepLineOf → List (Option Location)
+next_locations [] = []
+next_locations (x ∷ xs) = next_location x.thread xs ∷ next_locations xs
+
+-- The text of reported steps: a line for each, T PLACE and then any number of NAME=BIT.
+
+abbrev pub location_text : Location → List ℕ
+location_text End = codes "-"
+location_text (Line n) = decimal n
+location_text (Column n m) = decimal n ++ (codes ":" ++ decimal m)
+
+abbrev pub value_text : List ℕ × Bool → List ℕ
+value_text v = codes " " ++ (v.0 ++ (codes "=" ++ bit_digit v.1 ∷ []))
+
+abbrev pub values_text : Valuation → List ℕ
+values_text vs = flat_map value_text vs
+
+-- a line without its line feed
+abbrev pub line_text : StepLineOf → List ℕ
+line_text x = decimal x.thread ++ (codes " " ++ (location_text x.location ++ values_text x.values))
+
+abbrev pub steps_text : List StepLineOf → List ℕ
+steps_text xs = flat_map (λ x. line_text x ++ codes "\n") xs
+
+-- a number of 32 bits
+abbrev pub IsShort : ℕ → Type 0
+IsShort n = n < 2 ^ 32
+
+abbrev pub IsShortLocation : Location → Type 0
+IsShortLocation End = Unit {0}
+IsShortLocation (Line n) = IsShort n
+IsShortLocation (Column n m) = IsShort n × IsShort m
+
+-- a name continues with this byte, inside braces or outside
+abbrev pub Continues : (braced : Bool) → ℕ → Type 0
+Continues true b = b ≢ 10
+Continues false b = (b ≢ 10) × (b ≢ 32) × (b ≢ 61)
+
+-- and with these bytes, after which its braces are closed
+abbrev pub IsNameRest : List ℕ → (braced : Bool) → Type 0
+IsNameRest [] true = ⊥
+IsNameRest [] false = Unit {0}
+IsNameRest (b ∷ bs) braced = Continues braced b × IsNameRest bs (is_braced_after braced b)
+
+-- a name has no line feed, and outside braces neither a space nor =
+pub record IsStepName (name : List ℕ) : Type 0 where
+  pub some : name ≢ []
+  pub is : IsNameRest name false
+
+abbrev pub AreNamed : Valuation → Type 0
+AreNamed vs = AllByRecursion (λ v. IsStepName v.0) vs
+
+-- the step can be written on a line
+pub record HasLine (x : StepLineOf) : Type 0 where
+  pub thread : IsShort x.thread
+  pub location : IsShortLocation x.location
+  pub values : AreNamed x.values
+
+-- the text has these lines
+pub record HasLines (text : List ℕ) (xs : List StepLineOf) : Type 0 where
+  pub each : AllByRecursion HasLine xs
+  pub is : text ≡ steps_text xs
+
+-- line n, from 1, is the first that is malformed
+pub record IsBadLine (text : List ℕ) (n : ℕ) : Type 0 where
+  pub before : List StepLineOf
+  pub each : AllByRecursion HasLine before
+  pub rest : List ℕ
+  pub whole : text ≡ steps_text before ++ rest
+  pub number : n ≡ length before + 1
+  pub some : rest ≢ []
+  pub bad : (x : StepLineOf) (more : List ℕ) → HasLine x → rest ≢ line_text x ++ 10 ∷ more

@@ -1,23 +1,21 @@
 //! Confirming a text of reported steps.
+//! Why reported steps are not taken.
 ghost use Rattle.std.specs.Prelude.{◌≡◌, ◌<◌, ◌^◌, None, length, IfOk, MatchResult};
 ghost use Rattle.bp_flat.specs.StandsFor.{StandsFor};
 ghost use Rattle.bp_machine.specs.Setups.{FitsCode};
-ghost use Rattle.bp_confirm.specs.ConfirmedTexts.{AreTold, ConfirmsTo, IsStepsRefusal, IsUntold};
-ghost use Rattle.bp_confirm.specs.StrayLines.{fault_of_stray};
+ghost use Rattle.bp_confirm.specs.ConfirmedTexts.{AreTold, ConfirmsTo, IsStepsRefusal, IsUntold, fault_of_stray};
 
-use crate::context_bounds::setup_for;
-use crate::declared::{Stray, check_lines};
-use crate::faults::{StepFault, StepRefusal};
+use crate::declared::{Stray, check_lines, setup_for};
 use crate::histories::{Confirmed, confirm_lines};
-use crate::kept_lines::StepLines;
-use crate::reading_lines::read_lines;
+use crate::kept_lines::{StepLines, read_lines};
+use crate::step_lines::{Location, Stand};
 use crate::step_texts::StepsFault;
-use bp_check::Checked;
+use bp_code::Checked;
 use bp_flat::Code;
-use bp_machine::Setup;
+use bp_machine::{Reply, Setup};
 use bp_tasks::ContextBound;
 use bp_trace::limits::MAX_SCHEDULE;
-use std::alloc::Global;
+use std::alloc::{AllocError, Global};
 use thiserror::Error;
 
 /// Why a text of steps is not confirmed: the first of these that applies. Lines are counted from 1.
@@ -117,5 +115,68 @@ pub fn confirm(
         Ok(confirmed) => Ok(confirmed),
         Err(StepFault::Refusal(refusal)) => Err(ConfirmFault::Step(refusal)),
         Err(StepFault::Memory) => Err(ConfirmFault::Memory),
+    }
+}
+
+/// The first of the values of a line that its thread does not see after the step.
+#[derive(Clone, Copy, Debug, PartialEq, Eq)]
+pub struct Difference {
+    /// The place of the value on the line, from 0.
+    pub place: usize,
+    /// What the thread sees: the other value, or no variable of the name.
+    pub seen: Option<bool>,
+    /// The line of the last step that changed what the thread sees of the name; none if no step
+    /// changed it.
+    pub changed: Option<u32>,
+}
+
+/// Why a step is not taken: the first of these that applies.
+#[derive(Clone, Copy, Debug, PartialEq, Eq)]
+pub enum StepReason {
+    /// Its thread does not stand at its location.
+    Elsewhere,
+    /// Its thread makes no further call: its assertion failed, or its calls are used up.
+    Finished,
+    /// The machine does not grant it, and gives this reply.
+    Refused(Reply),
+    /// Its thread does not see one of its values after it.
+    Differs(Difference),
+    /// It is taken, but its thread stands at a `?`, and both ways are at the location of the
+    /// thread's next step.
+    Ambiguous,
+}
+
+/// The first step that is not taken.
+#[derive(Clone, Copy, Debug, PartialEq, Eq)]
+pub struct StepRefusal {
+    /// Its line, from 1.
+    pub line: u32,
+    pub thread: u32,
+    /// The location that its line names.
+    pub location: Location,
+    /// The number of the instruction at which its thread stands; none if the thread has ended.
+    pub number: Option<u32>,
+    /// Where that is in the text of the program.
+    pub stand: Stand,
+    pub reason: StepReason,
+}
+
+/// Why reported steps are not taken.
+#[derive(Clone, Copy)]
+pub(crate) enum StepFault {
+    /// A step is not taken.
+    Refusal(StepRefusal),
+    /// There was not enough memory.
+    Memory,
+}
+
+impl From<AllocError> for StepFault {
+    ghost use Rattle.std.specs.Prelude.{◌≡◌};
+    ghost use Rattle.bp_confirm.specs.declared.confirming.StepFault.{StepFault};
+
+    ghost from_gives = { λ _ e. e ≡ StepFault.Memory };
+
+    fn from(_: AllocError) -> StepFault {
+        StepFault::Memory
     }
 }

@@ -1,12 +1,10 @@
 //! The fields of a line of reported steps.
 ghost use Rattle.std.specs.Prelude.{◌≡◌, ◌≢◌, ◌==◌, ◌&&◌, ◌||◌, ◌<◌, ◌+◌, Bool, not, ◌∷◌, List, ℕ, MatchOption, drop, take};
-ghost use Rattle.bp_trace.specs.Schedules.{bit_digit};
-ghost use Rattle.bp_trace.specs.Writable.{Without};
+ghost use Rattle.bp_trace.specs.TraceText.{bit_digit, Without};
 ghost use Rattle.bp_confirm.specs.LineReading.{HasNoLocation, HasNoName, HasNoNumber, HasNoValue, IsCut, IsField, IsLocationAt, IsNameAt, IsNumberAt, IsValueAt};
-ghost use Rattle.bp_confirm.specs.StepLines.{value_of};
+ghost use Rattle.bp_confirm.specs.Steps.{value_of};
 
-use crate::locations::Location;
-use crate::step_lines::SeenValue;
+use crate::step_lines::{Location, SeenValue};
 use bp_source::is_braced_after;
 use bp_text::{part_before, part_from};
 

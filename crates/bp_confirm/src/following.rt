@@ -1,41 +1,29 @@
 //! Following reported steps.
 ghost use Rattle.std.specs.Prelude.{◌≡◌, ◌<◌, ◌≤◌, ◌+◌, ◌^◌, ◌++◌, ◌∷◌, [], List, ℕ, None, length, map, true, false, option_map, IfOk, IfErr, OnOk, MatchOption, MatchResult};
-ghost use Rattle.bp_tree.specs.Ast.{Program};
+ghost use Rattle.bp_language.specs.Ast.{Program};
 ghost use Rattle.bp_flat.specs.StandsFor.{StandsFor};
 ghost use Rattle.bp_machine.specs.declared.calls.Call.{Call as Answered};
-ghost use Rattle.bp_machine.specs.Answers.{stack_of};
-ghost use Rattle.bp_machine.specs.Histories.{configuration_after, IsAllowed};
-ghost use Rattle.bp_machine.specs.Replies.{is_granted};
+ghost use Rattle.bp_machine.specs.Histories.{stack_of, configuration_after, IsAllowed, is_granted};
 ghost use Rattle.bp_machine.specs.Setups.{threads, FitsCode};
 ghost use Rattle.bp_machine.specs.Sessions.{Stands};
-ghost use Rattle.bp_machine.specs.Tops.{IsTop};
+ghost use Rattle.bp_machine.specs.Runs.{IsTop};
 ghost use Rattle.bp_trace.specs.Replays.{IsPlayable};
-ghost use Rattle.bp_confirm.specs.declared.faults.StepFault.{StepFault};
-ghost use Rattle.bp_confirm.specs.Changes.{IsDifference};
-ghost use Rattle.bp_confirm.specs.Confirms.{AreOfThreads, GoesOnAt, IsNotFollowed};
-ghost use Rattle.bp_confirm.specs.EffectBits.{is_fork_on};
+ghost use Rattle.bp_confirm.specs.declared.confirming.StepFault.{StepFault};
+ghost use Rattle.bp_confirm.specs.Confirms.{IsDifference, AreOfThreads, GoesOnAt, IsNotFollowed};
+ghost use Rattle.bp_confirm.specs.FollowedSteps.{is_fork_on, IsInferredOn, last_bits, source_points_of, refusal_of, IsNotCalled, IsNotTaken, TellsNext};
 ghost use Rattle.bp_confirm.specs.Inferred.{LastBits, Follows, IsFollowed};
-ghost use Rattle.bp_confirm.specs.InferredBits.{IsInferredOn};
-ghost use Rattle.bp_confirm.specs.LastBits.{last_bits};
-ghost use Rattle.bp_confirm.specs.Places.{place_of, stands_at};
-ghost use Rattle.bp_confirm.specs.SourcePoints.{source_points_of};
-ghost use Rattle.bp_confirm.specs.StepLines.{location_in, next_locations, step_of, steps_of};
-ghost use Rattle.bp_confirm.specs.StepRefusals.{refusal_of, IsNotCalled, IsNotTaken, TellsNext};
-ghost use Rattle.bp_confirm.specs.Steps.{StepOf, SeesValues};
+ghost use Rattle.bp_confirm.specs.Steps.{place_of, stands_at, location_in, next_locations, step_of, steps_of, StepOf, SeesValues};
 
-use crate::changes::{sight_after, sight_of};
-use crate::choices::{Inferred, inferred_bit, is_fork, plain_bit};
-use crate::faults::{Difference, StepFault, StepReason, StepRefusal};
+use crate::choices::{
+    Inferred, LastBits as GivenBits, inferred_bit, is_fork, last_bit_of, plain_bit,
+};
+use crate::confirming::{Difference, StepFault, StepReason, StepRefusal};
 use crate::kept_lines::StepLines;
-use crate::last_choices::{LastBits as GivenBits, last_bit_of};
-use crate::locations::Location;
-use crate::next_steps::location_in;
 use crate::noted_steps::is_granted;
 use crate::source_points::{SourcePoint, is_there};
-use crate::stands::stand_in;
-use crate::step_lines::StepLine;
-use crate::values::first_unseen;
-use bp_check::Checked;
+use crate::step_lines::{Location, StepLine, location_in, stand_in};
+use crate::values::{first_unseen, sight_after, sight_of};
+use bp_code::Checked;
 use bp_machine::{AskFault, Call, Session, Top};
 use std::alloc::{AllocError, Global};
 

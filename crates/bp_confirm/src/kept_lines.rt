@@ -1,8 +1,113 @@
 //! The lines of a text of steps, in a few bytes each.
-ghost use Rattle.std.specs.Prelude.{◌<◌};
+//! Reading the lines of a text of steps. Most lines come more than once.
+//! A value on a line of a text of steps.
+ghost use Rattle.std.specs.Prelude.{◌≡◌, ◌<◌, ◌≤◌, ◌^◌, ◌++◌, ◌∷◌, [], IfOk, IfSome, MatchOption, MatchResult, OnOk, length, option_map};
+ghost use Rattle.std.specs.List.{AllByRecursion};
+ghost use Rattle.bp_confirm.specs.KeptLines.{kept_lines, GrowsByOne, IsKeptLine, IsStepThere};
+ghost use Rattle.bp_confirm.specs.LineReading.{HasNoStep, IsUnreadable, AreValuesOf, IsTextOfLine, HasNoLine, IsValueOnLine};
+ghost use Rattle.bp_confirm.specs.Steps.{HasLines, value_of};
 
-use crate::step_lines::StepLine;
+use crate::fields::{cut_at, field_at, value_at};
+use crate::step_lines::{SeenValue, StepLine};
+use crate::step_texts::{StepsFault, step_at};
+use bp_text::part_before;
+use std::alloc::{AllocError, Global};
 use std::marker::Model;
+
+/// How many lines are noted, so that they are known when they are read again.
+const SLOTS: usize = 4096;
+
+/// Where the place of a line that begins this text is noted: a hash of its first 16 bytes.
+fn slot_of(text: &[u8]) -> usize
+    ensures { result < SLOTS }
+{
+    let Some((front, rest)) = text.split_first_chunk::<8>() else {
+        return 0;
+    };
+    let Some(next) = rest.first_chunk::<8>() else {
+        return 0;
+    };
+    let first = u64::from_le_bytes(*front);
+    let second = u64::from_le_bytes(*next).rotate_left(29);
+    ((first ^ second).wrapping_mul(0x9E37_79B9_7F4A_7C15) >> 52) as usize % SLOTS
+}
+
+/// What is after the line that is kept at this place, if the text begins with it.
+fn after_kept<'a>(kept: &[KeptLine], place: u32, text: &'a [u8]) -> Option<&'a [u8]>
+    requires { AllByRecursion IsKeptLine kept.now }
+    ensures { IfSome result (λ more.
+        IsStepThere (kept_lines kept.now) place text.now more.now) }
+{
+    match kept.get(place as usize) {
+        None => None,
+        Some(line) => text.strip_prefix(line.text),
+    }
+}
+
+/// Reads the line that begins a text: its place among those that are kept, and what is after it.
+fn read_line<'a>(
+    kept: &mut Vec<KeptLine<'a>>,
+    noted: &mut [u32; SLOTS],
+    text: &'a [u8],
+) -> Result<Option<(u32, &'a [u8])>, AllocError>
+    requires each { AllByRecursion IsKeptLine kept.old.items }
+    requires few { length kept.old.items < 2 ^ 32 }
+    ensures each { OnOk result (AllByRecursion IsKeptLine kept.new.items) }
+    ensures grown { OnOk result (GrowsByOne kept.old.items kept.new.items) }
+    ensures read { IfOk result (λ r. MatchOption r
+        (HasNoStep text.now)
+        (λ p. IsStepThere (kept_lines kept.new.items) p.0 text.now p.1.now)) }
+{
+    let slot = slot_of(text);
+    if let Some(more) = after_kept(kept.as_slice(), noted[slot], text) {
+        return Ok(Some((noted[slot], more)));
+    }
+    let Some((line, more)) = step_at(text) else {
+        return Ok(None);
+    };
+    let place = kept.len() as u32;
+    noted[slot] = place;
+    let text = part_before(text, text.len() - more.len());
+    kept.push(KeptLine { text, line })?;
+    Ok(Some((place, more)))
+}
+
+/// Adds the place of a line.
+fn add(places: &mut Vec<u32>, place: u32) -> Result<(), AllocError>
+    ensures { OnOk result (places.new.items ≡ places.old.items ++ place ∷ []) }
+{
+    places.push(place)?;
+    Ok(())
+}
+
+/// Reads the text of reported steps, a line for each: the thread, a space, its location before the
+/// step, and any number of values after it, each of them a space, a name, an equals sign and a bit.
+/// A location is a line, a line and a column with a colon between them, or a dash for the end of a
+/// procedure. Numbers have 32 bits and no leading zeros. A name in braces ends at its first `}`;
+/// another one has no space, and ends at its first `=`.
+/// Most lines with the same text are kept once.
+pub(crate) fn read_lines(alloc: Global, text: &[u8]) -> Result<StepLines<'_>, StepsFault>
+    requires { length text.now < 2 ^ 32 }
+    ensures read { MatchResult result
+        (HasLines text.now)
+        (IsUnreadable text.now) }
+    ensures few { IfOk result (λ lines. length lines ≤ length text.now) }
+{
+    let mut noted = [0; SLOTS];
+    let mut kept = Vec::new(alloc);
+    let mut places = Vec::new(alloc);
+    let mut rest = text;
+    while !rest.is_empty() {
+        let n = places.len() as u32 + 1;
+        let read = read_line(&mut kept, &mut noted, rest)?;
+        let Some((place, more)) = read else {
+            return Err(StepsFault::Line(n));
+        };
+        add(&mut places, place)?;
+        rest = more;
+    }
+    Ok(StepLines { kept, places })
+}
 
 /// A line that is kept.
 #[derive(Drop)]
@@ -22,7 +127,7 @@ pub(crate) struct StepLines<'a> {
 
 impl<'a> Model for StepLines<'a> {
     ghost use Rattle.std.specs.Prelude.{List};
-    ghost use Rattle.bp_confirm.specs.StepLines.{StepLineOf};
+    ghost use Rattle.bp_confirm.specs.Steps.{StepLineOf};
     ghost use Rattle.bp_confirm.specs.KeptLines.{kept_lines, lines_at, AreWithin};
 
     ghost Value = { List StepLineOf };
@@ -49,5 +154,64 @@ impl<'a> StepLines<'a> {
         ensures { result.now ≡ get_or self.now n result.now }
     {
         &self.kept[self.places[n] as usize].line
+    }
+}
+
+/// The text of this line, counted from 1.
+fn line_text(steps: &[u8], line: u32) -> Option<&[u8]>
+    ensures { MatchOption result
+        (HasNoLine steps.now line)
+        (λ text. IsTextOfLine steps.now line text.now) }
+{
+    let mut rest = steps;
+    for _before in 1..line {
+        let Some((_, more)) = cut_at(rest, b'\n') else {
+            return None;
+        };
+        rest = more;
+    }
+    match cut_at(rest, b'\n') {
+        None => None,
+        Some((own, _)) => Some(own),
+    }
+}
+
+/// The text of the values of this line, counted from 1.
+fn values_on(steps: &[u8], line: u32) -> Option<&[u8]>
+    ensures { MatchOption result
+        (HasNoLine steps.now line)
+        (λ values. AreValuesOf steps.now line values.now) }
+{
+    let Some(text) = line_text(steps, line) else {
+        return None;
+    };
+    let Some((_, rest)) = cut_at(text, b' ') else {
+        return None;
+    };
+    let (_, values) = field_at(rest);
+    Some(values)
+}
+
+/// The value at this place on a line of a text of steps. Lines are counted from 1, and the values
+/// of a line from 0.
+pub fn value_on_line(steps: &[u8], line: u32, place: usize) -> Option<SeenValue<'_>>
+    ensures { IsValueOnLine steps.now line place (option_map value_of result) }
+{
+    if line == 0 {
+        return None;
+    }
+    let Some(values) = values_on(steps, line) else {
+        return None;
+    };
+    let mut rest = values;
+    for _before in 0..place {
+        let Some((_, more)) = value_at(rest) else {
+            return None;
+        };
+        rest = more;
+    }
+    match value_at(rest) {
+        None => None,
+        Some((value, _)) => Some(value),
     }
 }

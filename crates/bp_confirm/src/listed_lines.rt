@@ -1,16 +1,16 @@
 //! Reported steps that an exploration looks for, in their order.
 ghost use Rattle.std.specs.Prelude.{◌≡◌, ◌<◌, ◌^◌, ℕ, List, length, IfOk, MatchResult};
-ghost use Rattle.bp_flat.specs.Configurations.{Configuration};
+ghost use Rattle.bp_flat.specs.Moves.{Configuration};
 ghost use Rattle.bp_confirm.specs.ConfirmedTexts.{AreTold, IsUntold};
-ghost use Rattle.bp_confirm.specs.ListedLines.{sees_values, AreShown};
-ghost use Rattle.bp_confirm.specs.SourcePoints.{source_points_of};
-ghost use Rattle.bp_confirm.specs.ValuesIn.{values_in, SaysValues};
+ghost use Rattle.bp_confirm.specs.OwnSteps.{sees_values, AreShown};
+ghost use Rattle.bp_confirm.specs.FollowedSteps.{source_points_of};
+ghost use Rattle.bp_confirm.specs.LineReading.{values_in, SaysValues};
 
 use crate::confirming::{ConfirmFault, told_lines};
 use crate::kept_lines::StepLines;
 use crate::source_points::{SourcePoint, is_there, source_points_of};
 use crate::values::first_unseen;
-use bp_check::Checked;
+use bp_code::Checked;
 use bp_explore::{Observer, SeenStep};
 use bp_machine::{Setup, Top};
 use std::alloc::Global;
@@ -45,7 +45,7 @@ fn sees_values(
 }
 
 impl Observer for ListedLines<'_> {
-    ghost use Rattle.bp_confirm.specs.ListedLines.{listed_steps};
+    ghost use Rattle.bp_confirm.specs.OwnSteps.{listed_steps};
 
     ghost listed = { λ x. listed_steps x.checked.now x.text.now x.lines };
 

@@ -1,26 +1,27 @@
 //! The steps that the history of a trace makes, each with its column.
+//! The text of steps, a line for each.
 ghost use Rattle.std.specs.Prelude.{◌≡◌, ◌++◌, ◌∷◌, [], List, ℕ, option_map, MatchResult, OnOk};
-ghost use Rattle.bp_tree.specs.Ast.{Program};
-ghost use Rattle.bp_text.specs.Positions.{position_at};
+ghost use Rattle.bp_text.specs.Lines.{position_at};
+ghost use Rattle.bp_text.specs.Writing.{Writes};
+ghost use Rattle.bp_language.specs.Ast.{Program};
 ghost use Rattle.bp_flat.specs.StandsFor.{StandsFor};
 ghost use Rattle.bp_machine.specs.declared.calls.Call.{Call as Answered};
-ghost use Rattle.bp_machine.specs.Answers.{stack_of};
-ghost use Rattle.bp_machine.specs.Histories.{configuration_after};
-ghost use Rattle.bp_machine.specs.Replies.{is_granted};
+ghost use Rattle.bp_machine.specs.Histories.{stack_of, configuration_after, is_granted};
 ghost use Rattle.bp_machine.specs.Sessions.{Stands};
 ghost use Rattle.bp_trace.specs.Replays.{IsReplayRefusal};
-ghost use Rattle.bp_confirm.specs.OwnLines.{next_start};
-ghost use Rattle.bp_confirm.specs.OwnSteps.{AreStepsOfTrace};
-ghost use Rattle.bp_confirm.specs.SourcePoints.{source_points_of};
+ghost use Rattle.bp_confirm.specs.OwnSteps.{next_start, AreStepsOfTrace, own_steps_text, step_line};
+ghost use Rattle.bp_confirm.specs.FollowedSteps.{source_points_of};
 
 use crate::source_points::{SourcePoint, point_of, source_points_of};
-use bp_check::Checked;
+use bp_code::Checked;
 use bp_flat::Code;
 use bp_machine::{AskFault, Call, Reply, Report, Session, Setup};
-use bp_text::Position;
+use bp_text::Piece::{Bytes, Number};
+use bp_text::{Position, WriteFault, put_pieces};
 use bp_trace::limits::MAX_TRACE;
 use bp_trace::{ReplayFault, Watcher, replay_watched};
 use std::alloc::{AllocError, Global};
+use std::io::Write;
 
 /// A step: its thread, and where the thread stands before it.
 #[derive(Clone, Copy, Debug, PartialEq, Eq)]
@@ -82,7 +83,7 @@ struct StepWatcher<'a> {
 impl Watcher for StepWatcher<'_> {
     ghost use Rattle.std.specs.Prelude.{◌≡◌, ◌++◌, List, ℕ};
     ghost use Rattle.bp_confirm.specs.OwnSteps.{own_steps};
-    ghost use Rattle.bp_confirm.specs.SourcePoints.{source_points_of};
+    ghost use Rattle.bp_confirm.specs.FollowedSteps.{source_points_of};
 
     ghost sees = { λ first last t s h.
         (last.points ≡ first.points)
@@ -133,4 +134,33 @@ pub fn own_steps(
         steps: watched.watcher.steps,
         report: watched.replayed.report,
     })
+}
+
+/// Writes the line of a step.
+fn put_step<W: Write>(step: &OwnStep, out: &mut W) -> Result<(), WriteFault>
+    ensures { Writes (W.contents out.old) (W.contents out.new)
+        (step_line step.now) result }
+{
+    let thread = Number(u64::from(step.thread));
+    match step.position {
+        None => put_pieces(out, &[thread, Bytes(b" -\n")]),
+        Some(at) => {
+            let line = Number(at.line as u64);
+            let column = Number(at.column as u64);
+            put_pieces(
+                out,
+                &[thread, Bytes(b" "), line, Bytes(b":"), column, Bytes(b"\n")],
+            )
+        }
+    }
+}
+
+/// Writes a line for each step: its thread, and the line and column at which it begins.
+pub fn put_steps<W: Write>(steps: &[OwnStep], out: &mut W) -> Result<(), WriteFault>
+    ensures { Writes (W.contents out.old) (W.contents out.new) (own_steps_text steps.now) result }
+{
+    for step in steps {
+        put_step(step, out)?;
+    }
+    Ok(())
 }

@@ -1,10 +1,9 @@
 //! Where the statement of each instruction begins, and in which procedure.
 ghost use Rattle.std.specs.Prelude.{◌≡◌, IfOk, slice_get, option_map};
-ghost use Rattle.bp_confirm.specs.SourcePoints.{is_there, source_points_of};
+ghost use Rattle.bp_confirm.specs.FollowedSteps.{is_there, source_points_of};
 
-use crate::locations::Location;
-use bp_check::Checked;
-use bp_code::statement_starts;
+use crate::step_lines::Location;
+use bp_code::{Checked, statement_starts};
 use bp_text::{FIRST, Position, position_from};
 use std::alloc::{AllocError, Global};
 

@@ -1,6 +1,18 @@
 //! The lines of reported steps.
+//! Locations in the text of a program, as steps name them.
+//! Where a thread stands in the text of a program.
+//! The next step of the thread of each step.
+ghost use Rattle.std.specs.Prelude.{◌≡◌, ◌==◌, ◌<◌, ◌^◌, length, map, IfOk};
+ghost use Rattle.std.specs.List.{AllByRecursion};
+ghost use Rattle.bp_machine.specs.declared.limits.TheConstants.{MAX_THREADS};
+ghost use Rattle.bp_confirm.specs.Steps.{is_at, location_in, next_locations};
+ghost use Rattle.bp_confirm.specs.Confirms.{stand_in};
 
-use crate::locations::Location;
+use crate::kept_lines::StepLines;
+use crate::source_points::SourcePoint;
+use bp_machine::limits::MAX_THREADS;
+use bp_text::Position;
+use std::alloc::{AllocError, Global};
 use std::marker::Model;
 
 /// A variable by its name, and its value after a step.
@@ -22,8 +34,8 @@ pub struct StepLine<'a> {
 }
 
 impl<'a> Model for StepLine<'a> {
-    ghost use Rattle.bp_confirm.specs.StepLines.{StepLineOf};
-    ghost use Rattle.bp_confirm.specs.ValuesIn.{values_in, SaysValues};
+    ghost use Rattle.bp_confirm.specs.Steps.{StepLineOf};
+    ghost use Rattle.bp_confirm.specs.LineReading.{values_in, SaysValues};
 
     ghost Value = { StepLineOf };
 
@@ -34,4 +46,101 @@ impl<'a> Model for StepLine<'a> {
     } };
 
     ghost invariant = { λ s. SaysValues s.values.now };
+}
+
+/// Where a thread stands, as a step names it. Lines and columns are counted from 1, and a column is
+/// a byte.
+#[derive(Clone, Copy, Debug, PartialEq, Eq)]
+pub enum Location {
+    /// The end of a procedure.
+    End,
+    /// A statement that begins on this line.
+    Line(u32),
+    /// The statement that begins on this line at this column.
+    Column(u32, u32),
+}
+
+/// Whether a line or a column has this number.
+fn is_number(count: usize, number: u32) -> bool
+    ensures { result ≡ (count == number) }
+{
+    count == number as usize
+}
+
+impl Location {
+    /// Whether a statement that begins at this position is at this location; the end of a procedure
+    /// has no position.
+    pub(crate) fn is_at(&self, position: Option<Position>) -> bool
+        ensures { result ≡ is_at self.now position }
+    {
+        match (*self, position) {
+            (Location::End, None) => true,
+            (Location::Line(line), Some(at)) => is_number(at.line, line),
+            (Location::Column(line, column), Some(at)) => is_number(at.line, line)
+                && is_number(at.column, column),
+            _ => false,
+        }
+    }
+}
+
+/// Where a thread stands in the text of a program.
+#[derive(Clone, Copy, Debug, PartialEq, Eq)]
+pub enum Stand {
+    /// Nowhere: the thread has ended.
+    Ended,
+    /// At the end of a procedure.
+    End,
+    /// At the statement that begins there.
+    Statement(Position),
+}
+
+/// Where a thread stands that goes on at the instruction of this number, or that has ended.
+pub(crate) fn stand_in(points: &[SourcePoint], number: Option<u32>) -> Stand
+    ensures { result ≡ stand_in points.now number }
+{
+    let Some(number) = number else {
+        return Stand::Ended;
+    };
+    match points.get(number as usize) {
+        None => Stand::Ended,
+        Some(SourcePoint { position: None, .. }) => Stand::End,
+        Some(
+            SourcePoint {
+                position: Some(position),
+                ..
+            },
+        ) => Stand::Statement(*position),
+    }
+}
+
+/// The location of the step of this number, from 0, if there is one.
+pub(crate) fn location_in(lines: &StepLines, number: u32) -> Option<Location>
+    ensures { result ≡ location_in lines.now number }
+{
+    let n = number as usize;
+    if n >= lines.len() {
+        return None;
+    }
+    Some(lines.at(n).location)
+}
+
+/// For each step the number of its thread's next step, from 0; that of no step where it takes none.
+pub(crate) fn next_steps(alloc: Global, lines: &StepLines) -> Result<Vec<u32>, AllocError>
+    requires threads { AllByRecursion (λ x. x.thread < MAX_THREADS) lines.now }
+    requires short { length lines.now < 2 ^ 32 }
+    ensures { IfOk result (λ v. map (location_in lines.now) v.items ≡ next_locations lines.now) }
+{
+    let count = lines.len();
+    let none = count as u32;
+    let mut next = [none; MAX_THREADS];
+    let mut steps = vec![in alloc; none; count]?;
+    let mut n = count;
+    while n > 0 {
+        n -= 1;
+        let line = lines.at(n);
+        let thread = line.thread as usize;
+        steps[n] = next[thread];
+        next[thread] = n as u32;
+    }
+    Ok(steps)
 }

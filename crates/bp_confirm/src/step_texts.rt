@@ -1,8 +1,7 @@
 //! The text of reported steps.
 ghost use Rattle.std.specs.Prelude.{MatchBool, MatchOption};
-ghost use Rattle.bp_trace.specs.Writable.{Without};
-ghost use Rattle.bp_confirm.specs.LineReading.{AreNoValues, HasNoStep, IsStepAt};
-ghost use Rattle.bp_confirm.specs.ValuesIn.{HasNoValuesLine, IsValuesLine, SaysValues};
+ghost use Rattle.bp_trace.specs.TraceText.{Without};
+ghost use Rattle.bp_confirm.specs.LineReading.{AreNoValues, HasNoStep, IsStepAt, HasNoValuesLine, IsValuesLine, SaysValues};
 
 use crate::fields::{after, cut_at, location_at, number_at, value_at};
 use crate::step_lines::StepLine;

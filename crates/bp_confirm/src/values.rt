@@ -1,25 +1,29 @@
 //! The values that a thread sees.
-ghost use Rattle.std.specs.Prelude.{◌≡◌, ◌↔◌, IsTrue, Some, [], ℕ, List, IfSome, MatchOption};
-ghost use Rattle.bp_flat.specs.Configurations.{Configuration};
-ghost use Rattle.bp_flat.specs.Bits.{bits_of};
+//! The last step that changed what a thread sees of a variable.
+ghost use Rattle.std.specs.Prelude.{◌≡◌, ◌↔◌, IsTrue, Some, [], ℕ, List, IfSome, MatchOption, ◌<◌, ◌+◌, ◌^◌, Bool, Option, length, IfOk};
+ghost use Rattle.bp_flat.specs.Moves.{Configuration};
+ghost use Rattle.bp_flat.specs.InstrEffects.{bits_of};
 ghost use Rattle.bp_flat.specs.StandsFor.{valuation_of, variables, StandsFor};
 ghost use Rattle.bp_machine.specs.declared.calls.Call.{Call as Answered};
-ghost use Rattle.bp_machine.specs.Answers.{stack_of};
-ghost use Rattle.bp_machine.specs.Histories.{configuration_after};
+ghost use Rattle.bp_machine.specs.Histories.{stack_of, configuration_after};
 ghost use Rattle.bp_machine.specs.Sessions.{Stands};
-ghost use Rattle.bp_machine.specs.Tops.{IsTop};
-ghost use Rattle.bp_confirm.specs.SourcePoints.{source_points_of};
-ghost use Rattle.bp_confirm.specs.ListedLines.{AreShown};
+ghost use Rattle.bp_machine.specs.Runs.{IsTop};
+ghost use Rattle.bp_machine.specs.Setups.{FitsCode};
+ghost use Rattle.bp_trace.specs.Replays.{IsPlayable};
+ghost use Rattle.bp_confirm.specs.FollowedSteps.{source_points_of};
+ghost use Rattle.bp_confirm.specs.OwnSteps.{AreShown};
 ghost use Rattle.bp_confirm.specs.Steps.{local_seen, own_value, value_seen, IsFirstUnseen, SeesValues};
-ghost use Rattle.bp_confirm.specs.ValuesIn.{values_in, IsNameIn, SaysValues};
+ghost use Rattle.bp_confirm.specs.LineReading.{values_in, IsNameIn, SaysValues};
+ghost use Rattle.bp_confirm.specs.Confirms.{seen_after, IsLastChange};
 
 use crate::fields::value_at;
 use crate::source_points::{SourcePoint, procedure_of};
-use bp_check::Checked;
+use bp_code::Checked;
 use bp_flat::{global_value, local_value};
-use bp_machine::{Session, Top};
+use bp_language::Proc;
+use bp_machine::{Call, Session, Top};
 use bp_source::own_name;
-use bp_tree::Proc;
+use std::alloc::{AllocError, Global};
 
 /// The value of a local of a procedure in this word, by its name or by that after the procedure's
 /// name and a dot; none if it has no such local.
@@ -153,4 +157,68 @@ pub(crate) fn first_unseen<'a>(
         place += 1;
     }
     None
+}
+
+/// What a thread sees of a variable after some steps.
+#[derive(Clone, Copy)]
+pub(crate) struct Sight {
+    pub(crate) seen: Option<bool>,
+    /// The last of the steps that changed it, from 1; none if no step did.
+    pub(crate) changed: Option<u32>,
+}
+
+/// What the thread sees after step `n`; `before` is what it saw after the steps before that one.
+pub(crate) fn sight_after(before: Sight, seen: Option<bool>, n: u32) -> Sight
+    ensures changed { (sees : ℕ → Option Bool) (m : ℕ)
+        → n ≡ m + 1
+        → before.seen ≡ sees m
+        → IsLastChange sees m before.changed
+        → seen ≡ sees n
+        → IsLastChange sees n result.changed }
+    ensures seen { result.seen ≡ seen }
+{
+    if before.seen == seen {
+        return before;
+    }
+    Sight {
+        seen,
+        changed: Some(n),
+    }
+}
+
+/// What a thread sees of a variable after a history. It makes the calls of the history again.
+pub(crate) fn sight_of(
+    alloc: Global,
+    checked: &Checked,
+    points: &[SourcePoint],
+    session: &Session,
+    history: &[Call],
+    thread: u32,
+    name: &[u8],
+) -> Result<Sight, AllocError>
+    requires code { StandsFor session.now.code checked.now }
+    requires fits { FitsCode session.now.code session.now.setup }
+    requires playable { IsPlayable checked.now session.now.setup history.now }
+    requires short { length history.now < 2 ^ 32 }
+    ensures { (text : List ℕ)
+        → points.now ≡ source_points_of text checked.now
+        → let sees = seen_after checked.now session.now.setup history.now thread name.now in
+        IfOk result (λ r.
+        (r.seen ≡ sees (length history.now))
+        × IsLastChange sees (length history.now) r.changed) }
+{
+    let mut again = Session::new(alloc, session.code(), session.setup())?;
+    let mut sight = Sight {
+        seen: value_seen(checked, points, &again, thread, name),
+        changed: None,
+    };
+    for (n, call) in history.iter().enumerate() {
+        // The history is legal, so a call is refused for memory alone.
+        let Ok(_made) = again.ask_as_recorded(call.thread, call.bit) else {
+            return Err(AllocError);
+        };
+        let seen = value_seen(checked, points, &again, thread, name);
+        sight = sight_after(sight, seen, n as u32 + 1);
+    }
+    Ok(sight)
 }

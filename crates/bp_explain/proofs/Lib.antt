@@ -1,2 +1,1 @@
-mod FirstCuts
 mod HeadLines

@@ -1,16 +1,62 @@
 -- What explains a fault of a trace, of a schedule and of reported steps.
-use Rattle.std.specs.Prelude.{ℕ, List, length}
+use Rattle.std.specs.Prelude.{if◌then◌else◌, ◌≡◌, ◌+◌, ◌==◌, nat_lt, ℕ, List, ◌++◌, length}
+use Rattle.bp_text.specs.Lines.{position_at}
+use Rattle.bp_machine.specs.declared.limits.TheConstants.{MAX_THREADS, MAX_CONTEXTS}
 use Rattle.bp_machine.specs.declared.setup_faults.SetupFault.{SetupFault}
-use Rattle.bp_confirm.specs.declared.confirming.ConfirmFault.{ConfirmFault}
-use Rattle.bp_confirm.specs.declared.confirming.ConfirmFault.TheVariants as confirm
-use Rattle.bp_text.specs.Positions.{position_at}
+use Rattle.bp_machine.specs.declared.setup_faults.SetupFault.TheVariants as setup
+use Rattle.bp_machine.specs.Setups.{SetupOf, threads}
+use Rattle.bp_trace.specs.declared.traces.Version.{Version}
+use Rattle.bp_trace.specs.TraceText.{HasHead, head_text}
 use Rattle.bp_trace.specs.declared.faults.DriveFault.{DriveFault}
 use Rattle.bp_trace.specs.declared.faults.DriveFault.TheVariants as drive
-use Rattle.bp_trace.specs.declared.replay_faults.ReplayFault.{ReplayFault}
-use Rattle.bp_trace.specs.declared.replay_faults.ReplayFault.TheVariants as replay
+use Rattle.bp_trace.specs.declared.faults.ReplayFault.{ReplayFault}
+use Rattle.bp_trace.specs.declared.faults.ReplayFault.TheVariants as replay
 use Rattle.bp_advice.specs.declared.explanations.Explanation.{Explanation}
 use Rattle.bp_advice.specs.Explanations.{ExplainsLine}
-use Rattle.bp_explain.specs.TraceParts.{IsSetupLine}
+use Rattle.bp_confirm.specs.declared.confirming.ConfirmFault.{ConfirmFault}
+use Rattle.bp_confirm.specs.declared.confirming.ConfirmFault.TheVariants as confirm
+use Rattle.bp_explain.specs.declared.trace_heads.TheConstants.{FIRST_ENTRY}
+
+-- The lines of a trace's head that the faults of a setup are about.
+
+-- the trace begins with the head of a setup
+pub record BeginsWithHead (trace : List ℕ) : Type 0 where
+  pub version : Version
+  pub setup : SetupOf
+  pub rest : List ℕ
+  pub has : HasHead setup
+  pub parts : trace ≡ head_text version setup ++ rest
+
+-- the line of the initial bits, that of the contexts and that of the calls of a thread
+module _ (s : SetupOf) where
+  abbrev pub init_line_number : ℕ
+  init_line_number = FIRST_ENTRY + threads s
+
+  abbrev pub contexts_line_number : ℕ
+  contexts_line_number = init_line_number + 1
+
+  abbrev pub calls_line_number : ℕ
+  calls_line_number = init_line_number + 2
+
+  -- the line of the first number that is out of its range
+  abbrev pub range_line_number : ℕ
+  range_line_number =
+      if nat_lt MAX_CONTEXTS s.contexts then contexts_line_number else calls_line_number
+
+  -- the line of the first entry that is not there, or is one too many
+  abbrev pub threads_line_number : ℕ
+  threads_line_number = if threads s == 0 then FIRST_ENTRY else FIRST_ENTRY + MAX_THREADS
+
+-- the fault of a setup is about this line of a trace that begins with the setup's head
+abbrev pub IsSetupLine : List ℕ → SetupFault → ℕ → Type 0
+IsSetupLine trace setup.Threads n = (b : BeginsWithHead trace) → n ≡ threads_line_number b.setup
+IsSetupLine trace (setup.UnknownEntry thread) n = n ≡ FIRST_ENTRY + thread
+IsSetupLine trace (setup.EntryHasFormals thread) n = n ≡ FIRST_ENTRY + thread
+IsSetupLine trace setup.InitLength n = (b : BeginsWithHead trace) → n ≡ init_line_number b.setup
+IsSetupLine trace setup.OutOfRange n = (b : BeginsWithHead trace) → n ≡ range_line_number b.setup
+IsSetupLine trace setup.Memory n = Unit {0}
+
+-- What explains a fault of a trace, of a schedule and of reported steps.
 
 -- the explanation of a fault of a setup that a trace says
 abbrev pub ExplainsSetup : List ℕ → List ℕ → SetupFault → Explanation → Type 0

@@ -1,8 +1,7 @@
 //! Words for a step whose thread stands at another place: which other thread is there, and which
 //! steps of its own lead it there.
 
-use crate::sources::{Source, source_of};
-use crate::stand_sentences::push_location;
+use crate::sources::{Source, push_location, source_of};
 use crate::tried_steps::{Confirming, Tried, lines_before, try_steps};
 use bp_advice::Part::{Number, Place, Words};
 use bp_advice::{push_all, push_parts};

@@ -4,10 +4,10 @@
 use crate::setup_sentences::push_formals;
 use bp_advice::Part::{Count, Name as Named, Number, Quoted, Words};
 use bp_advice::{push_all, push_near_entry, push_near_global, push_near_name, push_parts, tree_of};
+use bp_language::Name;
 use bp_machine::limits::DEFAULT_ENTRY;
 use bp_machine::{SetupFault, Start};
 use bp_syntax::Tree;
-use bp_tree::Name;
 use std::alloc::{AllocError, Global};
 
 /// How many names are listed before dots.

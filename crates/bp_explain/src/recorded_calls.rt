@@ -1,8 +1,11 @@
 //! Where the calls of a trace stand in it.
+//! The line of a call of a trace, with a caret below what is wrong in the call.
 ghost use Rattle.std.specs.Prelude.{◌<◌, ◌≤◌, length, IfSome};
 
 use crate::trace_heads::{body_of, is_version_two};
-use bp_text::part_from;
+use bp_text::{part_from, position_of, push_line, push_place};
+use bp_trace::ReplayFault;
+use std::alloc::{AllocError, Global};
 
 /// A call of a trace: the digits of its thread, and the bytes of its choice bit and of the letter
 /// of its reply.
@@ -77,4 +80,39 @@ pub(crate) fn recorded_call(trace: &[u8], before: u64) -> Option<Recorded<'_>> {
         left = passed.left;
     }
     None
+}
+
+/// The byte of a trace that is wrong in the call that the fault names.
+fn place_of(trace: &[u8], fault: &ReplayFault) -> Option<usize> {
+    match fault {
+        ReplayFault::AfterFinish(_, made) => Some(recorded_call(trace, *made)?.bit_at),
+        ReplayFault::Bit(_, due) => Some(recorded_call(trace, due.calls)?.bit_at),
+        ReplayFault::Reply(_, due) => Some(recorded_call(trace, due.calls)?.reply_at),
+        _ => None,
+    }
+}
+
+/// The same, where it is on this line.
+fn place_on_line(trace: &[u8], number: usize, fault: &ReplayFault) -> Option<usize> {
+    let at = place_of(trace, fault)?;
+    if position_of(trace, at).line != number {
+        return None;
+    }
+    Some(at)
+}
+
+/// The excerpt of this line of a trace, with a caret below what is wrong in a call on it.
+pub(crate) fn excerpt_in_line(
+    alloc: Global,
+    trace: &[u8],
+    number: usize,
+    fault: &ReplayFault,
+) -> Result<Vec<u8>, AllocError> {
+    let mut excerpt = Vec::new(alloc);
+    let Some(at) = place_on_line(trace, number, fault) else {
+        push_line(&mut excerpt, trace, number)?;
+        return Ok(excerpt);
+    };
+    push_place(&mut excerpt, trace, at)?;
+    Ok(excerpt)
 }

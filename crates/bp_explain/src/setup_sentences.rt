@@ -1,7 +1,7 @@
 //! Sentences on the head of a trace that says no setup of the program.
 ghost use Rattle.std.specs.Prelude.{◌≡◌, nat_lt};
 ghost use Rattle.bp_machine.specs.declared.limits.TheConstants.{MAX_CONTEXTS};
-ghost use Rattle.bp_explain.specs.TraceParts.{BeginsWithHead, IsSetupLine, threads_line_number};
+ghost use Rattle.bp_explain.specs.Explained.{BeginsWithHead, IsSetupLine, threads_line_number};
 
 use crate::trace_heads::{FIRST_ENTRY, entries_of, entry_count, entry_of, init_line};
 use bp_advice::Part::{Count, Number, Quoted, Words};

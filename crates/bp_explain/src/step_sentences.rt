@@ -1,12 +1,11 @@
 //! Sentences on a step that is not taken.
 
 use crate::elsewhere_sentences::push_ways_there;
-use crate::last_calls::{LastCall, push_last_call};
-use crate::shell_words::{is_word, push_word};
-use crate::sources::{Source, source_of};
-use crate::stand_sentences::{push_location, push_stand};
-use crate::steps_before::{next_line_of, push_context_lines, steps_before};
-use crate::tried_steps::{Confirming, trace_before};
+use crate::schedules::{LastCall, push_last_call};
+use crate::sources::{Source, is_word, push_location, push_stand, push_word, source_of};
+use crate::tried_steps::{
+    Confirming, next_line_of, push_context_lines, steps_before, trace_before,
+};
 use crate::value_sentences::{push_changes, push_values, session_after};
 use bp_advice::Part::{Count, Name, Number, Place, Quoted, Words};
 use bp_advice::{push_all, push_parts};

@@ -1,19 +1,23 @@
 //! Explanations of the faults of traces.
+//! How many calls of a refused trace are accepted.
 ghost use Rattle.std.specs.Prelude.{IfOk};
-ghost use Rattle.bp_explain.specs.Explained.{ExplainsNoEnd, ExplainsSetup, ExplainsTrace};
 ghost use Rattle.bp_advice.specs.Explanations.{ExplainsLine, IsExplanationOf};
+ghost use Rattle.bp_explain.specs.Explained.{ExplainsNoEnd, ExplainsSetup, ExplainsTrace};
 
-use crate::accepted_calls::push_accepted;
-use crate::call_excerpts::excerpt_in_line;
-use crate::call_sentences::{push_finished, push_no_end, push_other_bit, push_other_end};
-use crate::head_sentences::push_head;
-use crate::line_sentences::push_body_line;
-use crate::reply_sentences::push_other_reply;
+use crate::call_sentences::{
+    push_finished, push_no_end, push_other_bit, push_other_end, push_other_reply,
+};
+use crate::recorded_calls::excerpt_in_line;
 use crate::setup_sentences::{line_of_setup, push_setup};
-use bp_advice::{Explanation, about_excerpt, about_line, tree_of};
+use crate::sources::program_of;
+use crate::trace_heads::{push_body_line, push_head};
+use bp_advice::Part::{Number, Words};
+use bp_advice::{Explanation, about_excerpt, about_line, push_all, push_parts, tree_of};
+use bp_code::compile;
+use bp_flat::Code;
 use bp_machine::SetupFault;
 use bp_text::position_of;
-use bp_trace::{EndCounts, ReplayFault};
+use bp_trace::{AcceptedTrace, EndCounts, ReplayFault, accepted_trace};
 use std::alloc::{AllocError, Global};
 
 /// Explains that the head of a trace says no setup of the program of a text.
@@ -136,4 +140,73 @@ pub fn explain_trace<'a>(
         ReplayFault::TooLong | ReplayFault::Memory => return Ok(None),
     };
     Ok(Some(explanation))
+}
+
+/// The trace of the calls of a refused trace that are accepted, if it has the head of a setup that
+/// the program takes.
+pub(crate) fn accepted_part(
+    alloc: Global,
+    code: &Code,
+    trace: &[u8],
+) -> Result<Option<AcceptedTrace>, AllocError> {
+    match accepted_trace(alloc, code, trace) {
+        Ok(accepted) => Ok(accepted),
+        Err(ReplayFault::Memory) => Err(AllocError),
+        Err(_) => Ok(None),
+    }
+}
+
+/// How many calls of a trace with this fault are accepted, if any could be.
+fn accepted_calls(
+    alloc: Global,
+    program: &[u8],
+    trace: &[u8],
+    fault: &ReplayFault,
+) -> Result<Option<u64>, AllocError> {
+    match fault {
+        ReplayFault::AfterFinish(_, made) => Ok(Some(*made)),
+        ReplayFault::Bit(_, due) | ReplayFault::Reply(_, due) => Ok(Some(due.calls)),
+        ReplayFault::NoEnd(counts) | ReplayFault::EndCount(_, counts) => Ok(Some(counts.calls)),
+        ReplayFault::Line(_) => {
+            let Some(checked) = &program_of(alloc, program)? else {
+                return Ok(None);
+            };
+            let code = compile(alloc, checked)?;
+            match accepted_part(alloc, &code, trace)? {
+                Some(accepted) => Ok(Some(accepted.calls)),
+                None => Ok(None),
+            }
+        }
+        _ => Ok(None),
+    }
+}
+
+/// Adds how many calls of a trace with this fault are accepted to what is said of the fault.
+pub(crate) fn push_accepted(
+    out: &mut Vec<u8>,
+    program: &[u8],
+    trace: &[u8],
+    fault: &ReplayFault,
+) -> Result<(), AllocError> {
+    let alloc = *out.allocator();
+    let Some(calls) = accepted_calls(alloc, program, trace, fault)? else {
+        return Ok(());
+    };
+    let is_ended = out.last() == Some(&b'.');
+    push_all(out, &[if is_ended { b" " } else { b"; " }])?;
+    match calls {
+        0 => push_all(out, &[b"no call of the trace was accepted"])?,
+        1 => push_all(out, &[b"1 call of the trace was accepted"])?,
+        _ => push_parts(
+            out,
+            &[
+                Number(calls as usize),
+                Words(b" calls of the trace were accepted"),
+            ],
+        )?,
+    }
+    if is_ended {
+        push_all(out, &[b"."])?;
+    }
+    Ok(())
 }

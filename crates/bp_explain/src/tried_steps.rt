@@ -1,11 +1,13 @@
 //! Steps that an explanation tries in place of reported ones.
-
-use crate::sources::program_of;
+//! What the steps before and after a line are.
+use crate::sources::{is_word, program_of, push_word};
+use bp_advice::Part::{Number, Words};
+use bp_advice::{number_at_front, push_all, push_parts};
 use bp_code::compile;
 use bp_confirm::{ConfirmFault, StepRefusal, confirm};
 use bp_machine::{Call, Setup, SetupFault, Start};
 use bp_tasks::ContextBound;
-use bp_text::{part_before, text_from_line};
+use bp_text::{Line, part_before, take_line, text_from_line};
 use bp_trace::write_trace;
 use std::alloc::{AllocError, Global};
 
@@ -80,4 +82,114 @@ pub(crate) fn trace_before(
         Tried::Taken(trace) => Ok(Some(trace)),
         Tried::Refused(_) | Tried::Unread => Ok(None),
     }
+}
+
+/// How many lines are listed before dots.
+const LISTED_LINES: usize = 6;
+
+/// The steps before a line, as far as they concern one thread.
+#[derive(Clone, Copy)]
+pub(crate) struct StepsBefore {
+    /// How many steps the thread made.
+    pub(crate) made: usize,
+    /// The line of its last one; 0 where it made none.
+    pub(crate) last_line: usize,
+    /// How many contexts the steps of all threads use.
+    pub(crate) contexts: usize,
+}
+
+/// The thread that a line of steps names.
+fn thread_of(line: Option<Line<'_>>) -> Option<u32> {
+    let (thread, _) = number_at_front(line?.text)?;
+    Some(thread)
+}
+
+/// The steps before the line of this number, as far as they concern this thread.
+pub(crate) fn steps_before(steps: &[u8], thread: u32, number: usize) -> StepsBefore {
+    let mut rest = steps;
+    let mut last = None;
+    let mut before = StepsBefore {
+        made: 0,
+        last_line: 0,
+        contexts: 0,
+    };
+    for line in 1..number {
+        let Some(other) = thread_of(take_line(&mut rest)) else {
+            return before;
+        };
+        if other == thread {
+            before.made = before.made.saturating_add(1);
+            before.last_line = line;
+        }
+        if last != Some(other) {
+            before.contexts = before.contexts.saturating_add(1);
+        }
+        last = Some(other);
+    }
+    before
+}
+
+/// Adds the lines before the line of this number at which contexts begin: the first few of them.
+pub(crate) fn push_context_lines(
+    out: &mut Vec<u8>,
+    steps: &[u8],
+    number: usize,
+) -> Result<(), AllocError> {
+    let mut rest = steps;
+    let mut last = None;
+    let mut contexts: usize = 0;
+    for line in 1..number {
+        let thread = thread_of(take_line(&mut rest));
+        if thread == last || contexts > LISTED_LINES {
+            continue;
+        }
+        if contexts == LISTED_LINES {
+            push_all(out, &[b", .."])?;
+        } else {
+            let between: &[u8] = if contexts == 0 { b" " } else { b", " };
+            push_parts(out, &[Words(between), Number(line)])?;
+        }
+        contexts += 1;
+        last = thread;
+    }
+    Ok(())
+}
+
+/// The first line after that of this number that is of this thread, where there is one.
+pub(crate) fn next_line_of(steps: &[u8], thread: u32, number: usize) -> Option<usize> {
+    let mut rest = steps;
+    let mut line: usize = 0;
+    while let Some(words) = take_line(&mut rest) {
+        line = line.saturating_add(1);
+        if line > number && thread_of(Some(words)) == Some(thread) {
+            return Some(line);
+        }
+    }
+    None
+}
+
+/// Adds how to see the run that the steps before the line of this number are, if there are any and
+/// a shell can name the files.
+pub(crate) fn push_run_before(
+    out: &mut Vec<u8>,
+    program_file: &[u8],
+    steps_file: &[u8],
+    number: usize,
+) -> Result<(), AllocError> {
+    if number < 2 || !is_word(program_file) || !is_word(steps_file) {
+        return Ok(());
+    }
+    let before: &[u8] = if number == 2 {
+        b"; the step before it is a run: head -n "
+    } else {
+        b"; the steps before it are a run: head -n "
+    };
+    push_parts(
+        out,
+        &[Words(before), Number(number.saturating_sub(1)), Words(b" ")],
+    )?;
+    push_word(out, steps_file)?;
+    push_all(out, &[b" | btrun confirm "])?;
+    push_word(out, program_file)?;
+    push_all(out, &[b" - .."])
 }

@@ -3,10 +3,10 @@
 use crate::sources::{Source, variable_of};
 use bp_advice::Part::{Name, Number, Words};
 use bp_advice::{push_all, push_parts};
+use bp_language::Proc;
 use bp_machine::{AskFault, Call, Session, Setup};
 use bp_source::{decider_at, variables_read};
 use bp_trace::{ReplayFault, Unwatched, Watcher, replay_watched};
-use bp_tree::Proc;
 use std::alloc::{AllocError, Global};
 
 /// The names of the variables that the assertion or the assumption of a thread reads.

@@ -1,18 +1,14 @@
 -- Nodes that are added, and what stays closed then.
-use Rattle.std.proofs.Common.{◌≡◌, ◌≢◌, ◌⊎◌, ℕ, zero, suc, ◌+◌, ◌<◌, ◌≤◌, ◌==◌, true, false, cond, List, [], ◌∷◌, ◌++◌, length, Option, None, Some, refl, ap, sym, ◌∙◌, subst, arith, inl, inr}
-use Rattle.std.specs.Prelude.{slice_get}
+use Rattle.std.proofs.Common.{◌≡◌, ◌≢◌, ◌⊎◌, ℕ, zero, suc, ◌+◌, ◌<◌, ◌≤◌, ◌==◌, true, false, cond, List, [], ◌∷◌, ◌++◌, length, Option, None, Some, refl, ap, sym, ◌∙◌, subst, arith, inl, inr, slice_get}
 use Rattle.std.proofs.lemmas.Bool.{cases_lt}
 use Rattle.std.proofs.lemmas.Bool.Decides.{nat_tests}
 use Rattle.std.proofs.lemmas.Option.{slice_get_within}
 use Rattle.bp_flat.specs.Flat.{Instruction}
-use Rattle.bp_machine.specs.ContextCounts.{contexts_opened}
-use Rattle.bp_machine.proofs.StandsAfterCall.{same_or_not}
-use Rattle.bp_explore.specs.ListedSteps.{ListedSteps}
-use Rattle.bp_explore.specs.Packing.{NodeOf as Node}
-use Rattle.bp_explore.specs.Reached.{MayAdd}
-use Rattle.bp_explore.specs.States.{StateOf}
-use Rattle.bp_explore.specs.Steps.{IsStep, Step, Stays, Fails, Leads}
-use Rattle.bp_explore.specs.Spaces.{level_with, Holds, Has, IsSeen, IsExpanded, IsClosed, AreLayered, AreAtMost, IsGrown, IsExplored}
+use Rattle.bp_machine.specs.Sessions.{contexts_opened}
+use Rattle.bp_machine.proofs.HistoryWithCall.{same_or_not}
+use Rattle.bp_explore.specs.Explorations.{ListedSteps}
+use Rattle.bp_explore.specs.States.{NodeOf as Node, StateOf}
+use Rattle.bp_explore.specs.Searches.{MayAdd, IsStep, Step, Stays, Fails, Leads, level_with, Holds, Has, IsSeen, IsExpanded, IsClosed, AreLayered, AreAtMost, IsGrown, IsExplored}
 
 pub item_at : {X : Type 0} (xs : List X) (k : ℕ) → k < length xs → (z : X) × (slice_get xs k ≡ Some z)
 item_at [] k below = absurd (omega (arith, below))

@@ -1,16 +1,156 @@
 -- Runs that make listed steps, step by step.
-use Rattle.std.proofs.Common.{◌≡◌, ◌⊎◌, ◌+◌, ◌≤◌, ℕ, Bool, true, false, cond, List, [], ◌∷◌, ◌++◌, refl, ap, sym, ◌∙◌, subst, inl, inr, arith}
+use Rattle.std.proofs.Common.{◌≡◌, ℕ, zero, suc, List, [], ◌∷◌, length, Some, ◌↔◌, IsTrue, ◌+◌, ◌<◌, Bool, true, false, cond, refl, ap, sym, ◌∙◌, subst, arith, inl, inr, ◌⊎◌, ◌≤◌, ◌++◌, slice_get, slice_index_or, slice_set, length-set, get_or-set_same, get_or-set_other}
 use Rattle.std.proofs.lemmas.Bool.{cases_lt}
-use Rattle.bp_tree.specs.Ast.{Program}
-use Rattle.bp_flat.specs.Configurations.{Configuration}
-use Rattle.bp_flat.specs.Moves.{Moves}
+use Rattle.bp_language.specs.Ast.{Program}
+use Rattle.bp_flat.specs.Moves.{Configuration, Frame, Moves, after_effect}
+use Rattle.bp_flat.specs.Flat.{Flat}
+use Rattle.bp_flat.specs.StandsFor.{ShowsStack, StepsAlike}
+use Rattle.bp_flat.specs.declared.effects.Effect.{Effect}
+use Rattle.bp_machine.specs.declared.stacks.ActivationRecord.{ActivationRecord}
+use Rattle.bp_machine.specs.Histories.{stack_of, reply_on_stack, configuration_after_step, is_granted, IsRun, configuration_after, IsAllowed}
+use Rattle.bp_machine.specs.Sessions.{top_of, activations}
+use Rattle.bp_machine.specs.Runs.{IsTop, HasRoom, reply_of_step}
+use Rattle.bp_machine.specs.declared.calls.Reply.TheVariants.{Stopped}
+use Rattle.bp_machine.specs.declared.threads.Transition.{Transition}
+use Rattle.bp_machine.specs.declared.threads.Transition.TheVariants as transition
+use Rattle.bp_machine.specs.Transitions.{IsTransitionOn, reply_of_transition, stack_after}
 use Rattle.bp_machine.specs.declared.calls.Call.{Call}
-use Rattle.bp_machine.specs.Reports.{IsRun}
-use Rattle.bp_machine.specs.Reports as reports
-use Rattle.bp_machine.proofs.StepsOfRuns.{first_step, ended}
-use Rattle.bp_explore.specs.Counts.{failures}
-use Rattle.bp_explore.specs.ListedSteps.{ListedSteps, IsMade, MakesFrom, ends, passes, makes}
-use Rattle.bp_explore.proofs.ShownSteps.{IsCounted}
+use Rattle.bp_machine.specs.Histories as reports
+use Rattle.bp_machine.specs.Setups.{SetupOf, start}
+use Rattle.bp_machine.proofs.Deadlocks.{top_shown}
+use Rattle.bp_machine.proofs.RunsAreHistories.{reply_told, reply_granted}
+use Rattle.bp_machine.proofs.HistoryWithCall.{same_or_not, set_same, set_other}
+use Rattle.bp_machine.proofs.RealFailures.{step_is, thread_below, first_step, ended}
+use Rattle.bp_machine.proofs.TransitionIsAnswer.{IsAnswer, on_stack}
+use Rattle.bp_machine.proofs.HistoriesAreRuns.{goes}
+use Rattle.bp_explore.specs.States.{StateOf, Shows, state_after}
+use Rattle.bp_explore.specs.Explorations.{ListedSteps, IsMade, MakesFrom, ends, passes, makes, HasNone, HasNoneBelow, CanMake, IsSafe}
+use Rattle.bp_explore.specs.Searches.{IsCountTo, IsLed, IsStep, Step, Stays, Fails, Leads, failures, IsCount, IsCountedStep, ShowsStep, HasNeither, HasNeitherBelow, IsPlayedTo}
+use Rattle.bp_explore.specs.declared.observers.SeenStep.{SeenStep}
+use Rattle.bp_explore.proofs.Growth.{item_at}
+
+-- The top of a thread's stack in a state.
+
+pub index_is : {X : Type 0} (xs : List X) (k : ℕ) (z d : X) → slice_get xs k ≡ Some z → slice_index_or xs k d ≡ z
+index_is [] k z d e = absurd cc
+index_is (x ∷ xs) zero z d e = cc
+index_is (x ∷ xs) (suc k) z d e = index_is xs k z d e
+
+pub state_top : (t : Program) (x : StateOf) (c : Configuration) → Shows t x c → (i : ℕ) (stack : List ActivationRecord) → slice_get x.stacks i ≡ Some stack
+    → (top : ActivationRecord) → Some top ≡ top_of stack
+    → IsTop t c i (record { number = top.number; store = record { globals = x.globals; locals = top.locals }; depth = length stack })
+state_top t x c shows i stack has top is =
+    let s = top_shown t stack (stack_of c i) top (shows.stack i stack has) is in
+    record { frame = s.frame; below = s.below; stack = s.are; next = s.shows.left; globals = shows.globals; locals = s.shows.locals; depth = s.depth }
+
+-- A step of a state shows the move of the configuration that the state shows.
+
+-- after the first m, n listed steps are made with the step of thread i from c to d
+pub record IsCounted (o : ListedSteps) (m : ℕ) (c : Configuration) (i : ℕ) (d : Configuration) (n : ℕ) : Type 0 where
+  pub is_made : Bool
+  pub told : IsTrue is_made ↔ IsMade o m c i d
+  pub count : n ≡ cond is_made (m + 1) m
+
+-- what a step of a state says of the move of thread i from c to d
+abbrev pub Matches : Program → ListedSteps → ℕ → Configuration → ℕ → Configuration → Step → Type 0
+Matches t o m c i d Stays = ⊥
+Matches t o m c i d (Fails n) = IsCounted o m c i d n × (d.failed ≡ true)
+Matches t o m c i d (Leads n y) = IsCounted o m c i d n × Shows t y d × (d.failed ≡ false)
+
+module _ (c : Flat) (t : Program) (o : ListedSteps) (own : o.is_of t) (alike : StepsAlike c t) (m : ℕ) (x : StateOf) (now : Configuration) (shows : Shows t x now)
+    (i : ℕ) (bit : Bool) (d : Configuration) (move : Moves t now i bit d) (room : HasRoom now i) where
+  -- the reply to the move is that of a granted step
+  told : reply_on_stack t true now.globals (stack_of now i) bit ≡ Some (reply_of_step [] d.failed)
+  told =
+      sym (ap (λ b. cond b (Some Stopped) (reply_on_stack t true now.globals (stack_of now i) bit)) move.runs)
+      ∙ reply_told t now i bit d move room
+
+  module _ (stack : List ActivationRecord) (has : slice_get x.stacks i ≡ Some stack) where
+    answer : (v : Transition) → IsTransitionOn c.instructions x.globals bit true stack v → IsAnswer t now.globals false (stack_of now i) true bit x.globals stack v
+    answer v is = on_stack c t alike bit x.globals now.globals shows.globals stack (stack_of now i) true v (shows.stack i stack has) is
+
+    granted : (v : Transition) → IsTransitionOn c.instructions x.globals bit true stack v → is_granted (reply_of_transition v) ≡ true
+    granted v is =
+        let same : Some (reply_of_transition v) ≡ Some (reply_of_step [] d.failed) = sym (answer v is).reply ∙ told in
+        let reply : reply_of_transition v ≡ reply_of_step [] d.failed = cc in
+        ap is_granted reply ∙ reply_granted [] d.failed
+
+    inside : i < length now.stacks
+    inside = thread_below t now i bit d move
+
+    stacks_after : (e : Effect) (S : List Frame) → ShowsStack t (activations (stack_after e stack)) S
+        → (j : ℕ) (own : List ActivationRecord) → slice_get (slice_set x.stacks i (stack_after e stack)) j ≡ Some own
+        → ShowsStack t (activations own) (stack_of (record { globals = now.globals; stacks = slice_set now.stacks i S; failed = false }) j)
+    stacks_after e S shown j own at = elim (same_or_not j i) [
+      | inl same ↦
+          let there : slice_get (slice_set x.stacks i (stack_after e stack)) i ≡ Some (stack_after e stack) = set_same x.stacks i stack (stack_after e stack) has in
+          let found : slice_get (slice_set x.stacks i (stack_after e stack)) i ≡ Some own = subst (λ k. slice_get (slice_set x.stacks i (stack_after e stack)) k ≡ Some own) same at in
+          let both : Some (stack_after e stack) ≡ Some own = sym there ∙ found in
+          let own_is : stack_after e stack ≡ own = cc in
+          let left : ShowsStack t (activations own) S = subst (λ k. ShowsStack t (activations k) S) own_is shown in
+          let right : stack_of (record { globals = now.globals; stacks = slice_set now.stacks i S; failed = false }) i ≡ S = get_or-set_same now.stacks i S [] inside in
+          subst (λ k. ShowsStack t (activations own) (stack_of (record { globals = now.globals; stacks = slice_set now.stacks i S; failed = false }) k)) (sym same)
+          (subst (λ z. ShowsStack t (activations own) z) (sym right) left)
+      | inr other ↦
+          let kept : slice_get x.stacks j ≡ Some own = sym (set_other x.stacks i j (stack_after e stack) other) ∙ at in
+          let right : stack_of (record { globals = now.globals; stacks = slice_set now.stacks i S; failed = false }) j ≡ stack_of now j = get_or-set_other now.stacks i j S [] other in
+          subst (λ z. ShowsStack t (activations own) z) (sym right) (shows.stack j own kept)
+    ]
+
+    leads_on : (e : Effect) → IsTransitionOn c.instructions x.globals bit true stack (transition.Steps e) → Shows t (state_after x i stack e) d × (d.failed ≡ false)
+    leads_on e is =
+        let a = answer (transition.Steps e) is in
+        let (going, f, fs, stack_is, told_is) = a.comes in
+        let (g, S, effect_is, worth, shown) = told_is in
+        let next : Configuration = record { globals = g; stacks = slice_set now.stacks i S; failed = false } in
+        let there : configuration_after_step t now i bit (stack_of now i) ≡ Some next =
+        ap (configuration_after_step t now i bit) stack_is ∙ ap (λ w. after_effect now i w) effect_is in
+        let both : Some next ≡ Some d = sym there ∙ step_is t now i bit d move in
+        let d_is : next ≡ d = cc in
+        subst (λ (z : Configuration). Shows t (state_after x i stack e) z × (z.failed ≡ false)) d_is (
+          record {
+            globals = worth;
+            count = length-set x.stacks i (stack_after e stack) ∙ shows.count ∙ sym (length-set now.stacks i S);
+            stack = stacks_after e S shown;
+          },
+          refl,
+        )
+
+    fails_there : IsTransitionOn c.instructions x.globals bit true stack transition.Fails → Shows t x d × (d.failed ≡ true)
+    fails_there is =
+        let a = answer transition.Fails is in
+        let (going, f, fs, stack_is, effect_is) = a.comes in
+        let next : Configuration = record now { failed = true } in
+        let there : configuration_after_step t now i bit (stack_of now i) ≡ Some next =
+        ap (configuration_after_step t now i bit) stack_is ∙ ap (λ w. after_effect now i w) effect_is in
+        let both : Some next ≡ Some d = sym there ∙ step_is t now i bit d move in
+        let d_is : next ≡ d = cc in
+        subst (λ (z : Configuration). Shows t x z × (z.failed ≡ true)) d_is
+        (record { globals = shows.globals; count = shows.count; stack = shows.stack }, refl)
+
+    counted : (n : ℕ) (z : StateOf) (failed : Bool) → IsCountTo o m i n x z failed → Shows t z d → d.failed ≡ failed → IsCounted o m now i d n
+    counted n z failed k there is = record { is_made = k.is_made; told = k.told t now d own (shows, there, is); count = k.count }
+
+    by_transition : (v : Transition) (y : Step) → IsTransitionOn c.instructions x.globals bit true stack v → IsLed o m x i stack v y → Matches t o m now i d y
+    by_transition (transition.Stays r) y is led =
+        let a = answer (transition.Stays r) is in
+        let no : is_granted r ≡ false = a.comes in
+        let yes : is_granted r ≡ true = granted (transition.Stays r) is in
+        absurd cc
+    by_transition transition.Fails y is (n, k, led) =
+        let (there, failed) = fails_there is in
+        subst (Matches t o m now i d) (sym led) (counted n x true k there failed, failed)
+    by_transition (transition.Steps e) y is (n, k, led) =
+        let (there, going) = leads_on e is in
+        subst (Matches t o m now i d) (sym led) (counted n (state_after x i stack e) false k there going, there, going)
+
+  pub step_matches : (y : Step) → IsStep o m x i c.instructions bit y → Matches t o m now i d y
+  step_matches y step =
+      let below = thread_below t now i bit d move in
+      let count = shows.count in
+      let (stack, has) = item_at x.stacks i (omega (arith, below, count)) in
+      let on = step stack has in
+      by_transition stack has on.transition y on.is on.led
 
 -- the first step of a run either makes the next listed step or does not
 pub record FirstMade (t : Program) (o : ListedSteps) (m : ℕ) (c : Configuration) (x : Call) (xs : List Call) (n : ℕ) (e : Configuration) : Type 0 where
@@ -99,3 +239,64 @@ failing_makes t c (x ∷ xs) e run going failed =
         → (b : Bool) → d.failed ≡ b → MakesFrom t failures 0 c (x ∷ xs) 1 e
     by_next d move rest later false is = passes 0 c x d xs 1 e move (later is)
     by_next d move rest later true is = makes 0 c x d xs 1 e move (record { is = is; last = λ _. refl }) (run_passes t failures 1 d xs e rest)
+
+-- Counting the listed steps by what is seen of a step.
+
+pub counted_to : (o : ListedSteps) (m i n : ℕ) (x y : StateOf) (failed : Bool) (step : SeenStep) → step.thread ≡ i
+    → ((t : Program) (c d : Configuration) → Shows t x c → Shows t y d → d.failed ≡ failed → ShowsStep t step c d)
+    → IsCountedStep o m step n → IsCountTo o m i n x y failed
+counted_to o m i n x y failed step same shown k = subst (λ j. IsCount o m j n (λ t c d. Shows t x c × Shows t y d × (d.failed ≡ failed))) same (record {
+  is_made = k.is_made;
+  told = λ t c d is s. k.told t c d is (shown t c d s.0 s.1 s.2);
+  count = k.count;
+})
+
+-- A run that makes the one step of `failures` ends in a false assertion.
+
+module _ (t : Program) (s : SetupOf) where
+  pub safe_of : (k : ℕ) → (CanMake t s failures k 1 → ⊥) → IsSafe t s k
+  safe_of k none d r = by_failed d.failed refl
+    where
+      by_failed : (b : Bool) → d.failed ≡ b → d.failed ≡ false
+      by_failed false is = is
+      by_failed true is =
+          absurd (none (record { steps = r.steps; end = d; run = failing_makes t (start t s) r.steps d r.run refl is; contexts = r.contexts; room = r.room }))
+
+  pub none_of : (b : Bool) (k : ℕ) → HasNeither t s failures b k → HasNone t s b k
+  none_of b k h =
+      let safe = safe_of k h.none in
+      record { safe = safe; live = λ e d r dead. h.live e d r (safe d r) dead }
+
+  pub none_below_of : (b : Bool) (k : ℕ) → HasNeitherBelow t s failures b k → HasNoneBelow t s b k
+  none_below_of b k h m below = none_of b m (h m below)
+
+-- A history with one more call, and the listed steps that it makes.
+
+module _ (t : Program) (s : SetupOf) (o : ListedSteps) (own : o.is_of t) where
+  pub played_none : 0 < o.count → IsPlayedTo t s o [] 0
+  played_none some = record { makes = ends 0 (start t s); last = λ all. absurd (omega (arith, some, all)) }
+
+  pub played_more : (h : List Call) (x : Call) → IsAllowed t s h x → is_granted x.reply ≡ true → (m n : ℕ) → m < o.count → IsPlayedTo t s o h m
+      → (step : SeenStep) → step.thread ≡ x.thread → ShowsStep t step (configuration_after t s h) (configuration_after t s (h ++ x ∷ []))
+      → IsCountedStep o m step n → IsPlayedTo t s o (h ++ x ∷ []) n
+  played_more h x allowed granted m n few played step thread shows counted = by_test counted.is_made refl
+    where
+      by_test : (b : Bool) → counted.is_made ≡ b → IsPlayedTo t s o (h ++ x ∷ []) n
+      by_test true is =
+          let c = configuration_after t s h in
+          let d = configuration_after t s (h ++ x ∷ []) in
+          let more : n ≡ m + 1 = counted.count ∙ ap (λ b. cond b (m + 1) m) is in
+          let move = goes t s h x allowed granted in
+          let made : IsMade o m c x.thread d = subst (λ i. IsMade o m c i d) thread ((counted.told t c d own shows).0 is) in
+          record {
+            makes = subst (λ k. MakesFrom t o 0 (start t s) (h ++ x ∷ []) k d) (sym more) (makes_one t o 0 (start t s) h m c x d played.makes move made);
+            last = λ all. record { before = h; last = x; whole = refl; number = m; count = omega (arith, all, more, few); at = c; makes = played.makes; moves = move; made = made };
+          }
+      by_test false is =
+          let c = configuration_after t s h in
+          let d = configuration_after t s (h ++ x ∷ []) in
+          let same : n ≡ m = counted.count ∙ ap (λ b. cond b (m + 1) m) is in
+          record {
+            makes = subst (λ k. MakesFrom t o 0 (start t s) (h ++ x ∷ []) k d) (sym same) (passes_one t o 0 (start t s) h m c x d played.makes (goes t s h x allowed granted));
+            last = λ all. absurd (omega (arith, all, same, few));
+          }

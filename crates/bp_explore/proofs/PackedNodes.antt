@@ -1,10 +1,96 @@
 -- The nodes of records that lie one after the other.
-use Rattle.std.proofs.Common.{◌≡◌, ◌<◌, ◌≤◌, ◌+◌, ◌-◌, ◌%◌, ◌^◌, ◌++◌, ◌∷◌, [], ℕ, zero, suc, List, All, length, take, drop, get_or, Some, refl, ap, sym, ◌∙◌, arith}
-use Rattle.std.specs.Prelude.{slice_get}
-use Rattle.std.proofs.lemmas.Option.{slice_get_within}
-use Rattle.std.proofs.lemmas.List.{length-drop, take_all, take-append-le, drop-append-le}
+use Rattle.std.proofs.Common.{◌≡◌, ◌+◌, ◌++◌, ◌∷◌, [], ℕ, zero, suc, List, refl, ap, sym, ◌∙◌, append_assoc, arith, ◌*◌, ◌/◌, ◌%◌, ◌^◌, Some, drop, append-nil, ◌≤◌, ◌-◌, All, ◌<◌, length, get_or, take, slice_set, slice_get}
+use Rattle.std.proofs.lemmas.List.{take_more, take_more_set, length-drop, take_all, take-append-le, drop-append-le}
 use Rattle.std.proofs.Transfers.{drop-appended}
-use Rattle.bp_explore.specs.Packing.{NodeOf, node_of, nodes_from, start_from, end_of, record_at, last_of}
+use Rattle.std.proofs.lemmas.Option.{slice_get_within}
+use Rattle.bp_machine.specs.Sessions.{StackOf}
+use Rattle.bp_explore.specs.States.{frames_of, IsPacked, take_times, take_number, node_of, take_key, take_state, last_of, StateOf, NodeOf, nodes_from, start_from, end_of, record_at, HasKey}
+use Rattle.bp_explore.specs.Searches.{Holds}
+
+-- Values that are packed one after the other.
+
+module _ {X : Type 0} (take : List ℕ → X × List ℕ) where
+  -- one value more
+  times_next : (k : ℕ) (cells : List ℕ) (xs : List X) (rest : List ℕ) (x : X) (left : List ℕ)
+      → take_times take k cells ≡ (xs, rest) → take rest ≡ (x, left) → take_times take (suc k) cells ≡ (xs ++ x ∷ [], left)
+  times_next zero cells xs rest x left e f =
+      let none : [] ≡ xs = ap (λ p. p.0) e in
+      let same : cells ≡ rest = ap (λ p. p.1) e in
+      let first : take cells ≡ (x, left) = ap take same ∙ f in
+      λ j. (ap (λ ys. ys ++ (first j).0 ∷ []) none j, (first j).1)
+  times_next (suc k) cells xs rest x left e f =
+      let first = take cells in
+      let others = take_times take k first.1 in
+      let more : first.0 ∷ others.0 ≡ xs = ap (λ p. p.0) e in
+      let same : others.1 ≡ rest = ap (λ p. p.1) e in
+      let next : take_times take (suc k) first.1 ≡ (others.0 ++ x ∷ [], left) =
+      times_next k first.1 others.0 others.1 x left refl (ap take same ∙ f) in
+      ap (λ p. (first.0 ∷ p.0, p.1)) next ∙ ap (λ ys. (ys ++ x ∷ [], left)) more
+
+  pub times_more : (k : ℕ) (cells : List ℕ) (xs : List X) (rest : List ℕ) (x : X) (left : List ℕ)
+      → take_times take k cells ≡ (xs, rest) → take rest ≡ (x, left) → take_times take (k + 1) cells ≡ (xs ++ x ∷ [], left)
+  times_more k cells xs rest x left e f = let one : suc k ≡ k + 1 = omega arith in sym (ap (λ n. take_times take n cells) one) ∙ times_next k cells xs rest x left e f
+
+  pub packed_more : (k : ℕ) (a b c : List ℕ) (xs : List X) (x : X) → IsPacked (take_times take k) a b xs → IsPacked take b c x
+      → IsPacked (take_times take (k + 1)) a c (xs ++ x ∷ [])
+  packed_more k a b c xs x p q = record {
+    more = p.more ++ q.more;
+    whole = q.whole ∙ ap (λ l. l ++ q.more) p.whole ∙ append_assoc a p.more q.more;
+    takes = λ rest.
+        ap (take_times take (k + 1)) (append_assoc p.more q.more rest)
+        ∙ times_more k (p.more ++ (q.more ++ rest)) xs (q.more ++ rest) x rest (p.takes (q.more ++ rest)) (q.takes rest);
+  }
+
+frames_after : (xs : List StackOf) (s : StackOf) → frames_of (xs ++ s ∷ []) ≡ frames_of xs ++ s.frames ∷ []
+frames_after [] s = refl
+frames_after (x ∷ xs) s = ap (λ ys. x.frames ∷ ys) (frames_after xs s)
+
+pub frames_next : (xs : List StackOf) (i : ℕ) (s : StackOf) → i < length xs → s ≡ get_or xs i s → frames_of (take (i + 1) xs) ≡ frames_of (take i xs) ++ s.frames ∷ []
+frames_next xs i s within is =
+    ap frames_of (take_more xs i s within) ∙ frames_after (take i xs) (get_or xs i s) ∙ ap (λ (t : StackOf). frames_of (take i xs) ++ t.frames ∷ []) (sym is)
+
+pub frames_set : (xs : List StackOf) (i : ℕ) (s : StackOf) → i < length xs → frames_of (take (i + 1) (slice_set xs i s)) ≡ frames_of (take i xs) ++ s.frames ∷ []
+frames_set xs i s within = ap frames_of (take_more_set xs i s within) ∙ frames_after (take i xs) s
+
+-- Records that are written part by part.
+
+module _ (threads : ℕ) (b c d : List ℕ) (level head : ℕ) (x : StateOf)
+    (p : IsPacked take_number [] b level) (q : IsPacked take_number b c head) (r : IsPacked (take_state threads) c d x) where
+  whole : d ≡ b ++ (q.more ++ r.more)
+  whole = r.whole ∙ ap (λ l. l ++ r.more) q.whole ∙ append_assoc b q.more r.more
+
+  state_is : take_state threads r.more ≡ (x, [])
+  state_is = ap (take_state threads) (sym (append-nil r.more)) ∙ r.takes []
+
+  key_is : take_key threads (q.more ++ r.more) ≡ ((head / 2 ^ 33 % 2 ^ 32, last_of (head % 2 ^ 33), x), [])
+  key_is =
+      ap (λ l. ((l.0 / 2 ^ 33 % 2 ^ 32, last_of (l.0 % 2 ^ 33), (take_state threads l.1).0), (take_state threads l.1).1)) (q.takes r.more)
+      ∙ ap (λ s. ((head / 2 ^ 33 % 2 ^ 32, last_of (head % 2 ^ 33), s.0), s.1)) state_is
+
+  pub packed_key : take_key threads (drop (length b) d) ≡ ((head / 2 ^ 33 % 2 ^ 32, last_of (head % 2 ^ 33), x), [])
+  packed_key = ap (take_key threads) (drop-appended b d (q.more ++ r.more) whole) ∙ key_is
+
+  pub packed_node : node_of threads d ≡ record { state = x; made = head / 2 ^ 33 % 2 ^ 32; last = last_of (head % 2 ^ 33); level = level }
+  packed_node =
+      let front : d ≡ p.more ++ (q.more ++ r.more) = whole ∙ ap (λ l. l ++ (q.more ++ r.more)) p.whole in
+      let first : take_number d ≡ (level, q.more ++ r.more) = ap take_number front ∙ p.takes (q.more ++ r.more) in
+      ap (λ v. record { state = (take_key threads v.1).0.2; made = (take_key threads v.1).0.0; last = (take_key threads v.1).0.1; level = v.0 }) first
+      ∙ ap (λ k. record { state = k.0.2; made = k.0.0; last = k.0.1; level = level }) key_is
+
+pub last_of_next : (n : ℕ) → n < 2 ^ 32 → last_of (n + 1) ≡ Some n
+last_of_next n small =
+    let next : n + 1 ≡ suc n = omega arith in
+    let same : n % 2 ^ 32 ≡ n = omega (arith, small) in
+    ap last_of next ∙ ap Some same
+
+-- the head of a key has the thread and how many listed steps were made
+pub last_of_head : (made thread : ℕ) → thread < 2 ^ 32 → last_of ((made * 2 ^ 33 + thread + 1) % 2 ^ 33) ≡ Some thread
+last_of_head made thread small =
+    let rest : (made * 2 ^ 33 + thread + 1) % 2 ^ 33 ≡ thread + 1 = omega (arith, small) in
+    ap last_of rest ∙ last_of_next thread small
+
+pub made_of_head : (made thread : ℕ) → made < 2 ^ 32 → thread < 2 ^ 32 → (made * 2 ^ 33 + thread + 1) / 2 ^ 33 % 2 ^ 32 ≡ made
+made_of_head made thread few small = omega (arith, few, small)
 
 pub nodes_length : (threads : ℕ) (cells : List ℕ) (from : ℕ) (ends : List ℕ) → length (nodes_from threads cells from ends) ≡ length ends
 nodes_length threads cells from [] = refl
@@ -63,3 +149,16 @@ node_is threads cells ends n node at =
 pub last_there : (n : ℕ) → 0 < n → last_of n ≡ Some ((n - 1) % 2 ^ 32)
 last_there zero some = absurd (omega (arith, some))
 last_there (suc n) some = let same : n ≡ suc n - 1 = omega arith in ap (λ m. Some (m % 2 ^ 32)) same
+
+-- A node with the key of a state.
+
+pub key_held : (threads : ℕ) (nodes : List NodeOf) (key : List ℕ) (i made : ℕ) (x : StateOf) → HasKey threads nodes key
+    → take_key threads key ≡ ((made, Some i, x), []) → Holds nodes x i made
+key_held threads nodes key i made x h e = record {
+  at = h.at;
+  node = h.node;
+  is = h.is;
+  state = ap (λ p. p.2) h.same ∙ ap (λ k. k.0.2) e;
+  made = ap (λ p. p.0) h.same ∙ ap (λ k. k.0.0) e;
+  last = ap (λ p. p.1) h.same ∙ ap (λ k. k.0.1) e;
+}

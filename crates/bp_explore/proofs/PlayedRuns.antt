@@ -1,14 +1,22 @@
 -- What is answered once a run was played.
-use Rattle.std.proofs.Common.{◌≡◌, ℕ, Bool, Option, sym, subst}
-use Rattle.bp_tree.specs.Ast.{Program}
+use Rattle.std.proofs.Common.{◌≡◌, ◌++◌, ◌∷◌, [], true, cond, List, ap, ◌∙◌, ℕ, Bool, Option, sym, subst}
+use Rattle.std.proofs.lemmas.List.Elements.{filter-append}
+use Rattle.bp_language.specs.Ast.{Program}
 use Rattle.bp_flat.specs.Flat.{Flat}
+use Rattle.bp_machine.specs.declared.calls.Call.{Call}
+use Rattle.bp_machine.specs.Histories.{granted_calls, is_granted}
 use Rattle.bp_machine.specs.Setups.{SetupOf}
-use Rattle.bp_explore.specs.declared.explored.Ending.{Ending}
-use Rattle.bp_explore.specs.declared.explored.Ending.TheVariants.{Nothing, NothingWithin, Found, Unplayed, Unfinished}
-use Rattle.bp_explore.specs.declared.explored.Finding.{Finding}
-use Rattle.bp_explore.specs.Explorations.{IsFirst, IsExploration}
-use Rattle.bp_explore.specs.FoundRuns.{IsPlayed}
-use Rattle.bp_explore.specs.Reachable.{IsInBound}
+use Rattle.bp_explore.specs.declared.explorations.Ending.{Ending}
+use Rattle.bp_explore.specs.declared.explorations.Ending.TheVariants.{Nothing, NothingWithin, Found, Unplayed, Unfinished}
+use Rattle.bp_explore.specs.declared.explorations.Finding.{Finding}
+use Rattle.bp_explore.specs.Explorations.{IsFirst, IsExploration, IsPlayed, IsInBound}
+
+-- Histories of granted calls alone.
+
+pub granted_more : (h : List Call) (x : Call) → granted_calls h ≡ h → is_granted x.reply ≡ true → granted_calls (h ++ x ∷ []) ≡ h ++ x ∷ []
+granted_more h x all own =
+    let one : granted_calls (x ∷ []) ≡ x ∷ [] = ap (λ b. cond b (x ∷ []) []) own in
+    filter-append (λ y. is_granted y.reply) h (x ∷ []) ∙ ap (λ ys. ys ++ granted_calls (x ∷ [])) all ∙ ap (λ ys. h ++ ys) one
 
 module _ (c : Flat) (t : Program) (s : SetupOf) (bound : Option ℕ) (b : Bool) (k : ℕ) (f : Finding) (first : IsFirst t s b k f) (within : IsInBound bound k) where
   first_of : (m : ℕ) (g : Finding) → m ≡ k → g ≡ f → IsFirst t s b m g

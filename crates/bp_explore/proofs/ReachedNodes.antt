@@ -1,13 +1,20 @@
 -- A node that a step from a reached node leads to is reached.
-use Rattle.std.proofs.Common.{◌≡◌, ◌<◌, ◌≤◌, ◌+◌, ◌&&◌, nat_le, ℕ, Bool, true, false, cond, List, [], ◌∷◌, ◌++◌, length, Option, Some, refl, ap, sym, ◌∙◌, subst, inl, inr, arith}
-use Rattle.std.specs.Prelude.{slice_get, map}
+use Rattle.std.proofs.Common.{◌≡◌, length, Option, None, Some, refl, ap, sym, ◌∙◌, subst, ◌<◌, ◌≤◌, ◌+◌, ◌&&◌, nat_le, ℕ, Bool, true, false, cond, List, [], ◌∷◌, ◌++◌, inl, inr, arith, slice_get, map, option_map}
+use Rattle.std.proofs.lemmas.List.{length-map}
+use Rattle.std.proofs.lemmas.Option.{slice_get-map}
 use Rattle.std.proofs.lemmas.Bool.{cases_lt}
 use Rattle.std.proofs.lemmas.Bool.Decides.{nat_tests}
-use Rattle.bp_tree.specs.Ast.{Program}
-use Rattle.bp_flat.specs.Alike.{StepsAlike}
-use Rattle.bp_flat.specs.Configurations.{Configuration}
+use Rattle.bp_language.specs.Ast.{Program}
+use Rattle.bp_flat.specs.StandsFor.{ShowsStack, StandsFor, StepsAlike}
+use Rattle.bp_flat.specs.InstrEffects.{bits_of}
 use Rattle.bp_flat.specs.Flat.{Flat}
-use Rattle.bp_flat.specs.Moves.{effect, Moves}
+use Rattle.bp_flat.specs.Steps.{bits_from}
+use Rattle.bp_flat.specs.Moves.{Configuration, effect, Moves}
+use Rattle.bp_machine.specs.declared.calls.Outcome.TheVariants.{Clean}
+use Rattle.bp_machine.specs.Histories.{stack_of, is_full, reply_of, reply_on_stack, reply_to_effect, configuration_after_call, IsRun}
+use Rattle.bp_machine.specs.Sessions.{first_thread, contexts_opened, count_with, IsCountOf}
+use Rattle.bp_machine.specs.Setups.{SetupOf, start, Fits, threads}
+use Rattle.bp_machine.specs.Sessions as states
 use Rattle.bp_machine.specs.declared.calls.Call.{Call}
 use Rattle.bp_machine.specs.declared.calls.Reply.{Reply}
 use Rattle.bp_machine.specs.declared.calls.Reply.TheVariants.{Stopped, Full, Stepped}
@@ -15,26 +22,40 @@ use Rattle.bp_machine.specs.declared.limits.TheConstants.{MAX_FRAMES}
 use Rattle.bp_machine.specs.declared.stacks.ActivationRecord.{ActivationRecord}
 use Rattle.bp_machine.specs.declared.threads.Transition.{Transition}
 use Rattle.bp_machine.specs.declared.threads.Transition.TheVariants as transition
-use Rattle.bp_machine.specs.Answers.{is_full, stack_of, reply_of, reply_on_stack, reply_to_effect, configuration_after_call}
-use Rattle.bp_machine.specs.BoundedRuns.{EachHasRoom, HasRoom}
-use Rattle.bp_machine.specs.ContextCounts.{contexts_opened, count_with, IsCountOf}
-use Rattle.bp_machine.specs.Reports.{IsRun}
-use Rattle.bp_machine.specs.Reports as reports
-use Rattle.bp_machine.specs.Setups.{SetupOf, threads, start}
+use Rattle.bp_machine.specs.Runs.{EachHasRoom, HasRoom}
+use Rattle.bp_machine.specs.Histories as reports
 use Rattle.bp_machine.specs.Transitions.{IsTransitionOn}
+use Rattle.bp_machine.proofs.SessionsInOrder.{starts}
 use Rattle.bp_machine.proofs.ContextCounts.{counts_more}
-use Rattle.bp_machine.proofs.GrantedSteps.{is_step, step_moves}
-use Rattle.bp_machine.proofs.StepsOfRuns.{first_step, ended, move_keeps, one_move}
+use Rattle.bp_machine.proofs.RealFailures.{is_step, step_moves, first_step, ended, move_keeps, one_move}
 use Rattle.bp_machine.proofs.TransitionIsAnswer.{on_stack}
-use Rattle.bp_explore.specs.ListedSteps.{ListedSteps, MakesFrom}
-use Rattle.bp_explore.specs.Packing.{NodeOf as Node}
-use Rattle.bp_explore.specs.Reached.{IsReached, AreReached, StayReached, IsTaken}
-use Rattle.bp_explore.specs.Spaces.{level_with}
-use Rattle.bp_explore.specs.States.{StateOf}
-use Rattle.bp_explore.specs.Steps.{IsLed, IsStep, Step, Stays, Fails, Leads}
+use Rattle.bp_explore.specs.States.{StateOf, first_stack_of, Shows, NodeOf as Node}
+use Rattle.bp_explore.specs.Explorations.{ListedSteps, MakesFrom}
+use Rattle.bp_explore.specs.Searches.{IsReached, AreReached, StayReached, IsTaken, level_with, IsLed, IsStep, Step, Stays, Fails, Leads}
 use Rattle.bp_explore.proofs.Growth.{item_at, added_item, before_last}
-use Rattle.bp_explore.proofs.MadeSteps.{makes_one, makes_run, passes_one}
-use Rattle.bp_explore.proofs.ShownSteps.{IsCounted, step_matches}
+use Rattle.bp_explore.proofs.MadeSteps.{makes_one, makes_run, passes_one, IsCounted, step_matches}
+
+-- The first state shows the start.
+
+of_map : {X Y : Type 0} (f : X → Y) (o : Option X) (y : Y) → option_map f o ≡ Some y → (x : X) × (o ≡ Some x) × (f x ≡ y)
+of_map f None y e = absurd cc
+of_map f (Some x) y e = let same : f x ≡ y = cc in (x, refl, same)
+
+pub start_shown : (c : Flat) (t : Program) (s : SetupOf) → StandsFor c t → Fits t s → (x : StateOf)
+    → bits_of x.globals ≡ bits_from s.init → x.stacks ≡ map (first_stack_of c) s.entries → Shows t x (start t s)
+start_shown c t s is fits x word stacks =
+    let y : states.State = record { globals = x.globals; threads = map (first_thread c) s.entries; contexts = record { used = 0; last = None }; outcome = Clean } in
+    let stands = starts c t s is y fits word refl refl refl in
+    record {
+      globals = stands.globals;
+      count = ap length stacks ∙ length-map s.entries (first_stack_of c) ∙ sym stands.stacks;
+      stack = λ i stack at.
+          let found = sym (slice_get-map (first_stack_of c) s.entries i) ∙ sym (ap (λ l. slice_get l i) stacks) ∙ at in
+          let (e, has, stack_is) = of_map (first_stack_of c) (slice_get s.entries i) stack found in
+          let guest : slice_get (map (first_thread c) s.entries) i ≡ Some (first_thread c e) =
+          slice_get-map (first_thread c) s.entries i ∙ ap (option_map (first_thread c)) has in
+          subst (λ z. ShowsStack t (states.activations z) (stack_of (start t s) i)) stack_is (stands.thread i (first_thread c e) guest).stack;
+    }
 
 -- a step that was made had room
 room_of : (t : Program) (c : Configuration) (i : ℕ) (bit : Bool) → reply_on_stack t true c.globals (stack_of c i) bit ≡ Some Stepped → HasRoom c i

@@ -1,25 +1,18 @@
 -- How a search goes from layer to layer, and what is known after each.
-use Rattle.std.proofs.Common.{◌≡◌, ◌<◌, ◌≤◌, ℕ, zero, suc, Bool, true, inl, inr, ◌+◌, List, [], ◌∷◌, length, Option, None, Some, refl, ap, sym, ◌∙◌, subst, arith}
+use Rattle.std.proofs.Common.{◌≡◌, ◌<◌, ◌≤◌, ℕ, zero, suc, Bool, true, inl, inr, ◌+◌, List, [], ◌∷◌, length, Option, None, Some, refl, ap, sym, ◌∙◌, subst, arith, slice_get, map}
 use Rattle.std.specs.Option.{unwrap_or}
-use Rattle.std.specs.Prelude.{slice_get, map}
 use Rattle.std.proofs.lemmas.Bool.{cases_lt}
 use Rattle.std.proofs.lemmas.Option.{slice_get_within}
-use Rattle.bp_tree.specs.Ast.{Program}
-use Rattle.bp_flat.specs.Alike.{StepsAlike}
+use Rattle.bp_language.specs.Ast.{Program}
+use Rattle.bp_flat.specs.StandsFor.{StepsAlike, StandsFor}
 use Rattle.bp_flat.specs.Flat.{Flat, Instruction}
-use Rattle.bp_flat.specs.StandsFor.{StandsFor}
-use Rattle.bp_machine.specs.ContextCounts.{contexts_opened}
+use Rattle.bp_machine.specs.Sessions.{contexts_opened}
 use Rattle.bp_machine.specs.Setups.{SetupOf, threads, start}
 use Rattle.bp_machine.proofs.ContextCounts.{count_of_none, within_more}
-use Rattle.bp_machine.proofs.StepsOfRuns.{stacks_at_start}
-use Rattle.bp_explore.specs.Packing.{NodeOf as Node}
-use Rattle.bp_explore.specs.ListedSteps.{ListedSteps, CanMake, ends}
-use Rattle.bp_explore.specs.Live.{AreLiveFrom}
-use Rattle.bp_explore.specs.Searches.{BeginsAt, HasMade, HasNeither, HasNeitherBelow, IsExhausted}
-use Rattle.bp_explore.specs.Reachable.{IsInBound}
-use Rattle.bp_explore.specs.Reached.{IsReached, AreReached, StayReached}
-use Rattle.bp_explore.specs.Spaces.{AreAtMost, IsClosed, IsExplored, IsGrown}
-use Rattle.bp_explore.specs.States.{StateOf, Shows}
+use Rattle.bp_machine.proofs.RealFailures.{stacks_at_start}
+use Rattle.bp_explore.specs.States.{NodeOf as Node, AreLiveFrom, StateOf, Shows}
+use Rattle.bp_explore.specs.Explorations.{ListedSteps, CanMake, ends, IsInBound}
+use Rattle.bp_explore.specs.Searches.{BeginsAt, HasMade, HasNeither, HasNeitherBelow, IsExhausted, IsReached, AreReached, StayReached, AreAtMost, IsClosed, IsExplored, IsGrown}
 use Rattle.bp_explore.proofs.Growth.{at_most_layered, before, opened_small}
 use Rattle.bp_explore.proofs.ReachedNodes.{no_split}
 use Rattle.bp_explore.proofs.Soundness.{explored_makes_fewer, explored_is_live}

@@ -1,30 +1,21 @@
 -- Where all was explored, a run ends where a node is that has made as many of the listed steps.
-use Rattle.std.proofs.Common.{◌≡◌, ◌⊎◌, ℕ, ◌+◌, ◌<◌, ◌≤◌, Bool, true, false, cond, List, [], ◌∷◌, length, Option, None, Some, refl, ap, sym, ◌∙◌, subst, inl, inr, arith}
-use Rattle.std.specs.Prelude.{slice_get, map}
+use Rattle.std.proofs.Common.{◌≡◌, ◌⊎◌, ℕ, ◌+◌, ◌<◌, ◌≤◌, Bool, true, false, cond, List, [], ◌∷◌, length, Option, None, Some, refl, ap, sym, ◌∙◌, subst, inl, inr, arith, slice_get, map}
 use Rattle.std.proofs.lemmas.Option.{slice_get_within}
-use Rattle.bp_tree.specs.Ast.{Program}
-use Rattle.bp_flat.specs.Alike.{StepsAlike}
-use Rattle.bp_flat.specs.Configurations.{Configuration}
+use Rattle.bp_language.specs.Ast.{Program}
+use Rattle.bp_flat.specs.StandsFor.{StepsAlike, StandsFor}
+use Rattle.bp_flat.specs.Moves.{Configuration}
 use Rattle.bp_flat.specs.Flat.{Flat}
-use Rattle.bp_flat.specs.StandsFor.{StandsFor}
 use Rattle.bp_machine.specs.declared.calls.Call.{Call}
-use Rattle.bp_machine.specs.BoundedRuns.{EachHasRoom}
-use Rattle.bp_machine.specs.ContextCounts.{contexts_opened}
-use Rattle.bp_machine.specs.Deadlocks.{IsDeadlocked}
-use Rattle.bp_machine.specs.Reports as reports
+use Rattle.bp_machine.specs.Runs.{EachHasRoom, IsDeadlocked}
+use Rattle.bp_machine.specs.Sessions.{contexts_opened}
+use Rattle.bp_machine.specs.Histories as reports
 use Rattle.bp_machine.specs.Setups.{SetupOf, threads, start}
 use Rattle.bp_machine.proofs.ContextCounts.{opened, opened_more, least}
-use Rattle.bp_machine.proofs.StepsOfRuns.{move_keeps, thread_below, stacks_at_start}
-use Rattle.bp_explore.specs.ListedSteps.{ListedSteps, MakesFrom, CanMake}
-use Rattle.bp_explore.specs.Live.{AreLiveFrom}
-use Rattle.bp_explore.specs.Packing.{NodeOf as Node}
-use Rattle.bp_explore.specs.Reachable.{IsReachable}
-use Rattle.bp_explore.specs.Searches.{HaveFewer}
-use Rattle.bp_explore.specs.States.{Shows}
-use Rattle.bp_explore.specs.Steps.{IsStep, Step, Stays, Fails, Leads}
-use Rattle.bp_explore.specs.Spaces.{level_with, IsSeen, IsClosed}
-use Rattle.bp_explore.proofs.MadeSteps.{FirstMade, no_more, first_made, counts_enough, run_passes}
-use Rattle.bp_explore.proofs.ShownSteps.{IsCounted, Matches, step_matches}
+use Rattle.bp_machine.proofs.RealFailures.{move_keeps, thread_below, stacks_at_start}
+use Rattle.bp_explore.specs.Explorations.{ListedSteps, MakesFrom, CanMake, IsReachable}
+use Rattle.bp_explore.specs.States.{AreLiveFrom, NodeOf as Node, Shows}
+use Rattle.bp_explore.specs.Searches.{HaveFewer, IsStep, Step, Stays, Fails, Leads, level_with, IsSeen, IsClosed}
+use Rattle.bp_explore.proofs.MadeSteps.{FirstMade, no_more, first_made, counts_enough, run_passes, IsCounted, Matches, step_matches}
 
 abbrev thread_of : Call → ℕ
 thread_of x = x.thread

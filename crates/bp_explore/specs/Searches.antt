@@ -1,17 +1,248 @@
 -- Where an exploration begins, and how its search ends. How it works, which no public clause names.
-use Rattle.std.specs.Prelude.{◌≡◌, ◌⊎◌, ◌≤◌, ◌<◌, ℕ, Bool, true, false, List, [], ◌∷◌, Option, None, Some, slice_get}
-use Rattle.bp_tree.specs.Ast.{Program}
-use Rattle.bp_flat.specs.Configurations.{Configuration}
-use Rattle.bp_flat.specs.Flat.{Flat}
-use Rattle.bp_flat.specs.StandsFor.{StandsFor}
-use Rattle.bp_machine.specs.Deadlocks.{IsDeadlocked}
-use Rattle.bp_machine.specs.Setups.{SetupOf, start}
-use Rattle.bp_explore.specs.Packing.{NodeOf as Node}
+use Rattle.std.specs.Prelude.{◌≡◌, ℕ, [], Option, MatchOption, if◌then◌else◌, ◌+◌, ◌↔◌, Bool, IsTrue, true, false, List, Some, slice_get, ◌⊎◌, ◌<◌, ◌≤◌, ◌∷◌, ◌++◌, length, map, None}
+use Rattle.bp_language.specs.Ast.{Program}
+use Rattle.bp_flat.specs.InstrEffects.{bits_of}
+use Rattle.bp_flat.specs.Moves.{Configuration}
+use Rattle.bp_flat.specs.StandsFor.{valuation_of, StepsAlike, StandsFor}
+use Rattle.bp_flat.specs.Flat.{Instruction, Flat}
+use Rattle.bp_machine.specs.declared.tops.Top.{Top}
+use Rattle.bp_machine.specs.Histories.{stack_of, configuration_after, granted_calls}
+use Rattle.bp_machine.specs.Runs.{IsTop, EachHasRoom, IsDeadlocked}
+use Rattle.bp_machine.specs.declared.stacks.ActivationRecord.{ActivationRecord}
+use Rattle.bp_machine.specs.declared.threads.Transition.{Transition}
+use Rattle.bp_machine.specs.declared.threads.Transition.TheVariants as transition
+use Rattle.bp_machine.specs.Transitions.{IsTransitionOn}
+use Rattle.bp_machine.specs.declared.calls.Call.{Call}
+use Rattle.bp_machine.specs.declared.contexts.ContextCount.{ContextCount}
+use Rattle.bp_machine.specs.Sessions.{IsCountOf, contexts_opened, Stands}
+use Rattle.bp_machine.specs.Setups.{SetupOf, threads, start}
+use Rattle.bp_explore.specs.declared.observers.SeenStep.{SeenStep}
+use Rattle.bp_explore.specs.Explorations.{ListedSteps, IsMade, MakesInOrder, setup_of_run, CanMake, IsInBound, IsReachable}
+use Rattle.bp_explore.specs.States.{StateOf, Shows, state_after, NodeOf as Node}
+use Rattle.bp_explore.specs.declared.found_runs.Replay.{Replay}
+use Rattle.bp_explore.specs.ThroughExplorations.{EndsInLast}
 use Rattle.bp_explore.specs.declared.searches.SearchEnd.{SearchEnd}
 use Rattle.bp_explore.specs.declared.searches.SearchEnd.TheVariants.{Closed, Bound, Deadlocked, Found, Short}
-use Rattle.bp_explore.specs.ListedSteps.{ListedSteps, CanMake}
-use Rattle.bp_explore.specs.Reachable.{IsInBound, IsReachable}
-use Rattle.bp_explore.specs.States.{StateOf, Shows}
+
+-- Steps as an exploration sees them.
+
+-- the top of thread i, and none if its stack is empty
+abbrev pub IsTopOrNone : Program → Configuration → ℕ → Option Top → Type 0
+IsTopOrNone t c i top = MatchOption top (stack_of c i ≡ []) (IsTop t c i)
+
+-- what is seen of a step shows that it goes from c to d
+pub record ShowsStep (t : Program) (x : SeenStep) (c d : Configuration) : Type 0 where
+  pub before : IsTopOrNone t c x.thread x.before
+  pub after : IsTopOrNone t d x.thread x.after
+  pub globals : d.globals ≡ valuation_of t.globals (bits_of x.globals)
+  pub failed : d.failed ≡ x.failed
+
+-- Counting the listed steps that are made. How an exploration works, which no public clause names.
+
+-- one step is listed: a false assertion
+abbrev pub failures : ListedSteps
+failures = record { count = 1; makes = λ n c i d. d.failed; is_of = λ t. Unit {0} }
+
+-- After the first m, n listed steps are made with a step of thread i: one more if it makes that of
+-- number m. This is so whatever the configurations are that it goes from and to.
+pub record IsCount
+    (o : ListedSteps) (m i n : ℕ) (AreShown : Program → Configuration → Configuration → Type 0)
+    : Type 0 where
+  pub is_made : Bool
+  pub told : (t : Program) (c d : Configuration)
+      → o.is_of t
+      → AreShown t c d
+      → (IsTrue is_made ↔ IsMade o m c i d)
+  pub count : n ≡ (if is_made then m + 1 else m)
+
+abbrev pub IsCountedStep : ListedSteps → ℕ → SeenStep → ℕ → Type 0
+IsCountedStep o m step n = IsCount o m step.thread n (λ t c d. ShowsStep t step c d)
+
+-- What a step of a thread leads to. How an exploration works, which no public clause names.
+
+-- no step, since the thread has ended, waits or has no room for a frame; a false assertion; or the
+-- state after the step. The two have how many listed steps are made then.
+pub data Step : Type 0 where
+  Stays : Step
+  Fails : (made : ℕ) → Step
+  Leads : (made : ℕ) → StateOf → Step
+
+-- what is seen of a step of thread i from the state x to the state y, in which an assertion fails
+-- or not
+abbrev pub IsCountTo : ListedSteps → ℕ → ℕ → ℕ → StateOf → StateOf → Bool → Type 0
+IsCountTo o m i n x y failed =
+    IsCount o m i n (λ t c d. Shows t x c × Shows t y d × (d.failed ≡ failed))
+
+module _ (o : ListedSteps) (m : ℕ) (x : StateOf) (i : ℕ) where
+  abbrev pub IsLed : List ActivationRecord → Transition → Step → Type 0
+  IsLed stack (transition.Stays r) y = y ≡ Stays
+  IsLed stack transition.Fails y = (n : ℕ) × IsCountTo o m i n x x true × (y ≡ Fails n)
+  IsLed stack (transition.Steps d) y =
+      let after = state_after x i stack d in
+      (n : ℕ) × IsCountTo o m i n x after false × (y ≡ Leads n after)
+
+  -- what the next step of this stack, of thread i in the state x, leads to with this choice bit,
+  -- where m listed steps were made
+  pub record IsStepOn
+      (code : List Instruction) (bit : Bool) (y : Step) (stack : List ActivationRecord)
+      : Type 0 where
+    pub transition : Transition
+    pub is : IsTransitionOn code x.globals bit true stack transition
+    pub led : IsLed stack transition y
+
+  -- the same of thread i, where there is such a thread
+  abbrev pub IsStep : List Instruction → Bool → Step → Type 0
+  IsStep code bit y =
+      (stack : List ActivationRecord)
+      → slice_get x.stacks i ≡ Some stack
+      → IsStepOn code bit y stack
+
+  -- what the next step of thread i leads to, if this is what it results in
+  abbrev pub IsFollowed : Transition → Step → Type 0
+  IsFollowed v y =
+      (stack : List ActivationRecord) → slice_get x.stacks i ≡ Some stack → IsLed stack v y
+
+-- Nodes that runs lead to. How an exploration works, which no public clause names.
+
+module _ (t : Program) (s : SetupOf) (o : ListedSteps) where
+  -- a run leads to what the node shows, within its contexts and with a step of its last thread, and
+  -- makes as many listed steps, which are not all
+  pub record IsReached (node : Node) : Type 0 where
+    pub steps : List Call
+    pub end : Configuration
+    pub run : MakesInOrder t s o steps node.made end
+    pub few : node.made < o.count
+    pub room : EachHasRoom t (start t s) steps
+    pub count : ContextCount
+    pub counts : IsCountOf count (map (λ x. x.thread) steps)
+    pub contexts : count.used ≤ node.level
+    pub last : count.last ≡ node.last
+    pub own : (i : ℕ) → node.last ≡ Some i → i < threads s
+    pub shows : Shows t node.state end
+    pub size : length node.state.stacks ≡ threads s
+    pub going : end.failed ≡ false
+
+  abbrev pub AreReached : List Node → Type 0
+  AreReached nodes = (at : ℕ) (node : Node) → slice_get nodes at ≡ Some node → IsReached node
+
+-- the nodes are reached if the old ones were, where a setup has at least n threads
+abbrev pub StayReached : Flat → ListedSteps → ℕ → List Node → List Node → Type 0
+StayReached c o n old new =
+    (t : Program) (s : SetupOf)
+    → StepsAlike c t
+    → o.is_of t
+    → n ≤ threads s
+    → AreReached t s o old
+    → AreReached t s o new
+
+-- the node of a state, to which a step of thread i led with n listed steps made
+abbrev pub node_with : StateOf → ℕ → ℕ → ℕ → Node
+node_with x n i level = record { state = x; made = n; last = Some i; level = level }
+
+-- the node was added, or none
+abbrev pub MayAdd : List Node → Node → List Node → Type 0
+MayAdd old node new = (new ≡ old) ⊎ (new ≡ old ++ node ∷ [])
+
+-- what a step of thread i leads to was added at most, and makes not all of the listed steps
+abbrev pub IsTaken : ListedSteps → List Node → ℕ → ℕ → Step → List Node → Type 0
+IsTaken o old i level Stays new = new ≡ old
+IsTaken o old i level (Fails n) new = new ≡ old
+IsTaken o old i level (Leads n x) new =
+    (n < o.count) × MayAdd old (node_with x n i level) new
+
+-- The nodes of an exploration: the states that were found, in order of their contexts. How an
+-- exploration works, which no public clause names.
+
+-- the contexts that are used with a step of thread i from the node
+abbrev pub level_with : Node → ℕ → ℕ
+level_with node i = node.level + contexts_opened node.last i
+
+-- a node has this state, to which a step of thread i led, with n listed steps made
+pub record Holds (nodes : List Node) (x : StateOf) (i n : ℕ) : Type 0 where
+  pub at : ℕ
+  pub node : Node
+  pub is : slice_get nodes at ≡ Some node
+  pub state : node.state ≡ x
+  pub made : node.made ≡ n
+  pub last : node.last ≡ Some i
+
+-- the same within this many contexts
+pub record Has (nodes : List Node) (x : StateOf) (i n level : ℕ) : Type 0 where
+  pub held : Holds nodes x i n
+  pub low : held.node.level ≤ level
+
+-- a step of thread i makes not all of the listed steps, and leads to a node within this many
+-- contexts if no assertion fails
+abbrev pub IsSeen : ListedSteps → List Node → ℕ → ℕ → Step → Type 0
+IsSeen o nodes i level Stays = Unit {0}
+IsSeen o nodes i level (Fails n) = n < o.count
+IsSeen o nodes i level (Leads n y) = (n < o.count) × Has nodes y i n level
+
+-- so it is with either choice bit
+abbrev pub IsExpanded : ListedSteps → List Instruction → List Node → Node → ℕ → ℕ → Type 0
+IsExpanded o code nodes node i level =
+    (bit : Bool)
+    → (y : Step)
+    × IsStep o node.made node.state i code bit y
+    × IsSeen o nodes i level y
+
+-- the nodes below p are closed under the steps that are within k contexts
+abbrev pub IsClosed : ListedSteps → List Instruction → ℕ → List Node → ℕ → ℕ → Type 0
+IsClosed o code threads nodes p k =
+    (n : ℕ) (node : Node) (i : ℕ)
+    → n < p
+    → slice_get nodes n ≡ Some node
+    → i < threads
+    → level_with node i ≤ k
+    → IsExpanded o code nodes node i (level_with node i)
+
+-- the nodes from p on use k contexts, those before it fewer
+abbrev pub AreLayered : List Node → ℕ → ℕ → Type 0
+AreLayered nodes p k =
+    (n : ℕ) (node : Node)
+    → slice_get nodes n ≡ Some node
+    → (n < p → node.level < k) × (p ≤ n → node.level ≡ k)
+
+abbrev pub AreAtMost : List Node → ℕ → Type 0
+AreAtMost nodes k =
+    (n : ℕ) (node : Node) → slice_get nodes n ≡ Some node → node.level ≤ k
+
+-- the nodes were kept, and those that were added use this many contexts
+pub record IsGrown (old new : List Node) (level : ℕ) : Type 0 where
+  pub longer : length old ≤ length new
+  pub kept : (n : ℕ) (node : Node)
+      → slice_get old n ≡ Some node
+      → slice_get new n ≡ Some node
+  pub added : (n : ℕ) (node : Node)
+      → length old ≤ n
+      → slice_get new n ≡ Some node
+      → node.level ≡ level
+
+-- all that is within k contexts was seen, and the nodes from p on use k contexts
+pub record IsExplored
+    (o : ListedSteps) (code : List Instruction) (threads : ℕ) (nodes : List Node) (p k : ℕ)
+    : Type 0 where
+  pub layered : AreLayered nodes p k
+  pub closed : IsClosed o code threads nodes (length nodes) k
+  pub few : p ≤ length nodes
+
+-- Runs that are played on a session. How an exploration works, which no public clause names.
+
+-- the history makes the first n listed steps, and the last of all with its last call
+pub record IsPlayedTo (t : Program) (s : SetupOf) (o : ListedSteps) (h : List Call) (n : ℕ)
+    : Type 0 where
+  pub makes : MakesInOrder t s o h n (configuration_after t s h)
+  pub last : o.count ≤ n → EndsInLast t s o h (configuration_after t s h)
+
+-- the session stands after the history, each call of which is a granted step
+pub record IsReplay
+    (c : Flat) (t : Program) (s : SetupOf) (o : ListedSteps) (k : ℕ) (h : List Call) (r : Replay)
+    : Type 0 where
+  pub code : r.session.code ≡ c
+  pub setup : r.session.setup ≡ setup_of_run s k h
+  pub stands : Stands t r.session h
+  pub granted : granted_calls h ≡ h
+  pub made : o.is_of t → IsPlayedTo t r.session.setup o h r.made
 
 -- there is one node, whose state shows the start
 pub record BeginsAt (c : Flat) (s : SetupOf) (nodes : List Node) : Type 0 where

@@ -1,19 +1,23 @@
 //! Playing the run that an exploration found, on a session.
-ghost use Rattle.std.specs.Prelude.{◌≡◌, IsTrue, List, IfOk};
-ghost use Rattle.bp_tree.specs.Ast.{Program};
+//! Playing a run on a session.
+//! Playing the run that makes listed steps, on a session.
+ghost use Rattle.std.specs.Prelude.{◌≡◌, IsTrue, List, IfOk, ◌<◌, ◌≤◌, true, [], IfSome, length};
+ghost use Rattle.bp_language.specs.Ast.{Program};
 ghost use Rattle.bp_flat.specs.StandsFor.{StandsFor};
 ghost use Rattle.bp_machine.specs.declared.calls.Call.{Call as Answered};
-ghost use Rattle.bp_machine.specs.Histories.{configuration_after};
+ghost use Rattle.bp_machine.specs.Histories.{configuration_after, calls_of_thread, granted_calls, is_granted};
 ghost use Rattle.bp_machine.specs.Sessions.{Stands};
-ghost use Rattle.bp_machine.specs.Setups.{FitsCode};
-ghost use Rattle.bp_explore.specs.FoundRuns.{IsFinding, IsPlayed};
+ghost use Rattle.bp_machine.specs.Setups.{FitsCode, threads};
+ghost use Rattle.bp_machine.specs.declared.limits.TheConstants.{MAX_CALLS, MAX_CONTEXTS};
+ghost use Rattle.bp_explore.specs.Explorations.{IsFinding, IsPlayed, most_calls};
+ghost use Rattle.bp_explore.specs.Searches.{IsPlayedTo, IsReplay};
+ghost use Rattle.bp_explore.specs.ThroughExplorations.{IsPlayedThrough};
 
-use crate::explored::{Ending, Finding, FoundRun};
-use crate::observers::Failures;
-use crate::replays::{most_calls, replay_of};
+use crate::explorations::{Ending, Finding, FoundRun, RunThrough, ThroughEnding};
+use crate::observers::{Failures, Observer, SeenStep, made_with};
 use bp_flat::Code;
-use bp_machine::limits::{MAX_CALLS, MAX_CONTEXTS};
-use bp_machine::{Call, Session, Setup};
+use bp_machine::limits::{DEFAULT_CALLS, MAX_CALLS, MAX_CONTEXTS};
+use bp_machine::{Call, Reply, Session, Setup};
 use std::alloc::{AllocError, Global};
 
 /// Whether this is found where the session stands.
@@ -67,6 +71,160 @@ pub(crate) fn played(
     Ok(Ending::Found(FoundRun {
         contexts,
         finding,
+        history,
+        session: replay.session,
+    }))
+}
+
+/// A session after a run, of whose steps this many made listed steps.
+#[derive(Drop)]
+pub(crate) struct Replay {
+    pub(crate) session: Session,
+    pub(crate) made: u32,
+}
+
+/// How many calls of this thread there are.
+fn calls_of(thread: u32, calls: &[Call]) -> usize
+    ensures { result ≡ length (calls_of_thread thread calls.now) }
+{
+    let mut count: usize = 0;
+    for call in calls {
+        if call.thread == thread {
+            count += 1;
+        }
+    }
+    count
+}
+
+/// The most calls of one thread.
+pub(crate) fn most_calls(threads: u32, calls: &[Call]) -> usize
+    ensures { result ≡ most_calls threads calls.now }
+{
+    let mut most = 0;
+    for thread in 0..threads {
+        most = most.max(calls_of(thread, calls));
+    }
+    most
+}
+
+/// Whether both replies are the same, and that to a granted step.
+fn is_same_step(made: Reply, reply: Reply) -> bool
+    ensures { IsTrue result → (made ≡ reply) × (is_granted reply ≡ true) }
+{
+    match made {
+        Reply::Stepped => matches!(reply, Reply::Stepped),
+        Reply::Failed => matches!(reply, Reply::Failed),
+        _ => false,
+    }
+}
+
+/// Makes these calls on a session, and returns how many listed steps they make. None if they are
+/// not the machine's own, each a granted step, or go on once all listed steps are made.
+fn play<O: Observer>(session: &mut Session, observer: &O, calls: &[Call]) -> Option<u32>
+    requires stands { (t : Program)
+        → StandsFor session.old.code t
+        → Stands t session.old [] }
+    requires some { 0 < (O.listed observer.now).count }
+    ensures played { let o = O.listed observer.now in
+        let s = session.new in
+        IfSome result (λ made.
+        (t : Program)
+        → StandsFor s.code t
+        → Stands t s calls.now × (o.is_of t → IsPlayedTo t s.setup o calls.now made)) }
+    ensures granted { IfSome result (λ made. granted_calls calls.now ≡ calls.now) }
+    ensures kept { (session.new.code ≡ session.old.code) × (session.new.setup ≡ session.old.setup) }
+{
+    let mut made = 0;
+    for call in calls {
+        if made >= observer.count() {
+            return None;
+        }
+        let before = session.top(call.thread);
+        let Ok(answer) = session.ask_with(call.thread, call.bit) else {
+            return None;
+        };
+        if !is_same_step(answer.reply, call.reply) {
+            return None;
+        }
+        let step = SeenStep {
+            thread: call.thread,
+            before,
+            after: session.top(call.thread),
+            globals: session.globals(),
+            failed: session.is_failed(),
+        };
+        made = made_with(observer, made, &step);
+    }
+    Some(made)
+}
+
+/// Plays a run within this many contexts, in the setup of its trace. The most calls of one thread
+/// are handed in.
+pub(crate) fn replay_of<O: Observer>(
+    alloc: Global,
+    code: &Code,
+    setup: &Setup,
+    observer: &O,
+    history: &[Call],
+    contexts: u32,
+    calls: usize,
+) -> Result<Replay, AllocError>
+    requires fits { FitsCode code.now setup.now }
+    requires some { 0 < (O.listed observer.now).count }
+    requires contexts { contexts ≤ MAX_CONTEXTS }
+    requires calls { (calls ≤ MAX_CALLS) × (calls ≡ most_calls (threads setup.now) history.now) }
+    ensures { let o = O.listed observer.now in
+        (t : Program)
+        → StandsFor code.now t
+        → IfOk result (IsReplay code.now t setup.now o contexts history.now) }
+{
+    let allowed = DEFAULT_CALLS.max(calls as u32);
+    let own = setup
+        .try_copy()?
+        .with_seed(None)
+        .with_bounds(contexts, allowed);
+    let mut session = Session::new(alloc, code, &own)?;
+    let Some(made) = play(&mut session, observer, history) else {
+        return Err(AllocError);
+    };
+    Ok(Replay { session, made })
+}
+
+/// Plays the run of these steps, which is within this many contexts and makes all listed steps.
+pub(crate) fn played_through<O: Observer>(
+    alloc: Global,
+    code: &Code,
+    setup: &Setup,
+    observer: &O,
+    history: Vec<Call>,
+    contexts: u32,
+) -> Result<ThroughEnding, AllocError>
+    requires fits { FitsCode code.now setup.now }
+    requires some { 0 < (O.listed observer.now).count }
+    ensures { let o = O.listed observer.now in
+        (t : Program)
+        → StandsFor code.now t
+        → o.is_of t
+        → IfOk result (IsPlayedThrough code.now t setup.now o contexts) }
+{
+    let calls = most_calls(setup.threads(), history.as_slice());
+    if contexts > MAX_CONTEXTS || calls > MAX_CALLS as usize {
+        return Ok(ThroughEnding::Unplayed { contexts, calls });
+    }
+    let replay = replay_of(
+        alloc,
+        code,
+        setup,
+        observer,
+        history.as_slice(),
+        contexts,
+        calls,
+    )?;
+    if replay.made < observer.count() {
+        return Err(AllocError);
+    }
+    Ok(ThroughEnding::Found(RunThrough {
+        contexts,
         history,
         session: replay.session,
     }))

@@ -1,16 +1,14 @@
 //! The nodes of an exploration, in cells.
 ghost use Rattle.std.specs.Prelude.{◌≡◌, ◌<◌, ◌/◌, ◌%◌, ◌^◌, ◌++◌, ◌∷◌, [], true, IsTrue, List, Option, None, Some, IfOk, OnOk, drop, length, slice_get};
-ghost use Rattle.bp_tree.specs.Ast.{Program};
-ghost use Rattle.bp_flat.specs.Configurations.{Configuration};
+ghost use Rattle.bp_language.specs.Ast.{Program};
+ghost use Rattle.bp_flat.specs.Moves.{Configuration};
 ghost use Rattle.bp_machine.specs.declared.stacks.ActivationRecord.{ActivationRecord};
 ghost use Rattle.bp_machine.specs.Transitions.{IsTransitionOn};
-ghost use Rattle.bp_explore.specs.Live.{IsLive};
-ghost use Rattle.bp_explore.specs.Packing.{NodeOf, IsRecordOf, node_of, record_at, take_key};
-ghost use Rattle.bp_explore.specs.SeenSteps.{IsTopOrNone, ShowsStep};
-ghost use Rattle.bp_explore.specs.States.{Shows, state_after};
+ghost use Rattle.bp_explore.specs.States.{IsLive, NodeOf, IsRecordOf, node_of, record_at, take_key, Shows, state_after};
+ghost use Rattle.bp_explore.specs.Searches.{IsTopOrNone, ShowsStep};
 
-use crate::cells::{push_number, read_number};
-use crate::seen_steps::SeenStep;
+use crate::observers::SeenStep;
+use crate::packing::{push_number, read_number};
 use crate::states::State;
 use bp_flat::{Code, Effect};
 use bp_machine::{Call, Reply, Top, Transition};
@@ -31,7 +29,7 @@ pub(crate) struct Nodes {
 
 impl Model for Nodes {
     ghost use Rattle.std.specs.Prelude.{◌≡◌, ◌≤◌, All, length};
-    ghost use Rattle.bp_explore.specs.Packing.{NodesOf, end_of, nodes_from};
+    ghost use Rattle.bp_explore.specs.States.{NodesOf, end_of, nodes_from};
 
     ghost Value = { NodesOf };
 

@@ -1,12 +1,13 @@
 //! Who looks for listed steps.
+//! Steps as an exploration sees them.
+//! Who is told how far an exploration is.
 ghost use Rattle.std.specs.Prelude.{◌≡◌, ◌<◌, ◌≤◌, ◌↔◌, IsTrue};
-ghost use Rattle.bp_tree.specs.Ast.{Program};
-ghost use Rattle.bp_flat.specs.Configurations.{Configuration};
-ghost use Rattle.bp_explore.specs.ListedSteps.{ListedSteps, IsMade};
-ghost use Rattle.bp_explore.specs.SeenSteps.{ShowsStep};
-ghost use Rattle.bp_explore.specs.Counts.{IsCountedStep, failures};
+ghost use Rattle.bp_language.specs.Ast.{Program};
+ghost use Rattle.bp_flat.specs.Moves.{Configuration};
+ghost use Rattle.bp_explore.specs.Explorations.{ListedSteps, IsMade};
+ghost use Rattle.bp_explore.specs.Searches.{ShowsStep, IsCountedStep, failures};
 
-use crate::seen_steps::SeenStep;
+use bp_machine::Top;
 
 /// Who looks for steps that are listed.
 pub trait Observer {
@@ -65,4 +66,28 @@ pub(crate) fn made_with<O: Observer>(observer: &O, made: u32, step: &SeenStep) -
         return made + 1;
     }
     made
+}
+
+/// What is seen of a step of a thread.
+#[derive(Clone, Copy, Debug, PartialEq, Eq)]
+pub struct SeenStep {
+    pub thread: u32,
+    /// The top of its stack before the step. None if the stack is empty.
+    pub before: Option<Top>,
+    /// The top of its stack after the step.
+    pub after: Option<Top>,
+    /// The word of the globals after the step.
+    pub globals: u128,
+    /// Whether an assertion fails in the step.
+    pub failed: bool,
+}
+
+/// Whether an exploration continues, and who is told how far it is.
+pub trait Watcher {
+    /// Takes note of how many contexts are being looked through and how many states there are, and
+    /// returns whether to continue.
+    fn goes_on(&self, contexts: u32, states: usize) -> bool;
+
+    /// Takes note that the exploration ends.
+    fn ends(&self);
 }

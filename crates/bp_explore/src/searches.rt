@@ -1,13 +1,12 @@
 //! Searching a space, layer by layer.
 ghost use Rattle.std.specs.Prelude.{◌≡◌, ◌<◌, ◌∷◌, []};
-ghost use Rattle.bp_tree.specs.Ast.{Program};
+ghost use Rattle.bp_language.specs.Ast.{Program};
 ghost use Rattle.bp_flat.specs.StandsFor.{StandsFor};
 ghost use Rattle.bp_explore.specs.Searches.{BeginsAt, IsSearchEnd};
 
-use crate::explored::Reason;
-use crate::observers::Observer;
+use crate::explorations::Reason;
+use crate::observers::{Observer, Watcher};
 use crate::spaces::{Space, Step, Stop};
-use crate::watchers::Watcher;
 use bp_flat::{Code, steps_alike};
 use bp_machine::{Reply, Setup};
 use std::alloc::AllocError;

@@ -1,20 +1,15 @@
 //! The space of an exploration: the nodes that were found, in order of their contexts.
 ghost use Rattle.std.specs.Prelude.{◌≡◌, ◌≢◌, ◌<◌, ◌≤◌, ◌+◌, ◌++◌, ◌∷◌, [], ℕ, IsTrue, IsSome, None, Some, IfOk, OnOk, length, slice_get};
-ghost use Rattle.bp_explore.specs.ListedSteps.{ListedSteps};
-ghost use Rattle.bp_explore.specs.Packing.{HasKey, NodeOf, node_of};
-ghost use Rattle.bp_explore.specs.Reached.{IsTaken, MayAdd, StayReached, node_with};
-ghost use Rattle.bp_explore.specs.Searches.{IsMostMade};
-ghost use Rattle.bp_explore.specs.Live.{AreLiveFrom};
-ghost use Rattle.bp_explore.specs.Spaces.{level_with, Holds, Has, IsSeen, IsExpanded, IsClosed, AreLayered, AreAtMost, IsGrown, IsExplored};
-ghost use Rattle.bp_explore.specs.Steps.{IsFollowed, Step as StepOf};
+ghost use Rattle.bp_explore.specs.Explorations.{ListedSteps};
+ghost use Rattle.bp_explore.specs.States.{HasKey, NodeOf, node_of, AreLiveFrom};
+ghost use Rattle.bp_explore.specs.Searches.{IsTaken, MayAdd, StayReached, node_with, IsMostMade, level_with, Holds, Has, IsSeen, IsExpanded, IsClosed, AreLayered, AreAtMost, IsGrown, IsExplored, IsFollowed, Step as StepOf};
 
-use crate::explored::Reason;
+use crate::explorations::Reason;
 use crate::limits::{MAX_STATES, STATES_BETWEEN};
 use crate::nodes::Nodes;
-use crate::observers::{Observer, made_with};
+use crate::observers::{Observer, Watcher, made_with};
 use crate::states::State;
 use crate::tables::{note, place_of};
-use crate::watchers::Watcher;
 use bp_flat::{Code, Effect};
 use bp_machine::{Call, Reply, Transition};
 use std::alloc::{AllocError, Global};
@@ -49,7 +44,7 @@ pub(crate) enum Stop {
 
 impl From<AllocError> for Stop {
     ghost use Rattle.std.specs.Prelude.{◌≡◌};
-    ghost use Rattle.bp_explore.specs.declared.explored.Reason.{Reason};
+    ghost use Rattle.bp_explore.specs.declared.explorations.Reason.{Reason};
     ghost use Rattle.bp_explore.specs.declared.spaces.Stop.{Stop};
 
     ghost from_gives = { λ _ e. e ≡ Stop.Short Reason.Memory };

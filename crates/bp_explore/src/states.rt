@@ -1,21 +1,17 @@
 //! States: the globals and the stacks of a configuration, without a history.
 ghost use Rattle.std.specs.Prelude.{◌≡◌, ◌<◌, [], true, IsTrue, List, Some, IfOk, OnOk, drop, length, map, slice_get, string_bytes};
-ghost use Rattle.bp_tree.specs.Ast.{Program};
-ghost use Rattle.bp_flat.specs.Bits.{bits_of};
-ghost use Rattle.bp_flat.specs.Configurations.{Configuration};
+ghost use Rattle.bp_language.specs.Ast.{Program};
+ghost use Rattle.bp_flat.specs.InstrEffects.{bits_of};
+ghost use Rattle.bp_flat.specs.Moves.{Configuration};
 ghost use Rattle.bp_flat.specs.Steps.{bits_from};
 ghost use Rattle.bp_machine.specs.declared.stacks.ActivationRecord.{ActivationRecord};
-ghost use Rattle.bp_explore.specs.SeenSteps.{IsTopOrNone, ShowsStep};
-ghost use Rattle.bp_explore.specs.States.{frames_of, first_stack_of, Shows, state_after};
-ghost use Rattle.bp_explore.specs.Cells.{IsPacked};
-ghost use Rattle.bp_explore.specs.Packing.{take_state};
-ghost use Rattle.bp_explore.specs.Live.{goes_on, IsLive};
+ghost use Rattle.bp_explore.specs.Searches.{IsTopOrNone, ShowsStep};
+ghost use Rattle.bp_explore.specs.States.{frames_of, first_stack_of, Shows, state_after, IsPacked, take_state, goes_on, IsLive};
 ghost use Rattle.bp_machine.specs.Transitions.{IsTransitionOn};
 ghost use Rattle.bp_machine.specs.declared.threads.Transition.{Transition as TransitionOf};
 
-use crate::cells::{push_number, read_number};
-use crate::packing::{push_stacks, read_stacks};
-use crate::seen_steps::SeenStep;
+use crate::observers::SeenStep;
+use crate::packing::{push_number, push_stacks, read_number, read_stacks};
 use bp_flat::stores::word_of;
 use bp_flat::{Code, Effect, Store, steps_alike};
 use bp_machine::limits::MAX_FRAMES;

@@ -1,10 +1,4 @@
-mod BitsFrom
-mod HalvesOfWords
-pub mod HeadingsOfProcedures
-pub mod ListItems
-pub mod ProceduresOfPlaces
-pub mod SameAnswer
-pub mod SlotsOfNames
-pub mod StandsForStepsAlike
-mod WithSlots
 mod WordBits
+pub mod SlotsOfNames
+pub mod ProceduresOfPlaces
+pub mod StandsForStepsAlike

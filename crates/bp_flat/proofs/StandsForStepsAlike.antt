@@ -1,16 +1,11 @@
 -- Where a code stands for a program, they step alike.
 use Rattle.std.proofs.Common.{◌≡◌, refl, sym, ap, subst, ◌∙◌, ℕ, Bool, true, false, cond, List, [], ◌∷◌, ◌++◌, Option, length}
 use Rattle.std.proofs.lemmas.List.{length-map}
-use Rattle.bp_tree.specs.Ast.{Name, Block, Done, Then, Statement, Skips, GoesTo, Returns, Assigns, Branches, Loops, Asserts, Assumes, Prints, Calls, Procedure, Program}
-use Rattle.bp_flat.specs.Values.{binding, expression_value, expression_values, decision_value, after_assignment}
-use Rattle.bp_flat.specs.Continuations.{chain}
-use Rattle.bp_flat.specs.Configurations.{Frame}
-use Rattle.bp_flat.specs.Moves.{StatementEffect, effect, statement_effect, assignment_effect}
+use Rattle.bp_language.specs.Ast.{Name, Block, Done, Then, Statement, Skips, GoesTo, Returns, Assigns, Branches, Loops, Asserts, Assumes, Prints, Calls, Procedure, Program}
+use Rattle.bp_flat.specs.Moves.{binding, expression_value, expression_values, decision_value, after_assignment, chain, Frame, StatementEffect, effect, statement_effect, assignment_effect, Store, Leaves, Fails, Blocks}
 use Rattle.bp_flat.specs.Flat.{Instruction, Flat}
-use Rattle.bp_flat.specs.Effects.{Store, Leaves, Fails, Blocks}
 use Rattle.bp_flat.specs.Steps.{Bits, Activation, InstructionEffect, bits_from, step_to, instruction_effect, step, with_slots, formula_values}
-use Rattle.bp_flat.specs.StandsFor.{StandsFor, Remains, Does, CarriesOut, valuation_of, places_of, variables, named_store}
-use Rattle.bp_flat.specs.Alike.{ShowsStack, SameEffect, StepsAlike}
+use Rattle.bp_flat.specs.StandsFor.{StandsFor, Remains, Does, CarriesOut, valuation_of, places_of, variables, named_store, ShowsStack, SameEffect, StepsAlike}
 
 -- the bits of a call's arguments show the new frame's locals
 no_bits : (ys : List Name) → binding ys [] ≡ valuation_of ys (bits_from [])

@@ -1,11 +1,21 @@
 -- What the effect of an instruction in src/ results in.
-use Rattle.std.specs.Prelude.{List, ◌∷◌}
+use Rattle.std.specs.Prelude.{ℕ, nat_eq, List, ◌∷◌}
+use Rattle.std.specs.Int.{bit_at}
 use Rattle.bp_flat.specs.declared.stores.Store.{Store}
+use Rattle.bp_flat.specs.Moves as effects
+use Rattle.bp_flat.specs.Steps as steps
 use Rattle.bp_flat.specs.declared.effects.Effect.{Effect}
 use Rattle.bp_flat.specs.declared.effects.Effect.TheVariants.{Continues, Enters, Returns, Fails, Blocks}
-use Rattle.bp_flat.specs.Bits.{bits_of}
-use Rattle.bp_flat.specs.Effects as effects
 use Rattle.bp_flat.specs.Steps.{Activation, activation, InstructionEffect}
+
+-- The bits of the words of src/ by their slots.
+
+-- the bits of a word, that of the weight 2 ^ k at k
+abbrev pub bits_of : ℕ → steps.Bits
+bits_of word k = nat_eq (bit_at word k) 1
+
+abbrev pub store_of : Store → effects.Store steps.Bits
+store_of w = record { globals = bits_of w.globals; locals = bits_of w.locals }
 
 -- above the activations below, where the store before it is s
 abbrev pub effect_of : Store → Effect → List Activation → InstructionEffect

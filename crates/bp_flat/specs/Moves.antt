@@ -1,11 +1,168 @@
+-- How a program runs: values, continuations, configurations, and one move of a thread.
+use Rattle.std.specs.Prelude.{List, if◌then◌else◌, ℕ, Bool, true, false, not, ◌&&◌, ◌||◌, [], ◌∷◌, Option, None, Some, is_some, map, unwrap_or, bytes_eq, ◌++◌, ◌≡◌, slice_get, slice_set}
+use Rattle.std.specs.Option.{option_or}
+use Rattle.bp_language.specs.declared.exprs.Op.{Op}
+use Rattle.bp_language.specs.declared.exprs.Op.TheVariants.{Equal, Differ, And, Xor, Or, Implies}
+use Rattle.bp_language.specs.Ast.{Name, Expression, Constant, Variable, Negation, Operation, Decision, Choose, Decide, Block, Done, Then, Statement, Branches, Loops, Calls, Procedure, Program, Skips, GoesTo, Returns, Assigns, Asserts, Assumes, Prints}
+pub use Rattle.bp_language.specs.Ast.{procedure_named}
+
+-- What statements and instructions have in common: the store that they see, and the effect that
+-- they have.
+
+-- the variables that a statement or an instruction sees: the globals, and the locals of its frame
+pub record Store (Variables : Type 0) : Type 0 where
+  pub globals : Variables
+  pub locals : Variables
+
+-- what a statement or an instruction does to its thread
+pub data Effect (Variables Frame : Type 0) : Type 0 where
+  -- the globals and the thread's stack after it
+  Leaves : (globals : Variables) (stack : List Frame) → Effect Variables Frame
+  -- an assertion of 0
+  Fails : Effect Variables Frame
+  -- an assumption of 0
+  Blocks : Effect Variables Frame
+  -- a jump, a call or a next instruction that is nowhere
+  Misses : Effect Variables Frame
+
+-- The values of expressions and decisions, where globals and locals are maps from names to bits.
+
+-- names with their bits; the first entry of a name counts
+abbrev pub Valuation : Type 0
+Valuation = List (List ℕ × Bool)
+
+abbrev pub lookup : Valuation → List ℕ → Option Bool
+lookup [] x = None
+lookup (e ∷ m) x = if bytes_eq e.0 x then Some e.1 else lookup m x
+
+-- the map with another bit for a name that it has
+abbrev pub update : Valuation → List ℕ → Bool → Valuation
+update [] x b = []
+update (e ∷ m) x b = if bytes_eq e.0 x then (e.0, b) ∷ m else e ∷ update m x b
+
+-- the bit of a variable: a local hides a global of its name, and what is declared nowhere is 0
+abbrev pub variable_value : Store Valuation → List ℕ → Bool
+variable_value s x = unwrap_or (option_or (lookup s.locals x) (lookup s.globals x)) false
+
+abbrev pub same_bit : Bool → Bool → Bool
+same_bit true b = b
+same_bit false b = not b
+
+abbrev pub operation_value : Op → Bool → Bool → Bool
+operation_value Equal a b = same_bit a b
+operation_value Differ a b = not (same_bit a b)
+operation_value And a b = a && b
+operation_value Xor a b = not (same_bit a b)
+operation_value Or a b = a || b
+operation_value Implies a b = not a || b
+
+abbrev pub expression_value : Store Valuation → Expression → Bool
+expression_value s (Constant b) = b
+expression_value s (Variable x) = variable_value s x.text
+expression_value s (Negation e) = not (expression_value s e)
+expression_value s (Operation op a b) =
+    operation_value op (expression_value s a) (expression_value s b)
+
+abbrev pub expression_values : Store Valuation → List Expression → List Bool
+expression_values s es = map (expression_value s) es
+
+-- the value of `?` is the call's choice bit
+abbrev pub decision_value : Store Valuation → Bool → Decision → Bool
+decision_value s bit Choose = bit
+decision_value s bit (Decide e) = expression_value s e
+
+-- the store with another bit for a variable: among the locals where it is one, else among the
+-- globals
+abbrev pub after_write : Store Valuation → List ℕ → Bool → Store Valuation
+after_write s x b =
+    if is_some (lookup s.locals x)
+    then record s { locals = update s.locals x b }
+    else record s { globals = update s.globals x b }
+
+-- the store after each target got its bit, the first target first
+abbrev pub after_assignment : Store Valuation → List Name → List Bool → Store Valuation
+after_assignment s [] bits = s
+after_assignment s (x ∷ xs) [] = s
+after_assignment s (x ∷ xs) (b ∷ bits) = after_assignment (after_write s x.text b) xs bits
+
+-- the names bound to these bits, and 0 for the names past the last bit
+abbrev pub binding : List Name → List Bool → Valuation
+binding [] bits = []
+binding (x ∷ xs) [] = (x.text, false) ∷ binding xs []
+binding (x ∷ xs) (b ∷ bits) = (x.text, b) ∷ binding xs bits
+
+-- The statements that remain: after a statement in the usual way, and after a jump to a label.
+
+-- the statements of one block, then those of the other
+abbrev pub chain : Block → Block → Block
+chain Done r = r
+chain (Then label at s t) r = Then label at s (chain t r)
+
+abbrev pub has_label : Option Name → List ℕ → Bool
+has_label None x = false
+has_label (Some l) x = bytes_eq l.text x
+
+-- What remains from the statement with this label on, where the block is followed by r: as if
+-- control had come there in the usual way. Of a branch the first part counts first, then the
+-- second, then what follows the branch.
+abbrev mutual
+  pub from_label : Block → Block → List ℕ → Option Block
+  from_label Done r x = None
+  from_label (Then label at s t) r x =
+      if has_label label x
+      then Some (Then label at s (chain t r))
+      else option_or (from_inside s label at (chain t r) x) (from_label t r x)
+
+  -- the same within one statement, where r remains after it
+  pub from_inside : Statement → Option Name → ℕ → Block → List ℕ → Option Block
+  from_inside (Branches d a b) label at r x = option_or (from_label a r x) (from_label b r x)
+  from_inside (Loops d a) label at r x = from_label a (Then label at (Loops d a) r) x
+  from_inside s label at r x = None
+
+-- The configurations of a program: what its threads share, and where each of them stands.
+
+-- a call that has not returned: its procedure, its locals, and the statements that remain
+pub record Frame : Type 0 where
+  pub procedure : Procedure
+  pub locals : Valuation
+  pub left : Block
+
+-- a stack for each thread, its top first; failed where an assertion has failed
+pub record Configuration : Type 0 where
+  pub globals : Valuation
+  pub stacks : List (List Frame)
+  pub failed : Bool
+
+-- the frame of a new call: the formals have the arguments, the declared locals 0, and the whole
+-- body remains
+abbrev pub entry_frame : Procedure → List Bool → Frame
+entry_frame p arguments =
+    record {
+      procedure = p;
+      locals = binding p.formals arguments ++ binding p.locals [];
+      left = p.body;
+    }
+
+-- the stack of a thread that begins with this procedure, and none if there is none
+abbrev pub first_stack : Option Procedure → List Frame
+first_stack None = []
+first_stack (Some p) = entry_frame p [] ∷ []
+
+-- the start: the globals have these bits, and each thread enters the procedure that is named for it
+abbrev pub start_of : Program → List (List ℕ) → List Bool → Configuration
+start_of t entries init =
+    record {
+      globals = binding t.globals init;
+      stacks = map (λ x. first_stack (procedure_named t.procedures x)) entries;
+      failed = false;
+    }
+
+-- whether the next statement is a call
+abbrev pub is_call : Block → Bool
+is_call (Then label at (Calls x es) r) = true
+is_call b = false
+
 -- One move of a program: one thread carries out its next statement.
-use Rattle.std.specs.Prelude.{if◌then◌else◌, ◌≡◌, ℕ, Bool, true, false, List, ◌∷◌, Option, None, Some, slice_get, slice_set}
-use Rattle.bp_tree.specs.Ast.{Name, Block, Done, Then, Statement, Skips, GoesTo, Returns, Assigns, Branches, Loops, Asserts, Assumes, Prints, Calls, Procedure, Program}
-pub use Rattle.bp_flat.specs.Effects.{Leaves, Fails, Blocks, Misses}
-use Rattle.bp_flat.specs.Effects.{Store, Effect}
-use Rattle.bp_flat.specs.Values.{Valuation, expression_values, decision_value, after_assignment}
-use Rattle.bp_flat.specs.Continuations.{chain, from_label}
-use Rattle.bp_flat.specs.Configurations.{Frame, Configuration, entry_frame, procedure_named}
 
 -- what a statement does to its thread
 abbrev pub StatementEffect : Type 0

@@ -1,9 +1,8 @@
 -- A test of equality at each type whose values have codes, and its law, which an `impl` of
 -- PartialEq has to name. No contract of a public function names them.
-use Rattle.std.specs.Prelude.{◌≡◌, ◌&&◌, Bool, true, false, nat_eq, Decides}
 use Rattle.std.specs.Coded.{Coded}
 use Rattle.std.specs.Cmp.{IsEquivalence, decided}
-use Rattle.std.proofs.Common.{refl, ap, subst, eqb-true, eq-eqb}
+use Rattle.std.proofs.Common.{refl, ap, subst, eqb-true, eq-eqb, ◌≡◌, ◌&&◌, Bool, true, false, nat_eq, Decides}
 use base.Stored.{Gv, gnil, gnum, gcons}
 
 abbrev pub same_code : Gv → Gv → Bool

@@ -1,14 +1,13 @@
 -- A code stands for a program: each of its instructions is one statement, or one procedure's end.
-use Rattle.std.specs.Prelude.{◌≡◌, ℕ, suc, Bool, List, [], ◌∷◌, ◌++◌, Option, Some, length, slice_get}
-pub use Rattle.bp_tree.specs.Lookup.{variables}
-use Rattle.bp_tree.specs.Ast.{Name, Expression, Decision, Block, Done, Then, Statement, Skips, GoesTo, Returns, Assigns, Branches, Loops, Asserts, Assumes, Prints, Calls, Procedure, Program}
+use Rattle.std.specs.Prelude.{◌≡◌, ℕ, suc, Bool, List, [], ◌∷◌, ◌++◌, Option, Some, length, slice_get, None, map}
+pub use Rattle.bp_language.specs.Ast.{variables}
+use Rattle.bp_language.specs.Ast.{Name, Expression, Decision, Block, Done, Then, Statement, Skips, GoesTo, Returns, Assigns, Branches, Loops, Asserts, Assumes, Prints, Calls, Procedure, Program}
+use Rattle.bp_language.specs.Texts.{HasText}
+use Rattle.bp_language.specs.Faults.{IsLawful}
 use Rattle.bp_flat.specs.declared.slots.Slot.{Slot}
 use Rattle.bp_flat.specs.Flat.{Formula, Instruction, Skip, Goto, Return, Assign, If, While, Assert, Assume, Print, Call, Heading, Flat}
-use Rattle.bp_flat.specs.Effects.{Store}
-use Rattle.bp_flat.specs.Values.{Valuation, expression_values, decision_value, after_assignment}
-use Rattle.bp_flat.specs.Continuations.{chain, from_label}
-use Rattle.bp_flat.specs.Configurations.{procedure_named}
-use Rattle.bp_flat.specs.Steps.{Bits, with_slots, formula_values, test_value}
+use Rattle.bp_flat.specs.Moves.{Store, Valuation, expression_values, decision_value, after_assignment, chain, from_label, procedure_named, Frame, Leaves, Fails, Blocks, StatementEffect, effect}
+use Rattle.bp_flat.specs.Steps.{Bits, with_slots, formula_values, test_value, Activation, InstructionEffect, step}
 
 -- names with the bits of their slots, where a variable's slot is its place among these names
 abbrev pub valuation_of : List Name → Bits → Valuation
@@ -188,3 +187,65 @@ pub record IsEntryOf (t : Program) (found : Option Procedure) (n : ℕ) : Type 0
   pub procedure : Procedure
   pub is : found ≡ Some procedure
   pub begins : Remains (places_of t.procedures) n procedure procedure.body
+
+-- Where in the text the statements of a program begin, in the order of its instructions.
+
+-- the place of the statement that comes next, and none if nothing remains
+abbrev pub start_of_block : Block → Option ℕ
+start_of_block Done = None
+start_of_block (Then label at s t) = Some at
+
+-- one for each instruction of the code that stands for the program
+abbrev pub starts_of : Program → List (Option ℕ)
+starts_of t = map (λ p. start_of_block p.left) (places_of t.procedures)
+
+-- the same of the statements of a block, at any depth, and of those inside a statement
+abbrev mutual
+  pub block_starts : Block → List (Option ℕ)
+  block_starts Done = []
+  block_starts (Then label at s t) = Some at ∷ (inner_starts s ++ block_starts t)
+
+  pub inner_starts : Statement → List (Option ℕ)
+  inner_starts (Branches d a b) = block_starts a ++ block_starts b
+  inner_starts (Loops d a) = block_starts a
+  inner_starts s = []
+
+-- Codes that stand for a program.
+
+-- the code stands for the lawful program of some text
+abbrev pub IsOfProgram : Flat → Type 0
+IsOfProgram c = ∥ ((t : Program) × IsLawful t × HasText t × StandsFor c t) ∥₁
+
+-- Code and program step alike.
+
+-- the activation is at what remains of the frame, and has its locals
+pub record ShowsFrame (t : Program) (a : Activation) (f : Frame) : Type 0 where
+  pub left : Remains (places_of t.procedures) a.number f.procedure f.left
+  pub locals : f.locals ≡ valuation_of (variables f.procedure) a.locals
+
+-- the same of a whole stack
+abbrev pub ShowsStack : Program → List Activation → List Frame → Type 0
+ShowsStack t [] [] = Unit {0}
+ShowsStack t (a ∷ below) (f ∷ fs) = ShowsFrame t a f × ShowsStack t below fs
+ShowsStack t [] (f ∷ fs) = ⊥
+ShowsStack t (a ∷ below) [] = ⊥
+
+-- the same globals and the same stack, an assertion of 0 in both, or an assumption of 0 in both
+abbrev pub SameEffect : Program → InstructionEffect → StatementEffect → Type 0
+SameEffect t (Leaves bits stack) (Leaves g fs) =
+    (g ≡ valuation_of t.globals bits) × ShowsStack t stack fs
+SameEffect t Fails Fails = Unit {0}
+SameEffect t Blocks Blocks = Unit {0}
+SameEffect t o e = ⊥
+
+-- where an activation shows a frame, its next instruction has the effect of the program's next
+-- statement: each instruction is one move, each move one instruction, and an assumption of 0 is
+-- neither
+abbrev pub StepsAlike : Flat → Program → Type 0
+StepsAlike c t =
+    (bits : Bits) (a : Activation) (below : List Activation)
+    (f : Frame) (fs : List Frame) (bit : Bool)
+    → ShowsFrame t a f
+    → ShowsStack t below fs
+    → SameEffect t (step c.instructions bits a below bit)
+    (effect t.procedures f.left (valuation_of t.globals bits) f fs bit)

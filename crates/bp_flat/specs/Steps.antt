@@ -3,8 +3,7 @@ use Rattle.std.specs.Prelude.{if◌then◌else◌, ℕ, zero, suc, Bool, false, 
 use Rattle.bp_flat.specs.declared.slots.Slot.{Slot}
 use Rattle.bp_flat.specs.declared.slots.Slot.TheVariants.{Global, Local}
 use Rattle.bp_flat.specs.Flat.{Formula, Bit, At, Inverse, Joined, Instruction, Skip, Goto, Return, Assign, If, While, Assert, Assume, Print, Call}
-use Rattle.bp_flat.specs.Effects.{Store, Effect, Leaves, Fails, Blocks, Misses}
-use Rattle.bp_flat.specs.Values.{operation_value}
+use Rattle.bp_flat.specs.Moves.{Store, Effect, Leaves, Fails, Blocks, Misses, operation_value}
 
 -- a bit for each slot
 abbrev pub Bits : Type 0
@@ -95,3 +94,10 @@ effect_at (Some i) store below bit = instruction_effect i store below bit
 abbrev pub step : List Instruction → Bits → Activation → List Activation → Bool → InstructionEffect
 step code globals a below bit =
     effect_at (slice_get code a.number) (record { globals = globals; locals = a.locals }) below bit
+
+-- What an instruction prints.
+
+-- the values of a print, where it sees this store
+abbrev pub printed_values : Store Bits → Instruction → Option (List Bool)
+printed_values store (Print fs m) = Some (formula_values store fs)
+printed_values store i = None

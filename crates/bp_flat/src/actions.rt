@@ -1,7 +1,7 @@
 //! What instructions do.
 ghost use Rattle.std.specs.Prelude.{◌≡◌, ◌↔◌, IfOk, IsTrue};
 ghost use Rattle.bp_flat.specs.Steps.{with_slots, formula_values};
-ghost use Rattle.bp_flat.specs.Bits.{store_of};
+ghost use Rattle.bp_flat.specs.InstrEffects.{store_of};
 ghost use Rattle.bp_flat.specs.Instructions.{instruction_of, assign_of, if_of, call_of};
 
 use crate::expr_lists::{Arguments, SlotExprs};

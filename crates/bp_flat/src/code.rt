@@ -1,12 +1,10 @@
 //! Flat code.
 ghost use Rattle.std.specs.Prelude.{◌≡◌, None, IfOk, IsTrue, ◌↔◌, length, option_map, slice_get, MatchOption};
 ghost use Rattle.std.specs.Option.{option_copied};
-ghost use Rattle.bp_tree.specs.Ast.{Program};
-ghost use Rattle.bp_flat.specs.Configurations.{procedure_named};
-ghost use Rattle.bp_flat.specs.Flat.{flat};
-ghost use Rattle.bp_flat.specs.Headings.{heading_named};
-ghost use Rattle.bp_flat.specs.StandsFor.{StandsFor, IsEntryOf};
-ghost use Rattle.bp_flat.specs.Programs.{IsOfProgram};
+ghost use Rattle.bp_language.specs.Ast.{Program};
+ghost use Rattle.bp_flat.specs.Moves.{procedure_named};
+ghost use Rattle.bp_flat.specs.Flat.{flat, heading_named};
+ghost use Rattle.bp_flat.specs.StandsFor.{StandsFor, IsEntryOf, IsOfProgram};
 
 use crate::headings::{Heading, find_heading};
 use crate::instrs::Instr;
@@ -31,7 +29,7 @@ impl Model for Code {
 
     ghost coded = { coded_flat };
 
-    ghost use Rattle.bp_flat.specs.Programs.{IsOfProgram};
+    ghost use Rattle.bp_flat.specs.StandsFor.{IsOfProgram};
 
     ghost view = { λ c. flat c.headings.items c.globals c.instrs.items };
 

@@ -1,7 +1,6 @@
 //! Effects of instructions.
 ghost use Rattle.std.specs.Prelude.{◌≡◌, List};
-ghost use Rattle.bp_flat.specs.Bits.{store_of};
-ghost use Rattle.bp_flat.specs.InstrEffects.{effect_of};
+ghost use Rattle.bp_flat.specs.InstrEffects.{store_of, effect_of};
 ghost use Rattle.bp_flat.specs.Steps.{Activation, instruction_effect};
 
 use crate::actions::Action;

@@ -2,7 +2,7 @@
 ghost use Rattle.std.specs.Prelude.{◌≡◌, ◌≤◌, ◌↔◌, IfOk, IsTrue, map, length};
 ghost use Rattle.bp_flat.specs.declared.limits.TheConstants.{SLOTS};
 ghost use Rattle.bp_flat.specs.Steps.{formula_values, bits_from};
-ghost use Rattle.bp_flat.specs.Bits.{bits_of, store_of};
+ghost use Rattle.bp_flat.specs.InstrEffects.{bits_of, store_of};
 ghost use Rattle.bp_flat.specs.Views.{formula_of};
 
 use crate::exprs::SlotExpr;
@@ -20,7 +20,7 @@ impl Model for SlotExprs {
     ghost use Rattle.std.specs.Prelude.{List, map};
     ghost use Rattle.std.specs.Coded.{coded_list};
     ghost use Rattle.bp_flat.specs.Flat.{Formula};
-    ghost use Rattle.bp_flat.specs.Formulas.{coded_formula};
+    ghost use Rattle.bp_flat.specs.Codes.{coded_formula};
 
     ghost Value = { List Formula };
 
@@ -96,7 +96,7 @@ impl Model for Arguments {
     ghost use Rattle.bp_flat.specs.declared.limits.TheConstants.{SLOTS};
     ghost use Rattle.std.specs.Coded.{coded_list};
     ghost use Rattle.bp_flat.specs.Flat.{Formula};
-    ghost use Rattle.bp_flat.specs.Formulas.{coded_formula};
+    ghost use Rattle.bp_flat.specs.Codes.{coded_formula};
 
     ghost Value = { List Formula };
 

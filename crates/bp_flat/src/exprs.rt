@@ -1,13 +1,13 @@
 //! Expressions over slots.
 ghost use Rattle.std.specs.Prelude.{◌≡◌, ◌↔◌, IfOk, IsTrue};
-ghost use Rattle.bp_flat.specs.Values.{operation_value};
+ghost use Rattle.bp_flat.specs.Moves.{operation_value};
 ghost use Rattle.bp_flat.specs.Steps.{formula_value, test_value};
-ghost use Rattle.bp_flat.specs.Bits.{store_of};
+ghost use Rattle.bp_flat.specs.InstrEffects.{store_of};
 ghost use Rattle.bp_flat.specs.Views.{formula_of, test_of};
 
 use crate::slots::Slot;
 use crate::stores::Store;
-use bp_tree::Op;
+use bp_language::Op;
 use std::alloc::{AllocError, Global};
 use std::marker::Model;
 
@@ -31,7 +31,7 @@ pub struct SlotSub {
 impl Model for SlotSub {
     ghost use Rattle.std.proofs.Common.{arith};
     ghost use Rattle.bp_flat.specs.Flat.{Formula};
-    ghost use Rattle.bp_flat.specs.Formulas.{coded_formula, height};
+    ghost use Rattle.bp_flat.specs.Codes.{coded_formula, height};
 
     ghost Value = { Formula };
 

@@ -1,8 +1,7 @@
 //! Headings of procedures.
 ghost use Rattle.std.specs.Prelude.{◌≡◌, IfOk, IsTrue, ◌↔◌, string_bytes, bytes_eq};
 ghost use Rattle.std.specs.Option.{option_copied};
-ghost use Rattle.bp_flat.specs.Flat.{heading};
-ghost use Rattle.bp_flat.specs.Headings.{heading_named};
+ghost use Rattle.bp_flat.specs.Flat.{heading, heading_named};
 
 use std::alloc::AllocError;
 use std::marker::Model;

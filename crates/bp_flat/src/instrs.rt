@@ -1,7 +1,7 @@
 //! Instructions of flat code.
 ghost use Rattle.std.specs.Prelude.{◌≡◌, IfOk, IsTrue, ◌↔◌};
 ghost use Rattle.bp_flat.specs.Instructions.{instruction_of};
-ghost use Rattle.bp_flat.specs.Kinds.{instruction_kind, next_of, other_of, callee_of};
+ghost use Rattle.bp_flat.specs.Flat.{instruction_kind, next_of, other_of, callee_of};
 
 use crate::actions::Action;
 use std::alloc::AllocError;

@@ -1,7 +1,6 @@
 //! Laws of the definitions. These functions do nothing: their contracts are the laws.
-ghost use Rattle.bp_tree.specs.Ast.{Program};
-ghost use Rattle.bp_flat.specs.Alike.{StepsAlike};
-ghost use Rattle.bp_flat.specs.StandsFor.{StandsFor};
+ghost use Rattle.bp_language.specs.Ast.{Program};
+ghost use Rattle.bp_flat.specs.StandsFor.{StepsAlike, StandsFor};
 
 use crate::code::Code;
 

@@ -1,7 +1,7 @@
 //! What instructions print.
 ghost use Rattle.std.specs.Prelude.{◌≡◌, true, is_some, option_map, MatchResult};
-ghost use Rattle.bp_flat.specs.Bits.{store_of};
-ghost use Rattle.bp_flat.specs.Prints.{printed_values};
+ghost use Rattle.bp_flat.specs.InstrEffects.{store_of};
+ghost use Rattle.bp_flat.specs.Steps.{printed_values};
 
 use crate::actions::Action;
 use crate::instrs::Instr;

@@ -2,7 +2,7 @@
 ghost use Rattle.std.specs.Prelude.{◌≡◌, ◌<◌, ◌↔◌, IfOk, IsTrue};
 ghost use Rattle.bp_flat.specs.declared.limits.TheConstants.{SLOTS};
 ghost use Rattle.bp_flat.specs.Steps.{slot_bit, with_slot};
-ghost use Rattle.bp_flat.specs.Bits.{store_of};
+ghost use Rattle.bp_flat.specs.InstrEffects.{store_of};
 
 use crate::stores::{Store, bit_at, with_bit};
 use std::alloc::AllocError;

@@ -3,7 +3,7 @@ ghost use Rattle.std.specs.Prelude.{◌≡◌, ◌<◌, ◌≤◌, length};
 ghost use Rattle.bp_flat.specs.declared.limits.TheConstants.{SLOTS};
 ghost use Rattle.bp_flat.specs.Steps.{bits_from};
 ghost use Rattle.bp_flat.specs.Steps as steps;
-ghost use Rattle.bp_flat.specs.Bits.{bits_of};
+ghost use Rattle.bp_flat.specs.InstrEffects.{bits_of};
 
 /// The bits of the globals, and of the locals of one frame: the bit of the slot k has the weight
 /// 2 to the k.

@@ -1,17 +1,98 @@
 -- What each lawful program keeps.
-use Rattle.std.proofs.Common.{◌≡◌, ◌≢◌, ◌⊎◌, ℕ, ◌<◌, ◌≤◌, Bool, true, false, List, [], length, get_or, map, Option, None, Some, refl, inl, inr, arith}
+use Rattle.std.proofs.Common.{◌⊎◌, List, [], ◌∷◌, ◌++◌, inl, inr, ◌≡◌, ℕ, ◌<◌, length, Option, refl, subst, arith, ◌≢◌, ◌≤◌, Bool, true, false, get_or, map, None, Some}
+use Rattle.std.proofs.Math.Logic.{∥∥₁_elim}
+use Rattle.std.specs.Coded.{le_prop}
 use Rattle.std.proofs.lemmas.List.{length-map}
 use Rattle.std.proofs.lemmas.Option.{slice_get-get_or}
 use Rattle.std.proofs.lemmas.Bool.{cases_lt}
-use Rattle.bp_tree.specs.Ast.{Name, Expression, Statement, Skips, GoesTo, Returns, Assigns, Branches, Loops, Asserts, Assumes, Prints, Calls, Procedure, Program}
-use Rattle.bp_tree.specs.Lookup.{variables, procedure_named}
+use Rattle.bp_language.specs.Ast.{Name, Block, Statement, Assigns, Procedure, Program, Expression, Skips, GoesTo, Returns, Branches, Loops, Asserts, Assumes, Prints, Calls, variables, procedure_named}
+use Rattle.bp_language.specs.Faults.{Among, Labelled, statements, statements_inside, labels, IsTwice, IsPast, CallsNone, CallsWrongly, IsUneven, IsLawful, HasFewNames, AreDistinct, HasDistinctNames, IsSound, HasSoundStatements}
+use Rattle.bp_language.specs.Tokens.{Token}
+use Rattle.bp_language.specs.Grammar.{IsNames, one_name, more_names, IsForm, skip, jump, returning, assignment, branch, loop, assertion, assumption, printing, call, IsStmt, labelled, unlabelled, IsStmts, one_stmt, more_stmts, proc, IsProcs, no_proc, more_procs, Derives, program}
+use Rattle.bp_language.specs.Texts.{IsTextOf, HasText}
 use Rattle.bp_language.specs.declared.faults.CheckFault.TheVariants as fault
-use Rattle.bp_language.specs.Texts.{HasText}
-use Rattle.bp_language.specs.Scopes.{Among, Labelled, statements, labels}
-use Rattle.bp_language.proofs.AssignmentsHaveTargets.{have_targets}
-use Rattle.bp_language.specs.Faults.{IsTwice, IsPast, CallsNone, CallsWrongly, IsUneven, IsLawful}
 use Rattle.bp_language.specs.declared.limits.TheConstants.{MAX_PROCEDURES, MAX_GLOBALS, MAX_OWN_NAMES}
-use Rattle.bp_language.specs.LawfulPrograms.{HasFewNames, AreDistinct, HasDistinctNames, IsSound, HasSoundStatements}
+
+-- The values among lists.
+
+pub Among-front : {X : Type 0} (xs ys : List X) (x : X) → Among xs x → Among (xs ++ ys) x
+Among-front [] ys x a = absurd a
+Among-front (y ∷ xs) ys x (inl e) = inl e
+Among-front (y ∷ xs) ys x (inr a) = inr (Among-front xs ys x a)
+
+pub Among-back : {X : Type 0} (xs ys : List X) (x : X) → Among ys x → Among (xs ++ ys) x
+Among-back [] ys x a = a
+Among-back (y ∷ xs) ys x a = inr (Among-back xs ys x a)
+
+pub Among-split : {X : Type 0} (xs ys : List X) (x : X) → Among (xs ++ ys) x → Among xs x ⊎ Among ys x
+Among-split [] ys x a = inr a
+Among-split (y ∷ xs) ys x (inl e) = inl (inl e)
+Among-split (y ∷ xs) ys x (inr a) = elim (Among-split xs ys x a) [ inl b ↦ inl (inr b) | inr b ↦ inr b ]
+
+-- Each assignment in the program of a text has targets.
+
+-- the statement, if it is an assignment, has targets
+abbrev pub HasTargets : Statement → Type 0
+HasTargets (Assigns targets values) = 0 < length targets
+HasTargets _ = Unit {0}
+
+some_names : {ts : List Token} {ns : List Name} {r : List Token} → IsNames ts ns r → 0 < length ns
+some_names (one_name n) = omega arith
+some_names (more_names n c more) = omega arith
+
+-- each of the statements has targets
+abbrev AllHaveTargets : List Labelled → Type 0
+AllHaveTargets ss = (s : Labelled) → Among ss s → HasTargets s.statement
+
+in_both : (ss us : List Labelled) → AllHaveTargets ss → AllHaveTargets us → AllHaveTargets (ss ++ us)
+in_both ss us a b s m = elim (Among-split ss us s m) [ inl f ↦ a s f | inr l ↦ b s l ]
+
+with_inside : (l : Option Name) (w : Statement) → HasTargets w × AllHaveTargets (statements_inside w) → (ss : List Labelled) → AllHaveTargets ss
+    → AllHaveTargets (record { label = l; statement = w } ∷ (statements_inside w ++ ss))
+with_inside l w f ss more s (inl e) = subst (λ (z : Labelled). HasTargets z.statement) e f.0
+with_inside l w f ss more s (inr m) = in_both (statements_inside w) ss f.1 more s m
+
+mutual
+  in_form : {ts : List Token} {w : Statement} {r : List Token} → IsForm ts w r → HasTargets w × AllHaveTargets (statements_inside w)
+  in_form (skip a b) = (tt, λ s m. absurd m)
+  in_form (jump a b c) = (tt, λ s m. absurd m)
+  in_form (returning a b) = (tt, λ s m. absurd m)
+  in_form (assignment targets a values b) = (some_names targets, λ s m. absurd m)
+  in_form (branch {first = x} {second = y} a b c d e first f second g) =
+      (tt, in_both (statements x) (statements y) (in_stmts first) (in_stmts second))
+  in_form (loop a b c d e body f) = (tt, in_stmts body)
+  in_form (assertion a b c d e) = (tt, λ s m. absurd m)
+  in_form (assumption a b c d e) = (tt, λ s m. absurd m)
+  in_form (printing a b c d e) = (tt, λ s m. absurd m)
+  in_form (call a b c d e) = (tt, λ s m. absurd m)
+
+  in_stmt : {ts : List Token} {l : Option Name} {at : ℕ} {w : Statement} {r : List Token} → IsStmt ts l at w r
+      → HasTargets w × AllHaveTargets (statements_inside w)
+  in_stmt (labelled a b form) = in_form form
+  in_stmt (unlabelled form) = in_form form
+
+  in_stmts : {ts : List Token} {b : Block} {r : List Token} → IsStmts ts b r → AllHaveTargets (statements b)
+  in_stmts (one_stmt {label = l} {statement = w} stmt) = with_inside l w (in_stmt stmt) [] (λ s m. absurd m)
+  in_stmts (more_stmts {label = l} {statement = w} {more = b} stmt more) = with_inside l w (in_stmt stmt) (statements b) (in_stmts more)
+
+in_procs : {ts : List Token} {ps : List Procedure} {r : List Token} → IsProcs ts ps r → (q : Procedure) → Among ps q → AllHaveTargets (statements q.body)
+in_procs no_proc q m = absurd m
+in_procs (more_procs (proc a b c d e f body g) more) q (inl is) = subst (λ (z : Procedure). AllHaveTargets (statements z.body)) is (in_stmts body)
+in_procs (more_procs p more) q (inr m) = in_procs more q m
+
+in_program : {ts : List Token} {p : Program} → Derives ts p → (q : Procedure) → Among p.procedures q → AllHaveTargets (statements q.body)
+in_program (program globals procedures) = in_procs procedures
+
+one_proof : (w : Statement) (x y : HasTargets w) → x ≡ y
+one_proof (Assigns targets values) x y = le_prop x y
+one_proof _ x y = refl
+
+-- each assignment of a tree has targets
+pub have_targets : (p : Program) → HasText p → (q : Procedure) → Among p.procedures q → (s : Labelled) → Among (statements q.body) s → HasTargets s.statement
+have_targets p of_some q mq s ms = ∥∥₁_elim of_some (one_proof s.statement) targets
+  where
+    targets : (text : List ℕ) × IsTextOf text p → HasTargets s.statement
+    targets (text, is) = in_program is.derives q mq s ms
 
 is_true : (b : Bool) → (b ≡ false → ⊥) → b ≡ true
 is_true true h = refl

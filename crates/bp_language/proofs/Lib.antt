@@ -1,9 +1,4 @@
-pub mod AmongAppend
-pub mod AssignmentsHaveTargets
-pub mod BothTrue
 pub mod LawsOfLawfulPrograms
-pub mod NamesOfTokens
-pub mod OneProofOfNames
-pub mod RealTokens
-pub mod ShortNames
 pub mod SpelledNames
+pub mod NamesOfTokens
+pub mod GrownLists

@@ -1,13 +1,68 @@
 -- The names in a program are spelled by its tokens, and no token is longer than its text.
-use Rattle.std.proofs.Common.{◌≡◌, ℕ, ◌≤◌, List, [], ◌∷◌, ◌++◌, length, Option, None, Some, arith, take, drop}
-use Rattle.std.proofs.lemmas.List.{length-drop, length-take}
-use Rattle.bp_tree.specs.Ast.{Name, Expression, Decision, Block, Statement, Procedure, Program}
-use Rattle.bp_language.specs.Tokens.{Token, kind_of}
-use Rattle.bp_language.specs.Cut.{Lexeme, IsCut, ends, fit, open_brace, bad_byte, tokens_of, with_token}
-use Rattle.bp_language.specs.Grammar.{name_of, IsNames, one_name, more_names, IsAnyNames, no_names, some_names, IsExpr, of_or, implication, IsOr, of_xor, disjunction, IsXor, of_and, exclusion, IsAnd, of_eq, conjunction, IsEq, of_un, equality, difference, IsUn, negation, of_atom, IsAtom, constant_0, constant_1, variable, brackets, IsExprs, one_expr, more_exprs, IsAnyExprs, no_exprs, some_exprs, IsDecider, choice, by_value, IsForm, skip, jump, returning, assignment, branch, loop, assertion, assumption, printing, call, IsStmt, labelled, unlabelled, IsStmts, one_stmt, more_stmts, decl, IsDecls, no_decl, more_decls, IsProc, proc, IsProcs, no_proc, more_procs, Derives, program, first_word, first_name}
+use Rattle.std.proofs.Common.{◌≡◌, List, [], ◌∷◌, Option, None, Some, refl, ℕ, ◌≤◌, ◌++◌, length, arith, take, drop, subst, length-drop, length-take}
+use Rattle.std.proofs.Math.Logic.{∥∥₁_elim}
+use Rattle.std.specs.Coded.{le_prop}
+use Rattle.bp_language.specs.Ast.{Name, Expression, Constant, Variable, Negation, Operation, Decision, Choose, Decide, Block, Done, Then, Statement, Skips, GoesTo, Returns, Assigns, Branches, Loops, Asserts, Assumes, Prints, Calls, Procedure, Program}
 use Rattle.bp_language.specs.NamesIn.{EachName, NamesInExpression, NamesInExpressions, NamesInDecision, NamesInLabel, NamesInBlock, NamesInStatement, NamesInProcedure, NamesInProcedures, NamesInProgram}
+use Rattle.bp_language.specs.Tokens.{Token, kind_of, Lexeme, IsCut, ends, fit, open_brace, bad_byte, tokens_of, with_token}
+use Rattle.bp_language.specs.Grammar.{name_of, IsNames, one_name, more_names, IsAnyNames, no_names, some_names, IsExpr, of_or, implication, IsOr, of_xor, disjunction, IsXor, of_and, exclusion, IsAnd, of_eq, conjunction, IsEq, of_un, equality, difference, IsUn, negation, of_atom, IsAtom, constant_0, constant_1, variable, brackets, IsExprs, one_expr, more_exprs, IsAnyExprs, no_exprs, some_exprs, IsDecider, choice, by_value, IsForm, skip, jump, returning, assignment, branch, loop, assertion, assumption, printing, call, IsStmt, labelled, unlabelled, IsStmts, one_stmt, more_stmts, decl, IsDecls, no_decl, more_decls, IsProc, proc, IsProcs, no_proc, more_procs, Derives, program, first_word, first_name}
 use Rattle.bp_language.specs.declared.tokens.TokenKind.{TokenKind}
 use Rattle.bp_language.specs.declared.tokens.TokenKind.TheVariants as kind
+use Rattle.bp_language.specs.Texts.{IsTextOf, HasText}
+use Rattle.bp_language.specs.declared.limits.TheConstants.{TEXT_LIMIT}
+
+-- Where a fact of each name has one proof, so has that of all names of a program.
+
+module _ (P : Name → Type 0) (one : (n : Name) (x y : P n) → x ≡ y) where
+  one_each : (ns : List Name) (x y : EachName P ns) → x ≡ y
+  one_each [] x y = refl
+  one_each (n ∷ ns) x y = λ i. (one n x.0 y.0 i, one_each ns x.1 y.1 i)
+
+  one_expression : (e : Expression) (x y : NamesInExpression P e) → x ≡ y
+  one_expression (Constant b) x y = refl
+  one_expression (Variable n) x y = one n x y
+  one_expression (Negation e) x y = one_expression e x y
+  one_expression (Operation o a b) x y = λ i. (one_expression a x.0 y.0 i, one_expression b x.1 y.1 i)
+
+  one_expressions : (es : List Expression) (x y : NamesInExpressions P es) → x ≡ y
+  one_expressions [] x y = refl
+  one_expressions (e ∷ es) x y = λ i. (one_expression e x.0 y.0 i, one_expressions es x.1 y.1 i)
+
+  one_decision : (d : Decision) (x y : NamesInDecision P d) → x ≡ y
+  one_decision Choose x y = refl
+  one_decision (Decide e) x y = one_expression e x y
+
+  one_label : (l : Option Name) (x y : NamesInLabel P l) → x ≡ y
+  one_label None x y = refl
+  one_label (Some n) x y = one n x y
+
+  mutual
+    one_block : (b : Block) (x y : NamesInBlock P b) → x ≡ y
+    one_block Done x y = refl
+    one_block (Then l at s t) x y = λ i. (one_label l x.0 y.0 i, one_statement s x.1 y.1 i, one_block t x.2 y.2 i)
+
+    one_statement : (s : Statement) (x y : NamesInStatement P s) → x ≡ y
+    one_statement Skips x y = refl
+    one_statement (GoesTo to) x y = one to x y
+    one_statement Returns x y = refl
+    one_statement (Assigns ns es) x y = λ i. (one_each ns x.0 y.0 i, one_expressions es x.1 y.1 i)
+    one_statement (Branches d a b) x y = λ i. (one_decision d x.0 y.0 i, one_block a x.1 y.1 i, one_block b x.2 y.2 i)
+    one_statement (Loops d a) x y = λ i. (one_decision d x.0 y.0 i, one_block a x.1 y.1 i)
+    one_statement (Asserts d) x y = one_decision d x y
+    one_statement (Assumes d) x y = one_decision d x y
+    one_statement (Prints es) x y = one_expressions es x y
+    one_statement (Calls n es) x y = λ i. (one n x.0 y.0 i, one_expressions es x.1 y.1 i)
+
+  one_procedure : (p : Procedure) (x y : NamesInProcedure P p) → x ≡ y
+  one_procedure p x y =
+      λ i. (one p.name x.0 y.0 i, one_each p.formals x.1 y.1 i, one_each p.locals x.2 y.2 i, one_block p.body x.3 y.3 i)
+
+  one_procedures : (ps : List Procedure) (x y : NamesInProcedures P ps) → x ≡ y
+  one_procedures [] x y = refl
+  one_procedures (p ∷ ps) x y = λ i. (one_procedure p x.0 y.0 i, one_procedures ps x.1 y.1 i)
+
+  pub one_program : (p : Program) (x y : NamesInProgram P p) → x ≡ y
+  one_program p x y = λ i. (one_each p.globals x.0 y.0 i, one_procedures p.procedures x.1 y.1 i)
 
 module _ (P : Name → Type 0) where
   -- what holds of the name that each token is, if it is one
@@ -147,3 +202,18 @@ tokens_short (fit {at = at} {n = n} {text = s} {kind = lexeme} {more = ps} longe
     (longer (length (drop n s)) (length s) (tokens_of ps) (omega (arith, length-drop n s)) (tokens_short rest))
 tokens_short (open_brace {b = b} {text = s} {more = ps} brace none rest) = longer (length s) (length (b ∷ s)) (tokens_of ps) (omega arith) (tokens_short rest)
 tokens_short (bad_byte {b = b} {text = s} {more = ps} other none rest) = longer (length s) (length (b ∷ s)) (tokens_of ps) (omega arith) (tokens_short rest)
+
+-- No name in a program is longer than a text.
+
+of_text : (text : List ℕ) (p : Program) → IsTextOf text p → NamesInProgram (IsShort TEXT_LIMIT) p
+of_text text p is =
+    let scanned = is.scanned in
+    let short = is.short in
+    let here : EachNamed (IsShort (length text)) is.tokens = subst (EachNamed (IsShort (length text))) scanned.tokens (tokens_short scanned.cut) in
+    in_program (IsShort TEXT_LIMIT) is.derives (longer (length text) TEXT_LIMIT is.tokens (omega (arith, short)) here)
+
+pub short_names : (p : Program) → HasText p → NamesInProgram (λ n. length n.text ≤ TEXT_LIMIT) p
+short_names p of_some = ∥∥₁_elim of_some (one_program (IsShort TEXT_LIMIT) (λ n. le_prop) p) short
+  where
+    short : (text : List ℕ) × IsTextOf text p → NamesInProgram (IsShort TEXT_LIMIT) p
+    short (text, is) = of_text text p is

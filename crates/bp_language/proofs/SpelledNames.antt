@@ -1,25 +1,46 @@
 -- Each name in a program is spelled as a name, and what is spelled so holds no line feed.
-use Rattle.std.proofs.Common.{◌≡◌, ◌≢◌, ℕ, Bool, true, false, not, cond, ◌&&◌, nat_eq, bytes_eq, List, [], ◌∷◌, Option, None, Some, is_some, All, refl, inl, inr, sym, ap, subst, ◌∙◌}
+use Rattle.std.proofs.Common.{◌≡◌, Bool, true, false, ◌&&◌, refl, ℕ, List, take, Option, Some, None, ◌≢◌, not, cond, nat_eq, bytes_eq, [], ◌∷◌, is_some, All, inl, inr, sym, ap, subst, ◌∙◌}
+use Rattle.std.proofs.lemmas.Bool.{false≢true, eqb-true}
 use Rattle.std.proofs.Math.Bool.{Bool-set}
 use Rattle.std.proofs.Math.Logic.{∥∥₁_elim}
-use Rattle.std.proofs.lemmas.Bool.{false≢true, eqb-true}
 use Rattle.std.proofs.lemmas.List.Elements.{All-nil, All-cons}
 use Rattle.std.specs.List.{list_all}
 use Rattle.std.specs.Map.{lookup}
 use Rattle.std.specs.Option.{unwrap_or}
-use Rattle.bp_tree.specs.Ast.{Name, Program}
-use Rattle.bp_language.specs.NamesIn.{NamesInProgram}
-use Rattle.bp_language.specs.Tokens.{AllReal}
-use Rattle.bp_language.specs.Texts.{IsTextOf, HasText}
-use Rattle.bp_language.specs.Tokens.{Token, is_letter, is_word_byte, is_braced_byte, is_braced_rest, constants, symbols, long_symbols, reserved_words, word_kind, fits, kind_of, IsSpelled}
+use Rattle.bp_language.specs.Ast.{Name, Program}
+use Rattle.bp_language.specs.Tokens.{Token, fits, kind_of, AllReal, Lexeme, IsCut, ends, fit, open_brace, bad_byte, tokens_of, with_token, is_letter, is_word_byte, is_braced_byte, is_braced_rest, constants, symbols, long_symbols, reserved_words, word_kind, IsSpelled}
 use Rattle.bp_language.specs.declared.tokens.TokenKind.{TokenKind}
-use Rattle.bp_language.specs.declared.tokens.TokenKind.TheVariants as kind
 use Rattle.bp_language.specs.declared.tokens.LexemeKind.{LexemeKind}
+use Rattle.bp_language.specs.NamesIn.{NamesInProgram}
+use Rattle.bp_language.specs.Texts.{IsTextOf, HasText}
+use Rattle.bp_language.specs.declared.tokens.TokenKind.TheVariants as kind
 use Rattle.bp_language.specs.declared.tokens.LexemeKind.TheVariants as lexeme
-use Rattle.bp_language.proofs.BothTrue.{both_left, both_right}
-use Rattle.bp_language.proofs.NamesOfTokens.{EachNamed, in_program}
-use Rattle.bp_language.proofs.RealTokens.{all_real}
-use Rattle.bp_language.proofs.OneProofOfNames.{one_program}
+use Rattle.bp_language.proofs.NamesOfTokens.{EachNamed, in_program, one_program}
+
+-- Both of two tests pass.
+
+pub both_left : (a b : Bool) → a && b ≡ true → a ≡ true
+both_left true b e = refl
+both_left false b e = e
+
+pub both_right : (a b : Bool) → a && b ≡ true → b ≡ true
+both_right true b e = e
+both_right false b e = absurd (false≢true e)
+
+-- The tokens of a text are real.
+
+real_and : (k : LexemeKind) (o : Option TokenKind) (at : ℕ) (bytes : List ℕ) (ts : List Token) → fits k bytes ≡ true
+    → kind_of k bytes ≡ o → AllReal ts → AllReal (with_token o at bytes ts)
+real_and k None at bytes ts f e r = r
+real_and k (Some kd) at bytes ts f e r = (record { lexeme = k; fits = f; spells = e }, r)
+
+-- the tokens of a text are real
+pub all_real : {at : ℕ} {s : List ℕ} {ps : List Lexeme} → IsCut at s ps → AllReal (tokens_of ps)
+all_real ends = tt
+all_real (fit {at = at} {n = n} {text = s} {kind = k} {more = ps} l c) =
+    real_and k (kind_of k (take n s)) at (take n s) (tokens_of ps) l.is_lexeme refl (all_real c)
+all_real (open_brace none is c) = all_real c
+all_real (bad_byte none never c) = all_real c
 
 -- a word begins with no brace
 word_or_braced : (s : List ℕ) → fits lexeme.Identifier s ≡ true → fits lexeme.Braced s ≡ true → ⊥

@@ -1,11 +1,89 @@
--- The faults of a program: for each kind, the places where the program has that fault.
-use Rattle.std.specs.Prelude.{◌≡◌, ◌≢◌, ◌⊎◌, ℕ, ◌++◌, true, false, List, Option, None, Some, take, map, length}
+-- Where names appear in a program, its faults, and what each lawful program keeps.
+use Rattle.std.specs.Prelude.{◌≡◌, ◌⊎◌, ℕ, ◌++◌, Bool, List, [], ◌∷◌, Option, Some, slice_get, ◌≢◌, true, false, None, take, map, length, ◌<◌, ◌≤◌}
+use Rattle.std.specs.Option.{option_to_list}
+use Rattle.std.specs.List.{list_any, position_from}
+use Rattle.std.specs.Str.{bytes_eq}
+use Rattle.bp_language.specs.Ast.{Name, Expression, Constant, Variable, Negation, Operation, Decision, Choose, Decide, Block, Done, Then, Statement, Assigns, Branches, Loops, Asserts, Assumes, Prints, Calls, GoesTo, Procedure, Program, variables, procedure_named}
 use Rattle.bp_language.specs.declared.faults.CheckFault.{CheckFault}
 use Rattle.bp_language.specs.declared.faults.CheckFault.TheVariants.{TwiceGlobal, TwiceProcedure, TwiceLocal, TwiceLabel, UnknownVariable, UnknownProcedure, UnknownLabel, Arity, Lengths, TwiceTarget, Limit, Memory}
-use Rattle.bp_tree.specs.Ast.{Name, Statement, GoesTo, Assigns, Calls, Procedure, Program}
-use Rattle.bp_tree.specs.Lookup.{variables, procedure_named}
 use Rattle.bp_language.specs.declared.limits.TheConstants.{MAX_PROCEDURES, MAX_GLOBALS, MAX_OWN_NAMES}
-use Rattle.bp_language.specs.Scopes.{has, IsNameAt, Mentions, Among, Labelled, statements, labels}
+
+-- Where names appear in a program, and which of them a statement may use.
+
+-- whether a name of the list is spelled so
+abbrev pub has : List Name → List ℕ → Bool
+has ns text = list_any (λ n. bytes_eq n.text text) ns
+
+-- the name with this index in the list, and its place in the text
+pub record IsNameAt (ns : List Name) (k : ℕ) (n : Name) (at : ℕ) : Type 0 where
+  pub stands : slice_get ns k ≡ Some n
+  pub place : n.at ≡ at
+
+-- a value of the list
+abbrev pub Among : {X : Type 0} → List X → X → Type 0
+Among [] x = ⊥
+Among (y ∷ ys) x = (y ≡ x) ⊎ Among ys x
+
+-- a name that the expression uses
+abbrev pub Uses : Expression → Name → Type 0
+Uses (Constant b) n = ⊥
+Uses (Variable m) n = m ≡ n
+Uses (Negation e) n = Uses e n
+Uses (Operation o a b) n = Uses a n ⊎ Uses b n
+
+abbrev pub DecisionUses : Decision → Name → Type 0
+DecisionUses Choose n = ⊥
+DecisionUses (Decide e) n = Uses e n
+
+abbrev pub SomeUses : List Expression → Name → Type 0
+SomeUses es n = (e : Expression) × Among es e × Uses e n
+
+-- a variable that the statement itself uses or writes, apart from the blocks inside it
+abbrev pub Mentions : Statement → Name → Type 0
+Mentions (Assigns targets values) n = Among targets n ⊎ SomeUses values n
+Mentions (Branches d a b) n = DecisionUses d n
+Mentions (Loops d a) n = DecisionUses d n
+Mentions (Asserts d) n = DecisionUses d n
+Mentions (Assumes d) n = DecisionUses d n
+Mentions (Prints values) n = SomeUses values n
+Mentions (Calls callee arguments) n = SomeUses arguments n
+Mentions _ n = ⊥
+
+-- a statement with its label
+pub record Labelled : Type 0 where
+  pub label : Option Name
+  pub statement : Statement
+
+-- the statements of a block, at any depth, in the order of the text
+abbrev mutual
+  pub statements : Block → List Labelled
+  statements Done = []
+  statements (Then l at w t) =
+      record { label = l; statement = w } ∷ (statements_inside w ++ statements t)
+
+  pub statements_inside : Statement → List Labelled
+  statements_inside (Branches d a b) = statements a ++ statements b
+  statements_inside (Loops d a) = statements a
+  statements_inside _ = []
+
+-- the labels among them
+abbrev pub labels_of : List Labelled → List Name
+labels_of [] = []
+labels_of (s ∷ rest) = option_to_list s.label ++ labels_of rest
+
+abbrev pub labels : Block → List Name
+labels body = labels_of (statements body)
+
+-- Tables of names: the first name of each spelling in a list.
+
+-- the index of the first name that is spelled so, where the list begins at index i
+abbrev pub first_index_from : ℕ → List Name → List ℕ → Option ℕ
+first_index_from i ns text = position_from (λ n. bytes_eq n.text text) i ns
+
+abbrev pub first_index : List Name → List ℕ → Option ℕ
+first_index ns text = first_index_from 0 ns text
+
+-- The faults of a program: for each kind, the places where the program has that fault.
 
 -- the number by which users know a fault
 abbrev pub check_fault_number : CheckFault → ℕ
@@ -108,3 +186,47 @@ IsFault p Memory at = ⊥
 -- a program without faults
 abbrev pub IsLawful : Program → Type 0
 IsLawful p = (f : CheckFault) (at : ℕ) → IsFault p f at → ⊥
+
+-- What each lawful program keeps.
+
+-- no more names of a kind than their limit
+pub record HasFewNames (p : Program) : Type 0 where
+  pub procedures : length p.procedures ≤ MAX_PROCEDURES
+  pub globals : length p.globals ≤ MAX_GLOBALS
+  pub own : (q : Procedure) → Among p.procedures q → length (variables q) ≤ MAX_OWN_NAMES
+
+-- no two names of the list are spelled alike
+abbrev pub AreDistinct : List Name → Type 0
+AreDistinct ns =
+    (k : ℕ) (n : Name) → slice_get ns k ≡ Some n → has (take k ns) n.text ≡ false
+
+-- no two names of a kind are spelled alike
+pub record HasDistinctNames (p : Program) : Type 0 where
+  pub procedures : AreDistinct (map (λ q. q.name) p.procedures)
+  pub globals : AreDistinct p.globals
+  pub own : (q : Procedure) → Among p.procedures q → AreDistinct (variables q)
+  pub labels_in : (q : Procedure) → Among p.procedures q → AreDistinct (labels q.body)
+
+-- in the procedure q a jump has its label; a call has its procedure, and as many arguments as that
+-- has formals; an assignment has targets, no two of them alike, and as many right sides
+abbrev pub IsSound : Program → Procedure → Statement → Type 0
+IsSound p q (GoesTo to) = has (labels q.body) to.text ≡ true
+IsSound p q (Calls callee arguments) =
+    (r : Procedure)
+    × (procedure_named p.procedures callee.text ≡ Some r)
+    × (length arguments ≡ length r.formals)
+IsSound p q (Assigns targets values) =
+    (0 < length targets) × (length targets ≡ length values) × AreDistinct targets
+IsSound p q _ = Unit {0}
+
+-- each statement of each procedure is sound, and names only variables that its procedure sees
+pub record HasSoundStatements (p : Program) : Type 0 where
+  pub sound : (q : Procedure) (s : Labelled)
+      → Among p.procedures q
+      → Among (statements q.body) s
+      → IsSound p q s.statement
+  pub declared : (q : Procedure) (s : Labelled) (n : Name)
+      → Among p.procedures q
+      → Among (statements q.body) s
+      → Mentions s.statement n
+      → has (variables q ++ p.globals) n.text ≡ true

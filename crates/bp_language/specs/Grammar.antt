@@ -2,12 +2,29 @@
 -- expressions come last. IsExpr ts e rest says that the tokens ts begin with an expression, which
 -- is e, and that the tokens rest follow it; so with the other phrases. Tokens are named for what
 -- begins with them.
-use Rattle.std.specs.Prelude.{ℕ, true, false, List, [], ◌∷◌, ◌++◌, Option, None, Some}
-use Rattle.bp_tree.specs.Ast.{Name, Expression, Constant, Variable, Negation, Operation, Decision, Choose, Decide, Block, Done, Then, Statement, Skips, GoesTo, Returns, Assigns, Branches, Loops, Asserts, Assumes, Prints, Calls, Procedure, Program}
-use Rattle.bp_tree.specs.declared.exprs.Op.TheVariants as op
+use Rattle.std.specs.Prelude.{◌≡◌, List, ◌∷◌, ℕ, true, false, [], ◌++◌, Option, None, Some}
+use Rattle.bp_language.specs.Ast.{Name, Expression, Constant, Variable, Negation, Operation, Decision, Choose, Decide, Block, Done, Then, Statement, Skips, GoesTo, Returns, Assigns, Branches, Loops, Asserts, Assumes, Prints, Calls, Procedure, Program}
+use Rattle.bp_language.specs.declared.exprs.Op.TheVariants as op
 use Rattle.bp_language.specs.Tokens.{Token}
-pub use Rattle.bp_language.specs.Words.{Word, first_word, name_of, IsName, first_name}
+use Rattle.bp_language.specs.declared.tokens.TokenKind.{TokenKind}
 use Rattle.bp_language.specs.declared.tokens.TokenKind.TheVariants as kind
+
+-- A word and a name at the start of tokens, as the rules of the grammar have them.
+
+-- a word: the first token is of this kind, and the rest follows it
+pub data Word (k : TokenKind) : List Token → List Token → Type 0 where
+  first_word : {token : Token} {rest : List Token} → token.kind ≡ k → Word k (token ∷ rest) rest
+
+-- the name that a token spells
+abbrev pub name_of : Token → Name
+name_of token = record { text = token.text; at = token.at }
+
+-- NAME
+pub data IsName : List Token → Name → List Token → Type 0 where
+  first_name :
+      {token : Token} {rest : List Token}
+      → token.kind ≡ kind.Name
+      → IsName (token ∷ rest) (name_of token) rest
 
 mutual
   -- program = decl* proc*

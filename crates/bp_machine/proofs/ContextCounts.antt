@@ -1,10 +1,10 @@
 -- How many contexts a list of threads needs: one for each thread that differs from the one before it.
 use Rattle.std.proofs.Common.{◌≡◌, ◌↔◌, IsTrue, ℕ, ◌+◌, ◌≤◌, ◌==◌, Bool, true, false, cond, nat_le, List, [], ◌∷◌, ◌++◌, length, Option, None, Some, refl, ap, sym, ◌∙◌, subst, arith}
 use Rattle.std.specs.List.{concat}
-use Rattle.bp_machine.specs.declared.contexts.ContextCount.{ContextCount}
 use Rattle.std.proofs.lemmas.Bool.Decides.{nat_tests}
-use Rattle.bp_machine.specs.Contexts.{EachIs, EachOfOne, IsWithin, IsLeastWithin}
-use Rattle.bp_machine.specs.ContextCounts.{last_thread, contexts_opened, used_with, count_with, IsCountOf}
+use Rattle.bp_machine.specs.declared.contexts.ContextCount.{ContextCount}
+use Rattle.bp_machine.specs.Histories.{EachIs, EachOfOne, IsWithin, IsLeastWithin}
+use Rattle.bp_machine.specs.Sessions.{last_thread, contexts_opened, used_with, count_with, IsCountOf}
 
 -- where these threads follow the thread l
 pub opened : Option ℕ → List ℕ → ℕ
@@ -174,3 +174,15 @@ module _ (k : ContextCount) (ts : List ℕ) (i : ℕ) (counts : IsCountOf k ts) 
   -- the test whether one more step is within the contexts that are allowed
   pub fits_with : (most : ℕ) → IsTrue (nat_le (used_with k i) most) ↔ IsWithin most (ts ++ i ∷ [])
   fits_with most = fits_within (used_with k i) most (ts ++ i ∷ []) least_with
+
+-- The front of threads that are within some contexts is within as many.
+
+opened_front : (l : Option ℕ) (ts us : List ℕ) → opened l ts ≤ opened l (ts ++ us)
+opened_front l [] us = omega (arith, opened_none l)
+opened_front l (t ∷ ts) us = omega (arith, opened_more l t ts, opened_more l t (ts ++ us), opened_front (Some t) ts us)
+
+pub within_front : (k : ℕ) (ts us : List ℕ) → IsWithin k (ts ++ us) → IsWithin k ts
+within_front k ts us w =
+    let low = opened_front None ts us in
+    let high = least k (ts ++ us) w in
+    within_more (opened None ts) k ts (omega (arith, low, high)) (enough ts)

@@ -1,24 +1,54 @@
 -- Deadlocks grant nothing, and how the threads are looked through for one.
-use Rattle.std.proofs.Common.{◌≡◌, ℕ, ◌+◌, ◌<◌, ◌≤◌, ◌&&◌, Bool, true, false, cond, List, [], ◌∷◌, ◌++◌, Option, None, Some, refl, ap, sym, ◌∙◌, subst, arith, inl, inr}
-use Rattle.std.specs.Prelude.{unwrap_or, is_some, MatchOption, IsTrue, ◌↔◌}
+use Rattle.std.proofs.Common.{◌≡◌, ◌&&◌, Bool, true, false, cond, List, [], ◌∷◌, Some, refl, ℕ, ◌+◌, ◌<◌, ◌≤◌, ◌++◌, Option, None, ap, sym, ◌∙◌, subst, arith, inl, inr, zero, suc, drop, length, ◌⊎◌, get_or, unwrap_or, is_some, MatchOption, IsTrue, ◌↔◌, slice_get}
 use Rattle.std.proofs.lemmas.Bool.{cases_lt}
 use Rattle.std.proofs.lemmas.List.{append-nil, get_or_past}
-use Rattle.bp_tree.proofs.GrownLists.{regrouped}
-use Rattle.bp_tree.specs.Ast.{Program}
-use Rattle.bp_flat.specs.Configurations.{Frame, Configuration}
+use Rattle.std.proofs.lemmas.Option.{slice_get_cases}
+use Rattle.bp_language.specs.Ast.{Block, Done, Then, Skips, GoesTo, Returns, Assigns, Branches, Loops, Asserts, Assumes, Prints, Calls, Choose, Decide, Program}
+use Rattle.bp_language.proofs.GrownLists.{regrouped}
+use Rattle.bp_flat.specs.Moves.{Valuation, Frame, is_call, effect, Configuration}
+use Rattle.bp_flat.specs.StandsFor.{ShowsFrame, ShowsStack}
+use Rattle.bp_machine.specs.declared.calls.Reply.TheVariants.{Full, Stopped, Ended, NoContexts, Blocked, Failed, Stepped}
+use Rattle.bp_machine.specs.Histories.{is_full, reply_to_effect, reply_on_stack, is_granted, stack_of, reply_of, configuration_after_step, configuration_after, granted_calls, IsLegalAfter, IsLegal}
+use Rattle.bp_machine.specs.Runs.{is_blocked, IsTop, finds_zero, waits, is_left, has_frames, IsDeadlocked}
 use Rattle.bp_machine.specs.declared.calls.Call.{Call}
 use Rattle.bp_machine.specs.declared.calls.Reply.{Reply}
-use Rattle.bp_machine.specs.declared.calls.Reply.TheVariants.{Stopped, Ended, NoContexts, Full, Blocked, Failed, Stepped}
 use Rattle.bp_machine.specs.declared.tops.Top.{Top}
-use Rattle.bp_machine.specs.Replies.{is_granted}
 use Rattle.bp_machine.specs.Setups.{SetupOf, threads}
-use Rattle.bp_machine.specs.Answers.{stack_of, reply_on_stack, reply_of, configuration_after_step}
-use Rattle.bp_machine.specs.Histories.{configuration_after, granted_calls, IsLegalAfter, IsLegal}
-use Rattle.bp_machine.specs.States.{State, StandsAfter}
-use Rattle.bp_machine.specs.Tops.{IsTop}
-use Rattle.bp_machine.specs.Waiting.{is_blocked, finds_zero, waits}
-use Rattle.bp_machine.specs.Deadlocks.{is_left, has_frames, IsDeadlocked}
+use Rattle.bp_machine.specs.Sessions.{State, StandsAfter, GuestThreadOf, top_of, activation_of, activations}
+use Rattle.bp_machine.specs.declared.stacks.ActivationRecord.{ActivationRecord}
 use Rattle.bp_machine.proofs.HistoryWithCall.{configuration_after-append}
+
+-- Where a thread is blocked with bit 1 it is blocked with bit 0 as well, so one look tells whether it waits.
+
+twice : (a : Bool) → (a && a) ≡ a
+twice true = refl
+twice false = refl
+
+module _ (t : Program) (g : Valuation) (f : Frame) (fs : List Frame) where
+  -- whether the frame is blocked where these statements are left to it
+  abbrev blocked : Block → Bool → Bool
+  blocked left bit =
+      is_blocked (cond (is_call left && is_full (f ∷ fs)) (Some Full) (reply_to_effect (effect t.procedures left g f fs bit)))
+
+  at_block : (left : Block) → (blocked left false && blocked left true) ≡ blocked left true
+  at_block Done = refl
+  at_block (Then label at Skips r) = refl
+  at_block (Then label at (GoesTo x) r) = twice (blocked (Then label at (GoesTo x) r) true)
+  at_block (Then label at Returns r) = refl
+  at_block (Then label at (Assigns xs es) r) = refl
+  at_block (Then label at (Branches d a b) r) = refl
+  at_block (Then label at (Loops d a) r) = refl
+  at_block (Then label at (Asserts Choose) r) = refl
+  at_block (Then label at (Asserts (Decide e)) r) = twice (blocked (Then label at (Asserts (Decide e)) r) true)
+  at_block (Then label at (Assumes Choose) r) = refl
+  at_block (Then label at (Assumes (Decide e)) r) = twice (blocked (Then label at (Assumes (Decide e)) r) true)
+  at_block (Then label at (Prints es) r) = refl
+  at_block (Then label at (Calls x es) r) = twice (blocked (Then label at (Calls x es) r) true)
+
+pub with_either_bit : (t : Program) (g : Valuation) (stack : List Frame)
+    → (is_blocked (reply_on_stack t true g stack false) && is_blocked (reply_on_stack t true g stack true)) ≡ is_blocked (reply_on_stack t true g stack true)
+with_either_bit t g [] = refl
+with_either_bit t g (f ∷ fs) = at_block t g f fs f.left
 
 no_step : (o : Option Reply) (r : Reply) → is_blocked o ≡ true → o ≡ Some r → is_granted r ≡ false
 no_step (Some Blocked) r blocked e = let same : Blocked ≡ r = cc in sym (ap is_granted same)
@@ -151,3 +181,51 @@ module _ (t : Program) (s : SetupOf) (x : State) (h : List Call) (stands : Stand
     pub all_seen : (any : Bool) → AreSeen t now n any → IsTrue any ↔ IsDeadlocked t now
     all_seen true seen = (λ e. all_seen_some seen, λ dead. refl)
     all_seen false seen = (λ e. absurd cc, λ dead. absurd (all_seen_none seen dead))
+
+-- The top of a thread's stack in a session is that of its stack in the configuration.
+
+pub none_shown : (t : Program) (acts : List ActivationRecord) (frames : List Frame) → ShowsStack t (activations acts) frames → None ≡ top_of acts → frames ≡ []
+none_shown t [] [] shown none = refl
+none_shown t [] (f ∷ fs) shown none = absurd shown
+none_shown t (a ∷ acts) frames shown none = cc
+
+as_long : (t : Program) (acts : List ActivationRecord) (frames : List Frame) → ShowsStack t (activations acts) frames → length acts ≡ length frames
+as_long t [] [] shown = refl
+as_long t [] (f ∷ fs) shown = absurd shown
+as_long t (a ∷ acts) [] shown = absurd shown
+as_long t (a ∷ acts) (f ∷ fs) shown = ap suc (as_long t acts fs shown.1)
+
+-- what is left of a stack after this many calls have returned is shown, too
+pub shown_below : (t : Program) (n : ℕ) (acts : List ActivationRecord) (frames : List Frame)
+    → ShowsStack t (activations acts) frames → ShowsStack t (activations (drop n acts)) (drop n frames)
+shown_below t zero acts frames shown = shown
+shown_below t (suc n) [] [] shown = shown
+shown_below t (suc n) [] (f ∷ fs) shown = absurd shown
+shown_below t (suc n) (a ∷ acts) [] shown = absurd shown
+shown_below t (suc n) (a ∷ acts) (f ∷ fs) shown = shown_below t n acts fs shown.1
+
+-- what the top of a stack shows
+pub record TopShown (t : Program) (acts : List ActivationRecord) (frames : List Frame) (top : ActivationRecord) : Type 0 where
+  pub frame : Frame
+  pub below : List Frame
+  pub are : frames ≡ frame ∷ below
+  pub shows : ShowsFrame t (activation_of top) frame
+  pub depth : length acts ≡ length (frame ∷ below)
+
+pub top_shown : (t : Program) (acts : List ActivationRecord) (frames : List Frame) (top : ActivationRecord)
+    → ShowsStack t (activations acts) frames → Some top ≡ top_of acts → TopShown t acts frames top
+top_shown t [] frames top shown is = cc
+top_shown t (a ∷ acts) [] top shown is = absurd shown
+top_shown t (a ∷ acts) (f ∷ fs) top shown is =
+    let same : top ≡ a = cc in
+    record { frame = f; below = fs; are = refl; shows = rw same shown.0; depth = as_long t (a ∷ acts) (f ∷ fs) shown }
+
+module _ (t : Program) (s : SetupOf) (x : State) (h : List Call) (stands : StandsAfter t s x h) (i : ℕ) where
+  -- a thread that is not there has no stack
+  pub no_stack : None ≡ slice_get x.threads i → stack_of (configuration_after t s h) i ≡ []
+  no_stack none = there (slice_get_cases x.threads i).1
+    where
+      there : ((y : GuestThreadOf) × (i < length x.threads) × (slice_get x.threads i ≡ Some y) × (get_or x.threads i y ≡ y))
+          ⊎ ((length x.threads ≤ i) × (slice_get x.threads i ≡ None)) → stack_of (configuration_after t s h) i ≡ []
+      there (inl (y, inside, has, is)) = let a = has in let b = none in absurd cc
+      there (inr (past, is)) = get_or_past (configuration_after t s h).stacks i [] (omega (arith, past, stands.thread_count, stands.stacks))

@@ -1,13 +1,9 @@
 -- The verdict of a call is the machine's answer, and the state after it stands after the longer history.
 use Rattle.std.proofs.Common.{◌≡◌, ◌⊎◌, ℕ, suc, ◌+◌, ◌≤◌, Bool, true, false, cond, List, [], ◌∷◌, length, Option, None, Some, refl, ap, sym, ◌∙◌, subst, arith, inl, inr}
-use Rattle.bp_tree.specs.Ast.{Block, Done, Then, Skips, GoesTo, Returns, Assigns, Branches, Loops, Asserts, Assumes, Prints, Calls, Procedure, Program}
-use Rattle.bp_flat.specs.Values.{Valuation, expression_values, decision_value}
-use Rattle.bp_flat.specs.Continuations.{from_label}
-use Rattle.bp_flat.specs.Configurations.{Frame, is_call, procedure_named}
-use Rattle.bp_flat.specs.Moves.{StatementEffect, Leaves, Fails, Blocks, Misses, effect, statement_effect, after_effect, frame_store, with_left}
+use Rattle.bp_language.specs.Ast.{Block, Done, Then, Skips, GoesTo, Returns, Assigns, Branches, Loops, Asserts, Assumes, Prints, Calls, Procedure, Program}
+use Rattle.bp_flat.specs.Moves.{Valuation, expression_values, decision_value, from_label, Frame, is_call, procedure_named, StatementEffect, Leaves, Fails, Blocks, Misses, effect, statement_effect, after_effect, frame_store, with_left}
 use Rattle.bp_flat.specs.Steps.{Bits, Activation}
-use Rattle.bp_flat.specs.StandsFor.{valuation_of}
-use Rattle.bp_flat.specs.Alike.{ShowsStack, SameEffect}
+use Rattle.bp_flat.specs.StandsFor.{valuation_of, ShowsStack, SameEffect}
 
 module _ (t : Program) where
   pub shown_length : (below : List Activation) (fs : List Frame) → ShowsStack t below fs → length below ≡ length fs

@@ -1,15 +1,21 @@
 -- A history with one more call.
-use Rattle.std.proofs.Common.{◌≡◌, ◌≢◌, ℕ, zero, suc, ◌+◌, ◌<◌, ◌==◌, Bool, true, false, cond, ◌||◌, nat_le, List, [], ◌∷◌, ◌++◌, length, refl, ap, ◌∙◌, subst, arith}
-use Rattle.std.proofs.lemmas.List.{append-nil}
+use Rattle.std.proofs.Common.{◌≡◌, ◌≢◌, ℕ, zero, suc, ◌+◌, ◌<◌, ◌==◌, Bool, true, false, cond, ◌||◌, nat_le, List, [], ◌∷◌, ◌++◌, length, refl, ap, ◌∙◌, subst, arith, take, get_or, sym, length-append, ◌⊎◌, Some, inl, inr, ◌≤◌, slice_get, slice_set}
+use Rattle.std.proofs.lemmas.List.{append-nil, take_more, length-set}
 use Rattle.std.proofs.lemmas.Bool.Decides.{nat_tests}
-use Rattle.bp_tree.proofs.GrownLists.{regrouped}
-use Rattle.bp_tree.specs.Ast.{Program}
-use Rattle.bp_flat.specs.Configurations.{Configuration}
+use Rattle.bp_language.specs.Ast.{Program}
+use Rattle.bp_language.proofs.GrownLists.{regrouped}
+use Rattle.bp_flat.specs.Moves.{Configuration}
+use Rattle.bp_flat.specs.InstrEffects.{bits_of}
+use Rattle.bp_flat.specs.StandsFor.{valuation_of, ShowsStack}
 use Rattle.bp_machine.specs.declared.calls.Call.{Call}
-use Rattle.bp_machine.specs.Setups.{SetupOf, start}
-use Rattle.bp_machine.specs.Answers.{configuration_after_call}
-use Rattle.bp_machine.specs.Replies.{is_last, is_granted}
-use Rattle.bp_machine.specs.Histories.{configuration_after_calls, configuration_after, granted_threads, calls_of_thread, ends_with_last, is_finished, open_below, IsAllowed, IsLegalAfter, IsLegal}
+use Rattle.bp_machine.specs.Setups.{SetupOf, start, threads}
+use Rattle.bp_machine.specs.Histories.{configuration_after_call, is_last, is_granted, configuration_after_calls, configuration_after, granted_threads, calls_of_thread, ends_with_last, is_finished, open_below, IsAllowed, IsLegalAfter, IsLegal, outcome_or, outcome_of, is_failure, stack_of, finished_by, open_lines}
+use Rattle.bp_machine.specs.declared.calls.Reply.{Reply}
+use Rattle.bp_machine.specs.declared.calls.Reply.TheVariants.{Stopped, Ended, NoContexts, Full, Blocked, Stepped}
+use Rattle.bp_machine.specs.declared.calls.Reply.TheVariants as replies
+use Rattle.bp_machine.specs.declared.calls.Outcome.{Outcome}
+use Rattle.bp_machine.specs.declared.calls.Outcome.TheVariants.{Clean, Failed}
+use Rattle.bp_machine.specs.Sessions.{IsCountOf, State, activations, ShowsThread, StandsAfter, GuestThreadOf}
 
 configuration_after_calls-append : (t : Program) (c : Configuration) (xs : List Call) (x : Call)
     → configuration_after_calls t c (xs ++ x ∷ []) ≡ configuration_after_call t (configuration_after_calls t c xs) x.thread x.bit x.reply
@@ -76,3 +82,220 @@ open_at_start (suc n) s some = ap (λ b. cond b (open_below n s []) (open_below 
   where
     none : nat_le s.calls 0 ≡ false
     none = grind (arith, nat_tests)
+
+-- The calls of a thread, counted one by one.
+
+module _ (h : List Call) (i n : ℕ) (d : Call) (within : i < length h) where
+  calls_same : (get_or h i d).thread ≡ n → calls_of_thread n (take (i + 1) h) ≡ calls_of_thread n (take i h) ++ get_or h i d ∷ []
+  calls_same e = ap (calls_of_thread n) (take_more h i d within) ∙ calls_of_thread-same (take i h) (get_or h i d) n e
+
+  pub calls_other : (get_or h i d).thread ≢ n → calls_of_thread n (take (i + 1) h) ≡ calls_of_thread n (take i h)
+  calls_other e = ap (calls_of_thread n) (take_more h i d within) ∙ calls_of_thread-other (take i h) (get_or h i d) n e
+
+  pub count_same : (get_or h i d).thread ≡ n → length (calls_of_thread n (take i h)) + 1 ≡ length (calls_of_thread n (take (i + 1) h))
+  count_same e = sym (ap length (calls_same e) ∙ length-append (calls_of_thread n (take i h)) (get_or h i d ∷ []))
+
+  pub ended_same : (get_or h i d).thread ≡ n → is_last (get_or h i d).reply ≡ ends_with_last (calls_of_thread n (take (i + 1) h))
+  ended_same e = sym (ap ends_with_last (calls_same e) ∙ ends_with_last-append (calls_of_thread n (take i h)) (get_or h i d))
+
+-- The outcome of a history with one more call.
+
+-- the first outcome that is no clean one
+abbrev first_outcome : Outcome → Outcome → Outcome
+first_outcome Clean o = o
+first_outcome (Failed i) o = Failed i
+
+or_first : (y : Call) (r : Reply) (a b : Outcome) → outcome_or y r (first_outcome a b) ≡ first_outcome (outcome_or y r a) b
+or_first y Stopped a b = refl
+or_first y Ended a b = refl
+or_first y NoContexts a b = refl
+or_first y Full a b = refl
+or_first y Blocked a b = refl
+or_first y replies.Failed a b = refl
+or_first y Stepped a b = refl
+
+outcome-append : (h : List Call) (x : Call) → outcome_of (h ++ x ∷ []) ≡ first_outcome (outcome_of h) (outcome_or x x.reply Clean)
+outcome-append [] x = refl
+outcome-append (y ∷ ys) x = ap (outcome_or y y.reply) (outcome-append ys x) ∙ or_first y y.reply (outcome_of ys) (outcome_or x x.reply Clean)
+
+or_clean : (o : Outcome) → first_outcome o Clean ≡ o
+or_clean Clean = refl
+or_clean (Failed i) = refl
+
+not_failed : (x : Call) (r : Reply) → is_granted r ≡ false → outcome_or x r Clean ≡ Clean
+not_failed x Stopped e = refl
+not_failed x Ended e = refl
+not_failed x NoContexts e = refl
+not_failed x Full e = refl
+not_failed x Blocked e = refl
+not_failed x replies.Failed e = absurd cc
+not_failed x Stepped e = refl
+
+-- a call without a step leaves the outcome
+pub same_outcome : (h : List Call) (x : Call) → is_granted x.reply ≡ false → outcome_of h ≡ outcome_of (h ++ x ∷ [])
+same_outcome h x e = sym (outcome-append h x ∙ ap (first_outcome (outcome_of h)) (not_failed x x.reply e) ∙ or_clean (outcome_of h))
+
+-- so does a step without a failure
+pub stepped_outcome : (h : List Call) (x : Call) → x.reply ≡ Stepped → outcome_of h ≡ outcome_of (h ++ x ∷ [])
+stepped_outcome h x e = sym (outcome-append h x ∙ ap (λ r. first_outcome (outcome_of h) (outcome_or x r Clean)) e ∙ or_clean (outcome_of h))
+
+clean_of : (o : Outcome) → is_failure o ≡ false → o ≡ Clean
+clean_of Clean e = refl
+clean_of (Failed i) e = absurd cc
+
+-- the first failure is the outcome
+pub failed_outcome : (h : List Call) (x : Call) → x.reply ≡ replies.Failed → is_failure (outcome_of h) ≡ false → Failed x.thread ≡ outcome_of (h ++ x ∷ [])
+failed_outcome h x e none =
+    sym (outcome-append h x ∙ ap (λ r. first_outcome (outcome_of h) (outcome_or x r Clean)) e
+    ∙ ap (λ o. first_outcome o (Failed x.thread)) (clean_of (outcome_of h) none))
+
+-- A state that stands after a history stands after it with one more call, where that call is allowed.
+
+pub same_or_not : (j i : ℕ) → (j ≡ i) ⊎ (j ≢ i)
+same_or_not j i = go (j == i) refl
+  where
+    go : (b : Bool) → (j == i) ≡ b → (j ≡ i) ⊎ (j ≢ i)
+    go true e = inl (grind (arith, nat_tests))
+    go false e = inr (λ same. grind (arith, nat_tests))
+
+pub set_same : {X : Type 0} (xs : List X) (i : ℕ) (x y : X) → slice_get xs i ≡ Some x → slice_get (slice_set xs i y) i ≡ Some y
+set_same [] i x y e = cc
+set_same (z ∷ zs) zero x y e = refl
+set_same (z ∷ zs) (suc i) x y e = set_same zs i x y e
+
+pub set_other : {X : Type 0} (xs : List X) (i j : ℕ) (y : X) → j ≢ i → slice_get (slice_set xs i y) j ≡ slice_get xs j
+set_other [] i j y n = refl
+set_other (z ∷ zs) zero zero y n = absurd (n refl)
+set_other (z ∷ zs) zero (suc j) y n = refl
+set_other (z ∷ zs) (suc i) zero y n = refl
+set_other (z ∷ zs) (suc i) (suc j) y n = set_other zs i j y (λ e. n (ap suc e))
+
+module _ (t : Program) (s : SetupOf) (x : State) (h : List Call) (stands : StandsAfter t s x h) (i : ℕ)
+    (guest : GuestThreadOf) (has : slice_get x.threads i ≡ Some guest) where
+  -- what one more call with this reply leaves
+  pub record Leaves (call : Call) (guest_after : GuestThreadOf) (y : State) (d : Configuration) : Type 0 where
+    pub thread : call.thread ≡ i
+    pub allowed : IsAllowed t s h call
+    pub calls : guest_after.calls ≡ guest.calls + 1
+    pub ended : guest_after.ended ≡ is_last call.reply
+    pub guests : y.threads ≡ slice_set x.threads i guest_after
+    pub after_is : configuration_after t s (h ++ call ∷ []) ≡ d
+    pub globals : d.globals ≡ valuation_of t.globals (bits_of y.globals)
+    pub failed : d.failed ≡ is_failure y.outcome
+    pub outcome : y.outcome ≡ outcome_of (h ++ call ∷ [])
+    pub stacks : length d.stacks ≡ threads s
+    pub stack : ShowsStack t (activations guest_after.stack) (stack_of d i)
+    pub others : (j : ℕ) → j ≢ i → stack_of d j ≡ stack_of (configuration_after t s h) j
+    pub contexts : IsCountOf y.contexts (granted_threads (h ++ call ∷ []))
+
+  own_guest : (call : Call) (guest_after : GuestThreadOf) (y : State) (d : Configuration) → Leaves call guest_after y d
+      → (l : GuestThreadOf) → guest_after ≡ l → ShowsThread t d (h ++ call ∷ []) i l
+  own_guest call guest_after y d e l is =
+      let was = stands.thread i guest has in
+      let more = calls_of_thread-same h call i e.thread in
+      subst (λ m. ShowsThread t d (h ++ call ∷ []) i m) is (record {
+        stack = e.stack;
+        calls = e.calls ∙ ap (λ n. n + 1) was.calls ∙ sym (ap length more ∙ length-append (calls_of_thread i h) (call ∷ []));
+        ended = e.ended ∙ sym (ap ends_with_last more ∙ ends_with_last-append (calls_of_thread i h) call);
+      })
+
+  other_guest : (call : Call) (guest_after : GuestThreadOf) (y : State) (d : Configuration)
+      → Leaves call guest_after y d → (j : ℕ) → j ≢ i → (l : GuestThreadOf) → slice_get x.threads j ≡ Some l
+      → ShowsThread t d (h ++ call ∷ []) j l
+  other_guest call guest_after y d e j n l is =
+      let was = stands.thread j l is in
+      let same = calls_of_thread-other h call j (λ at. n (sym at ∙ e.thread)) in
+      record {
+        stack = subst (λ fs. ShowsStack t (activations l.stack) fs) (sym (e.others j n)) was.stack;
+        calls = was.calls ∙ sym (ap length same);
+        ended = was.ended ∙ sym (ap ends_with_last same);
+      }
+
+  pub advance : (call : Call) (guest_after : GuestThreadOf) (y : State) (d : Configuration) → Leaves call guest_after y d → StandsAfter t s y (h ++ call ∷ [])
+  advance call guest_after y d e =
+      let is = e.after_is in
+      record {
+        legal = legal-append t s h call stands.legal e.allowed;
+        globals = ap (λ (c : Configuration). c.globals) is ∙ e.globals;
+        failed = ap (λ (c : Configuration). c.failed) is ∙ e.failed;
+        outcome = e.outcome;
+        stacks = ap (λ (c : Configuration). length c.stacks) is ∙ e.stacks;
+        thread_count = ap length e.guests ∙ length-set x.threads i guest_after ∙ stands.thread_count;
+        thread = λ j l at. subst (λ c. ShowsThread t c (h ++ call ∷ []) j l) (sym is) (each j l (sym (ap (λ ls. slice_get ls j) e.guests) ∙ at));
+        contexts = e.contexts;
+      }
+    where
+      here : (j : ℕ) (l : GuestThreadOf) → j ≡ i → slice_get (slice_set x.threads i guest_after) j ≡ Some l → ShowsThread t d (h ++ call ∷ []) j l
+      here j l same at =
+          let got = set_same x.threads i guest guest_after has in
+          let found = ap (λ k. slice_get (slice_set x.threads i guest_after) k) (sym same) ∙ at in
+          subst (λ k. ShowsThread t d (h ++ call ∷ []) k l) (sym same) (own_guest call guest_after y d e l (cc))
+
+      each : (j : ℕ) (l : GuestThreadOf) → slice_get (slice_set x.threads i guest_after) j ≡ Some l → ShowsThread t d (h ++ call ∷ []) j l
+      each j l at =
+          elim (same_or_not j i) [
+            | inl same ↦ here j l same at
+            | inr other ↦
+                other_guest call guest_after y d e j other l (sym (set_other x.threads i j guest_after other) ∙ at)
+          ]
+
+-- A call changes no line but its own: which lines are finished, and how many are open, before and after it.
+
+-- a last reply finishes the line
+pub last_finishes : (s : SetupOf) (h : List Call) (x : Call) → is_last x.reply ≡ true → is_finished s (h ++ x ∷ []) x.thread ≡ true
+last_finishes s h x last =
+    let ended = ap ends_with_last (calls_of_thread-same h x x.thread refl) ∙ ends_with_last-append (calls_of_thread x.thread h) x ∙ last in
+    ap (λ b. b || nat_le s.calls (length (calls_of_thread x.thread (h ++ x ∷ [])))) ended
+
+abbrev one_if : Bool → ℕ
+one_if b = cond b 1 0
+
+module _ (s : SetupOf) (h : List Call) (x : Call) (unfinished : is_finished s h x.thread ≡ false) where
+  same_below : (n : ℕ) → n ≤ x.thread → open_below n s (h ++ x ∷ []) ≡ open_below n s h
+  same_below zero within = refl
+  same_below (suc n) within =
+      let same = same_below n (omega arith) in
+      let own = finished-other s h x n (λ e. omega arith) in
+      rw (own, same) refl
+
+  own_line : (now : Bool) (count : ℕ) → cond now count (count + 1) + one_if now ≡ count + 1
+  own_line true count = refl
+  own_line false count = omega arith
+
+  pub open_with : (n : ℕ) → x.thread < n → open_below n s (h ++ x ∷ []) + finished_by s h x ≡ open_below n s h
+  open_with zero within = absurd (omega arith)
+  open_with (suc n) within = elim (same_or_not x.thread n) [
+    | inl same ↦ here same
+    | inr other ↦ there other (open_with n (below other))
+  ]
+    where
+      below : x.thread ≢ n → x.thread < n
+      below other = grind (arith, nat_tests)
+
+      here : x.thread ≡ n → open_below (suc n) s (h ++ x ∷ []) + finished_by s h x ≡ open_below (suc n) s h
+      here same =
+          let count = same_below n (omega (arith, same)) in
+          let own : one_if (is_finished s (h ++ x ∷ []) x.thread) ≡ one_if (is_finished s (h ++ x ∷ []) n) =
+          ap (λ i. one_if (is_finished s (h ++ x ∷ []) i)) same in
+          let before : is_finished s h n ≡ false = sym (ap (is_finished s h) same) ∙ unfinished in
+          ap (λ k. cond (is_finished s (h ++ x ∷ []) n) k (k + 1) + one_if (is_finished s (h ++ x ∷ []) x.thread)) count
+          ∙ ap (λ k. cond (is_finished s (h ++ x ∷ []) n) (open_below n s h) (open_below n s h + 1) + k) own
+          ∙ own_line (is_finished s (h ++ x ∷ []) n) (open_below n s h)
+          ∙ sym (ap (λ b. cond b (open_below n s h) (open_below n s h + 1)) before)
+
+      more : (b : Bool) → open_below n s (h ++ x ∷ []) + finished_by s h x ≡ open_below n s h
+          → cond b (open_below n s (h ++ x ∷ [])) (open_below n s (h ++ x ∷ []) + 1) + finished_by s h x ≡ cond b (open_below n s h) (open_below n s h + 1)
+      more true e = e
+      more false e = omega (arith, e)
+
+      there : x.thread ≢ n → open_below n s (h ++ x ∷ []) + finished_by s h x ≡ open_below n s h
+          → open_below (suc n) s (h ++ x ∷ []) + finished_by s h x ≡ open_below (suc n) s h
+      there other before =
+          let own = finished-other s h x n other in
+          ap (λ b. cond b (open_below n s (h ++ x ∷ [])) (open_below n s (h ++ x ∷ []) + 1) + finished_by s h x) own
+          ∙ more (is_finished s h n) before
+
+-- the open lines before and after a call that is allowed
+pub open_lines-append : (t : Program) (s : SetupOf) (h : List Call) (x : Call) → IsAllowed t s h x
+    → open_lines s (h ++ x ∷ []) + finished_by s h x ≡ open_lines s h
+open_lines-append t s h x allowed = open_with s h x allowed.unfinished (threads s) allowed.thread

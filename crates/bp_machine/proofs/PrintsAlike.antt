@@ -1,27 +1,18 @@
 -- Code and program print alike, and a session prints what its thread's code does.
-use Rattle.std.proofs.Common.{◌≡◌, ◌≢◌, ℕ, Bool, true, false, List, [], ◌∷◌, Option, None, Some, is_some, refl, ap, sym, ◌∙◌}
-use Rattle.std.specs.Prelude.{slice_get}
-use Rattle.bp_tree.specs.Ast.{Block, Done, Then, Skips, GoesTo, Returns, Assigns, Branches, Loops, Asserts, Assumes, Prints, Calls, Procedure, Program}
-use Rattle.bp_flat.specs.Bits.{bits_of}
-use Rattle.bp_flat.specs.Effects.{Store}
-use Rattle.bp_flat.specs.Values.{Valuation}
-use Rattle.bp_flat.specs.Configurations.{Frame}
-use Rattle.bp_flat.specs.Flat.{Flat, Instruction, Skip, Goto, Return, Assign, If, While, Assert, Assume, Print, Call as CallsTo}
-use Rattle.bp_flat.specs.Kinds.{instruction_kind}
+use Rattle.std.proofs.Common.{◌≡◌, ◌≢◌, ℕ, Bool, true, false, List, [], ◌∷◌, Option, None, Some, is_some, refl, ap, sym, ◌∙◌, slice_get}
+use Rattle.bp_language.specs.Ast.{Block, Done, Then, Skips, GoesTo, Returns, Assigns, Branches, Loops, Asserts, Assumes, Prints, Calls, Procedure, Program}
+use Rattle.bp_flat.specs.InstrEffects.{bits_of}
+use Rattle.bp_flat.specs.Moves.{Store, Valuation, Frame}
+use Rattle.bp_flat.specs.Flat.{Flat, Instruction, Skip, Goto, Return, Assign, If, While, Assert, Assume, Print, Call as CallsTo, instruction_kind}
 use Rattle.bp_flat.specs.declared.instrs.Kind.TheVariants as kind
-use Rattle.bp_flat.specs.Steps.{Bits, Activation}
-use Rattle.bp_flat.specs.Prints.{printed_values}
-use Rattle.bp_flat.specs.StandsFor.{StandsFor, Place, Does, places_of, named_store, valuation_of}
-use Rattle.bp_flat.specs.Alike.{ShowsStack}
+use Rattle.bp_flat.specs.Steps.{Bits, Activation, printed_values}
+use Rattle.bp_flat.specs.StandsFor.{StandsFor, Place, Does, places_of, named_store, valuation_of, ShowsStack}
 use Rattle.bp_machine.specs.declared.calls.Call.{Call}
 use Rattle.bp_machine.specs.declared.stacks.ActivationRecord.{ActivationRecord}
-use Rattle.bp_machine.specs.GuestThreads.{GuestThreadOf}
-use Rattle.bp_machine.specs.Answers.{stack_of}
-use Rattle.bp_machine.specs.Histories.{configuration_after}
-use Rattle.bp_machine.specs.PrintedRows.{values_at, values_printed}
+use Rattle.bp_machine.specs.Sessions.{GuestThreadOf, top_of, State, StandsAfter, activations}
+use Rattle.bp_machine.specs.Histories.{stack_of, configuration_after}
+use Rattle.bp_machine.specs.Runs.{values_at, values_printed}
 use Rattle.bp_machine.specs.Setups.{SetupOf}
-use Rattle.bp_machine.specs.Stacks.{top_of}
-use Rattle.bp_machine.specs.States.{State, StandsAfter, activations}
 
 -- what the instruction of a number prints
 abbrev pub printed_at : Option Instruction → Store Bits → Option (List Bool)

@@ -1,22 +1,59 @@
 -- A setup without a fault fits its program, and its numbers are within their limits, since a program has few globals.
-use Rattle.std.proofs.Common.{◌≡◌, ℕ, ◌<◌, ◌≤◌, ◌==◌, ◌||◌, nat_lt, not, Bool, true, false, length, [], ◌∷◌, Option, None, Some, refl, arith}
-use Rattle.std.specs.Option.{option_or}
-use Rattle.std.proofs.Math.Logic.{∥∥₁_elim}
+use Rattle.std.proofs.Common.{◌≡◌, ℕ, Bool, true, false, List, refl, sym, ◌<◌, ◌≤◌, ◌==◌, ◌||◌, nat_lt, not, length, [], ◌∷◌, Option, None, Some, arith, ◌≢◌, ◌+◌, cond, All, ◌∙◌, subst, bytes_eq, zero, suc, ap, option_map, map, get_or, take, ◌++◌, Bor, String, Global, string_bytes, if◌then◌else◌, drop, add-one, replicate, slice_get, is_some}
+use Rattle.std.proofs.lemmas.Bool.{false≢true}
+use Rattle.std.proofs.Math.Logic.{∥∥₁_map, ∥∥₁_elim}
+use Rattle.std.proofs.Math.Nat.{ℕ_set}
+use Rattle.std.specs.Option.{option_or, option_copied}
 use Rattle.std.proofs.lemmas.Bool.Decides.{nat_tests}
 use Rattle.std.specs.Coded.{le_prop}
-use Rattle.bp_tree.specs.Ast.{Program}
+use Rattle.std.specs.List.{AllByRecursion}
+use Rattle.std.proofs.lemmas.List.Elements.{All-nil, All-cons}
+use Rattle.std.proofs.lemmas.Slice.Eq.{bytes_eq-Decides}
+use Rattle.std.proofs.lemmas.List.{map-append, take_more, take-replicate}
+use Rattle.std.proofs.lemmas.Option.{slice_get-map, slice_get-get_or}
+use Rattle.bp_language.specs.Ast.{Program, Procedure}
 use Rattle.bp_language.specs.Texts.{HasText}
 use Rattle.bp_language.specs.Faults.{IsLawful}
 use Rattle.bp_language.specs.declared.limits.TheConstants.{MAX_GLOBALS}
-use Rattle.bp_flat.specs.Flat.{Flat}
-use Rattle.bp_flat.specs.StandsFor.{StandsFor}
-use Rattle.bp_flat.specs.Programs.{IsOfProgram}
+use Rattle.bp_language.specs.NamesIn.{NamesInProcedures}
+use Rattle.bp_language.specs.Tokens.{IsSpelled}
 use Rattle.bp_language.proofs.LawsOfLawfulPrograms.{few_names}
+use Rattle.bp_language.proofs.SpelledNames.{on_one_line, spelled_names}
+use Rattle.bp_flat.specs.Flat.{Flat, Heading, heading_named}
+use Rattle.bp_flat.specs.StandsFor.{StandsFor, IsOfProgram}
+use Rattle.bp_flat.specs.Moves.{procedure_named}
+use Rattle.bp_flat.specs.declared.headings.Heading as kept
+use Rattle.bp_flat.proofs.SlotsOfNames.{formals_of_procedure}
+use Rattle.bp_machine.specs.declared.calls.Call.{Call}
+use Rattle.bp_machine.specs.Histories.{open_lines}
+use Rattle.bp_machine.specs.Sessions.{SessionOf, Stands, StandsForAll}
 use Rattle.bp_machine.specs.declared.setup_faults.SetupFault.{SetupFault}
-use Rattle.bp_machine.proofs.ForEveryProgram.{is_untrue}
-use Rattle.bp_machine.specs.declared.setup_faults.SetupFault.TheVariants.{Threads, InitLength, OutOfRange}
+use Rattle.bp_machine.specs.declared.setup_faults.SetupFault.TheVariants.{Threads, InitLength, OutOfRange, UnknownEntry, EntryHasFormals, Memory}
 use Rattle.bp_machine.specs.declared.limits.TheConstants.{MAX_THREADS, MAX_CONTEXTS, MAX_CALLS}
-use Rattle.bp_machine.specs.Setups.{SetupOf, threads, entries_fault, fault_if, first_of, has_bad_threads, is_out_of_range, setup_fault, Fits, IsInRange}
+use Rattle.bp_machine.specs.Setups.{SetupOf, threads, entries_fault, fault_if, first_of, has_bad_threads, is_out_of_range, setup_fault, Fits, IsInRange, entry_fault, IsSetupRefusal, initial_bits}
+
+-- What holds for every program that a code stands for, where it stands for one.
+
+pub for_one : (c : Flat) (P : Type 0) → IsOfProgram c → ((t : Program) → StandsFor c t → P) → ∥ P ∥₁
+for_one c P of_some each = ∥∥₁_map of_some (λ p. each p.0 p.3)
+
+pub same_number : (c : Flat) (m n : ℕ) → IsOfProgram c → ((t : Program) → StandsFor c t → m ≡ n) → m ≡ n
+same_number c m n of_some each = ∥∥₁_elim (for_one c (m ≡ n) of_some each) (ℕ_set m n) (λ e. e)
+
+pub is_true : (c : Flat) (b : Bool) → IsOfProgram c → ((t : Program) → StandsFor c t → b ≡ true) → b ≡ true
+is_true c true of_some each = refl
+is_true c false of_some each = absurd (∥∥₁_elim (for_one c ⊥ of_some (λ t is. false≢true (each t is))) (λ x y. absurd x) (λ e. e))
+
+pub is_untrue : (c : Flat) (b : Bool) → IsOfProgram c → ((t : Program) → StandsFor c t → b ≡ false) → b ≡ false
+is_untrue c false of_some each = refl
+is_untrue c true of_some each = absurd (∥∥₁_elim (for_one c ⊥ of_some (λ t is. false≢true (sym (each t is)))) (λ x y. absurd x) (λ e. e))
+
+pub is_false : (c : Flat) (P : Type 0) → IsOfProgram c → ((t : Program) → StandsFor c t → P → ⊥) → P → ⊥
+is_false c P of_some each p = ∥∥₁_elim (for_one c ⊥ of_some (λ t is. each t is p)) (λ x y. absurd x) (λ e. e)
+
+module _ (x : SessionOf) (h : List Call) (of_some : IsOfProgram x.code) (stands : StandsForAll x h) where
+  pub same_open : (n : ℕ) → ((t : Program) (g : List Call) → Stands t x g → n ≡ open_lines x.setup g) → n ≡ open_lines x.setup h
+  same_open n counted = same_number x.code n (open_lines x.setup h) of_some (λ t is. counted t h (stands t is))
 
 pub few_globals : (c : Flat) → IsOfProgram c → c.globals ≤ MAX_GLOBALS
 few_globals c of_some = ∥∥₁_elim of_some le_prop few
@@ -104,3 +141,176 @@ module _ (c : Flat) (s : SetupOf) (of_some : IsOfProgram c) (none : (t : Program
       let good_threads = is_untrue c (has_bad_threads s) of_some (λ t is. threads_fine t s (none t is)) in
       let numbers = is_untrue c (is_out_of_range s) of_some (λ t is. numbers_fine t s (none t is)) in
       range_by s good_threads numbers few_bits
+
+-- The entries of a setup without a fault are names of the program, and have what each of its names has.
+
+module _ (P : List ℕ → Type 0) where
+  -- the name of the procedure that was found
+  found_name : (ps : List Procedure) (e : List ℕ) (p : Procedure) → NamesInProcedures (λ n. P n.text) ps → procedure_named ps e ≡ Some p → P e
+  found_name [] e p each found = absurd cc
+  found_name (q ∷ qs) e p each found = go (bytes_eq q.name.text e) refl (λ rest. found_name qs e p each.1 rest)
+    where
+      go : (b : Bool) → bytes_eq q.name.text e ≡ b → (procedure_named qs e ≡ Some p → P e) → P e
+      go true is later = subst P ((bytes_eq-Decides q.name.text e).0 is) each.0.0
+      go false is later = later (sym (λ i. cond (is i) (Some q) (procedure_named qs e)) ∙ found)
+
+  fine_name : (t : Program) (k : ℕ) (e : List ℕ) (o : Option Procedure) → NamesInProcedures (λ n. P n.text) t.procedures
+      → procedure_named t.procedures e ≡ o → entry_fault k o ≡ None → P e
+  fine_name t k e None each is none = absurd cc
+  fine_name t k e (Some p) each is none = found_name t.procedures e p each is
+
+  pub entries_are_names : (t : Program) (k : ℕ) (es : List (List ℕ)) → NamesInProcedures (λ n. P n.text) t.procedures
+      → entries_fault t k es ≡ None → AllByRecursion P es
+  entries_are_names t k [] each none = tt
+  entries_are_names t k (e ∷ es) each none =
+      let parts = neither (entry_fault k (procedure_named t.procedures e)) (entries_fault t (k + 1) es) none in
+      (fine_name t k e (procedure_named t.procedures e) each refl parts.0, entries_are_names t (k + 1) es each parts.1)
+
+abbrev HasNoFeed : List ℕ → Type 0
+HasNoFeed name = All (λ b. b ≢ 10) name
+
+spelled_on_one_line : (es : List (List ℕ)) → AllByRecursion IsSpelled es → All HasNoFeed es
+spelled_on_one_line [] spelled = All-nil HasNoFeed
+spelled_on_one_line (e ∷ es) spelled = All-cons HasNoFeed e es (on_one_line e spelled.0) (spelled_on_one_line es spelled.1)
+
+pub entries_hold_no_feed : (t : Program) (s : SetupOf) → HasText t → Fits t s → All HasNoFeed s.entries
+entries_hold_no_feed t s of_text fits = spelled_on_one_line s.entries (entries_are_names IsSpelled t 0 s.entries (spelled_names t of_text).1 fits.entries)
+
+-- A name that finds a heading is the name of that heading; and the entries of a setup without a fault find theirs.
+
+pub name_of_found : (hs : List Heading) (x : List ℕ) (h : Heading) → heading_named hs x ≡ Some h → h.name ≡ x
+name_of_found [] x h e = absurd cc
+name_of_found (k ∷ hs) x h e = go (bytes_eq k.name x) refl (λ later. name_of_found hs x h later) e
+  where
+    go : (b : Bool) → bytes_eq k.name x ≡ b → (heading_named hs x ≡ Some h → h.name ≡ x) → cond b (Some k) (heading_named hs x) ≡ Some h → h.name ≡ x
+    go true is later found = let same : k ≡ h = cc in ap (λ (z : Heading). z.name) (sym same) ∙ (bytes_eq-Decides k.name x).0 is
+    go false is later found = later found
+
+-- an entry without a fault has a procedure, and so a heading
+some_heading : (h : Option Heading) (k : ℕ) (o : Option Procedure)
+    → option_map (λ (z : Heading). z.formals) h ≡ option_map (λ (p : Procedure). length p.formals) o
+    → entry_fault k o ≡ None → is_some h ≡ true
+some_heading (Some z) k o same none = refl
+some_heading None k None same none = absurd cc
+some_heading None k (Some p) same none = absurd cc
+
+module _ (c : Flat) (t : Program) (is : StandsFor c t) where
+  each_found : (es : List (List ℕ)) (k i : ℕ) (name : List ℕ) → entries_fault t k es ≡ None → slice_get es i ≡ Some name
+      → is_some (heading_named c.headings name) ≡ true
+  each_found [] k i name none at = absurd cc
+  each_found (e ∷ es) k zero name none at =
+      let same : e ≡ name = cc in
+      let own = (neither (entry_fault k (procedure_named t.procedures e)) (entries_fault t (k + 1) es) none).0 in
+      some_heading (heading_named c.headings name) k (procedure_named t.procedures name)
+      (formals_of_procedure c t name is)
+      (subst (λ n. entry_fault k (procedure_named t.procedures n) ≡ None) same own)
+  each_found (e ∷ es) k (suc i) name none at =
+      each_found es (k + 1) i name (neither (entry_fault k (procedure_named t.procedures e)) (entries_fault t (k + 1) es) none).1 at
+
+pub names_found : (c : Flat) (es : List (List ℕ)) → IsOfProgram c → ((t : Program) → StandsFor c t → entries_fault t 0 es ≡ None)
+    → (i : ℕ) (name : List ℕ) → slice_get es i ≡ Some name → is_some (heading_named c.headings name) ≡ true
+names_found c es of_some none i name at = is_true c (is_some (heading_named c.headings name)) of_some (λ t is. each_found c t is es 0 i name (none t is) at)
+
+-- what a search answers
+pub found_somewhere : (o : Option (Bor kept.Heading)) (h : Option Heading) → option_copied o ≡ h → is_some h ≡ true → ((x : Bor Heading) → o ≡ Some x → ⊥) → ⊥
+found_somewhere (Some x) h e some none = none x refl
+found_somewhere None h e some none = let a = ap is_some e in cc
+
+-- the i-th name of borrowed ones
+pub name_at : (xs : List (Bor (List ℕ))) (i : ℕ) (d : Bor (List ℕ)) → i < length xs → slice_get (map (λ n. n.now) xs) i ≡ Some ((get_or xs i d).now)
+name_at xs i d within = slice_get-map (λ n. n.now) xs i ∙ ap (option_map (λ n. n.now)) (slice_get-get_or xs i d within)
+
+-- one more of them
+pub names_more : (xs : List (Bor (List ℕ))) (i : ℕ) (d : Bor (List ℕ)) → i < length xs → (old : List (String Global)) (name : String Global)
+    → map string_bytes old ≡ map (λ n. n.now) (take i xs) → string_bytes name ≡ (get_or xs i d).now
+    → map string_bytes (old ++ name ∷ []) ≡ map (λ n. n.now) (take (i + 1) xs)
+names_more xs i d within old name same is =
+    map-append string_bytes old (name ∷ [])
+    ∙ ap (λ ns. ns ++ string_bytes name ∷ []) same
+    ∙ ap (λ n. map (λ n. n.now) (take i xs) ++ n ∷ []) is
+    ∙ sym (map-append (λ n. n.now) (take i xs) (get_or xs i d ∷ []))
+    ∙ ap (map (λ n. n.now)) (sym (take_more xs i d within))
+
+-- A fault of a setup is never that memory was refused.
+
+either : (a b : Option SetupFault) → (a ≡ Some Memory → ⊥) → (b ≡ Some Memory → ⊥) → option_or a b ≡ Some Memory → ⊥
+either None b p q e = q e
+either (Some f) b p q e = p e
+
+entry : (k : ℕ) (o : Option Procedure) → entry_fault k o ≡ Some Memory → ⊥
+entry k None e = cc
+entry k (Some p) e = by_test (length p.formals == 0) e
+  where
+    by_test : (b : Bool) → (if b then None else Some (EntryHasFormals k)) ≡ Some Memory → ⊥
+    by_test true e = cc
+    by_test false e = cc
+
+entries : (t : Program) (k : ℕ) (es : List (List ℕ)) → entries_fault t k es ≡ Some Memory → ⊥
+entries t k [] e = cc
+entries t k (x ∷ es) e =
+    either (entry_fault k (procedure_named t.procedures x)) (entries_fault t (k + 1) es) (entry k (procedure_named t.procedures x)) (entries t (k + 1) es) e
+
+module _ (t : Program) (s : SetupOf) where
+  test : (b : Bool) (f : SetupFault) → (Some f ≡ Some Memory → ⊥) → fault_if b f ≡ Some Memory → ⊥
+  test true f p e = p e
+  test false f p e = cc
+
+  never_memory : setup_fault t s ≡ Some Memory → ⊥
+  never_memory e =
+      either (fault_if (has_bad_threads s) Threads) _ (test (has_bad_threads s) Threads (λ x. cc))
+      (either (entries_fault t 0 s.entries) _ (entries t 0 s.entries)
+      (either (fault_if (not (length s.init == length t.globals)) InitLength) _ (test (not (length s.init == length t.globals)) InitLength (λ x. cc))
+      (either (fault_if (is_out_of_range s) OutOfRange) None (test (is_out_of_range s) OutOfRange (λ x. cc)) (λ x. cc))))
+      e
+
+  -- a fault refuses the setup
+  pub fault_refuses : (f : SetupFault) → setup_fault t s ≡ Some f → IsSetupRefusal t s f
+  fault_refuses Memory e = absurd (never_memory e)
+  fault_refuses Threads e = e
+  fault_refuses (UnknownEntry k) e = e
+  fault_refuses (EntryHasFormals k) e = e
+  fault_refuses InitLength e = e
+  fault_refuses OutOfRange e = e
+
+-- Entries of threads, one after the other.
+
+map_at : {X Y : Type 0} (f : X → Y) (xs : List X) (i : ℕ) (x d : X) → i < length xs → x ≡ get_or xs i d → drop i (map f xs) ≡ f x ∷ drop (suc i) (map f xs)
+map_at f [] i x d h e = absurd (omega arith)
+map_at f (y ∷ xs) zero x d h e = ap (λ z. f z ∷ map f xs) (sym e)
+map_at f (y ∷ xs) (suc i) x d h e = map_at f xs i x d (omega arith) e
+
+first_is : (o r : Option SetupFault) → is_some o ≡ true → option_or o r ≡ o
+first_is None r e = absurd cc
+first_is (Some f) r e = refl
+
+second_is : (o r : Option SetupFault) → is_some o ≡ false → option_or o r ≡ r
+second_is None r e = refl
+second_is (Some f) r e = absurd cc
+
+-- the entries from thread i on, where x is the entry of that thread
+module _ (t : Program) {X : Type 0} (name : X → List ℕ) (xs : List X) (i : ℕ) (x d : X) (within : i < length xs) (is : x ≡ get_or xs i d) where
+  abbrev own : Option SetupFault
+  own = entry_fault i (procedure_named t.procedures (name x))
+
+  abbrev others : Option SetupFault
+  others = entries_fault t (i + 1) (drop (i + 1) (map name xs))
+
+  here : entries_fault t i (drop i (map name xs)) ≡ option_or own others
+  here = ap (entries_fault t i) (map_at name xs i x d within is) ∙ ap (λ n. option_or own (entries_fault t (i + 1) (drop n (map name xs)))) (sym (add-one i))
+
+  pub refused : is_some own ≡ true → entries_fault t i (drop i (map name xs)) ≡ own
+  refused some = here ∙ first_is own others some
+
+  pub fine : is_some own ≡ false → entries_fault t i (drop i (map name xs)) ≡ others
+  fine none = here ∙ second_is own others none
+
+-- The initial bits of a setup: those that are given, else a 0 for each global.
+
+pub bits_given : {B : Type 0} (now : B → List Bool) (given : Option B) (r : List Bool) (n : ℕ) (b : B) → given ≡ Some b
+    → r ≡ now b → r ≡ initial_bits (option_map now given) n
+bits_given now given r n b is value = rw (is) value
+
+pub bits_not_given : {B : Type 0} (now : B → List Bool) (given : Option B) (r : List Bool) (n m : ℕ) → given ≡ None
+    → r ≡ take m (replicate 128 false) → m ≤ 128 → m ≡ n → r ≡ initial_bits (option_map now given) n
+bits_not_given now given r n m is value few same =
+    rw (is) (value ∙ (take-replicate m 128 false few ∙ ap (λ k. replicate k false) same))

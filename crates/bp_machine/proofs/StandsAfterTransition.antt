@@ -1,37 +1,29 @@
 -- A session that stands after a history stands after it with the call that it answers.
-use Rattle.std.proofs.Common.{◌≡◌, ℕ, ◌+◌, ◌<◌, Bool, true, false, cond, nat_le, List, [], ◌∷◌, ◌++◌, length, Some, refl, ap, sym, ◌∙◌, subst, arith}
-use Rattle.std.specs.Prelude.{slice_get, slice_set, unwrap_or}
-use Rattle.std.proofs.lemmas.List.{length-set, append-nil, get_or-set_same, get_or-set_other}
-use Rattle.bp_tree.specs.Ast.{Program}
-use Rattle.bp_flat.specs.Configurations.{Frame, Configuration}
-use Rattle.bp_flat.specs.Moves.{after_effect}
+use Rattle.std.proofs.Common.{◌≡◌, ℕ, ◌+◌, ◌<◌, Bool, true, false, cond, nat_le, List, [], ◌∷◌, ◌++◌, length, Some, refl, ap, sym, ◌∙◌, subst, arith, suc, ◌/◌, add-one, ◌⊎◌, zero, inl, inr, slice_get, slice_set, unwrap_or, length-set, append-nil, get_or-set_same, get_or-set_other, length-append}
+use Rattle.rand_pcg.specs.Lcg.{Lcg, started, increment_of}
+use Rattle.rand_pcg.specs.Pcg.{multiplier_64, pcg32}
+use Rattle.std.proofs.lemmas.Option.{slice_get_within, slice_get_cases}
+use Rattle.bp_language.specs.Ast.{Program}
+use Rattle.bp_flat.specs.Moves.{Frame, Configuration, after_effect}
 use Rattle.bp_flat.specs.Flat.{Flat}
-use Rattle.bp_flat.specs.Alike.{ShowsStack, StepsAlike}
+use Rattle.bp_flat.specs.StandsFor.{ShowsStack, StepsAlike}
+use Rattle.bp_flat.specs.declared.effects.Effect.{Effect}
+use Rattle.bp_flat.specs.declared.effects.Effect.TheVariants.{Continues, Enters, Returns}
+use Rattle.bp_flat.specs.declared.effects.Effect.TheVariants as instr
 use Rattle.bp_machine.specs.declared.calls.Reply.{Reply}
 use Rattle.bp_machine.specs.declared.calls.Reply.TheVariants.{Stopped, Failed, Stepped}
 use Rattle.bp_machine.specs.declared.calls.Call.{Call}
-use Rattle.bp_flat.specs.declared.effects.Effect.{Effect}
 use Rattle.bp_machine.specs.declared.threads.Transition.{Transition}
 use Rattle.bp_machine.specs.declared.threads.Transition.TheVariants.{Stays, Fails, Steps}
-use Rattle.bp_machine.specs.ContextCounts.{used_with, count_with, IsCountOf}
+use Rattle.bp_machine.specs.Sessions.{used_with, count_with, IsCountOf, State, activations, StandsAfter, GuestThreadOf, IsCallStep}
 use Rattle.bp_machine.specs.Setups.{SetupOf, threads}
-use Rattle.bp_machine.specs.Replies.{is_granted}
-use Rattle.bp_machine.specs.Answers.{stack_of, reply_on_stack, configuration_after_step}
-use Rattle.bp_machine.specs.Histories.{configuration_after, granted_threads, is_finished, IsAllowed}
-use Rattle.bp_machine.specs.States.{State, activations, StandsAfter}
-use Rattle.bp_machine.specs.GuestThreads.{GuestThreadOf}
-use Rattle.bp_machine.specs.Transitions.{IsTransition, reply_of_transition, thread_after, state_after, stack_after, IsEntering, IsCallTransition}
-use Rattle.bp_machine.specs.Reports.{is_failure}
-use Rattle.bp_machine.proofs.OutcomeWithCall.{same_outcome, stepped_outcome, failed_outcome}
-use Rattle.bp_machine.proofs.ContextCounts.{counts_more, fits_with}
-use Rattle.bp_machine.proofs.HistoryWithCall.{configuration_after-append, granted_threads-append}
-use Rattle.bp_machine.proofs.TransitionIsAnswer.{IsAnswer, answer_of}
-use Rattle.bp_machine.proofs.StandsAfterCall.{advance}
-use Rattle.bp_machine.proofs.EffectSizes.{shown_length, is_a_call}
-use Rattle.bp_machine.specs.Sessions.{IsCallStep}
+use Rattle.bp_machine.specs.Histories.{is_granted, stack_of, reply_on_stack, configuration_after_step, configuration_after, granted_threads, is_finished, IsAllowed, is_failure, ChoicesOf, IsAt, generator_after, choice_word, choice_bit, calls_of_thread, IsSeeded}
+use Rattle.bp_machine.specs.Transitions.{IsTransition, reply_of_transition, thread_after, state_after, stack_after, IsEntering, IsCallTransition, AreDrawn}
 use Rattle.bp_machine.specs.declared.stacks.ActivationRecord.{ActivationRecord}
-use Rattle.bp_flat.specs.declared.effects.Effect.TheVariants.{Continues, Enters, Returns}
-use Rattle.bp_flat.specs.declared.effects.Effect.TheVariants as instr
+use Rattle.bp_machine.proofs.HistoryWithCall.{same_outcome, stepped_outcome, failed_outcome, configuration_after-append, granted_threads-append, advance, calls_of_thread-same, calls_of_thread-other, same_or_not}
+use Rattle.bp_machine.proofs.ContextCounts.{counts_more, fits_with}
+use Rattle.bp_machine.proofs.TransitionIsAnswer.{IsAnswer, answer_of}
+use Rattle.bp_machine.proofs.EffectSizes.{shown_length, is_a_call}
 
 module _ (c : Flat) (t : Program) (alike : StepsAlike c t) (s : SetupOf) (x : State) (h : List Call) (stands : StandsAfter t s x h)
     (i : ℕ) (guest : GuestThreadOf) (has : slice_get x.threads i ≡ Some guest) (within : i < threads s)
@@ -180,3 +172,83 @@ module _ (c : Flat) (t : Program) (alike : StepsAlike c t) (s : SetupOf) (x : St
   stands_after (Stays r) is = stays r is
   stands_after Fails is = fails is
   stands_after (Steps d) is = takes d is
+
+-- Drawing a word of choices goes on to the next 32 bits.
+
+word_after : (seed thread k : ℕ) → generator_after seed thread (suc k) ≡ (pcg32 (generator_after seed thread k)).1
+unfolding generator_after
+word_after seed thread k = refl
+
+pub at_next_word : (seed thread n : ℕ) (x : ChoicesOf) → IsAt x seed thread n → x.place ≡ 31 → (word : ℕ) (g : Lcg) → (word, g) ≡ pcg32 x.generator
+    → IsAt (record { word = word; place = 0; generator = g }) seed thread (n + 1)
+at_next_word seed thread n x stands last word g drawn =
+    let place = stands.place in
+    let later : n / 32 + 1 ≡ (n + 1) / 32 = omega arith in
+    let from = ap pcg32 stands.generator in
+    record {
+      word = ap (λ p. p.0) (drawn ∙ from) ∙ ap (choice_word seed thread) later;
+      place = omega arith;
+      generator =
+          ap (λ p. p.1) (drawn ∙ from) ∙ sym (word_after seed thread (n / 32 + 1))
+          ∙ ap (generator_after seed thread) (sym (add-one (n / 32 + 1)) ∙ ap (λ k. k + 1) later);
+    }
+
+start_is : (seed thread : ℕ) → generator_after seed thread 0 ≡ started 64 multiplier_64 seed (increment_of 64 (54 + thread))
+unfolding generator_after
+start_is seed thread = refl
+
+pub at_first_word : (seed thread word : ℕ) (g : Lcg) → (word, g) ≡ pcg32 (started 64 multiplier_64 seed (increment_of 64 (54 + thread)))
+    → IsAt (record { word = word; place = 0; generator = g }) seed thread 0
+at_first_word seed thread word g drawn =
+    let from = drawn ∙ ap pcg32 (sym (start_is seed thread)) in
+    record {
+      word = ap (λ p. p.0) from;
+      place = refl;
+      generator = ap (λ p. p.1) from ∙ sym (word_after seed thread 0);
+    }
+
+-- A seeded history is seeded with one more call that has the seed's bit, and so are the choices that stand after it.
+
+-- an item of a list with one more is an item of the list, or the last
+pub at_end : {X : Type 0} (xs : List X) (x y : X) (n : ℕ) → slice_get (xs ++ x ∷ []) n ≡ Some y → (slice_get xs n ≡ Some y) ⊎ ((n ≡ length xs) × (x ≡ y))
+at_end [] x y zero e = inr (refl, cc)
+at_end [] x y (suc n) e = absurd cc
+at_end (z ∷ zs) x y zero e = inl e
+at_end (z ∷ zs) x y (suc n) e = elim (at_end zs x y n e) [ inl found ↦ inl found | inr last ↦ inr (ap suc last.0, last.1) ]
+
+module _ (seed : ℕ) (h : List Call) (x : Call) (seeded : IsSeeded seed h) (is : x.bit ≡ choice_bit seed x.thread (length (calls_of_thread x.thread h))) where
+  own_bit : (i n : ℕ) (y : Call) → x.thread ≡ i → slice_get (calls_of_thread i (h ++ x ∷ [])) n ≡ Some y → y.bit ≡ choice_bit seed i n
+  own_bit i n y same at =
+      let found = ap (λ cs. slice_get cs n) (sym (calls_of_thread-same h x i same)) ∙ at in
+      elim (at_end (calls_of_thread i h) x y n found) [
+        | inl before ↦ seeded i n y before
+        | inr last ↦
+            ap (λ (c : Call). c.bit) (sym last.1) ∙ is ∙ ap (λ j. choice_bit seed j (length (calls_of_thread j h))) same
+            ∙ ap (choice_bit seed i) (sym last.0)
+      ]
+
+  pub seeded-append : IsSeeded seed (h ++ x ∷ [])
+  seeded-append = λ i n y at. elim (same_or_not x.thread i) [
+    | inl same ↦ own_bit i n y same at
+    | inr other ↦ seeded i n y (ap (λ cs. slice_get cs n) (sym (calls_of_thread-other h x i other)) ∙ at)
+  ]
+
+module _ (seed : ℕ) (h : List Call) (x : Call) (old new : List ChoicesOf) (drawn : AreDrawn x.thread old new)
+    (stand : (i : ℕ) (c : ChoicesOf) → slice_get old i ≡ Some c → IsAt c seed i (length (calls_of_thread i h))) where
+  own_choices : (i : ℕ) (c : ChoicesOf) → i ≡ x.thread → slice_get new i ≡ Some c → IsAt c seed i (length (calls_of_thread i (h ++ x ∷ [])))
+  own_choices i c same at = elim (slice_get_cases old i).1 [
+    | inl there ↦
+        let count = ap length (calls_of_thread-same h x i (sym same)) ∙ length-append (calls_of_thread i h) (x ∷ []) in
+        let found = ap (slice_get old) (sym same) ∙ there.2 in
+        let now = drawn.own there.0 c seed i (length (calls_of_thread i h)) found (ap (slice_get new) (sym same) ∙ at) (stand i there.0 there.2) in
+        subst (λ n. IsAt c seed i n) (sym count) now
+    | inr past ↦ absurd (let within = slice_get_within new i c at in omega (arith, within, past.0, drawn.count))
+  ]
+
+  pub choices_after : (i : ℕ) (c : ChoicesOf) → slice_get new i ≡ Some c → IsAt c seed i (length (calls_of_thread i (h ++ x ∷ [])))
+  choices_after i c at = elim (same_or_not i x.thread) [
+    | inl same ↦ own_choices i c same at
+    | inr other ↦
+        let same = ap length (calls_of_thread-other h x i (λ e. other (sym e))) in
+        subst (λ n. IsAt c seed i n) (sym same) (stand i c (sym (drawn.others i other) ∙ at))
+  ]

@@ -1,32 +1,32 @@
 -- The verdict of a call is the machine's answer.
-use Rattle.std.proofs.Common.{◌≡◌, ℕ, ◌&&◌, Bool, true, false, cond, nat_le, List, [], ◌∷◌, length, Option, None, Some, refl, ap, sym, ◌∙◌, subst, arith}
-use Rattle.std.proofs.lemmas.List.{length-map}
-use Rattle.bp_tree.specs.Ast.{Program}
-use Rattle.bp_flat.specs.Bits.{bits_of, store_of}
+use Rattle.std.proofs.Common.{◌≡◌, ℕ, ◌&&◌, Bool, true, false, cond, nat_le, List, [], ◌∷◌, length, Option, None, Some, refl, ap, sym, ◌∙◌, subst, arith, ◌<◌, get_or, slice_get, slice_set, option_map}
+use Rattle.std.proofs.lemmas.List.{length-map, map-set}
+use Rattle.std.proofs.Math.Seq.{map-set_same}
+use Rattle.std.proofs.lemmas.Option.{slice_get_read, slice_get-map}
+use Rattle.bp_language.specs.Ast.{Program}
+use Rattle.bp_flat.specs.InstrEffects.{bits_of, store_of, effect_of}
 use Rattle.bp_flat.specs.declared.effects.Effect.{Effect}
 use Rattle.bp_flat.specs.declared.effects.Effect.TheVariants.{Continues, Enters, Returns}
 use Rattle.bp_flat.specs.declared.effects.Effect.TheVariants as instr
-use Rattle.bp_flat.specs.InstrEffects.{effect_of}
-use Rattle.bp_flat.specs.Values.{Valuation}
-use Rattle.bp_flat.specs.Configurations.{Frame, is_call}
+use Rattle.bp_flat.specs.Moves.{Valuation, Frame, is_call, StatementEffect, Leaves, effect}
 use Rattle.bp_flat.specs.Moves as moves
-use Rattle.bp_flat.specs.Moves.{StatementEffect, Leaves, effect}
 use Rattle.bp_flat.specs.Flat.{Flat, Instruction}
-use Rattle.std.specs.Prelude.{slice_get}
 use Rattle.bp_flat.specs.Steps.{Activation, effect_at}
-use Rattle.bp_flat.specs.StandsFor.{valuation_of}
-use Rattle.bp_flat.specs.Alike.{ShowsStack, SameEffect, StepsAlike}
+use Rattle.bp_flat.specs.StandsFor.{valuation_of, ShowsStack, SameEffect, StepsAlike}
 use Rattle.bp_machine.specs.declared.calls.Reply.{Reply}
 use Rattle.bp_machine.specs.declared.calls.Reply.TheVariants.{Stopped, Full}
 use Rattle.bp_machine.specs.declared.stacks.ActivationRecord.{ActivationRecord}
 use Rattle.bp_machine.specs.declared.threads.Transition.{Transition}
 use Rattle.bp_machine.specs.declared.threads.Transition.TheVariants.{Stays, Fails, Steps}
 use Rattle.bp_machine.specs.declared.limits.TheConstants.{MAX_FRAMES}
-use Rattle.bp_machine.specs.Replies.{is_granted}
-use Rattle.bp_machine.specs.Answers.{reply_to_effect, reply_on_stack}
-use Rattle.bp_machine.specs.States.{activation_of, activations}
-use Rattle.bp_machine.specs.Transitions.{transition_of, IsTransitionAt, IsTransitionOn, IsTransitionUnless, reply_of_transition, stack_after, globals_after}
+use Rattle.bp_machine.specs.Histories.{is_granted, reply_to_effect, reply_on_stack}
+use Rattle.bp_machine.specs.Sessions.{activation_of, activations, count_with, GuestThreadOf, KeptThread, guests, rooms, State, MachineOf}
+use Rattle.bp_machine.specs.Transitions.{transition_of, IsTransitionAt, IsTransitionOn, IsTransitionUnless, reply_of_transition, stack_after, globals_after, thread_after, state_after, TransitionFitsIn, HasRoom}
+use Rattle.bp_machine.specs.declared.calls.Outcome.{Outcome}
+use Rattle.bp_machine.specs.declared.calls.Outcome.TheVariants.{Failed}
+use Rattle.bp_machine.specs.declared.contexts.ContextCount.{ContextCount}
 use Rattle.bp_machine.proofs.EffectSizes.{shown_length, same_leaves, same_fails, same_blocks, same_lost, not_call, is_a_call, fails_no_call, blocks_no_call}
+use Rattle.bp_machine.proofs.HistoryWithCall.{set_same}
 
 -- what a verdict says of an effect
 abbrev pub Tells : Program → StatementEffect → ℕ → List ActivationRecord → Transition → Type 0
@@ -151,3 +151,68 @@ module _ (c : Flat) (t : Program) (alike : StepsAlike c t) (bit : Bool) (gw : �
   answer_of true stack S fits v shows is =
       subst (λ w. IsAnswer t g true S fits bit gw stack w) (sym is) (record { reply = refl; comes = refl })
   answer_of false stack S fits v shows is = on_stack stack S fits v shows is
+
+-- The thread of a call, found in the list of threads, and the state after the call.
+
+-- a kept thread of a list, where the lists of what is kept have it
+pub guest_here : (ks : List KeptThread) (i : ℕ) (k : KeptThread) → i < length ks → k ≡ get_or ks i k → slice_get (guests ks) i ≡ Some k.guest
+guest_here ks i k within is = slice_get-map (λ z. z.guest) ks i ∙ ap (option_map (λ z. z.guest)) (slice_get_read ks (length ks) i k refl within is)
+
+pub room_here : (ks : List KeptThread) (i : ℕ) (k : KeptThread) → i < length ks → k ≡ get_or ks i k → slice_get (rooms ks) i ≡ Some k.room
+room_here ks i k within is = slice_get-map (λ z. z.room) ks i ∙ ap (option_map (λ z. z.room)) (slice_get_read ks (length ks) i k refl within is)
+
+pub counted : (m : MachineOf) (ks : List KeptThread) → guests ks ≡ m.state.threads → length ks ≡ length m.state.threads
+counted m ks e = sym (length-map ks (λ k. k.guest)) ∙ ap length e
+
+-- making room leaves the guests, and there is room
+module _ (ks : List KeptThread) (i : ℕ) (at new : KeptThread) (within : i < length ks) (is : at ≡ get_or ks i at) where
+  pub same_guests : new.guest ≡ at.guest → guests (slice_set ks i new) ≡ guests ks
+  same_guests same = map-set_same (λ z. z.guest) ks i new at (same ∙ ap (λ z. z.guest) is)
+
+  pub has_room : (v : Transition) → TransitionFitsIn new.room v → HasRoom (rooms (slice_set ks i new)) i v
+  has_room v fits = λ room has.
+      let there = set_same ks i at new (slice_get_read ks (length ks) i at refl within is) in
+      let own = slice_get-map (λ z. z.room) (slice_set ks i new) i ∙ ap (option_map (λ z. z.room)) there in
+      let same : new.room ≡ room = let a = own in let b = has in cc in
+      subst (λ r. TransitionFitsIn r v) same fits
+
+-- What a machine keeps, put together from its fields.
+abbrev pub state : ℕ → List GuestThreadOf → ContextCount → Outcome → State
+state g ls k f = record { globals = g; threads = ls; contexts = k; outcome = f }
+
+module _ (x : State) (g : ℕ) (ks : List KeptThread) (k : ContextCount) (f : Outcome) (whole : state g (guests ks) k f ≡ x)
+    (i : ℕ) (guest : GuestThreadOf) (at new : KeptThread) (v : Transition)
+    (has : slice_get x.threads i ≡ Some guest) (within : i < length ks) (is : at ≡ get_or ks i at) (made : new.guest ≡ thread_after at.guest v) where
+  same_guest : at.guest ≡ guest
+  same_guest =
+      let found = sym (guest_here ks i at within is) ∙ ap (λ (y : State). slice_get y.threads i) whole ∙ has in
+      let some : Some at.guest ≡ Some guest = found in
+      cc
+
+  threads_are : guests (slice_set ks i new) ≡ slice_set x.threads i (thread_after guest v)
+  threads_are =
+      map-set (λ z. z.guest) ks i new
+      ∙ ap (λ l. slice_set (guests ks) i l) (made ∙ ap (λ l. thread_after l v) same_guest)
+      ∙ ap (λ (y : State). slice_set y.threads i (thread_after guest v)) whole
+
+  pub stays_after : (r : Reply) → v ≡ Stays r → state g (guests (slice_set ks i new)) k f ≡ state_after x i guest v
+  stays_after r e =
+      ap (λ ms. state g ms k f) threads_are
+      ∙ ap (λ (y : State). state y.globals (slice_set x.threads i (thread_after guest v)) y.contexts y.outcome) whole
+      ∙ rw e refl
+
+  pub fails_after : v ≡ Fails → (m : ContextCount) → m ≡ count_with k i → state g (guests (slice_set ks i new)) m (Failed i) ≡ state_after x i guest v
+  fails_after e m counts =
+      ap (λ ms. state g ms m (Failed i)) threads_are
+      ∙ ap (λ n. state g (slice_set x.threads i (thread_after guest v)) n (Failed i)) counts
+      ∙ ap (λ (y : State). state y.globals (slice_set x.threads i (thread_after guest v)) (count_with y.contexts i) (Failed i)) whole
+      ∙ rw e refl
+
+  pub steps_after : (d : Effect) → v ≡ Steps d → (m : ContextCount) → m ≡ count_with k i → (h : ℕ) → h ≡ globals_after g (Steps d)
+      → state h (guests (slice_set ks i new)) m f ≡ state_after x i guest v
+  steps_after d e m counts h moved =
+      ap (λ ms. state h ms m f) threads_are
+      ∙ ap (λ n. state h (slice_set x.threads i (thread_after guest v)) n f) counts
+      ∙ ap (λ n. state n (slice_set x.threads i (thread_after guest v)) (count_with k i) f) moved
+      ∙ ap (λ (y : State). state (globals_after y.globals (Steps d)) (slice_set x.threads i (thread_after guest v)) (count_with y.contexts i) y.outcome) whole
+      ∙ rw e refl

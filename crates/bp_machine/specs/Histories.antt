@@ -1,11 +1,122 @@
--- Histories: lists of calls with their replies, oldest first.
-use Rattle.std.specs.Prelude.{if◌then◌else◌, ◌≡◌, ◌==◌, ◌<◌, ℕ, zero, suc, ◌+◌, Bool, false, ◌||◌, nat_le, List, [], ◌∷◌, ◌++◌, length, filter}
-use Rattle.bp_tree.specs.Ast.{Program}
-use Rattle.bp_flat.specs.Configurations.{Configuration}
+-- Histories: what a call is answered, lists of calls, their reports, and the bits of a seed.
+use Rattle.std.specs.Prelude.{◌≡◌, ℕ, ◌≤◌, List, [], ◌∷◌, length, Bool, true, false, if◌then◌else◌, ◌↔◌, IsTrue, not, ◌&&◌, nat_le, ◌++◌, Option, None, Some, slice_index_or, unwrap_or, ◌==◌, ◌<◌, zero, suc, ◌+◌, ◌||◌, filter, ◌/◌, ◌%◌, slice_get}
+use Rattle.std.specs.List.{concat}
+use Rattle.rand_pcg.specs.Lcg.{Lcg, started, increment_of}
+use Rattle.rand_pcg.specs.Pcg.{multiplier_64, pcg32}
+use Rattle.bp_language.specs.Ast.{Program, Name, Block, Then, Asserts, Decision}
+use Rattle.bp_flat.specs.Moves.{Valuation, Frame, Configuration, is_call, StatementEffect, Leaves, Fails, Blocks, Misses, effect, after_effect, decision_value, Moves, frame_store}
+use Rattle.bp_flat.specs.InstrEffects.{bits_of}
+use Rattle.bp_machine.specs.declared.calls.Reply.{Reply}
+use Rattle.bp_machine.specs.declared.calls.Reply.TheVariants.{Stopped, Ended, NoContexts, Full, Blocked, Failed, Stepped}
+use Rattle.bp_machine.specs.declared.limits.TheConstants.{MAX_FRAMES}
 use Rattle.bp_machine.specs.declared.calls.Call.{Call}
 use Rattle.bp_machine.specs.Setups.{SetupOf, threads, start}
-use Rattle.bp_machine.specs.Replies.{is_granted, is_last}
-use Rattle.bp_machine.specs.Answers.{Answers, configuration_after_call}
+use Rattle.bp_machine.specs.declared.calls.Outcome.{Outcome}
+use Rattle.bp_machine.specs.declared.calls.Outcome.TheVariants as outcome
+use Rattle.bp_machine.specs.declared.calls.Report.{Report}
+
+-- Contexts: uninterrupted steps of one thread.
+
+-- each of these threads is thread i
+abbrev pub EachIs : ℕ → List ℕ → Type 0
+EachIs i [] = Unit {0}
+EachIs i (t ∷ ts) = (t ≡ i) × EachIs i ts
+
+-- each piece is of one thread
+abbrev pub EachOfOne : List (List ℕ) → Type 0
+EachOfOne [] = Unit {0}
+EachOfOne (piece ∷ pieces) = ((i : ℕ) × EachIs i piece) × EachOfOne pieces
+
+-- the threads are a concatenation of at most k lists, each of one thread
+pub record IsWithin (k : ℕ) (threads : List ℕ) : Type 0 where
+  pub pieces : List (List ℕ)
+  pub few : length pieces ≤ k
+  pub each : EachOfOne pieces
+  pub whole : concat pieces ≡ threads
+
+-- the least such number
+pub record IsLeastWithin (k : ℕ) (threads : List ℕ) : Type 0 where
+  pub within : IsWithin k threads
+  pub least : (m : ℕ) → IsWithin m threads → k ≤ m
+
+-- Replies: their letters, which of them are of granted steps, and which are the last of a thread.
+
+-- x e n u b f s
+abbrev pub letter_of : Reply → ℕ
+letter_of Stopped = 120
+letter_of Ended = 101
+letter_of NoContexts = 110
+letter_of Full = 117
+letter_of Blocked = 98
+letter_of Failed = 102
+letter_of Stepped = 115
+
+-- the call made a step
+abbrev pub is_granted : Reply → Bool
+is_granted Stepped = true
+is_granted Failed = true
+is_granted r = false
+
+-- the thread makes no further call
+abbrev pub is_last : Reply → Bool
+is_last Stepped = false
+is_last Blocked = false
+is_last r = true
+
+-- What a call of a thread is answered, and the configuration after it.
+
+-- no further frame fits on the stack
+abbrev pub is_full : List Frame → Bool
+is_full stack = nat_le MAX_FRAMES (length stack)
+
+abbrev pub stack_of : Configuration → ℕ → List Frame
+stack_of c i = slice_index_or c.stacks i []
+
+-- the reply to a step with this effect; a jump or a call to nowhere has none
+abbrev pub reply_to_effect : StatementEffect → Option Reply
+reply_to_effect (Leaves g stack) = Some Stepped
+reply_to_effect Fails = Some Failed
+reply_to_effect Blocks = Some Blocked
+reply_to_effect Misses = None
+
+-- the reply to a thread with this stack, where one more step fits within the contexts or not
+abbrev pub reply_on_stack : Program → Bool → Valuation → List Frame → Bool → Option Reply
+reply_on_stack t fits g [] bit = Some Ended
+reply_on_stack t fits g (f ∷ fs) bit =
+    if not fits then Some NoContexts
+    else if is_call f.left && is_full (f ∷ fs) then Some Full
+    else reply_to_effect (effect t.procedures f.left g f fs bit)
+
+-- The reply to thread i with this choice bit, by the first condition that holds: an assertion
+-- failed earlier; no frame; a further step is not within the contexts; a call, and no room; else
+-- what the step does.
+abbrev pub reply_of : Program → Bool → Configuration → ℕ → Bool → Option Reply
+reply_of t fits c i bit =
+    if c.failed then Some Stopped
+    else reply_on_stack t fits c.globals (stack_of c i) bit
+
+-- the reply r is the machine's, where the threads of the steps so far are these, and k contexts are
+-- allowed
+pub record Answers
+    (t : Program) (k : ℕ) (c : Configuration) (steps : List ℕ) (i : ℕ) (bit : Bool) (r : Reply)
+    : Type 0 where
+  pub fits : Bool
+  pub decides : IsTrue fits ↔ IsWithin k (steps ++ i ∷ [])
+  pub is : reply_of t fits c i bit ≡ Some r
+
+-- the configuration after the next step of a stack of thread i
+abbrev pub configuration_after_step :
+    Program → Configuration → ℕ → Bool → List Frame → Option Configuration
+configuration_after_step t c i bit [] = None
+configuration_after_step t c i bit (f ∷ fs) =
+    after_effect c i (effect t.procedures f.left c.globals f fs bit)
+
+-- the configuration after a call with this reply: another one where it made a step, else the same
+abbrev pub configuration_after_call : Program → Configuration → ℕ → Bool → Reply → Configuration
+configuration_after_call t c i bit r =
+    if is_granted r then unwrap_or (configuration_after_step t c i bit (stack_of c i)) c else c
+
+-- Histories: lists of calls with their replies, oldest first.
 
 -- the configuration after the calls of a history, by their replies
 abbrev pub configuration_after_calls : Program → Configuration → List Call → Configuration
@@ -67,3 +178,111 @@ IsLegalAfter t s h (x ∷ xs) = IsAllowed t s h x × IsLegalAfter t s (h ++ x �
 -- each call of the history may follow those before it
 abbrev pub IsLegal : Program → SetupOf → List Call → Type 0
 IsLegal t s h = IsLegalAfter t s [] h
+
+-- The report of a history.
+
+-- the thread of the first call with the reply Failed
+abbrev pub outcome_or : Call → Reply → Outcome → Outcome
+outcome_or x Failed o = outcome.Failed x.thread
+outcome_or x r o = o
+
+abbrev pub outcome_of : List Call → Outcome
+outcome_of [] = outcome.Clean
+outcome_of (x ∷ xs) = outcome_or x x.reply (outcome_of xs)
+
+-- an assertion failed
+abbrev pub is_failure : Outcome → Bool
+is_failure (outcome.Failed i) = true
+is_failure o = false
+
+pub record IsReport (s : SetupOf) (h : List Call) (r : Report) : Type 0 where
+  pub outcome : r.outcome ≡ outcome_of h
+  pub calls : r.calls ≡ length h
+  pub left_open : r.left_open ≡ open_lines s h
+  pub contexts : IsLeastWithin r.contexts (granted_threads h)
+
+-- these calls are moves, one after the other, from c to d
+pub data IsRun (t : Program) : Configuration → List Call → Configuration → Type 0 where
+  ends : (c : Configuration) → IsRun t c [] c
+  moves : (c : Configuration) (x : Call) (d : Configuration) (xs : List Call) (e : Configuration)
+      → Moves t c x.thread x.bit d → IsRun t d xs e → IsRun t c (x ∷ xs) e
+
+-- thread i is at an assertion whose decider is 0
+pub record IsAtFalseAssertion (c : Configuration) (i : ℕ) (bit : Bool) : Type 0 where
+  pub frame : Frame
+  pub below : List Frame
+  pub stack : stack_of c i ≡ frame ∷ below
+  pub label : Option Name
+  pub at : ℕ
+  pub decision : Decision
+  pub rest : Block
+  pub asserts : frame.left ≡ Then label at (Asserts decision) rest
+  pub false : decision_value (frame_store c.globals frame) bit decision ≡ Bool.false
+
+-- the last granted step of the history is a failed one of thread i, at such an assertion
+pub record IsRealFailure (t : Program) (s : SetupOf) (h : List Call) (i : ℕ) : Type 0 where
+  pub before : List Call
+  pub call : Call
+  pub later : List Call
+  pub whole : h ≡ before ++ call ∷ later
+  pub thread : call.thread ≡ i
+  pub failed : call.reply ≡ Failed
+  pub last : granted_threads later ≡ []
+  pub stands : IsAtFalseAssertion (configuration_after t s before) i call.bit
+
+-- The choice bits of a seed. Each thread draws from a generator of its own: a PCG (O'Neill, XSH RR
+-- 64/32) that is started at the seed as its state, on the stream 54 + the thread.
+
+-- the generator of a thread after n words
+unfoldable pub generator_after : ℕ → ℕ → ℕ → Lcg
+generator_after seed thread zero = started 64 multiplier_64 seed (increment_of 64 (54 + thread))
+generator_after seed thread (suc n) = (pcg32 (generator_after seed thread n)).1
+
+-- word n of a thread, from 0
+abbrev pub choice_word : ℕ → ℕ → ℕ → ℕ
+choice_word seed thread n = (pcg32 (generator_after seed thread n)).0
+
+-- bit n of a thread's choices, from 0: each word gives 32 of them, the lowest bit first
+abbrev pub choice_bit : ℕ → ℕ → ℕ → Bool
+choice_bit seed thread n = bits_of (choice_word seed thread (n / 32)) (n % 32)
+
+-- a word whose bits are drawn, the place of the next one, and the generator after it
+pub record ChoicesOf : Type 0 where
+  pub word : ℕ
+  pub place : ℕ
+  pub generator : Lcg
+
+-- the bit at the place
+abbrev pub next_bit : ChoicesOf → Bool
+next_bit x = bits_of x.word x.place
+
+-- the choices stand before bit n of the thread
+pub record IsAt (x : ChoicesOf) (seed thread n : ℕ) : Type 0 where
+  pub word : x.word ≡ choice_word seed thread (n / 32)
+  pub place : x.place ≡ n % 32
+  pub generator : x.generator ≡ generator_after seed thread (n / 32 + 1)
+
+-- Histories whose choice bits are those of a seed.
+
+-- call n of each thread, from 0, has its bit n
+abbrev pub IsSeeded : ℕ → List Call → Type 0
+IsSeeded seed h =
+    (i n : ℕ) (x : Call)
+    → slice_get (calls_of_thread i h) n ≡ Some x
+    → x.bit ≡ choice_bit seed i n
+
+-- where the setup has a seed, the history has its bits
+abbrev pub HasSeededBits : SetupOf → List Call → Type 0
+HasSeededBits s h = (seed : ℕ) → s.seed ≡ Some seed → IsSeeded seed h
+
+-- the bit of the next call of thread i is that of the seed
+pub record IsSeededBit (s : SetupOf) (h : List Call) (i : ℕ) (bit : Bool) : Type 0 where
+  pub seed : ℕ
+  pub has : s.seed ≡ Some seed
+  pub is : bit ≡ choice_bit seed i (length (calls_of_thread i h))
+
+-- the bit of the next call of thread i: the one that was handed in, where the setup has no seed;
+-- else that of the seed, where none was handed in
+abbrev pub IsBitOfCall : SetupOf → List Call → ℕ → Option Bool → Bool → Type 0
+IsBitOfCall s h i (Some given) bit = (s.seed ≡ None) × (bit ≡ given)
+IsBitOfCall s h i None bit = IsSeededBit s h i bit

@@ -1,22 +1,16 @@
 -- Laws of histories.
 use Rattle.std.specs.Prelude.{◌≡◌, ◌≢◌, ◌≤◌, ◌*◌, ℕ, Bool, false, List, ◌++◌, [], Some, All, length}
-use Rattle.bp_tree.specs.Ast.{Program}
+use Rattle.bp_language.specs.Ast.{Program}
 use Rattle.bp_language.specs.Texts.{HasText}
-use Rattle.bp_flat.specs.Configurations.{Configuration}
+use Rattle.bp_flat.specs.Moves.{Configuration}
 use Rattle.bp_flat.specs.Flat.{Flat}
 use Rattle.bp_flat.specs.StandsFor.{StandsFor}
 use Rattle.bp_machine.specs.declared.calls.Call.{Call}
 use Rattle.bp_machine.specs.declared.calls.Reply.{Reply}
-use Rattle.bp_machine.specs.declared.reports.Outcome.TheVariants.{Failed}
-use Rattle.bp_machine.specs.Answers.{reply_of}
-use Rattle.bp_machine.specs.BoundedRuns.{IsBoundedRun, history_of_run, IsHistoryOfSteps, HasBoundedRun}
-use Rattle.bp_machine.specs.Contexts.{IsWithin}
-use Rattle.bp_machine.specs.Deadlocks.{IsDeadlocked}
-use Rattle.bp_machine.specs.Replies.{is_granted}
+use Rattle.bp_machine.specs.declared.calls.Outcome.TheVariants.{Failed}
+use Rattle.bp_machine.specs.Histories.{reply_of, IsWithin, is_granted, configuration_after, granted_threads, granted_calls, IsLegal, IsRun, outcome_of, IsRealFailure}
+use Rattle.bp_machine.specs.Runs.{IsBoundedRun, history_of_run, IsHistoryOfSteps, HasBoundedRun, IsDeadlocked, printed_rows}
 use Rattle.bp_machine.specs.Setups.{SetupOf, start, threads, Fits, FitsCode}
-use Rattle.bp_machine.specs.Histories.{configuration_after, granted_threads, granted_calls, IsLegal}
-use Rattle.bp_machine.specs.PrintedRows.{printed_rows}
-use Rattle.bp_machine.specs.Reports.{IsRun, outcome_of, IsRealFailure}
 
 -- the granted steps of a legal history are moves, one after the other, from the start
 abbrev pub StepsAreARun : Type 0

@@ -9,14 +9,12 @@ use Rattle.bp_machine.specs.declared.calls.Call.{Call}
 use Rattle.bp_machine.specs.declared.calls.Reply.{Reply}
 use Rattle.bp_machine.specs.declared.calls.Reply.TheVariants.{Stopped, Ended, NoContexts, Full, Blocked, Stepped}
 use Rattle.bp_machine.specs.declared.calls.Reply.TheVariants as replies
-use Rattle.bp_machine.specs.declared.reports.Outcome.{Outcome}
-use Rattle.bp_machine.specs.declared.reports.Outcome.TheVariants.{Clean, Failed}
+use Rattle.bp_machine.specs.declared.calls.Outcome.{Outcome}
+use Rattle.bp_machine.specs.declared.calls.Outcome.TheVariants.{Clean, Failed}
 use Rattle.bp_machine.specs.declared.stacks.ActivationRecord.{ActivationRecord}
 use Rattle.bp_machine.specs.Setups.{SetupOf, setup_of}
-use Rattle.bp_machine.specs.GuestThreads.{GuestThreadOf}
-use Rattle.bp_machine.specs.States.{State, MachineOf}
-use Rattle.bp_machine.specs.ChoiceBits.{ChoicesOf}
-use Rattle.bp_machine.specs.Sessions.{SessionOf}
+use Rattle.bp_machine.specs.Sessions.{GuestThreadOf, State, MachineOf, SessionOf}
+use Rattle.bp_machine.specs.Histories.{ChoicesOf}
 
 abbrev pub coded_setup : Coded SetupOf
 coded_setup =

@@ -1,19 +1,140 @@
--- Sessions as contracts see them.
-use Rattle.std.specs.Prelude.{if◌then◌else◌, ◌≡◌, ◌<◌, ◌≤◌, ℕ, Bool, true, false, List, ◌∷◌, Option, None, Some, length, slice_get, is_some}
-use Rattle.bp_tree.specs.Ast.{Program}
-use Rattle.bp_flat.specs.Configurations.{Frame, is_call}
-use Rattle.bp_flat.specs.Flat.{Flat}
-use Rattle.bp_flat.specs.StandsFor.{StandsFor}
+-- Sessions as contracts see them, and what they keep of their threads.
+use Rattle.std.specs.Prelude.{if◌then◌else◌, ◌≡◌, ℕ, ◌+◌, ◌==◌, List, [], ◌∷◌, Option, None, Some, Bool, false, map, option_map, unwrap_or, length, slice_get, ◌<◌, ◌≤◌, true, is_some}
+use Rattle.bp_language.specs.Ast.{Program}
+use Rattle.bp_flat.specs.Flat.{Flat, heading_named}
+use Rattle.bp_flat.specs.Moves.{Configuration, Frame, is_call}
+use Rattle.bp_flat.specs.InstrEffects.{bits_of}
+use Rattle.bp_flat.specs.Steps.{Activation}
+use Rattle.bp_flat.specs.StandsFor.{valuation_of, ShowsStack, StandsFor}
+use Rattle.bp_machine.specs.declared.contexts.ContextCount.{ContextCount}
+use Rattle.bp_machine.specs.Histories.{IsLeastWithin, stack_of, configuration_after, granted_threads, calls_of_thread, ends_with_last, IsLegal, outcome_of, is_failure, ChoicesOf, IsAt, HasSeededBits, IsBitOfCall, Answers, is_finished, IsAllowed}
+use Rattle.bp_machine.specs.declared.stacks.ActivationRecord.{ActivationRecord}
 use Rattle.bp_machine.specs.declared.calls.Call.{Call}
-use Rattle.bp_machine.specs.declared.calls.Reply.TheVariants.{Stepped}
-use Rattle.bp_machine.specs.declared.ask_faults.AskFault.{AskFault}
-use Rattle.bp_machine.specs.declared.ask_faults.AskFault.TheVariants.{NoThread, Finished, Seeded, Unseeded, Memory, Busy}
-use Rattle.bp_machine.specs.ChoiceBits.{ChoicesOf, IsAt}
-use Rattle.bp_machine.specs.SeededHistories.{HasSeededBits, IsBitOfCall}
+use Rattle.bp_machine.specs.declared.calls.Outcome.{Outcome}
 use Rattle.bp_machine.specs.Setups.{SetupOf, threads, IsInRange}
-use Rattle.bp_machine.specs.Answers.{stack_of, Answers}
-use Rattle.bp_machine.specs.Histories.{configuration_after, granted_threads, calls_of_thread, is_finished, IsAllowed}
-use Rattle.bp_machine.specs.States.{MachineOf, StandsAfter}
+use Rattle.bp_machine.specs.declared.calls.Reply.TheVariants.{Stepped}
+use Rattle.bp_machine.specs.declared.calls.AskFault.{AskFault}
+use Rattle.bp_machine.specs.declared.calls.AskFault.TheVariants.{NoThread, Finished, Seeded, Unseeded, Memory, Busy}
+
+-- Counting contexts step by step: how many the steps so far are within, and which thread made the
+-- last of them.
+
+-- the last of the threads
+abbrev pub last_thread : List ℕ → Option ℕ
+last_thread [] = None
+last_thread (t ∷ []) = Some t
+last_thread (t ∷ u ∷ ts) = last_thread (u ∷ ts)
+
+-- the contexts that a step of thread i opens after one of thread l
+abbrev pub contexts_opened : Option ℕ → ℕ → ℕ
+contexts_opened None i = 1
+contexts_opened (Some l) i = if l == i then 0 else 1
+
+-- the contexts that are used with one more step of thread i
+abbrev pub used_with : ContextCount → ℕ → ℕ
+used_with k i = k.used + contexts_opened k.last i
+
+abbrev pub count_with : ContextCount → ℕ → ContextCount
+count_with k i = record { used = used_with k i; last = Some i }
+
+-- the count is that of steps of these threads
+pub record IsCountOf (k : ContextCount) (threads : List ℕ) : Type 0 where
+  pub used : IsLeastWithin k.used threads
+  pub last : k.last ≡ last_thread threads
+
+-- A guest thread as a session keeps it.
+
+-- its stack, the topmost record first; the calls that it made; whether the last of them had a last
+-- reply
+pub record GuestThreadOf : Type 0 where
+  pub stack : List ActivationRecord
+  pub calls : ℕ
+  pub ended : Bool
+
+-- the same, and for how many more frames its stack has room
+pub record KeptThread : Type 0 where
+  pub guest : GuestThreadOf
+  pub room : ℕ
+
+abbrev pub guests : List KeptThread → List GuestThreadOf
+guests ks = map (λ k. k.guest) ks
+
+abbrev pub rooms : List KeptThread → List ℕ
+rooms ks = map (λ k. k.room) ks
+
+-- a thread that begins at this instruction
+abbrev pub thread_at : ℕ → GuestThreadOf
+thread_at number = record {
+  stack = record { number = number; locals = 0 } ∷ [];
+  calls = 0;
+  ended = false;
+}
+
+-- a thread that begins with the procedure of this name
+abbrev pub first_thread : Flat → List ℕ → GuestThreadOf
+first_thread c name =
+    thread_at (unwrap_or (option_map (λ h. h.entry) (heading_named c.headings name)) 0)
+
+-- Stacks of frames, the topmost first.
+
+-- a stack, and for how many more frames it has room
+pub record StackOf : Type 0 where
+  pub frames : List ActivationRecord
+  pub room : ℕ
+
+abbrev pub top_of : List ActivationRecord → Option ActivationRecord
+top_of [] = None
+top_of (f ∷ fs) = Some f
+
+abbrev pub with_top : ActivationRecord → List ActivationRecord → List ActivationRecord
+with_top f [] = []
+with_top f (g ∷ fs) = f ∷ fs
+
+abbrev pub entered_top : ActivationRecord → ℕ → List ActivationRecord → List ActivationRecord
+entered_top f next [] = []
+entered_top f next (g ∷ fs) = f ∷ record { number = next; locals = g.locals } ∷ fs
+
+-- What a session keeps of its threads, and when that stands for the configuration after a history.
+
+-- the globals are a word, a bit for each slot
+pub record State : Type 0 where
+  pub globals : ℕ
+  pub threads : List GuestThreadOf
+  pub contexts : ContextCount
+  pub outcome : Outcome
+
+-- a machine: its state, and for how many more frames the stack of each thread has room
+pub record MachineOf : Type 0 where
+  pub state : State
+  pub rooms : List ℕ
+
+abbrev pub activation_of : ActivationRecord → Activation
+activation_of f = record { number = f.number; locals = bits_of f.locals }
+
+abbrev pub activations : List ActivationRecord → List Activation
+activations fs = map activation_of fs
+
+-- this is thread i after the history, in the configuration c
+pub record ShowsThread
+    (t : Program) (c : Configuration) (h : List Call) (i : ℕ) (guest : GuestThreadOf) : Type 0 where
+  pub stack : ShowsStack t (activations guest.stack) (stack_of c i)
+  pub calls : guest.calls ≡ length (calls_of_thread i h)
+  pub ended : guest.ended ≡ ends_with_last (calls_of_thread i h)
+
+-- the state is that of the machine after the legal history h
+pub record StandsAfter (t : Program) (s : SetupOf) (x : State) (h : List Call) : Type 0 where
+  pub legal : IsLegal t s h
+  pub globals : (configuration_after t s h).globals ≡ valuation_of t.globals (bits_of x.globals)
+  pub failed : (configuration_after t s h).failed ≡ is_failure x.outcome
+  pub outcome : x.outcome ≡ outcome_of h
+  pub stacks : length (configuration_after t s h).stacks ≡ threads s
+  pub thread_count : length x.threads ≡ threads s
+  pub thread : (i : ℕ) (guest : GuestThreadOf)
+      → slice_get x.threads i ≡ Some guest
+      → ShowsThread t (configuration_after t s h) h i guest
+  pub contexts : IsCountOf x.contexts (granted_threads h)
+
+-- Sessions as contracts see them.
 
 -- a session without memory: its machine, and the choices of each thread where the setup has a seed
 pub record SessionOf : Type 0 where

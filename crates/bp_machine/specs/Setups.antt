@@ -1,12 +1,12 @@
 -- What a session starts from, and when a setup is refused.
-use Rattle.std.specs.Prelude.{if◌then◌else◌, ◌≡◌, ℕ, ◌+◌, ◌<◌, ◌≤◌, ◌==◌, Bool, false, not, ◌||◌, nat_lt, List, [], ◌∷◌, Option, None, Some, length, replicate}
+use Rattle.std.specs.Prelude.{if◌then◌else◌, ◌≡◌, ℕ, ◌+◌, ◌<◌, ◌≤◌, ◌==◌, Bool, false, not, ◌||◌, nat_lt, List, [], ◌∷◌, Option, None, Some, length, replicate, codes}
 use Rattle.std.specs.Option.{option_or}
-use Rattle.bp_tree.specs.Ast.{Procedure, Program}
+use Rattle.bp_language.specs.Ast.{Procedure, Program}
 use Rattle.bp_language.specs.declared.limits.TheConstants.{MAX_GLOBALS}
-use Rattle.bp_flat.specs.Configurations.{Configuration, procedure_named, start_of}
+use Rattle.bp_flat.specs.Moves.{Configuration, procedure_named, start_of}
 use Rattle.bp_flat.specs.Flat.{Flat}
 use Rattle.bp_flat.specs.StandsFor.{StandsFor}
-use Rattle.bp_machine.specs.declared.limits.TheConstants.{MAX_THREADS, MAX_CONTEXTS, MAX_CALLS}
+use Rattle.bp_machine.specs.declared.limits.TheConstants.{MAX_THREADS, MAX_CONTEXTS, MAX_CALLS, DEFAULT_CONTEXTS, DEFAULT_CALLS}
 use Rattle.bp_machine.specs.declared.setup_faults.SetupFault.{SetupFault}
 use Rattle.bp_machine.specs.declared.setup_faults.SetupFault.TheVariants.{Threads, UnknownEntry, EntryHasFormals, InitLength, OutOfRange, Memory}
 
@@ -103,3 +103,31 @@ pub record IsInRange (s : SetupOf) : Type 0 where
   pub contexts : s.contexts ≤ MAX_CONTEXTS
   pub one : 0 < s.calls
   pub calls : s.calls ≤ MAX_CALLS
+
+-- What a run of a program starts from, and the setup that comes of it.
+
+-- each thread's entry procedure, the initial bits of the globals where they are
+-- given, and the contexts and the calls of a thread that are allowed
+pub record StartOf : Type 0 where
+  pub entries : List (List ℕ)
+  pub init : Option (List Bool)
+  pub contexts : ℕ
+  pub calls : ℕ
+
+abbrev pub start_with : List (List ℕ) → Option (List Bool) → ℕ → ℕ → StartOf
+start_with entries init contexts calls = record {
+  entries = entries;
+  init = init;
+  contexts = contexts;
+  calls = calls;
+}
+
+-- one thread begins with `main`, all globals are 0, and few contexts and calls are allowed
+abbrev pub default_start : StartOf
+default_start = start_with (codes "main" ∷ []) None DEFAULT_CONTEXTS DEFAULT_CALLS
+
+-- the setup of a program: where no bits are given, all globals begin with 0
+abbrev pub setup_from : StartOf → Option ℕ → Program → SetupOf
+setup_from start seed t =
+    let bits = initial_bits start.init (length t.globals) in
+    setup_of start.entries bits start.contexts start.calls seed

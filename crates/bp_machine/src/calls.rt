@@ -1,4 +1,48 @@
 //! Calls of guest threads, and what they are answered.
+//! Why a call is refused.
+//! Which threads a history finishes, and how many it leaves open.
+//! Reports of histories.
+ghost use Rattle.std.specs.Prelude.{◌≡◌};
+ghost use Rattle.bp_machine.specs.Histories.{is_finished, open_lines};
+
+use crate::setups::Setup;
+use std::alloc::AllocError;
+use thiserror::Error;
+
+/// Why a call is refused: the first of these that applies. The session is then as it was, and no
+/// choice bit is used.
+#[derive(Clone, Copy, Debug, PartialEq, Eq, Error)]
+pub enum AskFault {
+    /// There is no such thread.
+    #[error("there is no such thread")]
+    NoThread,
+    /// The thread makes no further call.
+    #[error("the thread has made its last call")]
+    Finished,
+    /// A choice bit was handed in, although the setup has a seed.
+    #[error("the choice bits are those of the seed")]
+    Seeded,
+    /// No choice bit was handed in, and the setup has no seed.
+    #[error("there is no seed for the choice bits")]
+    Unseeded,
+    /// There was not enough memory for a frame.
+    #[error("out of memory")]
+    Memory,
+    /// The ring to which calls are sent is full. No session answers this; a desk does.
+    #[error("the ring is full")]
+    Busy,
+}
+
+impl From<AllocError> for AskFault {
+    ghost use Rattle.std.specs.Prelude.{◌≡◌};
+    ghost use Rattle.bp_machine.specs.declared.calls.AskFault.{AskFault};
+
+    ghost from_gives = { λ _ e. e ≡ AskFault.Memory };
+
+    fn from(_: AllocError) -> AskFault {
+        AskFault::Memory
+    }
+}
 
 /// What a call is answered: the first of these that applies.
 #[derive(Clone, Copy, Debug, PartialEq, Eq)]
@@ -21,7 +65,7 @@ pub enum Reply {
 
 impl Reply {
     ghost use Rattle.std.specs.Prelude.{◌≡◌};
-    ghost use Rattle.bp_machine.specs.Replies.{letter_of, is_last};
+    ghost use Rattle.bp_machine.specs.Histories.{letter_of, is_last};
 
     /// The letter that stands for the reply in a trace.
     pub fn letter(&self) -> u8
@@ -54,4 +98,52 @@ pub struct Call {
     /// The choice bit that the call has, whether its step reads it or not.
     pub bit: bool,
     pub reply: Reply,
+}
+
+/// Whether the thread makes no further call after the history.
+fn is_finished(setup: &Setup, history: &[Call], thread: u32) -> bool
+    ensures { result ≡ is_finished setup.now history.now thread }
+{
+    let mut count: usize = 0;
+    let mut ended = false;
+    for call in history {
+        if call.thread == thread {
+            count += 1;
+            ended = call.reply.is_last();
+        }
+    }
+    ended || setup.calls() as usize <= count
+}
+
+/// How many threads may continue after the history.
+pub fn open_lines(setup: &Setup, history: &[Call]) -> u32
+    ensures { result ≡ open_lines setup.now history.now }
+{
+    let mut count = 0;
+    for thread in 0..setup.threads() {
+        if !is_finished(setup, history, thread) {
+            count += 1;
+        }
+    }
+    count
+}
+
+/// Whether an assertion failed.
+#[derive(Clone, Copy, Debug, PartialEq, Eq)]
+pub enum Outcome {
+    Clean,
+    /// In a step of this thread.
+    Failed { thread: u32 },
+}
+
+/// The outcome of a history, and its size.
+#[derive(Clone, Copy, Debug, PartialEq, Eq)]
+pub struct Report {
+    pub outcome: Outcome,
+    /// The number of calls, also of those that made no step.
+    pub calls: u64,
+    /// The number of threads that may continue.
+    pub left_open: u32,
+    /// The least number of contexts that the steps are within.
+    pub contexts: u32,
 }

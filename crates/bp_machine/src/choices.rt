@@ -1,7 +1,7 @@
 //! Choice bits of a seed.
 ghost use Rattle.std.specs.Prelude.{◌≡◌, ◌+◌, ◌<◌, ℕ, IfOk};
 ghost use Rattle.bp_machine.specs.declared.limits.TheConstants.{MAX_THREADS};
-ghost use Rattle.bp_machine.specs.ChoiceBits.{IsAt, choice_bit, next_bit};
+ghost use Rattle.bp_machine.specs.Histories.{IsAt, choice_bit, next_bit};
 
 use rand_core::utils::NextWord;
 use rand_pcg::Lcg64Xsh32;
@@ -26,7 +26,7 @@ pub struct Choices {
 
 impl Model for Choices {
     ghost use Rattle.std.specs.Prelude.{◌<◌};
-    ghost use Rattle.bp_machine.specs.ChoiceBits.{ChoicesOf};
+    ghost use Rattle.bp_machine.specs.Histories.{ChoicesOf};
 
     ghost Value = { ChoicesOf };
 

@@ -1,7 +1,7 @@
 //! Counting contexts.
 ghost use Rattle.std.specs.Prelude.{◌≡◌, ◌↔◌, ◌<◌, ◌^◌, ◌++◌, ◌∷◌, [], IsTrue, List, ℕ, nat_le};
-ghost use Rattle.bp_machine.specs.Contexts.{IsWithin};
-ghost use Rattle.bp_machine.specs.ContextCounts.{used_with, count_with, IsCountOf};
+ghost use Rattle.bp_machine.specs.Histories.{IsWithin};
+ghost use Rattle.bp_machine.specs.Sessions.{used_with, count_with, IsCountOf};
 
 /// How many contexts the steps so far are within, and which thread made the last of them.
 #[derive(Clone, Copy, PartialEq, Eq)]

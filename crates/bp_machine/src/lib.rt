@@ -1,16 +1,12 @@
 //! The sequential machine: setups, and sessions that answer the calls of guest threads.
 #![tactic(auto)]
 
-mod ask_faults;
 mod calls;
 mod choices;
 mod contexts;
-mod histories;
 mod laws;
 pub mod limits;
 mod machine;
-mod named_setups;
-mod reports;
 mod sessions;
 mod setup_faults;
 mod setups;
@@ -19,16 +15,13 @@ mod starts;
 mod threads;
 pub mod tops;
 
-pub use ask_faults::AskFault;
-pub use calls::{Call, Reply};
+pub use calls::{AskFault, Call, Outcome, Reply, Report, open_lines};
 pub use choices::Choices;
-pub use histories::open_lines;
 pub use laws::{
     entries_are_on_one_line, failures_are_real, histories_are_short, one_code_has_one_meaning,
     runs_are_histories, steps_are_a_run, steps_are_within,
 };
 pub use machine::{globals_after, transition_on};
-pub use reports::{Outcome, Report};
 pub use sessions::Session;
 pub use setup_faults::SetupFault;
 pub use setups::Setup;

@@ -1,19 +1,16 @@
 //! The machine of a session: the globals, the guest threads, and the count of contexts.
 ghost use Rattle.std.specs.Prelude.{◌≡◌, ◌≤◌, ◌<◌, ◌^◌, ◌+◌, ℕ, List, Some, true, length, map, slice_get, string_bytes, option_map, IfOk, OnOk, OnErr};
-ghost use Rattle.bp_tree.specs.Ast.{Program};
-ghost use Rattle.bp_flat.specs.Bits.{bits_of};
+ghost use Rattle.bp_language.specs.Ast.{Program};
+ghost use Rattle.bp_flat.specs.InstrEffects.{bits_of};
 ghost use Rattle.bp_machine.specs.declared.calls.Call.{Call as Answered};
 ghost use Rattle.bp_machine.specs.Setups.{SetupOf};
-ghost use Rattle.bp_machine.specs.Histories.{open_lines};
-ghost use Rattle.bp_machine.specs.GuestThreads.{GuestThreadOf, first_thread, guests};
-ghost use Rattle.bp_machine.specs.States.{StandsAfter};
-ghost use Rattle.bp_machine.specs.Reports.{is_failure};
+ghost use Rattle.bp_machine.specs.Histories.{open_lines, is_failure};
+ghost use Rattle.bp_machine.specs.Sessions.{GuestThreadOf, first_thread, guests, StandsAfter};
 ghost use Rattle.bp_machine.specs.Transitions.{transition_of, IsTransitionOn, IsTransition, MayGrow, HasRoom, globals_after, state_after, IsCallTransition};
 
-use crate::calls::Reply;
+use crate::calls::{Outcome, Reply};
 use crate::contexts::ContextCount;
 use crate::limits::{MAX_FRAMES, MAX_THREADS};
-use crate::reports::Outcome;
 use crate::stacks::Stack;
 use crate::threads::{GuestThread, Transition, copied_threads, restart_threads};
 use bp_flat::stores::bit_at;
@@ -31,8 +28,7 @@ pub(crate) struct Machine {
 }
 
 impl Model for Machine {
-    ghost use Rattle.bp_machine.specs.GuestThreads.{guests, rooms};
-    ghost use Rattle.bp_machine.specs.States.{MachineOf};
+    ghost use Rattle.bp_machine.specs.Sessions.{guests, rooms, MachineOf};
 
     ghost Value = { MachineOf };
 

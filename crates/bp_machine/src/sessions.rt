@@ -1,11 +1,11 @@
 //! Sessions: the sequential machine, one call at a time.
 ghost use Rattle.std.specs.Prelude.{◌≡◌, ◌++◌, ◌∷◌, [], List, None, Some, IfOk, IsOk, OnOk, OnErr, MatchResult};
-ghost use Rattle.bp_tree.specs.Ast.{Program};
+ghost use Rattle.bp_language.specs.Ast.{Program};
 ghost use Rattle.bp_flat.specs.StandsFor.{StandsFor};
 ghost use Rattle.bp_machine.specs.declared.calls.Call.{Call as Answered};
 ghost use Rattle.bp_machine.specs.Setups.{FitsCode};
 ghost use Rattle.bp_machine.specs.Sessions.{Stands, IsNextCall, IsAskRefusal, given_bit};
-ghost use Rattle.bp_machine.specs.KeptSessions.{AreFirstChoices, AreDrawn, IsGiven};
+ghost use Rattle.bp_machine.specs.Transitions.{AreFirstChoices, AreDrawn, IsGiven};
 
 mod copying;
 mod judging;
@@ -13,8 +13,7 @@ mod readings;
 mod restarting;
 mod waiting;
 
-use crate::ask_faults::AskFault;
-use crate::calls::Call;
+use crate::calls::{AskFault, Call};
 use crate::choices::Choices;
 use crate::machine::Machine;
 use crate::setups::Setup;
@@ -50,7 +49,7 @@ impl Model for Session {
     ghost coded = { coded_session };
 
     ghost use Rattle.bp_machine.specs.Sessions.{IsInOrder};
-    ghost use Rattle.bp_machine.specs.KeptSessions.{session_of};
+    ghost use Rattle.bp_machine.specs.Transitions.{session_of};
 
     ghost view = { λ s. session_of s.code s.setup s.machine s.choices.items };
 

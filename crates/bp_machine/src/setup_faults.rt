@@ -1,7 +1,7 @@
 //! Why a setup is refused.
 ghost use Rattle.std.specs.Prelude.{◌≡◌, ◌≤◌, [], None, map, length, string_bytes};
-ghost use Rattle.bp_tree.specs.Ast.{Program};
-ghost use Rattle.bp_flat.specs.Configurations.{procedure_named};
+ghost use Rattle.bp_language.specs.Ast.{Program};
+ghost use Rattle.bp_flat.specs.Moves.{procedure_named};
 ghost use Rattle.bp_flat.specs.StandsFor.{StandsFor};
 ghost use Rattle.bp_machine.specs.declared.limits.TheConstants.{MAX_THREADS};
 ghost use Rattle.bp_machine.specs.Setups.{setup_of, entries_fault, entry_fault, first_of, number_faults, setup_fault};

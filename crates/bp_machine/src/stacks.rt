@@ -1,6 +1,6 @@
 //! Stacks of frames.
 ghost use Rattle.std.specs.Prelude.{◌≡◌, [], ◌∷◌, ◌<◌, drop, length, reverse, vec_len, vec_capacity, IfOk, OnOk, OnErr};
-ghost use Rattle.bp_machine.specs.Stacks.{top_of, with_top, entered_top};
+ghost use Rattle.bp_machine.specs.Sessions.{top_of, with_top, entered_top};
 
 use bp_flat::Effect;
 use std::alloc::{AllocError, Global};
@@ -22,7 +22,7 @@ pub struct Stack {
 
 impl Model for Stack {
     ghost use Rattle.std.specs.Prelude.{◌-◌, ◌≤◌, reverse, vec_len, vec_capacity};
-    ghost use Rattle.bp_machine.specs.Stacks.{StackOf};
+    ghost use Rattle.bp_machine.specs.Sessions.{StackOf};
 
     ghost Value = { StackOf };
 

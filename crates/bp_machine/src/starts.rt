@@ -1,13 +1,15 @@
 //! What a run of a program starts from.
-ghost use Rattle.std.specs.Prelude.{◌≡◌, ◌≤◌, None, MatchResult, IfOk};
-ghost use Rattle.bp_tree.specs.Ast.{Program};
+//! Setups as a text says them: names may be any bytes, and numbers may be too large.
+ghost use Rattle.std.specs.Prelude.{◌≡◌, ◌≤◌, None, MatchResult, IfOk, ℕ, true, List, Some, map, length, slice_get, is_some, string_bytes};
+ghost use Rattle.bp_language.specs.Ast.{Program};
 ghost use Rattle.bp_language.specs.declared.limits.TheConstants.{MAX_GLOBALS};
 ghost use Rattle.bp_flat.specs.StandsFor.{StandsFor};
-ghost use Rattle.bp_machine.specs.Setups.{setup_fault, IsSetupRefusal, FitsCode, IsInRange};
-ghost use Rattle.bp_machine.specs.Starts.{default_start, setup_from};
+ghost use Rattle.bp_flat.specs.Flat.{heading_named};
+ghost use Rattle.bp_machine.specs.Setups.{setup_fault, IsSetupRefusal, FitsCode, IsInRange, default_start, setup_from, setup_of, entries_fault};
+ghost use Rattle.bp_machine.specs.declared.limits.TheConstants.{MAX_THREADS};
 
-use crate::limits::{DEFAULT_CALLS, DEFAULT_CONTEXTS, DEFAULT_ENTRY};
-use crate::setup_faults::SetupFault;
+use crate::limits::{DEFAULT_CALLS, DEFAULT_CONTEXTS, DEFAULT_ENTRY, MAX_THREADS};
+use crate::setup_faults::{SetupFault, fault_of_entry, fault_of_numbers};
 use crate::setups::Setup;
 use bp_flat::Code;
 use bp_language::limits::MAX_GLOBALS;
@@ -29,7 +31,7 @@ pub struct Start {
 
 impl Model for Start {
     ghost use Rattle.std.specs.Prelude.{map, string_bytes, option_map};
-    ghost use Rattle.bp_machine.specs.Starts.{StartOf, start_with};
+    ghost use Rattle.bp_machine.specs.Setups.{StartOf, start_with};
 
     ghost Value = { StartOf };
 
@@ -78,5 +80,91 @@ impl Start {
         };
         let (contexts, calls) = (self.contexts, self.calls);
         Setup::new(alloc, code, &self.entries, init, contexts, calls, seed)
+    }
+}
+
+/// The first fault of the entries.
+fn fault_of_names(code: &Code, entries: &[&[u8]]) -> Option<SetupFault>
+    requires { length entries.now ≤ MAX_THREADS }
+    ensures { (t : Program)
+        → StandsFor code.now t
+        → result ≡ entries_fault t 0 (map (λ n. n.now) entries.now) }
+{
+    for (thread, name) in entries.iter().enumerate() {
+        let fault = fault_of_entry(code, thread as u32, name);
+        if fault.is_some() {
+            return fault;
+        }
+    }
+    None
+}
+
+/// The first fault of a setup that is said so, apart from memory.
+fn fault_of_named(
+    code: &Code,
+    entries: &[&[u8]],
+    init: &[bool],
+    contexts: u64,
+    calls: u64,
+) -> Option<SetupFault>
+    ensures { let given = setup_of (map (λ n. n.now) entries.now) init.now contexts calls None in
+        (t : Program)
+        → StandsFor code.now t
+        → result ≡ setup_fault t given }
+{
+    if entries.is_empty() || entries.len() > MAX_THREADS {
+        return Some(SetupFault::Threads);
+    }
+    if let Some(fault) = fault_of_names(code, entries) {
+        return Some(fault);
+    }
+    fault_of_numbers(code, init, contexts, calls)
+}
+
+/// The names of the procedures that these bytes name.
+fn own_names(alloc: Global, code: &Code, entries: &[&[u8]]) -> Result<Vec<String>, AllocError>
+    requires { (i : ℕ) (name : List ℕ)
+        → slice_get (map (λ n. n.now) entries.now) i ≡ Some name
+        → is_some (heading_named code.now.headings name) ≡ true }
+    ensures { IfOk result (λ v. map string_bytes v.items ≡ map (λ n. n.now) entries.now) }
+{
+    let mut names = Vec::new(alloc);
+    for name in entries {
+        let Some(heading) = code.heading_of(name) else {
+            unreachable!()
+        };
+        names.push(String::from_str(alloc, heading.name())?)?;
+    }
+    Ok(names)
+}
+
+impl Setup {
+    /// As `new`, of what a text says: a name that is no procedure's may be any bytes, and a number
+    /// may be too large for its type, which is one out of its range.
+    pub fn from_names(
+        alloc: Global,
+        code: &Code,
+        entries: &[&[u8]],
+        init: &[bool],
+        contexts: u64,
+        calls: u64,
+        seed: Option<u64>,
+    ) -> Result<Setup, SetupFault>
+        ensures answer { let names = map (λ n. n.now) entries.now in
+            let given = setup_of names init.now contexts calls seed in
+            (t : Program)
+            → StandsFor code.now t
+            → MatchResult result
+            (λ s. (s ≡ given) × (setup_fault t given ≡ None))
+            (IsSetupRefusal t given) }
+        ensures taken { IfOk result (λ s. FitsCode code.now s × IsInRange s × (s.seed ≡ seed)) }
+    {
+        code.is_of_a_program();
+        if let Some(fault) = fault_of_named(code, entries, init, contexts, calls) {
+            return Err(fault);
+        }
+        let names = own_names(alloc, code, entries)?;
+        let bits = Vec::from_slice(alloc, init)?;
+        Ok(Setup::of_parts(names, bits, contexts as u32, calls as u32, seed))
     }
 }

@@ -1,6 +1,6 @@
 //! The guest threads of a session, and what a call does to one.
 ghost use Rattle.std.specs.Prelude.{◌≡◌, ◌||◌, ◌+◌, ◌<◌, ◌^◌, length, map, nat_le, string_bytes, vec_len, IfOk, OnOk, OnErr};
-ghost use Rattle.bp_machine.specs.GuestThreads.{thread_at, first_thread, guests};
+ghost use Rattle.bp_machine.specs.Sessions.{thread_at, first_thread, guests};
 ghost use Rattle.bp_machine.specs.Transitions.{thread_after, reply_of_transition, TransitionFitsIn, IsCallTransition};
 
 use crate::calls::Reply;
@@ -42,7 +42,7 @@ pub(crate) struct GuestThread {
 }
 
 impl Model for GuestThread {
-    ghost use Rattle.bp_machine.specs.GuestThreads.{KeptThread};
+    ghost use Rattle.bp_machine.specs.Sessions.{KeptThread};
 
     ghost Value = { KeptThread };
 

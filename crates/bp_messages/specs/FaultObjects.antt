@@ -1,17 +1,159 @@
 -- The object of a fault in JSON.
-use Rattle.std.specs.Prelude.{◌-◌, ℕ, Bool, List, [], ◌∷◌, ◌++◌, Option, None, Some, codes, decimal, option_map}
-use Rattle.std.specs.Borrow.{Bor}
+use Rattle.std.specs.Prelude.{◌≡◌, ℕ, List, [], ◌∷◌, Bool, true, false, Option, None, Some, codes, option_map, decimal, ◌-◌, ◌++◌}
 use Rattle.std.specs.List.{concat}
-use Rattle.bp_machine.specs.Replies.{letter_of}
-use Rattle.bp_text.specs.Positions.{position_at}
-use Rattle.bp_text.specs.JsonStrings.{string_text}
-use Rattle.bp_text.specs.Pieces.{key_text, number_or_null, string_or_null}
+use Rattle.std.specs.Borrow.{Bor}
+use Rattle.bp_text.specs.Pieces.{bit_or_null, key_text, number_or_null, string_or_null, truth_text, string_text, list_text}
+use Rattle.bp_text.specs.Lines.{position_at}
+use Rattle.bp_machine.specs.Histories.{letter_of}
+use Rattle.bp_confirm.specs.declared.confirming.StepReason.{StepReason}
+use Rattle.bp_confirm.specs.declared.confirming.StepReason.TheVariants.{Refused, Differs}
+use Rattle.bp_confirm.specs.declared.confirming.StepRefusal.{StepRefusal}
+use Rattle.bp_confirm.specs.declared.step_lines.Location.{Location}
+use Rattle.bp_confirm.specs.declared.step_lines.Location.TheVariants as location
+use Rattle.bp_confirm.specs.declared.step_lines.Stand.{Stand}
+use Rattle.bp_confirm.specs.declared.step_lines.Stand.TheVariants as stand
+use Rattle.bp_confirm.specs.LineReading.{IsValueOnLine}
 use Rattle.bp_messages.specs.declared.fault_table.Detail.{Detail}
-use Rattle.bp_messages.specs.declared.fault_table.Detail.TheVariants.{Byte, Thread, Line, ThreadOn, Step, Wanted}
+use Rattle.bp_messages.specs.declared.fault_table.Detail.TheVariants.{Step, Byte, Thread, Line, ThreadOn, Wanted}
+use Rattle.bp_messages.specs.declared.step_objects.VerdictFacts.{VerdictFacts}
 use Rattle.bp_messages.specs.declared.faults.Fault.{Fault}
 use Rattle.bp_messages.specs.FaultTable.{fault_row, RowOf}
-use Rattle.bp_messages.specs.StepObjects.{step_text}
-use Rattle.bp_messages.specs.Verdicts.{refuted_after, verdict_object}
+
+-- What the object of a fault says of a step that is not taken.
+
+-- the line and the column that a location names: neither is named by the end of a procedure
+abbrev pub line_named : Location → Option ℕ
+line_named location.End = None
+line_named (location.Line n) = Some n
+line_named (location.Column n m) = Some n
+
+abbrev pub column_named : Location → Option ℕ
+column_named (location.Column n m) = Some m
+column_named other = None
+
+-- the line and the column of the statement at which a thread stands
+abbrev pub line_at : Stand → Option ℕ
+line_at (stand.Statement position) = Some position.line
+line_at other = None
+
+abbrev pub column_at : Stand → Option ℕ
+column_at (stand.Statement position) = Some position.column
+column_at other = None
+
+abbrev pub has_ended : Stand → Bool
+has_ended stand.Ended = true
+has_ended other = false
+
+-- the letter of the reply that is no step
+abbrev pub reply_text : StepReason → Option (List ℕ)
+reply_text (Refused r) = Some (letter_of r ∷ [])
+reply_text reason = None
+
+-- the bit that the thread sees in place of a value
+abbrev pub seen_in : StepReason → Option Bool
+seen_in (Differs d) = d.seen
+seen_in reason = None
+
+-- the line of the last step that changed what the thread sees of the variable of the value
+abbrev pub changed_in : StepReason → Option ℕ
+changed_in (Differs d) = d.changed
+changed_in reason = None
+
+-- the name and the bit of a value of a line
+abbrev pub name_of_value : Option (List ℕ × Bool) → Option (List ℕ)
+name_of_value value = option_map (λ v. v.0) value
+
+abbrev pub bit_in : Option (List ℕ × Bool) → Option Bool
+bit_in value = option_map (λ v. v.1) value
+
+-- the value on line n of these steps that the reason is about, where it is about one
+abbrev pub IsValueFor : (steps : List ℕ) → (n : ℕ) → StepReason → Option (List ℕ × Bool) → Type 0
+IsValueFor steps n (Differs d) value = IsValueOnLine steps n d.place value
+IsValueFor steps n reason value = value ≡ None
+
+-- the value on a line of these steps that a fault names, where it names one
+abbrev pub IsValueIn : (steps : List ℕ) → Detail → Option (List ℕ × Bool) → Type 0
+IsValueIn steps (Step r) value = IsValueFor steps r.line r.reason value
+IsValueIn steps d value = value ≡ None
+
+-- the member of a step that is not taken: the place that its line names, the one at which its
+-- thread stands, and the reply or the value that refuses it
+abbrev pub step_object : StepRefusal → Option (List ℕ × Bool) → List ℕ
+step_object r value =
+    concat (
+    codes ",\"step\":{\"expected\":{\"line\":"
+    ∷ number_or_null (line_named r.location)
+    ∷ key_text (codes "column") ∷ number_or_null (column_named r.location)
+    ∷ codes "},\"stands\":{\"line\":" ∷ number_or_null (line_at r.stand)
+    ∷ key_text (codes "column") ∷ number_or_null (column_at r.stand)
+    ∷ key_text (codes "ended") ∷ truth_text (has_ended r.stand)
+    ∷ codes "},\"reply\":" ∷ string_or_null (reply_text r.reason)
+    ∷ key_text (codes "variable") ∷ string_or_null (name_of_value value)
+    ∷ key_text (codes "value") ∷ bit_or_null (bit_in value)
+    ∷ key_text (codes "seen") ∷ bit_or_null (seen_in r.reason)
+    ∷ key_text (codes "changed") ∷ number_or_null (changed_in r.reason)
+    ∷ codes "}" ∷ [])
+
+-- the step that a fault names
+abbrev pub step_of : Detail → Option StepRefusal
+step_of (Step r) = Some r
+step_of d = None
+
+-- the member of a step; null where there is none
+abbrev pub step_member : Option StepRefusal → Option (List ℕ × Bool) → List ℕ
+step_member None value = codes ",\"step\":null"
+step_member (Some r) value = step_object r value
+
+-- the member of the step that a fault names
+abbrev pub step_text : Detail → Option (List ℕ × Bool) → List ℕ
+step_text d value = step_member (step_of d) value
+
+-- The object of the verdict on reported steps.
+
+-- What is said of it: its word, how many steps a run makes, the contexts that they use if all are
+-- confirmed, the assertion that failed, the threads that wait in a deadlock, and the last bits on
+-- which it depends.
+pub record ShownVerdict : Type 0 where
+  pub word : List ℕ
+  pub steps : ℕ
+  pub contexts : Option ℕ
+  pub failure : List ℕ
+  pub waits : List ℕ
+  pub choices : List ℕ
+
+-- what the values of src/ say
+abbrev pub shown_verdict : VerdictFacts → ShownVerdict
+shown_verdict x = record {
+  word = x.verdict.now;
+  steps = x.steps;
+  contexts = x.contexts;
+  failure = x.failure.now;
+  waits = x.waits.now;
+  choices = x.choices.now;
+}
+
+abbrev pub verdict_object : ShownVerdict → List ℕ
+verdict_object x =
+    concat (
+    codes "{\"kind\":\"confirm\",\"version\":1"
+    ∷ key_text (codes "verdict") ∷ string_text x.word
+    ∷ key_text (codes "steps") ∷ decimal x.steps
+    ∷ key_text (codes "contexts") ∷ number_or_null x.contexts
+    ∷ key_text (codes "failure") ∷ x.failure
+    ∷ key_text (codes "deadlock") ∷ list_text x.waits
+    ∷ key_text (codes "choices") ∷ list_text x.choices
+    ∷ codes "}\n" ∷ [])
+
+-- a run makes this many steps, and no run makes the next one as well
+abbrev pub refuted_after : ℕ → ShownVerdict
+refuted_after n = record {
+  word = codes "refuted";
+  steps = n;
+  contexts = None;
+  failure = codes "null";
+  waits = [];
+  choices = [];
+}
 
 -- the byte of the program text that a fault names
 abbrev pub byte_of : Detail → Option ℕ

@@ -1,15 +1,7 @@
-pub mod AskedTests
-pub mod Failures
+pub mod Summaries
 pub mod FaultObjects
 pub mod FaultTable
-pub mod Faults
 pub mod Notes
-pub mod Novelty
 pub mod ProgressTexts
 pub mod ReplayLines
-pub mod RunLimits
-pub mod StepObjects
-pub mod Summaries
 pub mod SummaryObjects
-pub mod Verdicts
-pub mod Waits

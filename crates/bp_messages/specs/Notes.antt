@@ -1,14 +1,39 @@
 -- Where a test may mislead: what it did not look at, and what it was not asked for.
-use Rattle.std.specs.Prelude.{if◌then◌else◌, ◌*◌, ℕ, Bool, true, false, not, ◌&&◌, ◌==◌, nat_le, nat_lt, List, [], ◌∷◌, codes, decimal}
+use Rattle.std.specs.Prelude.{if◌then◌else◌, ◌*◌, ◌/◌, ◌==◌, ℕ, List, [], ◌∷◌, Option, None, Some, codes, decimal, Bool, true, false, not, ◌&&◌, nat_le, nat_lt}
 use Rattle.std.specs.List.{concat}
+use Rattle.bp_text.specs.Pieces.{key_text, truth_text}
+use Rattle.bp_test.specs.declared.counts.Distinct.{Distinct}
+use Rattle.bp_test.specs.Tallies.{capped}
 use Rattle.bp_test.specs.declared.testing.Found.{Found}
 use Rattle.bp_test.specs.declared.testing.Found.TheVariants.{Nothing, Failed, Deadlock}
-use Rattle.bp_test.specs.Tallies.{capped}
-use Rattle.bp_text.specs.Pieces.{key_text, truth_text}
-use Rattle.bp_messages.specs.Novelty.{novelty_note}
 use Rattle.bp_messages.specs.declared.limits.TheConstants.{NOTED_SHARE}
 use Rattle.bp_messages.specs.declared.notes.Notes.{Notes}
-use Rattle.bp_messages.specs.declared.test_reports.TestReport.{TestReport}
+use Rattle.bp_messages.specs.declared.summaries.TestReport.{TestReport}
+
+-- How many new runs of a test would be new. Good and Turing estimate it by the share of the runs
+-- that were seen once.
+
+-- how many of a hundred new runs, rounded down, if there were runs
+abbrev pub new_percent : Distinct → Option ℕ
+new_percent x = if x.of == 0 then None else Some (capped (x.once * 100) / x.of)
+
+-- what is said if these were seen once, and so many of a hundred new runs would be new
+abbrev pub novelty_said : (once percent : ℕ) → List ℕ
+novelty_said once percent =
+    if once == 0 then
+    codes "note: every run was seen before: about all that this drawing reaches was tried\n"
+    else
+    (if percent == 0 then codes "note: less than 1% of new runs would be new\n"
+    else
+    concat (
+    codes "note: about " ∷ decimal percent ∷ codes "% of new runs would be new\n" ∷ []))
+
+abbrev pub novelty_of : (once : ℕ) → (percent : Option ℕ) → List ℕ
+novelty_of once None = []
+novelty_of once (Some percent) = novelty_said once percent
+
+abbrev pub novelty_note : Distinct → List ℕ
+novelty_note x = novelty_of x.once (new_percent x)
 
 -- a test found what it looks for
 abbrev pub has_found : Found → Bool

@@ -1,7 +1,7 @@
 -- What a user reads of a test or an exploration while it is made, on a terminal.
 use Rattle.std.specs.Prelude.{ℕ, Option, None, Some, List, [], ◌∷◌, ◌*◌, ◌-◌, ◌/◌, ◌^◌, min, max, codes, decimal}
 use Rattle.std.specs.List.{concat}
-use Rattle.bp_messages.specs.RunLimits.{limit_text, of_word}
+use Rattle.bp_messages.specs.Summaries.{limit_text, of_word}
 
 -- what puts the cursor of a terminal at the beginning of the line and clears it
 abbrev pub cleared : List ℕ

@@ -2,11 +2,11 @@
 use Rattle.std.specs.Prelude.{ℕ, List, [], ◌∷◌, ◌++◌, codes, decimal, flat_map}
 use Rattle.std.specs.List.{concat}
 use Rattle.bp_text.specs.Pieces.{bit_text}
-use Rattle.bp_machine.specs.PrintedRows.{PrintedRow}
-use Rattle.bp_machine.specs.declared.reports.Outcome.{Outcome}
-use Rattle.bp_machine.specs.declared.reports.Outcome.TheVariants.{Clean, Failed}
+use Rattle.bp_machine.specs.Runs.{PrintedRow}
+use Rattle.bp_machine.specs.declared.calls.Outcome.{Outcome}
+use Rattle.bp_machine.specs.declared.calls.Outcome.TheVariants.{Clean, Failed}
 use Rattle.bp_trace.specs.declared.judging.Printed.{Printed}
-use Rattle.bp_trace.specs.Replayed.{row_of}
+use Rattle.bp_trace.specs.Replays.{row_of}
 
 -- `print`, the thread, and a digit for each value
 abbrev pub row_head : ℕ → List ℕ

@@ -1,17 +1,224 @@
 -- What a user reads of a test on standard error.
-use Rattle.std.specs.Prelude.{if◌then◌else◌, ◌==◌, ℕ, Bool, true, false, List, [], ◌∷◌, ◌++◌, Vec, codes, decimal}
-use Rattle.std.specs.declared.alloc.Global.{Global}
+use Rattle.std.specs.Prelude.{if◌then◌else◌, ◌==◌, ℕ, Bool, not, List, [], Option, None, Some, codes, decimal, true, false, ◌∷◌, ◌++◌, flat_map, map, option_map, slice_index_or, Vec, slice_get}
 use Rattle.std.specs.List.{concat}
-use Rattle.bp_test.specs.declared.counts.Counts.{Counts}
-use Rattle.bp_test.specs.declared.distinct.Distinct.{Distinct}
+use Rattle.std.specs.declared.alloc.Global.{Global}
+use Rattle.bp_text.specs.Pieces.{string_text, displayed, bit_text, key_text, number_or_null, truth_text}
+use Rattle.bp_text.specs.declared.lines.Position.{Position}
+use Rattle.bp_machine.specs.declared.calls.Outcome.{Outcome}
+use Rattle.bp_machine.specs.declared.calls.Outcome.TheVariants as outcome
+use Rattle.bp_test.specs.declared.waiting.Waiting.{Waiting}
 use Rattle.bp_test.specs.declared.testing.Found.{Found}
 use Rattle.bp_test.specs.declared.testing.Found.TheVariants.{Nothing, Failed, Deadlock}
-use Rattle.bp_messages.specs.declared.test_reports.TestReport.{TestReport}
-use Rattle.bp_messages.specs.AskedTests.{asked_line}
-use Rattle.bp_messages.specs.Failures.{failed_assertion, failure_text, statement_of}
+use Rattle.bp_test.specs.declared.counts.Counts.{Counts}
+use Rattle.bp_test.specs.declared.counts.Distinct.{Distinct}
+use Rattle.bp_messages.specs.declared.limits.TheConstants.{MOST_RUNS}
+use Rattle.bp_messages.specs.declared.summaries.TestReport.{TestReport}
+use Rattle.bp_messages.specs.declared.failures.FailedAssertion.{FailedAssertion}
 use Rattle.bp_messages.specs.Notes.{notes_text}
-use Rattle.bp_messages.specs.RunLimits.{limit_text, of_word}
-use Rattle.bp_messages.specs.Waits.{waits_text}
+
+-- How many runs a test was to make, after those that it made.
+
+-- a number of runs is a limit, unless it is the greatest one
+abbrev pub is_limit : ℕ → Bool
+is_limit runs = not (runs == MOST_RUNS)
+
+abbrev pub limit_of : ℕ → Option ℕ
+limit_of runs = if is_limit runs then Some runs else None
+
+-- the word before a limit
+abbrev pub of_word : ℕ → List ℕ
+of_word runs = if is_limit runs then codes " of " else []
+
+abbrev pub limit_text : ℕ → List ℕ
+limit_text runs = if is_limit runs then decimal runs else []
+
+-- What a test was asked for: its program, and what each run started from.
+
+-- a name as it is, or as a string of JSON
+abbrev pub name_text : (json : Bool) → List ℕ → List ℕ
+name_text false name = name
+name_text true name = string_text name
+
+-- a name after these bytes
+abbrev pub name_after : (json : Bool) → (before name : List ℕ) → List ℕ
+name_after json before name = concat (before ∷ name_text json name ∷ [])
+
+-- names, with these bytes before the first and those before each other one
+abbrev pub names_text : (json : Bool) → (before between : List ℕ) → List (List ℕ) → List ℕ
+names_text json before between [] = []
+names_text json before between (name ∷ names) =
+    name_after json before name ++ names_text json between between names
+
+-- a digit for each global
+abbrev pub bits_text : List Bool → List ℕ
+bits_text bits = flat_map bit_text bits
+
+-- the same, or a dash where there is none
+abbrev pub init_text : List Bool → List ℕ
+init_text [] = codes "-"
+init_text (bit ∷ bits) = bits_text (bit ∷ bits)
+
+-- the bounds of the runs, and the seed of the first
+abbrev pub bounds_text : TestReport → List ℕ
+bounds_text x =
+    concat (
+    codes ", contexts " ∷ decimal x.setup.contexts
+    ∷ codes ", calls " ∷ decimal x.setup.calls
+    ∷ codes ", seed " ∷ decimal x.options.seed
+    ∷ codes "\n" ∷ [])
+
+abbrev pub settings_text : TestReport → List ℕ
+settings_text x = codes ", init " ++ (init_text x.setup.init ++ bounds_text x)
+
+-- the line from which the test can be made again
+abbrev pub asked_line : TestReport → List ℕ
+asked_line x =
+    concat (codes "test of " ∷ displayed x.file.items ∷ codes ": threads" ∷ [])
+    ++ (names_text false (codes " ") (codes " ") x.setup.entries ++ settings_text x)
+
+-- the same as members of an object, with what else was asked for
+abbrev pub bounds_members : TestReport → List ℕ
+bounds_members x =
+    concat (
+    codes "\"" ∷ key_text (codes "contexts") ∷ decimal x.setup.contexts
+    ∷ key_text (codes "calls") ∷ decimal x.setup.calls
+    ∷ key_text (codes "seed") ∷ decimal x.options.seed
+    ∷ key_text (codes "runs") ∷ number_or_null (limit_of x.options.runs)
+    ∷ key_text (codes "seconds") ∷ number_or_null x.options.seconds
+    ∷ key_text (codes "deadlock") ∷ truth_text x.options.with_deadlock
+    ∷ codes "}" ∷ [])
+
+abbrev pub settings_members : TestReport → List ℕ
+settings_members x =
+    codes "],\"init\":\"" ++ (bits_text x.setup.init ++ bounds_members x)
+
+abbrev pub asked_member : TestReport → List ℕ
+asked_member x =
+    concat (
+    codes ",\"asked\":{\"file\":" ∷ string_text x.file.items
+    ∷ key_text (codes "entries") ∷ [])
+    ++ (names_text true (codes "[") (codes ",") x.setup.entries ++ settings_members x)
+
+-- Which threads wait at the end of a run, and where.
+
+-- where the statement of an instruction begins, where those of all begin there
+abbrev pub position_of : List (Option Position) → (number : ℕ) → Option Position
+position_of positions number = slice_index_or positions number None
+
+-- that of the statement at which a thread waits
+abbrev pub position_of_wait : List (Option Position) → Waiting → Option Position
+position_of_wait positions x = position_of positions x.number
+
+-- a thread that waits, after these words, and where in a file
+abbrev pub wait_text : (file before verb : List ℕ) → (thread : ℕ) → Option Position → List ℕ
+wait_text file before verb i None = concat (before ∷ decimal i ∷ [])
+wait_text file before verb i (Some p) =
+    concat (
+    before
+    ∷ decimal i
+    ∷ verb
+    ∷ displayed file
+    ∷ codes ":"
+    ∷ decimal p.line
+    ∷ codes ":"
+    ∷ decimal p.column
+    ∷ [])
+
+-- the threads that wait, one after the other; these words are for the first
+abbrev pub waits_after
+    : (file before verb : List ℕ) → List (Option Position) → List Waiting → List ℕ
+waits_after file before verb positions [] = []
+waits_after file before verb positions (x ∷ xs) =
+    wait_text file before verb x.thread (position_of_wait positions x)
+    ++ waits_after file (codes ", thread ") (codes " at ") positions xs
+
+abbrev pub waits_text : (file : List ℕ) → List (Option Position) → List Waiting → List ℕ
+waits_text file positions xs =
+    waits_after file (codes ": thread ") (codes " waits at ") positions xs
+
+-- the object of a thread that waits, after this
+abbrev pub wait_object : (before : List ℕ) → (thread : ℕ) → Option Position → List ℕ
+wait_object before i position =
+    concat (
+    before
+    ∷ codes "{\"thread\":" ∷ decimal i
+    ∷ key_text (codes "line") ∷ number_or_null (option_map (λ p. p.line) position)
+    ∷ key_text (codes "column") ∷ number_or_null (option_map (λ p. p.column) position)
+    ∷ codes "}" ∷ [])
+
+abbrev pub wait_objects : (before : List ℕ) → List (Option Position) → List Waiting → List ℕ
+wait_objects before positions [] = []
+wait_objects before positions (x ∷ xs) =
+    wait_object before x.thread (position_of_wait positions x)
+    ++ wait_objects (codes ",") positions xs
+
+-- the member of an object with the threads that wait
+abbrev pub waits_member : List (Option Position) → List Waiting → List ℕ
+waits_member positions xs =
+    codes ",\"waiting\":[" ++ (wait_objects [] positions xs ++ codes "]")
+
+-- Which assertion failed in the run that a test found, and where.
+
+-- the assertion of thread i at instruction n, where that begins somewhere
+abbrev pub failure_at : (i n : ℕ) → Option Position → Option FailedAssertion
+failure_at i n None = None
+failure_at i n (Some p) = Some (record { thread = i; number = n; position = p })
+
+abbrev pub failure_by : List (Option Position) → (i : ℕ) → Option ℕ → Option FailedAssertion
+failure_by positions i None = None
+failure_by positions i (Some n) = failure_at i n (position_of positions n)
+
+abbrev pub failure_in : List (Option Position) → Option ℕ → Outcome → Option FailedAssertion
+failure_in positions number outcome.Clean = None
+failure_in positions number (outcome.Failed i) = failure_by positions i number
+
+-- the assertion that failed, where one did
+abbrev pub failure_found : List (Option Position) → Option ℕ → Found → Option FailedAssertion
+failure_found positions number Nothing = None
+failure_found positions number (Failed run report) = failure_in positions number report.outcome
+failure_found positions number (Deadlock run report) = None
+
+abbrev pub failed_assertion : TestReport → Option FailedAssertion
+failed_assertion x = failure_found x.positions.items x.failed x.found
+
+abbrev pub items_of : Option (Vec ℕ Global) → List ℕ
+items_of None = []
+items_of (Some v) = v.items
+
+-- the text of its statement
+abbrev pub statement_of : List (Vec ℕ Global) → Option FailedAssertion → List ℕ
+statement_of statements None = []
+statement_of statements (Some x) = items_of (slice_get statements x.number)
+
+-- the run of how many in which it failed, and where in a file the assertion is
+abbrev pub failure_text
+    : Option FailedAssertion → (statement file : List ℕ) → (run runs : ℕ) → List ℕ
+failure_text None statement file run runs =
+    concat (
+    codes "an assertion failed in run " ∷ decimal run
+    ∷ of_word runs ∷ limit_text runs
+    ∷ codes "\n" ∷ [])
+failure_text (Some x) statement file run runs =
+    concat (
+    codes "an assertion of thread " ∷ decimal x.thread
+    ∷ codes " failed in run " ∷ decimal run
+    ∷ of_word runs ∷ limit_text runs
+    ∷ codes ", at " ∷ displayed file
+    ∷ codes ":" ∷ decimal x.position.line
+    ∷ codes ":" ∷ decimal x.position.column
+    ∷ codes ": " ∷ statement
+    ∷ codes "\n" ∷ [])
+
+-- the member of an object with the assertion
+abbrev pub failure_member : Option FailedAssertion → (statement : List ℕ) → List ℕ
+failure_member None statement = codes ",\"failure\":null"
+failure_member (Some x) statement =
+    concat (
+    codes ",\"failure\":{\"thread\":" ∷ decimal x.thread
+    ∷ key_text (codes "line") ∷ decimal x.position.line
+    ∷ key_text (codes "column") ∷ decimal x.position.column
+    ∷ key_text (codes "statement") ∷ string_text statement
+    ∷ codes "}" ∷ [])
 
 abbrev pub found_phrase : List ℕ → (run runs : ℕ) → List ℕ
 found_phrase phrase run runs =

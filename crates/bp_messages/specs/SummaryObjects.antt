@@ -3,18 +3,13 @@
 use Rattle.std.specs.Prelude.{ℕ, List, [], ◌∷◌, ◌++◌, Option, None, Some, codes, decimal}
 use Rattle.std.specs.List.{concat}
 use Rattle.bp_test.specs.declared.counts.Counts.{Counts}
-use Rattle.bp_test.specs.declared.distinct.Distinct.{Distinct}
+use Rattle.bp_test.specs.declared.counts.Distinct.{Distinct}
 use Rattle.bp_test.specs.declared.testing.Found.{Found}
 use Rattle.bp_test.specs.declared.testing.Found.TheVariants.{Nothing, Failed, Deadlock}
-use Rattle.bp_text.specs.JsonStrings.{string_text}
-use Rattle.bp_text.specs.Pieces.{key_text, number_or_null}
-use Rattle.bp_messages.specs.declared.test_reports.TestReport.{TestReport}
-use Rattle.bp_messages.specs.AskedTests.{asked_member}
-use Rattle.bp_messages.specs.Failures.{failure_member, failed_assertion, statement_of}
-use Rattle.bp_messages.specs.Notes.{notes_members, notes_of}
-use Rattle.bp_messages.specs.Novelty.{new_percent}
-use Rattle.bp_messages.specs.Summaries.{unreached_text}
-use Rattle.bp_messages.specs.Waits.{waits_member}
+use Rattle.bp_text.specs.Pieces.{string_text, key_text, number_or_null}
+use Rattle.bp_messages.specs.declared.summaries.TestReport.{TestReport}
+use Rattle.bp_messages.specs.Summaries.{asked_member, failure_member, failed_assertion, statement_of, unreached_text, waits_member}
+use Rattle.bp_messages.specs.Notes.{notes_members, notes_of, new_percent}
 
 abbrev pub found_name : Found → List ℕ
 found_name Nothing = codes "nothing"

@@ -2,11 +2,10 @@
 //! memory.
 ghost use Rattle.std.specs.Prelude.{◌≡◌, map, string_bytes};
 ghost use Rattle.bp_text.specs.Pieces.{piece_text};
-ghost use Rattle.bp_text.specs.Sinks.{Given};
-ghost use Rattle.bp_messages.specs.AskedTests.{asked_line, asked_member, bounds_members, bounds_text, init_text, name_text, names_text};
+ghost use Rattle.bp_text.specs.Writing.{Given};
+ghost use Rattle.bp_messages.specs.Summaries.{asked_line, asked_member, bounds_members, bounds_text, init_text, name_text, names_text};
 
-use crate::run_limits::limit_of;
-use crate::test_reports::TestReport;
+use crate::summaries::{TestReport, limit_of};
 use bp_text::Piece::{Bytes, Displayed, Key, Number, NumberOrNull, Text, Truth};
 use bp_text::{Piece, Sink};
 use std::io::Write;

@@ -1,14 +1,13 @@
 //! Which assertion failed in the run that a test found, and where. It is written without memory.
-ghost use Rattle.std.specs.Prelude.{◌≡◌};
-ghost use Rattle.bp_text.specs.Sinks.{Given};
-ghost use Rattle.bp_messages.specs.Failures.{failure_member, failed_assertion, failure_text, statement_of};
+//! Which threads wait at the end of a run, and where. They are written without memory.
+ghost use Rattle.std.specs.Prelude.{◌≡◌, [], codes, option_map};
+ghost use Rattle.bp_text.specs.Writing.{Given};
+ghost use Rattle.bp_messages.specs.Summaries.{failure_member, failed_assertion, failure_text, statement_of, position_of, position_of_wait, wait_object, wait_objects, wait_text, waits_member, waits_text};
 
-use crate::run_limits::{limit_piece, of_word};
-use crate::test_reports::TestReport;
-use crate::waits::position_of;
+use crate::summaries::{TestReport, limit_piece, of_word};
 use bp_machine::Outcome;
-use bp_test::Found;
-use bp_text::Piece::{Bytes, Displayed, Key, Number, Text};
+use bp_test::{Found, Waiting};
+use bp_text::Piece::{Bytes, Displayed, Key, Number, NumberOrNull, Text};
 use bp_text::{Position, Sink};
 use std::io::Write;
 
@@ -116,4 +115,143 @@ pub(crate) fn put_failure_member<'a, W: Write>(
             Bytes(b"}"),
         ]),
     }
+}
+
+/// Where the statement of an instruction begins, where those of all begin there.
+pub(crate) fn position_of(positions: &[Option<Position>], number: u32) -> Option<Position>
+    ensures { result ≡ position_of positions.now number }
+{
+    match positions.get(number as usize) {
+        Some(position) => *position,
+        None => None,
+    }
+}
+
+/// Where the statement begins at which a thread waits.
+fn position_of_wait(positions: &[Option<Position>], wait: Waiting) -> Option<Position>
+    ensures { result ≡ position_of_wait positions.now wait }
+{
+    position_of(positions, wait.number)
+}
+
+/// Writes a thread that waits, after these words, and where in a file.
+fn put_wait<'a, W: Write>(
+    file: &'a [u8],
+    before: &'a [u8],
+    verb: &'a [u8],
+    thread: u32,
+    position: Option<Position>,
+    sink: &mut Sink<'_, W>,
+)
+    ensures { let text = wait_text file.now before.now verb.now thread position in
+        Given W.contents sink.old sink.new text }
+{
+    match position {
+        None => sink.put_pieces(&[Bytes(before), Number(thread as u64)]),
+        Some(position) => sink.put_pieces(&[
+            Bytes(before),
+            Number(thread as u64),
+            Bytes(verb),
+            Displayed(file),
+            Bytes(b":"),
+            Number(position.line as u64),
+            Bytes(b":"),
+            Number(position.column as u64),
+        ]),
+    }
+}
+
+/// Writes the threads that wait, and where in a file, after a colon.
+#[tactic(auto, using(bp_text::proofs::Givings::left_after))]
+pub(crate) fn put_waits<W: Write>(
+    file: &[u8],
+    positions: &[Option<Position>],
+    waiting: &[Waiting],
+    sink: &mut Sink<'_, W>,
+)
+    ensures { Given W.contents sink.old sink.new (waits_text file.now positions.now waiting.now) }
+{
+    let mut before: &[u8] = b": thread ";
+    let mut verb: &[u8] = b" waits at ";
+    let mut waiting = waiting;
+    while let Some((wait, more)) = waiting.split_first() {
+        let position = position_of_wait(positions, *wait);
+        put_wait(file, before, verb, wait.thread, position, sink);
+        before = b", thread ";
+        verb = b" at ";
+        waiting = more;
+    }
+}
+
+/// The line of a position.
+fn line_of(position: Option<Position>) -> Option<u64>
+    ensures { result ≡ option_map (λ p. p.line) position }
+{
+    let position = position?;
+    Some(position.line as u64)
+}
+
+/// The column of a position.
+fn column_of(position: Option<Position>) -> Option<u64>
+    ensures { result ≡ option_map (λ p. p.column) position }
+{
+    let position = position?;
+    Some(position.column as u64)
+}
+
+/// Writes the object of a thread that waits, after this.
+fn put_wait_object<W: Write>(
+    before: &[u8],
+    thread: u32,
+    position: Option<Position>,
+    sink: &mut Sink<'_, W>,
+)
+    ensures { Given W.contents sink.old sink.new (wait_object before.now thread position) }
+{
+    sink.put_pieces(&[
+        Bytes(before),
+        Bytes(b"{\"thread\":"),
+        Number(thread as u64),
+        Key(b"line"),
+        NumberOrNull(line_of(position)),
+        Key(b"column"),
+        NumberOrNull(column_of(position)),
+        Bytes(b"}"),
+    ])
+}
+
+/// Writes the objects of the threads that wait, with commas between them.
+#[tactic(auto, using(bp_text::proofs::Givings::left_after))]
+fn put_wait_objects<W: Write>(
+    positions: &[Option<Position>],
+    waiting: &[Waiting],
+    sink: &mut Sink<'_, W>,
+)
+    ensures { Given W.contents sink.old sink.new (wait_objects [] positions.now waiting.now) }
+{
+    let mut before: &[u8] = b"";
+    let mut waiting = waiting;
+    while let Some((wait, more)) = waiting.split_first() {
+        put_wait_object(
+            before,
+            wait.thread,
+            position_of_wait(positions, *wait),
+            sink,
+        );
+        before = b",";
+        waiting = more;
+    }
+}
+
+/// Writes the member of an object with the threads that wait.
+pub(crate) fn put_waits_member<W: Write>(
+    positions: &[Option<Position>],
+    waiting: &[Waiting],
+    sink: &mut Sink<'_, W>,
+)
+    ensures { Given W.contents sink.old sink.new (waits_member positions.now waiting.now) }
+{
+    sink.put(b",\"waiting\":[");
+    put_wait_objects(positions, waiting, sink);
+    sink.put(b"]")
 }

@@ -1,7 +1,7 @@
 //! The lines that report faults.
+//! Why an input is not read.
 ghost use Rattle.std.specs.Prelude.{◌≡◌, ◌++◌};
-ghost use Rattle.bp_text.specs.Writing.{Writes};
-ghost use Rattle.bp_text.specs.Sinks.{Given};
+ghost use Rattle.bp_text.specs.Writing.{Writes, Given};
 ghost use Rattle.bp_messages.specs.FaultTable.{detail_text, fault_line, fault_head, seen_text, step_detail};
 
 use crate::fault_table::{Detail, Row};
@@ -9,7 +9,9 @@ use crate::faults::Fault;
 use bp_confirm::{StepReason, StepRefusal};
 use bp_text::Piece::{Bytes, Number};
 use bp_text::{Sink, WriteFault};
+use std::alloc::AllocError;
 use std::io::Write;
+use thiserror::Error;
 
 /// Writes the number and the name of a fault.
 fn put_head<W: Write>(row: Row, sink: &mut Sink<'_, W>)
@@ -79,4 +81,28 @@ pub fn show_fault<W: Write>(fault: &Fault, out: &mut W) -> Result<(), WriteFault
     put_detail(row.detail, &mut sink);
     sink.put(b"\n");
     sink.finish()
+}
+
+/// Why an input is not read.
+#[derive(Clone, Copy, Debug, PartialEq, Eq, Error)]
+pub enum InputFault {
+    /// It could not be opened, or a read failed.
+    #[error("the input could not be read")]
+    Device,
+    /// The input is longer than its limit.
+    #[error("the input is too long")]
+    TooLong,
+    /// There was not enough memory.
+    #[error("out of memory")]
+    Memory,
+}
+
+impl From<AllocError> for InputFault {
+    ghost use Rattle.bp_messages.specs.declared.fault_lines.InputFault.{InputFault};
+
+    ghost from_gives = { λ _ e. e ≡ InputFault.Memory };
+
+    fn from(_: AllocError) -> InputFault {
+        InputFault::Memory
+    }
 }

@@ -1,16 +1,14 @@
 //! The object of a fault in JSON. It is written without memory, so that refused memory has one too.
 ghost use Rattle.std.specs.Prelude.{◌≡◌, option_map};
-ghost use Rattle.bp_text.specs.Writing.{Writes};
+ghost use Rattle.bp_text.specs.Writing.{Writes, Given};
 ghost use Rattle.bp_text.specs.Pieces.{piece_text, string_or_null};
-ghost use Rattle.bp_text.specs.Sinks.{Given};
-ghost use Rattle.bp_confirm.specs.StepLines.{value_of};
+ghost use Rattle.bp_confirm.specs.Steps.{value_of};
 ghost use Rattle.bp_messages.specs.FaultObjects.{byte_of, column_in, facts_text, fault_object, letter_text, line_in, message_text, name_in, refutation_text, thread_of};
 ghost use Rattle.bp_messages.specs.FaultTable.{row_of};
 
 use crate::fault_table::{Detail, Row};
 use crate::faults::Fault;
-use crate::step_objects::put_step;
-use crate::verdicts::put_refuted;
+use crate::step_objects::{put_refuted, put_step};
 use bp_confirm::SeenValue;
 use bp_text::Piece::{Bytes, Key, Letter, Number, NumberOrNull, Text, TextOrNull};
 use bp_text::{Piece, Sink, WriteFault, position_of};

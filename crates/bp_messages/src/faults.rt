@@ -1,8 +1,7 @@
 //! Why a command is refused.
-use crate::input_faults::InputFault;
+use crate::fault_lines::InputFault;
 use bp_code::{CodeFault, ProgramFault};
 use bp_confirm::ConfirmFault;
-use bp_facts::ViewFault;
 use bp_language::CheckFault;
 use bp_machine::SetupFault;
 use bp_run::RunFault;
@@ -10,6 +9,7 @@ use bp_syntax::ReadFault;
 use bp_test::TestFault;
 use bp_text::WriteFault;
 use bp_trace::{DriveFault, MigrateFault, ReplayFault};
+use bp_view::ViewFault;
 use std::alloc::AllocError;
 use thiserror::Error;
 
@@ -85,7 +85,7 @@ impl From<WriteFault> for Fault {
 }
 
 impl From<InputFault> for Fault {
-    ghost use Rattle.bp_messages.specs.Faults.{fault_of_input};
+    ghost use Rattle.bp_messages.specs.FaultTable.{fault_of_input};
     ghost use Rattle.std.specs.Prelude.{◌≡◌};
 
     ghost from_gives = { λ f e. e ≡ fault_of_input f };
@@ -100,7 +100,7 @@ impl From<InputFault> for Fault {
 }
 
 impl From<ProgramFault> for Fault {
-    ghost use Rattle.bp_messages.specs.Faults.{fault_of_program};
+    ghost use Rattle.bp_messages.specs.FaultTable.{fault_of_program};
     ghost use Rattle.std.specs.Prelude.{◌≡◌};
 
     ghost from_gives = { λ f e. e ≡ fault_of_program f };
@@ -115,7 +115,7 @@ impl From<ProgramFault> for Fault {
 }
 
 impl From<CodeFault> for Fault {
-    ghost use Rattle.bp_messages.specs.Faults.{fault_of_code};
+    ghost use Rattle.bp_messages.specs.FaultTable.{fault_of_code};
     ghost use Rattle.std.specs.Prelude.{◌≡◌};
 
     ghost from_gives = { λ f e. e ≡ fault_of_code f };
@@ -129,7 +129,7 @@ impl From<CodeFault> for Fault {
 }
 
 impl From<SetupFault> for Fault {
-    ghost use Rattle.bp_messages.specs.Faults.{fault_of_setup};
+    ghost use Rattle.bp_messages.specs.FaultTable.{fault_of_setup};
     ghost use Rattle.std.specs.Prelude.{◌≡◌};
 
     ghost from_gives = { λ f e. e ≡ fault_of_setup f };
@@ -143,7 +143,7 @@ impl From<SetupFault> for Fault {
 }
 
 impl From<DriveFault> for Fault {
-    ghost use Rattle.bp_messages.specs.Faults.{fault_of_schedule};
+    ghost use Rattle.bp_messages.specs.FaultTable.{fault_of_schedule};
     ghost use Rattle.std.specs.Prelude.{◌≡◌};
 
     ghost from_gives = { λ f e. e ≡ fault_of_schedule f };
@@ -159,7 +159,7 @@ impl From<DriveFault> for Fault {
 }
 
 impl From<ReplayFault> for Fault {
-    ghost use Rattle.bp_messages.specs.Faults.{fault_of_trace};
+    ghost use Rattle.bp_messages.specs.FaultTable.{fault_of_trace};
     ghost use Rattle.std.specs.Prelude.{◌≡◌};
 
     ghost from_gives = { λ f e. e ≡ fault_of_trace f };
@@ -175,7 +175,7 @@ impl From<ReplayFault> for Fault {
 }
 
 impl From<ConfirmFault> for Fault {
-    ghost use Rattle.bp_messages.specs.Faults.{fault_of_steps};
+    ghost use Rattle.bp_messages.specs.FaultTable.{fault_of_steps};
     ghost use Rattle.std.specs.Prelude.{◌≡◌};
 
     ghost from_gives = { λ f e. e ≡ fault_of_steps f };
@@ -190,7 +190,7 @@ impl From<ConfirmFault> for Fault {
 }
 
 impl From<MigrateFault> for Fault {
-    ghost use Rattle.bp_messages.specs.Faults.{fault_of_migration};
+    ghost use Rattle.bp_messages.specs.FaultTable.{fault_of_migration};
     ghost use Rattle.std.specs.Prelude.{◌≡◌};
 
     ghost from_gives = { λ f e. e ≡ fault_of_migration f };
@@ -204,7 +204,7 @@ impl From<MigrateFault> for Fault {
 }
 
 impl From<ViewFault> for Fault {
-    ghost use Rattle.bp_messages.specs.Faults.{fault_of_view};
+    ghost use Rattle.bp_messages.specs.FaultTable.{fault_of_view};
     ghost use Rattle.std.specs.Prelude.{◌≡◌};
 
     ghost from_gives = { λ f e. e ≡ fault_of_view f };
@@ -221,7 +221,7 @@ impl From<ViewFault> for Fault {
 }
 
 impl From<RunFault> for Fault {
-    ghost use Rattle.bp_messages.specs.Faults.{fault_of_run};
+    ghost use Rattle.bp_messages.specs.FaultTable.{fault_of_run};
     ghost use Rattle.std.specs.Prelude.{◌≡◌};
 
     ghost from_gives = { λ f e. e ≡ fault_of_run f };
@@ -239,7 +239,7 @@ impl From<RunFault> for Fault {
 }
 
 impl From<TestFault> for Fault {
-    ghost use Rattle.bp_messages.specs.Faults.{fault_of_test};
+    ghost use Rattle.bp_messages.specs.FaultTable.{fault_of_test};
     ghost use Rattle.std.specs.Prelude.{◌≡◌};
 
     ghost from_gives = { λ f e. e ≡ fault_of_test f };

@@ -3,7 +3,7 @@ ghost use Rattle.std.specs.Prelude.{◌≡◌};
 ghost use Rattle.bp_text.specs.Writing.{Writes};
 ghost use Rattle.bp_messages.specs.ProgressTexts.{cleared, exploration_progress_text, progress_text, rate_of, seconds_left, within_time};
 
-use crate::run_limits::{limit_piece, of_word};
+use crate::summaries::{limit_piece, of_word};
 use bp_text::Piece::{Bytes, Number};
 use bp_text::{WriteFault, put, put_pieces};
 use std::io::Write;

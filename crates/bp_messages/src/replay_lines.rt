@@ -1,8 +1,7 @@
 //! The lines that show a replay.
 ghost use Rattle.std.specs.Prelude.{◌≡◌, flat_map, map};
-ghost use Rattle.bp_text.specs.Writing.{Writes};
-ghost use Rattle.bp_text.specs.Sinks.{Given};
-ghost use Rattle.bp_trace.specs.Replayed.{row_of};
+ghost use Rattle.bp_text.specs.Writing.{Writes, Given};
+ghost use Rattle.bp_trace.specs.Replays.{row_of};
 ghost use Rattle.bp_messages.specs.ReplayLines.{outcome_line, printed_line, row_line, shown_text};
 
 use bp_machine::Outcome;

@@ -1,19 +1,21 @@
 //! The summary of a test: what was found, and how well the program was tested.
+//! How many runs a test was to make, after those that it made.
+//! What a test found, and how well the program was tested.
 ghost use Rattle.std.specs.Prelude.{◌≡◌};
-ghost use Rattle.bp_text.specs.Writing.{Writes};
-ghost use Rattle.bp_text.specs.Sinks.{Given};
-ghost use Rattle.bp_messages.specs.Summaries.{counts_text, deadlock_text, distinct_text, finding_text, found_phrase};
-ghost use Rattle.bp_messages.specs.Summaries.{line_unless, nothing_text, nothing_phrase, summary_text, unreached_text};
+ghost use Rattle.bp_text.specs.Writing.{Writes, Given};
+ghost use Rattle.bp_text.specs.Pieces.{piece_text};
+ghost use Rattle.bp_messages.specs.Summaries.{counts_text, deadlock_text, distinct_text, finding_text, found_phrase, line_unless, nothing_text, nothing_phrase, summary_text, unreached_text, is_limit, limit_of, limit_text, of_word};
+ghost use Rattle.bp_messages.specs.Notes.{has_found};
 
 use crate::asked_tests::put_asked_line;
-use crate::failures::{failed_assertion, put_failure, statement_of};
+use crate::failures::{failed_assertion, put_failure, put_waits, statement_of};
+use crate::limits::MOST_RUNS;
 use crate::notes::put_notes;
-use crate::run_limits::{limit_piece, of_word};
-use crate::test_reports::TestReport;
-use crate::waits::put_waits;
-use bp_test::{Counts, Distinct, Found};
+use bp_machine::Setup;
+use bp_tasks::TestOptions;
+use bp_test::{Counts, Distinct, Found, Waiting};
 use bp_text::Piece::{Bytes, Number};
-use bp_text::{Sink, WriteFault};
+use bp_text::{Piece, Position, Sink, WriteFault};
 use std::io::Write;
 
 /// Writes what was found in one of the runs.
@@ -202,4 +204,78 @@ pub fn put_summary<W: Write>(tested: &TestReport, out: &mut W) -> Result<(), Wri
         &mut sink,
     );
     sink.finish()
+}
+
+/// Whether a number of runs is a limit.
+fn is_limit(runs: u64) -> bool
+    ensures { result ≡ is_limit runs }
+{
+    runs != MOST_RUNS
+}
+
+/// How many runs there are at most, where that is limited.
+pub(crate) fn limit_of(runs: u64) -> Option<u64>
+    ensures { result ≡ limit_of runs }
+{
+    if is_limit(runs) { Some(runs) } else { None }
+}
+
+/// The word before the most runs, where they are limited.
+pub(crate) fn of_word<'a>(runs: u64) -> Piece<'a>
+    ensures { piece_text result ≡ of_word runs }
+{
+    if is_limit(runs) {
+        Bytes(b" of ")
+    } else {
+        Bytes(b"")
+    }
+}
+
+/// The most runs, where they are limited.
+pub(crate) fn limit_piece<'a>(runs: u64) -> Piece<'a>
+    ensures { piece_text result ≡ limit_text runs }
+{
+    if is_limit(runs) {
+        Number(runs)
+    } else {
+        Bytes(b"")
+    }
+}
+
+/// What a test found, and how well the program was tested.
+#[derive(Drop)]
+pub struct TestReport {
+    /// The name of the program's text.
+    pub file: Vec<u8>,
+    /// What was asked for.
+    pub options: TestOptions,
+    /// What each run started from, but for its seed.
+    pub setup: Setup,
+    pub found: Found,
+    /// The instruction whose assertion failed in the run that was found, where one did.
+    pub failed: Option<u32>,
+    /// The threads that wait at the end of the run that was found.
+    pub waiting: Vec<Waiting>,
+    /// Where the statements of the instructions begin.
+    pub positions: Vec<Option<Position>>,
+    /// The texts of the statements of the instructions.
+    pub statements: Vec<Vec<u8>>,
+    pub counts: Counts,
+    /// How many of the runs were different.
+    pub distinct: Distinct,
+    /// The lines of the program's statements, where those that no run reached are listed.
+    pub lines: Vec<Vec<u8>>,
+    /// For each instruction of the code, whether a run reached it.
+    pub reached: Vec<bool>,
+    /// Whether the summary is JSON objects. The lines of the statements then are objects too.
+    pub json: bool,
+}
+
+impl TestReport {
+    /// Whether the test found what it looks for.
+    pub fn has_found(&self) -> bool
+        ensures { result ≡ has_found self.now.found }
+    {
+        !matches!(self.found, Found::Nothing)
+    }
 }

@@ -1,17 +1,13 @@
 //! The summary of a test in JSON: an object of what was found and of what the runs reached, and one
 //! for each statement that no run reached. It is written without memory.
 ghost use Rattle.std.specs.Prelude.{◌≡◌};
-ghost use Rattle.bp_text.specs.Writing.{Writes};
-ghost use Rattle.bp_text.specs.Sinks.{Given};
+ghost use Rattle.bp_text.specs.Writing.{Writes, Given};
 ghost use Rattle.bp_messages.specs.SummaryObjects.{distinct_member, ends_members, finding_members, found_name, found_run, reach_members, summary_object, summary_objects};
 
 use crate::asked_tests::put_asked_member;
-use crate::failures::{failed_assertion, put_failure_member, statement_of};
-use crate::notes::put_notes_members;
-use crate::novelty::new_percent;
-use crate::summaries::put_unreached;
-use crate::test_reports::TestReport;
-use crate::waits::put_waits_member;
+use crate::failures::{failed_assertion, put_failure_member, put_waits_member, statement_of};
+use crate::notes::{new_percent, put_notes_members};
+use crate::summaries::{TestReport, put_unreached};
 use bp_test::{Counts, Distinct, Found};
 use bp_text::Piece::{Bytes, Key, Number, NumberOrNull, Text};
 use bp_text::{Sink, WriteFault};

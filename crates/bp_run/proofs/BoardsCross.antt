@@ -1,16 +1,58 @@
 -- That boards may be shared among threads.
+use denote.Param.Send.{IsSend, sendable, IsSync, recorded_send, struct_send, view_send}
+use Rattle.std.proofs.Crossing.{crosses}
 use denote.RattleType.{RattleType}
 use denote.Struct.Declared as structs
-use denote.Param.Send.{IsSend, IsSync, sendable, recorded_send, struct_send, view_send}
-use Rattle.std.proofs.Crossing.{crosses}
 use Rattle.std.proofs.sync.ledger.Book.TheSendSync as Book
 use Rattle.rtrb.proofs.end.End.TheSendSync as End
 use Rattle.std.specs.declared.sync.ledger.Ledger as Ledger
-use Rattle.bp_board.specs.declared.ledgers.Calls as Calls
-use Rattle.bp_board.specs.contracts.desks.Desk as Desk
-use Rattle.bp_board.specs.contracts.desks.Desk.TheInside as Inside
-use Rattle.bp_board.specs.contracts.boards.Board as Board
-use Rattle.bp_run.proofs.SessionsCross.{session_send}
+use Rattle.bp_flat.specs.contracts.expr_lists.SlotExprs as SlotExprs
+use Rattle.bp_flat.specs.contracts.expr_lists.Arguments as Arguments
+use Rattle.bp_flat.specs.contracts.slots.Slots as Slots
+use Rattle.bp_flat.specs.contracts.instrs.Instr as Instr
+use Rattle.bp_flat.specs.contracts.headings.Heading as Heading
+use Rattle.bp_flat.specs.contracts.code.Code as Code
+use Rattle.bp_flat.proofs.exprs.SlotSub.TheLaws.TheKnot.{send-SlotSub, send-SlotExpr}
+use Rattle.bp_machine.specs.contracts.setups.Setup as Setup
+use Rattle.bp_machine.specs.contracts.machine.Machine as Machine
+use Rattle.bp_machine.specs.contracts.sessions.Session as Session
+use Rattle.bp_run.specs.declared.boards.Calls as Calls
+use Rattle.bp_run.specs.contracts.desks.Desk as Desk
+use Rattle.bp_run.specs.contracts.desks.Desk.TheInside as Inside
+use Rattle.bp_run.specs.contracts.boards.Board as Board
+use Rattle.bp_run.specs.contracts.signals.Bell as Bell
+use Rattle.bp_run.specs.contracts.signals.Signals as Signals
+
+-- That codes may be shared among threads, in steps that `search` can take.
+
+exprs_send : IsSend SlotExprs.the_row
+exprs_send = search (sendable, crosses, send-SlotSub, send-SlotExpr) depth 40
+
+arguments_send : IsSend Arguments.the_row
+arguments_send = search (sendable, crosses, send-SlotSub, send-SlotExpr) depth 40
+
+slots_send : IsSend Slots.the_row
+slots_send = search (sendable, crosses) depth 40
+
+instr_send : IsSend Instr.the_row
+instr_send = search (sendable, crosses, send-SlotSub, send-SlotExpr, exprs_send, arguments_send, slots_send) depth 40 fits 20000
+
+heading_send : IsSend Heading.the_row
+heading_send = search (sendable, crosses) depth 40
+
+pub code_send : IsSend Code.the_row
+code_send = search (sendable, crosses, instr_send, heading_send) depth 40
+
+-- That sessions may be shared among threads.
+
+setup_send : IsSend Setup.the_row
+setup_send = search (sendable, crosses) depth 40
+
+machine_send : IsSend Machine.the_row
+machine_send = search (sendable, crosses) depth 40
+
+pub session_send : IsSend Session.the_row
+session_send = search (sendable, crosses, code_send, setup_send, machine_send) depth 40
 
 module _ (C O : RattleType) (calls : Calls.Ghosts C.Denot) (made : Ledger.Ghosts C.Denot) (lines : Ledger.Ghosts O.Denot) where
   desk_send : IsSend (Desk.the_row C O calls made lines)
@@ -24,3 +66,11 @@ module _ (C O : RattleType) (calls : Calls.Ghosts C.Denot) (made : Ledger.Ghosts
 
   pub board_sync : IsSync (Board.the_row C O calls made lines)
   board_sync = search (sendable, crosses, desk_send) depth 40
+
+-- That the signals of a run may be shared among threads.
+
+bell_sync : IsSync Bell.the_row
+bell_sync = search (sendable, crosses) depth 40
+
+pub signals_sync : IsSync Signals.the_row
+signals_sync = search (sendable, crosses, bell_sync) depth 40

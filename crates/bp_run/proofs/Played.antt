@@ -1,29 +1,135 @@
 -- What playing a setup comes to, from what the stage, the gathering and the rest promise.
-use Rattle.std.proofs.Common.{◌≡◌, ◌<◌, ℕ, length, length-append, arith, is_some, Bool, true, false, List, [], ◌++◌, Option, None, Some, sym, ◌∙◌, ap, subst}
-use Rattle.std.proofs.lemmas.List.{append-nil}
+use Rattle.std.proofs.Common.{◌≡◌, ℕ, Bool, true, List, [], ◌∷◌, ◌++◌, Option, Some, None, is_some, refl, sym, ◌∙◌, ap, subst, ◌<◌, ◌≤◌, ◌==◌, zero, suc, ◌+◌, false, cond, length, map, arith, length-append}
+use Rattle.std.proofs.lemmas.List.{append-nil, length-map}
+use Rattle.std.proofs.lemmas.Bool.{false≢true}
+use Rattle.std.proofs.lemmas.Grind.{flat_map-append}
+use Rattle.std.specs.List.{count_by, range_with_len}
+use Rattle.std.proofs.lemmas.List.Sums.{sum_by-cons}
+use Rattle.std.proofs.lemmas.List.FromFn.{length-map-range_with_len}
 use Rattle.std.proofs.lemmas.Option.{same_Some}
-use Rattle.bp_tree.specs.Ast.{Program}
-use Rattle.bp_text.specs.declared.sinks.Sink.{Sink}
-use Rattle.bp_text.specs.Sinks.{Given, HasTaken}
-use Rattle.bp_text.specs.Writing.{AppendsAll, AppendsPart}
-use Rattle.bp_text.proofs.Appends.{part_first, part_then}
-use Rattle.bp_text.proofs.Givings.{and_then, taken_since}
-use Rattle.bp_text.proofs.GrownLists.{regrouped}
 use Rattle.std.proofs.KnownBytes.{Appends-nil}
+use Rattle.bp_text.specs.declared.sinks.Sink.{Sink}
+use Rattle.bp_text.specs.Writing.{Given, HasTaken, AppendsAll, AppendsPart}
+use Rattle.bp_text.proofs.Givings.{and_then, given_none, part_first, part_then, taken_since}
+use Rattle.bp_text.proofs.PartsOfTexts.{both_added, regrouped}
+use Rattle.bp_language.specs.Ast.{Program}
 use Rattle.bp_machine.specs.declared.calls.Call.{Call}
-use Rattle.bp_machine.specs.declared.reports.Report.{Report}
+use Rattle.bp_machine.specs.Setups.{SetupOf}
+use Rattle.bp_machine.specs.declared.calls.Report.{Report}
 use Rattle.bp_machine.specs.Histories.{open_lines}
 use Rattle.bp_machine.specs.Laws.{StepsAreARun, StepsAreWithin, FailuresAreReal}
-use Rattle.bp_machine.specs.Setups.{SetupOf}
-use Rattle.bp_board.specs.Gatherings.{IsGathered}
-use Rattle.bp_board.specs.Seats.{SeatOf}
-use Rattle.bp_board.specs.Stopping.{TellsEarly}
-use Rattle.bp_board.specs.Taps.{TapOf}
-use Rattle.bp_trace.specs.declared.versions.Version.TheVariants.{One}
-use Rattle.bp_trace.specs.TraceText.{head_text, end_line, trace_text}
-use Rattle.bp_run.specs.Scribing.{lines_of, IsRestScribed}
-use Rattle.bp_run.specs.Played.{IsPlayedFrom, IsEarly, IsCutTrace}
-use Rattle.bp_run.proofs.Scribing.{lines_append}
+use Rattle.bp_run.specs.Desks.{IsTakenOf, SeatOf, AreNewSeats, new_seat, TapOf}
+use Rattle.bp_run.specs.Gatherings.{AreOnePerThread, IsGathered, TellsEarly}
+use Rattle.bp_trace.specs.declared.traces.Version.TheVariants.{One}
+use Rattle.bp_trace.specs.TraceText.{head_text, call_line, end_line, trace_text}
+use Rattle.bp_run.specs.Works.{lines_of, IsScribed, IsStaged, IsRestScribed}
+use Rattle.bp_run.specs.Runs.{IsPlayedFrom, IsEarly, IsCutTrace}
+
+-- How the lines of calls add up.
+
+pub lines_append : (cs ds : List Call) → lines_of (cs ++ ds) ≡ lines_of cs ++ lines_of ds
+lines_append cs ds = flat_map-append call_line cs ds
+
+module _ {W : Type 0} (contents : W → Option (List ℕ)) where
+  given_line : (a b c : Sink W) (cs : List Call) (x : Call)
+      → Given contents a b (lines_of cs) → Given contents b c (call_line x) → Given contents a c (lines_of (cs ++ x ∷ []))
+  given_line a b c cs x p q =
+      rw (lines_append cs (x ∷ []), append-nil (call_line x)) (and_then p q)
+
+  pub scribed_none : (a : Sink W) (taken : List Call) → IsScribed contents a a taken taken
+  scribed_none a taken = record { more = []; grown = sym (append-nil taken); given = given_none contents a }
+
+  -- one more call was taken and written
+  pub scribed_more : (a b c : Sink W) (taken t1 t2 : List Call) (x : Call)
+      → IsScribed contents a b taken t1 → t2 ≡ t1 ++ x ∷ [] → Given contents b c (call_line x) → IsScribed contents a c taken t2
+  scribed_more a b c taken t1 t2 x s e w = record {
+    more = s.more ++ x ∷ [];
+    grown = both_added taken t1 t2 s.more (x ∷ []) _ e s.grown refl;
+    given = given_line a b c s.more x s.given w;
+  }
+
+  pub rest_begins : (a : Sink W) (rest : Option (List Call)) → is_some rest ≡ true → IsRestScribed contents a a rest rest
+  rest_begins a (Some cs) t = record { more = []; left = cs; were = refl; are = refl; given = given_none contents a }
+  rest_begins a None t = absurd (false≢true t)
+
+  -- one more of the calls that are left was taken and written
+  pub rest_more : (a b c : Sink W) (rest r1 r2 : Option (List Call)) (x : Call)
+      → IsRestScribed contents a b rest r1 → IsTakenOf r1 (Some x) r2 → Given contents b c (call_line x) → IsRestScribed contents a c rest r2
+  rest_more a b c rest r1 r2 x s next w =
+      let step = subst (λ o. IsTakenOf o (Some x) r2) s.are next in record {
+        more = s.more ++ x ∷ [];
+        left = step.others;
+        were = s.were ∙ ap (λ y. Some y) (ap (λ y. s.more ++ y) step.first ∙ simp regrouped);
+        are = step.are;
+        given = given_line a b c s.more x s.given w;
+      }
+
+  -- the head, and then the calls
+  pub staged_all : (s : SetupOf) (a b c : Sink W) (all : Bool) (taken taken_now : List Call) → taken ≡ [] → all ≡ true
+      → Given contents a b (head_text One s) → IsScribed contents b c taken taken_now → IsStaged contents s a c taken_now all
+  staged_all s a b c all taken taken_now none is head x =
+      rw (is, x.grown, none) (and_then head x.given)
+
+-- Seats of the threads in order are one of each thread.
+
+abbrev pub threads_of : List SeatOf → List ℕ
+threads_of seats = map (λ s. s.thread) seats
+
+abbrev times : ℕ → List ℕ → ℕ
+times i ks = count_by (λ k. k == i) ks
+
+long : (seats : List SeatOf) → length (threads_of seats) ≡ length seats
+long seats = length-map seats (λ s. s.thread)
+
+counted : (i : ℕ) (seats : List SeatOf) → count_by (λ s. s.thread == i) seats ≡ times i (threads_of seats)
+counted i [] = refl
+counted i (s ∷ seats) =
+    sum_by-cons (λ (x : SeatOf). cond (x.thread == i) 1 0) s seats
+    ∙ ap (λ n. cond (s.thread == i) 1 0 + n) (counted i seats)
+    ∙ sym (sum_by-cons (λ (k : ℕ). cond (k == i) 1 0) s.thread (threads_of seats))
+
+-- seats of the same threads in the same order
+pub one_each_kept : (n : ℕ) (a b : List SeatOf) → threads_of a ≡ threads_of b → AreOnePerThread n b → AreOnePerThread n a
+one_each_kept n a b same one = record {
+  many = sym (long a) ∙ ap length same ∙ long b ∙ one.many;
+  each = λ i lt. counted i a ∙ ap (times i) same ∙ sym (counted i b) ∙ one.each i lt;
+}
+
+differ : (a i : ℕ) → i < a → (a == i) ≡ false
+differ a i lt = grind arith
+
+first : (i a : ℕ) (ks : List ℕ) → times i (a ∷ ks) ≡ cond (a == i) 1 0 + times i ks
+first i a ks = sum_by-cons (λ (k : ℕ). cond (k == i) 1 0) a ks
+
+none_below : (a n i : ℕ) → i < a → times i (range_with_len a n) ≡ 0
+none_below a zero i lt = refl
+none_below a (suc n) i lt =
+    let one : cond {A = ℕ} (a == i) 1 0 ≡ 0 = ap (λ b. cond b 1 0) (differ a i lt) in
+    first i a (range_with_len (a + 1) n) ∙ omega (arith, one, none_below (a + 1) n i (omega (arith, lt)))
+
+one_of : (a n i : ℕ) → a ≤ i → i < a + n → times i (range_with_len a n) ≡ 1
+one_of a zero i le lt = absurd (omega (arith, le, lt))
+one_of a (suc n) i le lt = go (a == i) refl (λ more. one_of (a + 1) n i more (omega (arith, lt)))
+  where
+    go : (b : Bool) → (a == i) ≡ b → (a + 1 ≤ i → times i (range_with_len (a + 1) n) ≡ 1) → times i (range_with_len a (suc n)) ≡ 1
+    go true e later =
+        let same : a ≡ i = grind arith in
+        let one : cond {A = ℕ} (a == i) 1 0 ≡ 1 = ap (λ b. cond b 1 0) e in
+        first i a (range_with_len (a + 1) n) ∙ omega (arith, one, none_below (a + 1) n i (omega (arith, same)))
+    go false e later =
+        let more : a + 1 ≤ i = grind arith in
+        let none : cond {A = ℕ} (a == i) 1 0 ≡ 0 = ap (λ b. cond b 1 0) e in
+        first i a (range_with_len (a + 1) n) ∙ omega (arith, none, later more)
+
+again : (ks : List ℕ) → threads_of (map new_seat ks) ≡ ks
+again [] = refl
+again (k ∷ ks) = ap (λ xs. k ∷ xs) (again ks)
+
+pub one_each_new : (n : ℕ) (seats : List SeatOf) → AreNewSeats n seats → AreOnePerThread n seats
+one_each_new n seats new = record {
+  many = ap length new ∙ length-map-range_with_len new_seat 0 n;
+  each = λ i lt. counted i seats ∙ ap (times i) (ap threads_of new ∙ again (range_with_len 0 n)) ∙ one_of 0 n i (omega arith) (omega (arith, lt));
+}
 
 pub has_rest : (t : Program) (s : SetupOf) (taken : List Call) (seats : List SeatOf) (tap : TapOf) (r : Report)
     (b : Option ℕ) (a : Bool) → IsGathered t s taken seats tap r b a → is_some tap.rest ≡ true

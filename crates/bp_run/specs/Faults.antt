@@ -1,8 +1,8 @@
 -- What it is to a run that a text has no code.
 use Rattle.bp_code.specs.declared.texts.CodeFault.{CodeFault}
 use Rattle.bp_code.specs.declared.texts.CodeFault.TheVariants as code
-use Rattle.bp_run.specs.declared.run_faults.RunFault.{RunFault}
-use Rattle.bp_run.specs.declared.run_faults.RunFault.TheVariants.{Program, Memory}
+use Rattle.bp_run.specs.declared.answers.RunFault.{RunFault}
+use Rattle.bp_run.specs.declared.answers.RunFault.TheVariants.{Program, Memory}
 
 abbrev pub run_fault_of_code : CodeFault → RunFault
 run_fault_of_code (code.Program f) = Program f

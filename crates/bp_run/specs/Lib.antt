@@ -1,7 +1,7 @@
-pub mod Counts
+pub mod Runs
 pub mod Faults
 pub mod Options
-pub mod Played
-pub mod Runs
-pub mod Scribing
 pub mod Works
+pub mod Turns
+pub mod Desks
+pub mod Gatherings

@@ -1,13 +1,12 @@
 -- The setup of a program under the options of a run, and when they are refused.
 use Rattle.std.specs.Prelude.{◌≡◌, ◌<◌, ◌≤◌, ℕ, ◌==◌, Bool, true, ◌||◌, nat_lt, [], ◌∷◌, Option, None, Some, is_some}
-use Rattle.bp_tree.specs.Ast.{Program}
+use Rattle.bp_language.specs.Ast.{Program}
 use Rattle.bp_flat.specs.Flat.{Flat}
 use Rattle.bp_machine.specs.declared.setup_faults.SetupFault.{SetupFault}
 use Rattle.bp_machine.specs.declared.setup_faults.SetupFault.TheVariants.{OutOfRange, Memory}
-use Rattle.bp_machine.specs.Setups.{SetupOf, setup_fault, fault_if, first_of, FitsCode}
-use Rattle.bp_machine.specs.Starts.{setup_from}
+use Rattle.bp_machine.specs.Setups.{SetupOf, setup_fault, fault_if, first_of, FitsCode, setup_from}
 use Rattle.bp_tasks.specs.RunOptions.{OptionsOf}
-use Rattle.bp_board.specs.declared.limits.TheConstants.{MAX_TURN, MAX_RING}
+use Rattle.bp_run.specs.declared.limits.TheConstants.{MAX_TURN, MAX_RING}
 
 -- the setup of a program under the options, with their seed
 abbrev pub setup_under : OptionsOf → Program → SetupOf

@@ -1,10 +1,23 @@
 //! What a run answers: its report, and what each worker counted.
-ghost use Rattle.std.specs.Prelude.{◌≡◌, ◌≤◌, map, vec_len, vec_capacity};
-ghost use Rattle.bp_run.specs.Counts.{seat_of_worker};
+//! Why a run gives no report.
+//! The setup of a program under the options of a run.
+ghost use Rattle.std.specs.Prelude.{◌≡◌, ◌≤◌, map, vec_len, vec_capacity, ◌<◌, None, Some, IfOk, MatchResult};
+ghost use Rattle.bp_language.specs.Ast.{Program};
+ghost use Rattle.bp_flat.specs.StandsFor.{StandsFor};
+ghost use Rattle.bp_machine.specs.Setups.{FitsCode};
+ghost use Rattle.bp_run.specs.Runs.{seat_of_worker};
+ghost use Rattle.bp_run.specs.Options.{setup_under, options_fault, IsOptionsRefusal, IsSetupUnder, FitsOptions, has_bad_turn_or_ring};
 
-use bp_board::{Calls, Seat};
-use bp_machine::Report;
+use crate::boards::Calls;
+use crate::limits::{MAX_RING, MAX_TURN};
+use crate::seats::Seat;
+use bp_code::{CodeFault, ProgramFault};
+use bp_flat::Code;
+use bp_machine::{Report, Setup, SetupFault};
+use bp_tasks::RunOptions;
+use std::alloc::{AllocError, Global};
 use std::sync::ledger::Ledger;
+use thiserror::Error;
 
 /// How many calls the worker of a thread made, by its own count, and whether the thread's line is
 /// still open.
@@ -51,4 +64,96 @@ pub(crate) fn counts_of<C: Calls, O: Ledger>(
         counts.push_reserved(count);
     }
     counts
+}
+
+/// Why a run gives no report: the first of these that applies, `Memory` aside.
+#[derive(Debug, Drop, PartialEq, Eq, Error)]
+pub enum RunFault {
+    /// The program text is refused. Nothing is written.
+    #[error("{0}")]
+    Program(ProgramFault),
+    /// The options are refused for the program. Nothing is written.
+    #[error("{0}")]
+    Setup(SetupFault),
+    /// A worker could not be started; those that were started have ended. Nothing is written.
+    #[error("a worker could not be started")]
+    Start,
+    /// The worker of this thread ended although the line is open and the next step takes no memory.
+    /// The trace is written.
+    #[error("the worker of thread {0} stopped before the thread was finished")]
+    Early(u32),
+    /// A write or a flush failed, and the workers stopped. A proper prefix of the trace of a
+    /// history is written.
+    #[error("the output could not be written")]
+    Write,
+    /// There was not enough memory outside the workers. Nothing is written.
+    #[error("out of memory")]
+    Memory,
+}
+
+impl From<AllocError> for RunFault {
+    ghost use Rattle.std.specs.Prelude.{◌≡◌};
+    ghost use Rattle.bp_run.specs.declared.answers.RunFault.{RunFault};
+
+    ghost from_gives = { λ _ e. e ≡ RunFault.Memory };
+
+    fn from(_: AllocError) -> RunFault {
+        RunFault::Memory
+    }
+}
+
+impl From<SetupFault> for RunFault {
+    ghost use Rattle.std.specs.Prelude.{◌≡◌};
+    ghost use Rattle.bp_run.specs.declared.answers.RunFault.{RunFault};
+
+    ghost from_gives = { λ f e. e ≡ RunFault.Setup f };
+
+    fn from(fault: SetupFault) -> RunFault {
+        RunFault::Setup(fault)
+    }
+}
+
+impl From<CodeFault> for RunFault {
+    ghost use Rattle.std.specs.Prelude.{◌≡◌};
+    ghost use Rattle.bp_run.specs.Faults.{run_fault_of_code};
+
+    ghost from_gives = { λ f e. e ≡ run_fault_of_code f };
+
+    fn from(fault: CodeFault) -> RunFault {
+        match fault {
+            CodeFault::Program(fault) => RunFault::Program(fault),
+            CodeFault::Memory => RunFault::Memory,
+        }
+    }
+}
+
+/// Whether a turn has no call or more than 64, or the ring holds no call or more than 65,536.
+fn has_bad_turn_or_ring(options: &RunOptions) -> bool
+    ensures { result ≡ has_bad_turn_or_ring options.now }
+{
+    let (turn, ring) = (options.turn, options.ring);
+    turn == 0 || turn > MAX_TURN || ring == 0 || ring > MAX_RING
+}
+
+/// The setup of a program under these options, with their seed. The faults of the setup come
+/// before those of the turn and the ring.
+pub(crate) fn setup_under(
+    alloc: Global,
+    options: &RunOptions,
+    code: &Code,
+) -> Result<Setup, SetupFault>
+    ensures answer { (t : Program)
+        → StandsFor code.now t
+        → MatchResult result (IsSetupUnder options.now t) (IsOptionsRefusal options.now t) }
+    ensures taken { IfOk result (FitsOptions options.now code.now) }
+{
+    let made = options.start.setup(alloc, code, Some(options.seed));
+    if !has_bad_turn_or_ring(options) {
+        return made;
+    }
+    // A setup that is refused for memory has no other fault.
+    match made {
+        Ok(_) | Err(SetupFault::Memory) => Err(SetupFault::OutOfRange),
+        Err(fault) => Err(fault),
+    }
 }

@@ -3,25 +3,29 @@
 #![tactic(auto)]
 
 mod answers;
-mod bells;
+mod boards;
+mod desks;
 mod gates;
-mod pens;
+mod gathering;
+pub mod limits;
 mod playing;
-mod run_faults;
-mod run_setups;
 mod runner;
 mod scribes;
+mod seats;
 mod signals;
 mod spreads;
 mod stages;
 mod workers;
 
-pub use answers::{RunReport, WorkerCount};
+pub use answers::{RunFault, RunReport, WorkerCount};
+pub use boards::{Board, Calls, Kit};
 pub use bp_tasks::RunOptions;
+pub use desks::Desk;
 pub use gates::{Gate, Open, Turns};
+pub use gathering::{Foreign, Gathered, gather};
 pub use playing::{OpenedBoard, PlayedBoard, play};
-pub use run_faults::RunFault;
 pub use runner::run;
+pub use seats::{Seat, Tap};
 pub use signals::Signals;
 pub use spreads::Spread;
 pub use workers::{Unfinished, work};

@@ -1,20 +1,21 @@
 //! Playing a board: one worker for each seat, and a scribe.
 ghost use Rattle.std.specs.Prelude.{◌≡◌, ◌≤◌, ◌<◌, [], true, false, is_some, OnOk, MatchResult};
-ghost use Rattle.bp_tree.specs.Ast.{Program};
+ghost use Rattle.bp_language.specs.Ast.{Program};
 ghost use Rattle.bp_flat.specs.StandsFor.{StandsFor};
 ghost use Rattle.bp_machine.specs.Laws.{StepsAreARun, StepsAreWithin, FailuresAreReal};
 ghost use Rattle.bp_machine.specs.Setups.{threads};
-ghost use Rattle.bp_board.specs.declared.limits.TheConstants.{MAX_TURN};
-ghost use Rattle.bp_board.specs.Gatherings.{AreOnePerThread};
-ghost use Rattle.bp_run.specs.Played.{IsPlayedFrom, IsPlayRefusal};
+ghost use Rattle.bp_run.specs.declared.limits.TheConstants.{MAX_TURN};
+ghost use Rattle.bp_run.specs.Gatherings.{AreOnePerThread};
+ghost use Rattle.bp_run.specs.Runs.{IsPlayedFrom, IsPlayRefusal};
 ghost use Rattle.bp_run.specs.Works.{TellsShut};
 
+use crate::answers::RunFault;
+use crate::boards::{Board, Calls};
 use crate::gates::{Gate, Turns};
-use crate::pens::Pen;
-use crate::run_faults::RunFault;
-use crate::scribes::write_rest;
+use crate::gathering::{Gathered, gather};
+use crate::scribes::{Pen, write_rest};
+use crate::seats::{Seat, Tap};
 use crate::stages::{Crew, Staged, stage};
-use bp_board::{Board, Calls, Gathered, Seat, Tap, gather};
 use bp_flat::Code;
 use bp_machine::{Report, Setup, failures_are_real, steps_are_a_run, steps_are_within};
 use bp_text::Sink;

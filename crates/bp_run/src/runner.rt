@@ -1,20 +1,16 @@
 //! Running a program by real threads, one for each guest thread.
 ghost use Rattle.std.specs.Prelude.{◌≡◌, ◌≤◌, ◌<◌, map, true, is_some, IfOk, MatchResult};
-ghost use Rattle.bp_tree.specs.Ast.{Program};
+ghost use Rattle.bp_language.specs.Ast.{Program};
 ghost use Rattle.bp_flat.specs.StandsFor.{StandsFor};
 ghost use Rattle.bp_machine.specs.Setups.{threads, FitsCode};
-ghost use Rattle.bp_board.specs.declared.limits.TheConstants.{MAX_TURN, MAX_RING};
-ghost use Rattle.bp_board.specs.Kits.{IsNamed};
-ghost use Rattle.bp_run.specs.Counts.{seat_of_worker};
-ghost use Rattle.bp_run.specs.Played.{IsPlayedFrom, IsPlayRefusal};
-ghost use Rattle.bp_run.specs.Runs.{IsTracedRun, IsRunRefusal};
+ghost use Rattle.bp_run.specs.declared.limits.TheConstants.{MAX_TURN, MAX_RING};
+ghost use Rattle.bp_run.specs.Desks.{IsNamed};
+ghost use Rattle.bp_run.specs.Runs.{seat_of_worker, IsPlayedFrom, IsPlayRefusal, IsTracedRun, IsRunRefusal};
 
-use crate::answers::{RunReport, counts_of};
+use crate::answers::{RunFault, RunReport, counts_of, setup_under};
+use crate::boards::{Board, Calls, Kit};
 use crate::gates::{Gate, Turns};
 use crate::playing::{OpenedBoard, play};
-use crate::run_faults::RunFault;
-use crate::run_setups::setup_under;
-use bp_board::{Board, Calls, Kit};
 use bp_code::code_of;
 use bp_flat::Code;
 use bp_machine::Setup;

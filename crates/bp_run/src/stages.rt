@@ -1,17 +1,16 @@
 //! The stage of a run: a worker for each seat, and the scribe, at one board.
 ghost use Rattle.std.specs.Prelude.{◌≡◌, ◌≤◌, ◌<◌, ◌+◌, ◌∷◌, [], false, true, map, vec_len, vec_capacity};
 ghost use Rattle.std.specs.Thread.{IsSync};
-ghost use Rattle.bp_board.specs.declared.limits.TheConstants.{MAX_TURN};
+ghost use Rattle.bp_run.specs.declared.limits.TheConstants.{MAX_TURN};
 ghost use Rattle.bp_machine.specs.declared.limits.TheConstants.{MAX_THREADS};
-ghost use Rattle.bp_run.specs.Scribing.{IsStaged};
-ghost use Rattle.bp_run.specs.Works.{IsWorked, TellsShut};
+ghost use Rattle.bp_run.specs.Works.{IsStaged, IsWorked, TellsShut};
 
+use crate::boards::{Board, Calls};
 use crate::gates::{Gate, Turns};
-use crate::pens::Pen;
-use crate::scribes::write_running;
+use crate::scribes::{Pen, write_running};
+use crate::seats::{Seat, Tap};
 use crate::signals::Signals;
 use crate::workers::{Worked, worker};
-use bp_board::{Board, Calls, Seat, Tap};
 use bp_machine::Setup;
 use std::io::Write;
 use std::sync::Wait;

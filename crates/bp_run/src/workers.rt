@@ -1,14 +1,14 @@
 //! Workers: each makes the calls of one guest thread.
 ghost use Rattle.std.specs.Prelude.{◌≡◌, ◌≤◌, ◌<◌, false, true, IfErr, OnOk, OnErr};
-ghost use Rattle.bp_tree.specs.Ast.{Program};
+ghost use Rattle.bp_language.specs.Ast.{Program};
 ghost use Rattle.bp_flat.specs.StandsFor.{StandsFor};
-ghost use Rattle.bp_board.specs.declared.limits.TheConstants.{MAX_TURN};
+ghost use Rattle.bp_run.specs.declared.limits.TheConstants.{MAX_TURN};
 ghost use Rattle.bp_run.specs.Works.{IsWorked, TellsOfStop};
 
-use crate::bells::Idle;
+use crate::boards::{Board, Calls};
 use crate::gates::Gate;
-use crate::signals::Signals;
-use bp_board::{Board, Calls, Seat};
+use crate::seats::Seat;
+use crate::signals::{Idle, Signals};
 use bp_machine::AskFault;
 use std::sync::Wait;
 use std::sync::ledger::Ledger;

@@ -1,16 +1,26 @@
 -- What decides the assertions of a program's places is what its statements are decided by.
-use Rattle.std.proofs.Common.{◌≡◌, ◌∙◌, ◌+◌, ◌<◌, ◌≤◌, zero, suc, refl, ap, ap₂, ℕ, List, [], ◌∷◌, ◌++◌, Option, None, Bor, map, length, drop, get_or, arith}
+use Rattle.std.proofs.Common.{◌≡◌, ◌||◌, ℕ, List, [], ◌∷◌, bytes_eq, map, ap, refl, ◌∙◌, ◌+◌, ◌<◌, ◌≤◌, zero, suc, ap₂, ◌++◌, Option, None, length, drop, get_or, arith, ◌≢◌, ◌&&◌, Bool, true, false, codes, ◌==◌, not, cond, take, OnOk, Result, fold, eq-eqb}
+use Rattle.std.specs.Borrow.{Bor}
 use Rattle.std.proofs.lemmas.List.{map-append}
-use Rattle.bp_text.proofs.GrownLists.{rest_left}
-use Rattle.bp_tree.specs.Blocks.{block_of, statement_of}
-use Rattle.bp_tree.specs.Depth.{depth, statement_depth}
-use Rattle.bp_tree.specs.declared.exprs.Decider.{Decider}
-use Rattle.bp_tree.specs.declared.stmts.Stmt.{Stmt}
-use Rattle.bp_tree.specs.Ast.{Name, Block, Done, Then, Statement, Skips, GoesTo, Returns, Assigns, Branches, Loops, Asserts, Assumes, Prints, Calls, Decision, Procedure}
-use Rattle.bp_flat.specs.Continuations.{chain}
+use Rattle.std.proofs.lemmas.Slice.Eq.{bytes_eq-Decides}
+use Rattle.std.specs.List.{onto_first, concat}
+use Rattle.std.proofs.lemmas.Result.{on_ok_weaker}
+use Rattle.bp_text.proofs.PartsOfTexts.{rest_left, regrouped, all_added}
+use Rattle.bp_language.specs.Blocks.{block_of, statement_of}
+use Rattle.bp_language.specs.Depth.{depth, statement_depth}
+use Rattle.bp_language.specs.declared.exprs.Decider.{Decider}
+use Rattle.bp_language.specs.declared.stmts.Stmt.{Stmt}
+use Rattle.bp_language.specs.Ast.{Name, Block, Done, Then, Statement, Skips, GoesTo, Returns, Assigns, Branches, Loops, Asserts, Assumes, Prints, Calls, Decision, Procedure}
+use Rattle.bp_flat.specs.Moves.{chain}
 use Rattle.bp_flat.specs.StandsFor.{Place, places, places_in, places_of}
-use Rattle.bp_flat.proofs.ListItems.{drop_item}
-use Rattle.bp_source.specs.Assertions.{decision_in, next_decision, block_decisions, inner_decisions, reading_of}
+use Rattle.bp_flat.proofs.ProceduresOfPlaces.{drop_item}
+use Rattle.bp_source.specs.Names.{is_among, is_named, decision_in, next_decision, block_decisions, inner_decisions, reading_of, qualified, is_braced_after, piece_size, pieces}
+
+-- Names behind references.
+
+pub among_named : (ns : List (Bor (List ℕ))) (x : List ℕ) → is_among ns x ≡ is_named (map (λ n. n.now) ns) x
+among_named [] x = refl
+among_named (n ∷ ns) x = ap (λ b. bytes_eq n.now x || b) (among_named ns x)
 
 abbrev pub asserted : List Place → List (Option Decision)
 asserted xs = map (λ (x : Place). next_decision x.left) xs
@@ -82,3 +92,80 @@ pub procedure_more : (ps : List Procedure) (i : ℕ) (p : Procedure) → i < len
 procedure_more ps i p h e old mid new all first second before =
     let split = rw (drop_item ps i p h e, first_procedure p (drop (i + 1) ps)) at before in
     three_parts old mid new (block_decisions p.body) (None ∷ []) (asserted (places_of (drop (i + 1) ps))) all first second split
+
+-- A name after the name of a procedure and a dot.
+
+-- it is the procedure's name, and then a dot and the own name
+pub qualified_parts : (own name : List ℕ) → qualified own name ≡ own ++ (46 ∷ name)
+qualified_parts own name = simp regrouped
+
+same_front : (front a b : List ℕ) → bytes_eq (front ++ a) (front ++ b) ≡ bytes_eq a b
+same_front [] a b = refl
+same_front (x ∷ front) a b = ap (λ p. p && bytes_eq (front ++ a) (front ++ b)) (eq-eqb x x refl) ∙ same_front front a b
+
+pub same_qualified : (own a b : List ℕ) → bytes_eq (qualified own a) (qualified own b) ≡ bytes_eq a b
+same_qualified own a b = same_front (own ++ codes ".") a b
+
+pub other_text : (text own : List ℕ) → ((name : List ℕ) → text ≢ qualified own name) → (name : List ℕ) → bytes_eq text (qualified own name) ≡ false
+other_text text own none name = by_test (bytes_eq text (qualified own name)) refl
+  where
+    by_test : (b : Bool) → bytes_eq text (qualified own name) ≡ b → bytes_eq text (qualified own name) ≡ false
+    by_test true is = absurd (none name ((bytes_eq-Decides text (qualified own name)).0 is))
+    by_test false is = is
+
+-- a text that does not begin with the procedure's name, or not with a dot after it
+pub no_owner : (text own : List ℕ) → ((rest : List ℕ) → text ≢ own ++ rest) → (name : List ℕ) → text ≢ qualified own name
+no_owner text own none name e = none (46 ∷ name) (e ∙ qualified_parts own name)
+
+-- The first piece of a text that is cut at its commas outside braces.
+
+-- it ends at the first of these commas
+pub first_piece :
+    (braced : Bool) (text : List ℕ)
+    → piece_size braced text < length text
+    → pieces braced text ≡ take (piece_size braced text) text ∷ pieces false (drop (piece_size braced text + 1) text)
+first_piece braced [] some = absurd (omega (arith, some))
+first_piece braced (b ∷ bs) some = by_comma (not braced && b == 44) (first_piece (is_braced_after braced b) bs) some
+  where
+    later : Bool
+    later = is_braced_after braced b
+
+    size : Bool → ℕ
+    size ends = cond ends 0 (suc (piece_size later bs))
+
+    by_comma :
+        (ends : Bool)
+        → (piece_size later bs < length bs → pieces later bs ≡ take (piece_size later bs) bs ∷ pieces false (drop (piece_size later bs + 1) bs))
+        → size ends < suc (length bs)
+        → cond ends ([] ∷ pieces false bs) (onto_first b (pieces later bs)) ≡ take (size ends) (b ∷ bs) ∷ pieces false (drop (size ends + 1) (b ∷ bs))
+    by_comma true _ _ = refl
+    by_comma false of_others some =
+        let n = piece_size later bs in
+        let one_more : suc (n + 1) ≡ suc n + 1 = omega arith in
+        ap (onto_first b) (of_others (omega (arith, some))) ∙ ap (λ m. (b ∷ take n bs) ∷ pieces false (drop m (b ∷ bs))) one_more
+
+-- it is the whole text where there are none
+pub one_piece : (braced : Bool) (text : List ℕ) → length text ≤ piece_size braced text → pieces braced text ≡ text ∷ []
+one_piece braced [] all = refl
+one_piece braced (b ∷ bs) all = by_comma (not braced && b == 44) (one_piece (is_braced_after braced b) bs) all
+  where
+    later : Bool
+    later = is_braced_after braced b
+
+    by_comma :
+        (ends : Bool)
+        → (length bs ≤ piece_size later bs → pieces later bs ≡ bs ∷ [])
+        → suc (length bs) ≤ cond ends 0 (suc (piece_size later bs))
+        → cond ends ([] ∷ pieces false bs) (onto_first b (pieces later bs)) ≡ (b ∷ bs) ∷ []
+    by_comma true _ all = absurd (omega (arith, all))
+    by_comma false of_others all = ap (onto_first b) (of_others (omega (arith, all)))
+
+-- Texts that are one, and others after them.
+
+-- some texts that are one, and others
+pub first_joined : (old : List ℕ) (ts us : List (List ℕ)) → fold (λ a u. a ++ u) (fold (λ a u. a ++ u) old ts) us ≡ old ++ concat (concat ts ∷ us)
+first_joined old ts us = ap (λ x. fold (λ a u. a ++ u) x us) (all_added old ts) ∙ all_added old (concat ts ∷ us)
+
+-- what follows from a fact of a call that succeeded
+pub when_ok : {T E P Q : Type 0} (r : Result T E) → OnOk r P → (P → Q) → OnOk r Q
+when_ok r is more = on_ok_weaker r more is

@@ -1,12 +1,3 @@
-pub mod AmongNames
-pub mod CodeObjects
 pub mod DecidersOfPlaces
-pub mod FirstPieces
-pub mod GotItems
-pub mod JoinedPieces
-pub mod OneStatement
-pub mod PositionsOfStatements
-pub mod QualifiedNames
 pub mod SourceStatementLists
-pub mod TextsOfStatements
-pub mod LexemesOfStatements
+pub mod OneStatement

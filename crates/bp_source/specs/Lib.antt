@@ -1,15 +1,4 @@
-pub mod Assertions
-pub mod JsonListings
-pub mod JsonPlaces
-pub mod Listings
-pub mod Lists
 pub mod Names
-pub mod Places
-pub mod Procedures
-pub mod Programs
-pub mod Said
+pub mod Listings
 pub mod SourceStatements
 pub mod StatementLines
-pub mod Statements
-pub mod Unreached
-pub mod VariableNames

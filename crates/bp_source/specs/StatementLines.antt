@@ -1,14 +1,16 @@
 -- Lines that name the statements of a program.
 use Rattle.std.specs.Prelude.{◌≡◌, ℕ, List, [], ◌∷◌, Option, None, Some, codes, map, option_map}
 use Rattle.std.specs.List.{concat}
-use Rattle.bp_tree.specs.Ast.{Program}
-use Rattle.bp_flat.specs.StandsFor.{Place, places_of}
-use Rattle.bp_flat.specs.Starts.{start_of_block}
-use Rattle.bp_text.specs.Displayed.{displayed}
-use Rattle.bp_text.specs.declared.positions.Position.{Position}
-use Rattle.bp_text.specs.Positions.{position_at}
+use Rattle.bp_text.specs.Pieces.{displayed, string_text, key_text, number_or_null}
+use Rattle.bp_text.specs.declared.lines.Position.{Position}
+use Rattle.bp_text.specs.Lines.{position_at}
+use Rattle.bp_language.specs.Ast.{Program}
+use Rattle.bp_flat.specs.StandsFor.{Place, places_of, start_of_block}
 use Rattle.bp_source.specs.declared.source_statements.SourceStatement.{SourceStatement}
 use Rattle.bp_source.specs.SourceStatements.{AreSourceStatements}
+use Rattle.bp_source.specs.Listings.{column_of, line_of}
+use Rattle.bp_source.specs.declared.statements.Said.{Said}
+use Rattle.bp_source.specs.declared.statements.Said.TheVariants.{Line, Unreached, Text}
 
 -- the file, the place and the text of a statement that begins somewhere; nothing where none does
 abbrev pub statement_line : Option ℕ → (file place shown : List ℕ) → List ℕ
@@ -34,3 +36,44 @@ pub record AreStatementLines (file text : List ℕ) (t : Program) (lines : List 
   pub statements : List SourceStatement
   pub are : AreSourceStatements text t statements
   pub lines_are : lines ≡ map (line_of_statement file) statements
+
+-- Objects in JSON that name the statements of a program that no run reached.
+
+-- the object of a statement that no run reached, which begins somewhere; nothing where none does
+abbrev pub unreached_object
+    : Option ℕ → (file : List ℕ) → Option Position → (shown : List ℕ) → List ℕ
+unreached_object None file position shown = []
+unreached_object (Some at) file position shown =
+    concat (
+    codes "{\"kind\":\"unreached\""
+    ∷ key_text (codes "file") ∷ string_text file
+    ∷ key_text (codes "line") ∷ number_or_null (line_of position)
+    ∷ key_text (codes "column") ∷ number_or_null (column_of position)
+    ∷ key_text (codes "statement") ∷ string_text shown
+    ∷ codes "}\n" ∷ [])
+
+abbrev pub object_of_statement : List ℕ → SourceStatement → List ℕ
+object_of_statement file statement =
+    unreached_object statement.start file statement.position statement.excerpt.text.items
+
+-- one object for each instruction of the program
+pub record AreUnreachedObjects (file text : List ℕ) (t : Program) (objects : List (List ℕ))
+    : Type 0 where
+  pub statements : List SourceStatement
+  pub are : AreSourceStatements text t statements
+  pub objects_are : objects ≡ map (object_of_statement file) statements
+
+-- A device: what is said of each statement of a program: its line, its object, or its text.
+
+-- what is said of a statement of the source
+abbrev pub said_of : Said → SourceStatement → List ℕ
+said_of (Line file) statement = line_of_statement file.now statement
+said_of (Unreached file) statement = object_of_statement file.now statement
+said_of Text statement = statement.excerpt.text.items
+
+-- that of each instruction of the program
+pub record AreSaid (said : Said) (text : List ℕ) (t : Program) (texts : List (List ℕ))
+    : Type 0 where
+  pub statements : List SourceStatement
+  pub are : AreSourceStatements text t statements
+  pub texts_are : texts ≡ map (said_of said) statements

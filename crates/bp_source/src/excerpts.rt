@@ -1,8 +1,7 @@
 //! The text of a statement on one line.
-ghost use Rattle.std.specs.Prelude.{◌≡◌, ◌++◌, ◌∷◌, [], ◌≤◌, ◌<◌, length, IfOk, OnOk, MatchOption};
-ghost use Rattle.std.specs.Prelude.{bytes_eq, codes};
-ghost use Rattle.bp_text.specs.OneLine.{AddsOneLine, IsOneLine};
-ghost use Rattle.bp_source.specs.Statements.{is_choice, is_ending, is_gap, lexeme_text, IsAtEnd, IsStatement, Takes};
+ghost use Rattle.std.specs.Prelude.{◌≡◌, ◌++◌, ◌∷◌, [], ◌≤◌, ◌<◌, length, IfOk, OnOk, MatchOption, bytes_eq, codes};
+ghost use Rattle.bp_text.specs.Lines.{AddsOneLine, IsOneLine};
+ghost use Rattle.bp_source.specs.SourceStatements.{is_choice, is_ending, is_gap, lexeme_text, IsAtEnd, IsStatement, Takes};
 
 use bp_language::LexemeKind;
 use bp_syntax::{Lexeme, take_lexeme};
@@ -66,7 +65,7 @@ fn push_lexeme(line: &mut Vec<u8>, lexeme: Lexeme<'_>, had_gap: bool) -> Result<
     Ok(())
 }
 
-#[tactic(auto, using(bp_text::proofs::TextsOnOneLine::one_line_after))]
+#[tactic(auto, using(bp_text::proofs::LinesOfTexts::one_line_after))]
 /// The text of its first statement alone: up to `;`, `then` or `do`.
 pub(crate) fn excerpt_of(alloc: Global, text: &[u8]) -> Result<Excerpt, AllocError>
     ensures is { IfOk result (λ e. IsStatement text.now e.text.items e.reads_choice) }

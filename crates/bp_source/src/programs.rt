@@ -1,12 +1,12 @@
 //! The object of a program in JSON: the names of its procedures and of their variables.
 ghost use Rattle.std.specs.Prelude.{◌≡◌, ◌++◌, flat_map, IfOk, OnOk};
-ghost use Rattle.bp_source.specs.Programs.{name_item, procedure_item, program_object, string_item};
+ghost use Rattle.bp_source.specs.Listings.{name_item, procedure_item, program_object, string_item};
 
 use crate::pieces::{push_four, push_three, push_two};
-use bp_check::Checked;
+use bp_code::Checked;
+use bp_language::{Name, Proc};
 use bp_text::Piece::{Bytes, Key, List, Text};
 use bp_text::push_pieces;
-use bp_tree::{Name, Proc};
 use std::alloc::{AllocError, Global};
 
 /// Adds a string as an item of a list.

@@ -1,19 +1,16 @@
 //! What is shown of each instruction.
 ghost use Rattle.std.specs.Prelude.{◌≡◌, ℕ, List, None, Some, slice_get, IfOk};
-ghost use Rattle.bp_tree.specs.Ast.{Procedure};
-ghost use Rattle.bp_flat.specs.StandsFor.{Place};
-ghost use Rattle.bp_flat.specs.Starts.{start_of_block};
-ghost use Rattle.bp_source.specs.Places.{place_text, position_text};
-ghost use Rattle.bp_text.specs.Positions.{position_at};
-ghost use Rattle.bp_source.specs.SourceStatements.{AreSourceStatements, IsSourceStatement};
+ghost use Rattle.bp_language.specs.Ast.{Procedure};
+ghost use Rattle.bp_flat.specs.StandsFor.{Place, start_of_block};
+ghost use Rattle.bp_source.specs.SourceStatements.{place_text, position_text, AreSourceStatements, IsSourceStatement};
+ghost use Rattle.bp_text.specs.Lines.{position_at};
 
 use crate::excerpts::{Excerpt, excerpt_of};
 use crate::pieces::push_three;
-use bp_check::Checked;
-use bp_code::statement_starts;
+use bp_code::{Checked, statement_starts};
+use bp_language::Proc;
 use bp_text::Piece::{Bytes, Number};
 use bp_text::{FIRST, Position, part_from, position_from, push_bytes, push_on_one_line};
-use bp_tree::Proc;
 use std::alloc::{AllocError, Global};
 
 /// What is shown of an instruction: the place of its statement, as it is printed, and its text.

@@ -1,14 +1,14 @@
 //! The statements of a program: a line each, their texts, and where they begin.
+//! Objects in JSON that name the statements of a program that no run reached.
 ghost use Rattle.std.specs.Prelude.{◌≡◌, ◌++◌, map, IfOk, OnOk};
 ghost use Rattle.bp_flat.specs.StandsFor.{places_of};
-ghost use Rattle.bp_source.specs.Said.{said_of, AreSaid};
+ghost use Rattle.bp_source.specs.StatementLines.{said_of, AreSaid, line_of_statement, positions_of, AreStatementLines, object_of_statement, AreUnreachedObjects};
 ghost use Rattle.bp_source.specs.SourceStatements.{AreStatements};
-ghost use Rattle.bp_source.specs.StatementLines.{line_of_statement, positions_of, AreStatementLines};
 
+use crate::listings::{column_of, line_of};
 use crate::source_statements::{SourceStatement, source_statements_of};
-use crate::unreached::push_object;
-use bp_check::Checked;
-use bp_text::Piece::{Bytes, Displayed};
+use bp_code::Checked;
+use bp_text::Piece::{Bytes, Displayed, Key, NumberOrNull, Text};
 use bp_text::{Position, push_bytes, push_pieces};
 use std::alloc::{AllocError, Global};
 
@@ -129,4 +129,49 @@ pub fn statement_texts(
         AreStatements text.now (places_of checked.now.procedures) texts) }
 {
     all_said(alloc, Said::Text, text, checked)
+}
+
+/// Adds the object of an instruction's statement: the file's name, the place and the statement's
+/// text. The end of a procedure adds nothing.
+pub(crate) fn push_object<'a>(
+    line: &mut Vec<u8>,
+    file: &'a str,
+    statement: &'a SourceStatement,
+) -> Result<(), AllocError>
+    ensures { let more = object_of_statement file.entry.now statement.entry.now in
+        OnOk result (line.new.items ≡ line.old.items ++ more) }
+{
+    if statement.start.is_none() {
+        return Ok(());
+    }
+    push_pieces(
+        line,
+        &[
+            Bytes(b"{\"kind\":\"unreached\""),
+            Key(b"file"),
+            Text(file.as_bytes()),
+            Key(b"line"),
+            NumberOrNull(line_of(statement.position)),
+            Key(b"column"),
+            NumberOrNull(column_of(statement.position)),
+            Key(b"statement"),
+            Text(statement.excerpt.text.as_slice()),
+            Bytes(b"}\n"),
+        ],
+    )
+}
+
+/// For each instruction of the program of a text, in their order, the object that names its
+/// statement where no run reached it, on a line. The end of a procedure has an empty one.
+pub fn unreached_objects(
+    alloc: Global,
+    file: &str,
+    text: &[u8],
+    checked: &Checked,
+) -> Result<Vec<Vec<u8>>, AllocError>
+    ensures { IfOk result (λ v.
+        let objects = map (λ line. line.items) v.items in
+        AreUnreachedObjects file.now text.now checked.now objects) }
+{
+    all_said(alloc, Said::Unreached(file), text, checked)
 }

@@ -1,11 +1,10 @@
 -- Where a brace begins a name, and where it begins none.
-use Rattle.std.proofs.Common.{◌≡◌, ℕ, zero, suc, ◌+◌, ◌-◌, ◌<◌, ◌≤◌, ◌≢◌, ◌==◌, Bool, true, false, cond, ◌&&◌, List, [], ◌∷◌, length, take, drop, Option, Some, None, refl, sym, ap, subst, ◌∙◌, arith, drop-drop, length-take, slice_get, get_or, nat_eq, nat_lt, Bor}
-use Rattle.std.specs.Prelude.{is_some, IfSome}
+use Rattle.std.proofs.Common.{◌≡◌, ℕ, zero, suc, ◌+◌, ◌-◌, ◌<◌, ◌≤◌, ◌≢◌, ◌==◌, Bool, true, false, cond, ◌&&◌, List, [], ◌∷◌, length, take, drop, Option, Some, None, refl, sym, ap, subst, ◌∙◌, arith, drop-drop, length-take, slice_get, get_or, nat_eq, nat_lt, Bor, is_some, IfSome}
 use Rattle.std.specs.Option.{option_copied, option_eq}
 use Rattle.std.proofs.lemmas.Option.{slice_get_past, slice_get_read}
 use Rattle.std.specs.List.{list_all}
 use Rattle.std.proofs.lemmas.Bool.{false≢true, eqb-true, eq-eqb, ltb-true, ltb-false}
-use Rattle.bp_language.proofs.BothTrue.{both_left, both_right}
+use Rattle.bp_language.proofs.SpelledNames.{both_left, both_right}
 use Rattle.bp_language.specs.Tokens.{is_braced_byte, is_braced_rest, fits}
 use Rattle.bp_syntax.specs.Lexer.{run, IsNameless}
 use Rattle.bp_language.specs.declared.tokens.LexemeKind.TheVariants as lexeme

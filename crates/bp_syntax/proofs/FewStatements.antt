@@ -1,13 +1,10 @@
 -- A program has no more statements than its text has bytes.
-use Rattle.std.proofs.Common.{ℕ, suc, ◌+◌, ◌<◌, ◌≤◌, List, length, Option, None, Some, arith, ap, take}
+use Rattle.std.proofs.Common.{ℕ, suc, ◌+◌, ◌<◌, ◌≤◌, List, length, Option, None, Some, arith, ap, take, length-drop}
 use Rattle.std.proofs.Math.Logic.{∥∥₁_elim}
 use Rattle.std.specs.Coded.{le_prop}
-use Rattle.std.proofs.lemmas.List.{length-drop}
-use Rattle.bp_tree.specs.Ast.{Name, Expression, Decision, Block, Statement, Procedure, Program}
-use Rattle.bp_tree.specs.Sizes.{block_size, size, procedures_size}
-use Rattle.bp_language.specs.Tokens.{Token, kind_of}
+use Rattle.bp_language.specs.Ast.{Name, Expression, Decision, Block, Statement, Procedure, Program, block_size, size, procedures_size}
+use Rattle.bp_language.specs.Tokens.{Token, kind_of, Lexeme, IsCut, ends, fit, open_brace, bad_byte, tokens_of, with_token}
 use Rattle.bp_language.specs.declared.tokens.TokenKind.{TokenKind}
-use Rattle.bp_language.specs.Cut.{Lexeme, IsCut, ends, fit, open_brace, bad_byte, tokens_of, with_token}
 use Rattle.bp_language.specs.Grammar.{IsNames, one_name, more_names, IsAnyNames, no_names, some_names, IsExpr, of_or, implication, IsOr, of_xor, disjunction, IsXor, of_and, exclusion, IsAnd, of_eq, conjunction, IsEq, of_un, equality, difference, IsUn, negation, of_atom, IsAtom, constant_0, constant_1, variable, brackets, IsExprs, one_expr, more_exprs, IsAnyExprs, no_exprs, some_exprs, IsDecider, choice, by_value, IsForm, skip, jump, returning, assignment, branch, loop, assertion, assumption, printing, call, IsStmt, labelled, unlabelled, IsStmts, one_stmt, more_stmts, IsDecl, decl, IsDecls, no_decl, more_decls, IsProc, proc, IsProcs, no_proc, more_procs, Derives, program, first_word, first_name}
 use Rattle.bp_language.specs.Texts.{IsTextOf, HasText}
 use Rattle.bp_language.specs.declared.limits.TheConstants.{TEXT_LIMIT}

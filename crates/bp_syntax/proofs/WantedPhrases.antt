@@ -1,16 +1,79 @@
 -- What the parser wants, as phrases of the grammar.
-use Rattle.std.proofs.Common.{◌≡◌, ℕ, List, [], ◌∷◌, ◌++◌, Option, Some, None, refl, subst}
-use Rattle.bp_tree.proofs.GrownLists.{regrouped}
-use Rattle.bp_tree.specs.Ast.{Name, Expression, Operation, Decision, Block, Done, Then, Statement, Procedure, Program}
-use Rattle.bp_tree.specs.declared.exprs.Op.{Op}
-use Rattle.bp_tree.specs.declared.exprs.Op.TheVariants as op
-use Rattle.bp_language.specs.Tokens.{Token}
+use Rattle.std.proofs.Common.{◌≡◌, ℕ, List, refl, sym, subst, ◌<◌, ◌+◌, true, false, Option, Some, bytes_eq, drop, get_or, length, map, [], ◌∷◌, ◌++◌, None}
+use Rattle.std.proofs.lemmas.List.{drop_more}
+use Rattle.std.specs.Map.{lookup}
+use Rattle.bp_language.specs.Ast.{Name, Expression, Operation, Decision, Block, Done, Then, Statement, Procedure, Program}
+use Rattle.bp_language.specs.declared.exprs.Op.{Op}
+use Rattle.bp_language.specs.declared.exprs.Op.TheVariants as op
+use Rattle.bp_language.proofs.GrownLists.{regrouped}
+use Rattle.bp_language.specs.Tokens.{Token, IsReal}
+use Rattle.bp_language.specs.declared.tokens.TokenKind.{TokenKind}
+use Rattle.bp_language.specs.declared.tokens.TokenKind.TheVariants as kind
+use Rattle.bp_language.specs.declared.tokens.LexemeKind.TheVariants as lexeme
 use Rattle.bp_language.specs.Grammar.{name_of, IsNames, one_name, more_names, IsAnyNames, IsExpr, of_or, implication, IsOr, of_xor, disjunction, IsXor, of_and, exclusion, IsAnd, of_eq, conjunction, IsEq, of_un, equality, difference, IsUn, IsExprs, one_expr, more_exprs, IsAnyExprs, IsDecider, IsForm, IsStmt, IsStmts, one_stmt, more_stmts, IsDecls, IsProcs, first_word, first_name}
+use Rattle.bp_syntax.specs.Spellings.{spelling, some_token}
 use Rattle.bp_syntax.specs.ParserState.{Wanted, Complete, WordThen, NameThen, MoreNames, AnyNamesThen, UnThen, MoreOperands, MoreImplied, MoreExprs, AnyExprsThen, DeciderThen, FormThen, FormAfter, StmtThen, StmtAfter, MoreStmts, MoreDecls, MoreProcs, NamesThen, ExprThen, ExprsThen, OperandThen, operator}
 use Rattle.bp_syntax.specs.declared.parser.operators.Precedence.{Precedence}
 use Rattle.bp_syntax.specs.declared.parser.operators.Precedence.TheVariants.{Equality, Conjunction, Exclusion, Disjunction}
-use Rattle.bp_language.specs.declared.tokens.TokenKind.{TokenKind}
-use Rattle.bp_language.specs.declared.tokens.TokenKind.TheVariants as kind
+
+-- Each kind of token has a spelling.
+
+pub some_real : (k : TokenKind) → IsReal (some_token k)
+some_real kind.Name = record { lexeme = lexeme.Identifier; fits = refl; spells = refl }
+some_real kind.Zero = record { lexeme = lexeme.Constant; fits = refl; spells = refl }
+some_real kind.One = record { lexeme = lexeme.Constant; fits = refl; spells = refl }
+some_real kind.Semicolon = record { lexeme = lexeme.Symbol; fits = refl; spells = refl }
+some_real kind.Comma = record { lexeme = lexeme.Symbol; fits = refl; spells = refl }
+some_real kind.Open = record { lexeme = lexeme.Symbol; fits = refl; spells = refl }
+some_real kind.Close = record { lexeme = lexeme.Symbol; fits = refl; spells = refl }
+some_real kind.Colon = record { lexeme = lexeme.Symbol; fits = refl; spells = refl }
+some_real kind.Bar = record { lexeme = lexeme.Symbol; fits = refl; spells = refl }
+some_real kind.Ampersand = record { lexeme = lexeme.Symbol; fits = refl; spells = refl }
+some_real kind.Caret = record { lexeme = lexeme.Symbol; fits = refl; spells = refl }
+some_real kind.Equal = record { lexeme = lexeme.Symbol; fits = refl; spells = refl }
+some_real kind.Bang = record { lexeme = lexeme.Symbol; fits = refl; spells = refl }
+some_real kind.Question = record { lexeme = lexeme.Symbol; fits = refl; spells = refl }
+some_real kind.Becomes = record { lexeme = lexeme.Symbol; fits = refl; spells = refl }
+some_real kind.Differ = record { lexeme = lexeme.Symbol; fits = refl; spells = refl }
+some_real kind.Implies = record { lexeme = lexeme.Symbol; fits = refl; spells = refl }
+some_real kind.Decl = record { lexeme = lexeme.Identifier; fits = refl; spells = refl }
+some_real kind.Begin = record { lexeme = lexeme.Identifier; fits = refl; spells = refl }
+some_real kind.End = record { lexeme = lexeme.Identifier; fits = refl; spells = refl }
+some_real kind.Skip = record { lexeme = lexeme.Identifier; fits = refl; spells = refl }
+some_real kind.Goto = record { lexeme = lexeme.Identifier; fits = refl; spells = refl }
+some_real kind.Return = record { lexeme = lexeme.Identifier; fits = refl; spells = refl }
+some_real kind.If = record { lexeme = lexeme.Identifier; fits = refl; spells = refl }
+some_real kind.Then = record { lexeme = lexeme.Identifier; fits = refl; spells = refl }
+some_real kind.Else = record { lexeme = lexeme.Identifier; fits = refl; spells = refl }
+some_real kind.Fi = record { lexeme = lexeme.Identifier; fits = refl; spells = refl }
+some_real kind.While = record { lexeme = lexeme.Identifier; fits = refl; spells = refl }
+some_real kind.Do = record { lexeme = lexeme.Identifier; fits = refl; spells = refl }
+some_real kind.Od = record { lexeme = lexeme.Identifier; fits = refl; spells = refl }
+some_real kind.Assert = record { lexeme = lexeme.Identifier; fits = refl; spells = refl }
+some_real kind.Print = record { lexeme = lexeme.Identifier; fits = refl; spells = refl }
+some_real kind.Assume = record { lexeme = lexeme.Identifier; fits = refl; spells = refl }
+
+pub real_spelling : (k : TokenKind) (text : List ℕ) → text ≡ spelling k → IsReal (record { kind = k; at = 0; text = text })
+real_spelling k text is = subst (λ s. IsReal (record { kind = k; at = 0; text = s })) (sym is) (some_real k)
+
+-- The reserved words are the spellings of their kinds, in order.
+
+abbrev pub spelled : TokenKind → List ℕ × TokenKind
+spelled k = (spelling k, k)
+
+-- the kind of the first of these that is spelled so
+abbrev pub first_spelled : List ℕ → List TokenKind → Option TokenKind
+first_spelled s ks = lookup (bytes_eq s) (map spelled ks)
+
+-- the next one is spelled otherwise
+pub go_on : (s : List ℕ) (ks : List TokenKind) (i : ℕ) (k d : TokenKind) → i < length ks → get_or ks i d ≡ k → bytes_eq s (spelling k) ≡ false
+    → first_spelled s (drop i ks) ≡ first_spelled s (drop (i + 1) ks)
+go_on s ks i k d less is differs = rw (drop_more ks i d less, is, differs) refl
+
+-- the next one is spelled so
+pub is_next : (s : List ℕ) (ks : List TokenKind) (i : ℕ) (k d : TokenKind) → i < length ks → get_or ks i d ≡ k → bytes_eq s (spelling k) ≡ true
+    → first_spelled s (drop i ks) ≡ Some k
+is_next s ks i k d less is same = rw (drop_more ks i d less, is, same) refl
 
 -- an operand of the operators of a strength, and operands with such operators between them
 abbrev pub IsOperand : Precedence → List Token → Expression → List Token → Type 0

@@ -1,13 +1,43 @@
--- A device: the lexer as the code does it. No public contract names it.
-use Rattle.std.specs.Prelude.{◌≡◌, ◌≢◌, ◌<◌, ℕ, suc, Bool, true, false, if◌then◌else◌, ◌==◌, is_some, List, [], ◌∷◌, Option, Some, None, take, drop, slice_get}
-use Rattle.bp_language.specs.Tokens.{is_white, is_letter, is_word_byte, is_comment_byte, is_braced_byte, constant, symbol, long_symbol, fits}
-use Rattle.bp_language.specs.Cut.{IsLongest, NoneFits, HasBadByte, HasOpenName}
+-- Devices of the lexer, and of the two counts of its tokens. No public contract names them.
+use Rattle.std.specs.Prelude.{if◌then◌else◌, ◌≡◌, ◌<◌, ◌≤◌, ◌==◌, ℕ, ◌+◌, List, [], ◌∷◌, Option, None, Some, length, take, drop, ◌≢◌, suc, Bool, true, false, is_some, slice_get, nat_lt, nat_le, map}
+use Rattle.bp_language.specs.Tokens.{Lexeme, Fit, Brace, Bad, IsCut, IsLongest, NoneFits, is_white, is_letter, is_word_byte, is_comment_byte, is_braced_byte, constant, symbol, long_symbol, fits, HasBadByte, HasOpenName, Token}
+use Rattle.bp_language.specs.declared.tokens.LexemeKind.{LexemeKind}
+use Rattle.bp_language.specs.declared.tokens.LexemeKind.TheVariants as lexeme
+use Rattle.bp_language.specs.declared.limits.TheConstants.{SUCCESSION_LIMIT, NESTING_LIMIT}
+use Rattle.bp_language.specs.Texts.{is_separator, depth_after}
 use Rattle.bp_syntax.specs.declared.faults.ReadFault.{ReadFault}
 use Rattle.bp_syntax.specs.declared.faults.ReadFault.TheVariants as fault
 use Rattle.bp_syntax.specs.declared.lexemes.FirstLexeme.{FirstLexeme}
 use Rattle.bp_syntax.specs.declared.lexemes.FirstLexeme.TheVariants as first
-use Rattle.bp_language.specs.declared.tokens.LexemeKind.{LexemeKind}
-use Rattle.bp_language.specs.declared.tokens.LexemeKind.TheVariants as lexeme
+use Rattle.bp_syntax.specs.declared.tokens.Token.{Token as BorrowedToken}
+
+-- The first lexeme of a text, and the cut that begins with it.
+
+-- the lexeme of these bytes at a place: a lexeme of this kind, or a byte where none fits
+abbrev pub lexeme_of : Option LexemeKind → ℕ → List ℕ → Lexeme
+lexeme_of (Some kind) at bytes = Fit kind at bytes
+lexeme_of None at [] = Bad at
+lexeme_of None at (b ∷ bs) = if b == 123 then Brace at else Bad at
+
+-- a device: the first lexeme of a text has this kind and this size
+abbrev pub IsFirst : Option LexemeKind → List ℕ → ℕ → Type 0
+IsFirst (Some kind) text size = IsLongest text kind size
+IsFirst None text size = NoneFits text × (size ≡ 1)
+
+-- the lexeme of this kind and these bytes begins the text, and then comes the rest: each cut of the
+-- rest becomes one of the text by this lexeme before it
+pub record TakesLexeme (text : List ℕ) (kind : Option LexemeKind) (bytes rest : List ℕ)
+    : Type 0 where
+  pub size : ℕ
+  pub some : 0 < size
+  pub within : size ≤ length text
+  pub front : bytes ≡ take size text
+  pub back : rest ≡ drop size text
+  pub cut : (at : ℕ) (more : List Lexeme)
+      → IsCut (at + size) rest more
+      → IsCut at text (lexeme_of kind at bytes ∷ more)
+
+-- A device: the lexer as the code does it. No public contract names it.
 
 -- a lexeme of the kind, once begun, continues with such bytes
 abbrev pub is_continuation : LexemeKind → ℕ → Bool
@@ -62,3 +92,30 @@ IsScanFault text (fault.BadByte at) = HasBadByte text at
 IsScanFault text (fault.OpenName at) = HasOpenName text at
 IsScanFault text fault.Memory = Unit {0}
 IsScanFault text _ = ⊥
+
+-- A device: the count of tokens in succession as the code does it. No public contract names it.
+
+-- the place of the first token too many, where this many come before these
+abbrev pub first_too_many : ℕ → List Token → Option ℕ
+first_too_many n [] = None
+first_too_many n (t ∷ ts) =
+    if is_separator t.kind then first_too_many 0 ts
+    else if nat_lt n SUCCESSION_LIMIT then first_too_many (n + 1) ts
+    else Some t.at
+
+-- A device: the count of the depth as the code does it. No public contract names it.
+
+-- the place of the first token that goes too deep, where the depth is n before these
+abbrev pub first_too_deep : ℕ → List Token → Option ℕ
+first_too_deep n [] = None
+first_too_deep n (t ∷ ts) =
+    if nat_le (depth_after t.kind n) NESTING_LIMIT then first_too_deep (depth_after t.kind n) ts
+    else Some t.at
+
+-- What the tokens of src/ are seen as: a token of the code borrows its text.
+
+abbrev pub token_of : BorrowedToken → Token
+token_of t = record { kind = t.kind; at = t.at; text = t.text.now }
+
+abbrev pub token_list : List BorrowedToken → List Token
+token_list ts = map token_of ts

@@ -1,11 +1,4 @@
 pub mod Lexer
-pub mod Faults
-pub mod Opens
-pub mod FirstLexemes
+pub mod Refusals
 pub mod Spellings
 pub mod ParserState
-pub mod DepthCount
-pub mod SuccessionCount
-pub mod Refusals
-pub mod Views
-pub mod Laws

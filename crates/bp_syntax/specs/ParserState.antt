@@ -2,9 +2,9 @@
 -- No public contract names it.
 use Rattle.std.specs.Prelude.{◌≡◌, ℕ, Bool, true, false, if◌then◌else◌, List, [], ◌∷◌, ◌++◌, Option, Some, None, Result, MatchResult}
 use denote.Enum.Bare.{sameb}
-use Rattle.bp_tree.specs.Ast.{Name, Expression, Constant, Variable, Negation, Operation, Decision, Choose, Decide, Block, Done, Then, Statement, Skips, GoesTo, Returns, Assigns, Branches, Loops, Asserts, Assumes, Prints, Calls, Procedure, Program}
-use Rattle.bp_tree.specs.declared.exprs.Op.{Op}
-use Rattle.bp_tree.specs.declared.exprs.Op.TheVariants as op
+use Rattle.bp_language.specs.Ast.{Name, Expression, Constant, Variable, Negation, Operation, Decision, Choose, Decide, Block, Done, Then, Statement, Skips, GoesTo, Returns, Assigns, Branches, Loops, Asserts, Assumes, Prints, Calls, Procedure, Program}
+use Rattle.bp_language.specs.declared.exprs.Op.{Op}
+use Rattle.bp_language.specs.declared.exprs.Op.TheVariants as op
 use Rattle.bp_language.specs.Tokens.{Token}
 use Rattle.bp_language.specs.Grammar.{name_of}
 use Rattle.bp_language.specs.declared.tokens.TokenKind.{TokenKind}

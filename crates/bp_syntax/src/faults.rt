@@ -1,6 +1,6 @@
 //! Why a text is refused.
 ghost use Rattle.std.specs.Prelude.{◌≡◌};
-ghost use Rattle.bp_syntax.specs.Faults.{read_fault_number, read_fault_place};
+ghost use Rattle.bp_syntax.specs.Refusals.{read_fault_number, read_fault_place};
 ghost use Rattle.bp_syntax.specs.declared.faults.ReadFault.TheVariants.{Memory};
 
 use std::alloc::{AllocError, AllocFailed};

@@ -1,5 +1,5 @@
 //! Laws of texts, of their cut and of the grammar.
-ghost use Rattle.bp_syntax.specs.Laws.{OneCut, OneTree, OneRefusal, NoRefusalOfPrograms, NamesOnOneLine};
+ghost use Rattle.bp_syntax.specs.Refusals.{OneCut, OneTree, OneRefusal, NoRefusalOfPrograms, NamesOnOneLine};
 
 /// Law: each text has one cut.
 pub fn has_one_cut()

@@ -1,15 +1,24 @@
 //! The lexer: the scan of a text into tokens.
+//! Tokens in succession without a separator.
+//! How deep statements nest.
+//! How a text is read: the lexer, the two limits on its tokens, and the parser.
 ghost use Rattle.std.specs.Prelude.{true, ◌≡◌, ◌≤◌, ◌++◌, [], length, MatchResult, OnOk};
+ghost use Rattle.bp_language.specs.Ast.{Program};
 ghost use Rattle.bp_language.specs.Tokens as spelling;
-ghost use Rattle.bp_language.specs.Cut.{HasTokens, with_token};
-ghost use Rattle.bp_syntax.specs.Lexer.{IsScanFault};
-ghost use Rattle.bp_syntax.specs.Views.{token_list};
+ghost use Rattle.bp_language.specs.Tokens.{HasTokens, with_token};
+ghost use Rattle.bp_language.specs.Texts as rule;
+ghost use Rattle.bp_language.specs.Texts.{IsTextOf};
+ghost use Rattle.bp_syntax.specs.Lexer.{IsScanFault, token_list, first_too_many, first_too_deep};
+ghost use Rattle.bp_syntax.specs.Refusals.{IsRefusal};
+ghost use Rattle.bp_syntax.specs.declared.faults.ReadFault.TheVariants.{Memory};
 
 use crate::faults::ReadFault;
 use crate::lexemes::{FirstLexeme, first_lexeme};
+use crate::parser::parse;
 use crate::tokens::{Token, kind_of};
-use bp_language::LexemeKind;
-use bp_language::limits::TEXT_LIMIT;
+use crate::trees::Tree;
+use bp_language::limits::{NESTING_LIMIT, SUCCESSION_LIMIT, TEXT_LIMIT};
+use bp_language::{LexemeKind, TokenKind};
 use std::alloc::{AllocError, Global};
 
 /// The tokens of a text, or its first bad byte, or its first open brace.
@@ -68,4 +77,86 @@ fn push_token<'a>(
         tokens.push(Token { kind, at, text })?;
     }
     Ok(())
+}
+
+/// Whether a token of the kind separates successions.
+fn is_separator(kind: TokenKind) -> bool
+    ensures { result ≡ rule.is_separator kind }
+{
+    matches!(
+        kind,
+        TokenKind::Semicolon
+            | TokenKind::Then
+            | TokenKind::Do
+            | TokenKind::Else
+            | TokenKind::Fi
+            | TokenKind::Od
+            | TokenKind::Begin
+            | TokenKind::End
+    )
+}
+
+/// The place of the first token that is one too many in succession without a separator.
+pub(crate) fn first_too_many(tokens: &[Token]) -> Option<u32>
+    ensures { result ≡ first_too_many 0 (token_list tokens.now) }
+{
+    let mut count = 0;
+    for token in tokens {
+        if is_separator(token.kind) {
+            count = 0;
+        } else if count < SUCCESSION_LIMIT {
+            count += 1;
+        } else {
+            return Some(token.at);
+        }
+    }
+    None
+}
+
+fn depth_after(kind: TokenKind, depth: usize) -> usize
+    requires { depth ≤ NESTING_LIMIT }
+    ensures { result ≡ rule.depth_after kind depth }
+{
+    match kind {
+        TokenKind::If | TokenKind::While => depth + 1,
+        TokenKind::Fi | TokenKind::Od => depth.saturating_sub(1),
+        _ => depth,
+    }
+}
+
+/// The place of the first token that goes too deep.
+pub(crate) fn first_too_deep(tokens: &[Token]) -> Option<u32>
+    ensures { result ≡ first_too_deep 0 (token_list tokens.now) }
+{
+    let mut depth = 0;
+    for token in tokens {
+        depth = depth_after(token.kind, depth);
+        if depth > NESTING_LIMIT {
+            return Some(token.at);
+        }
+    }
+    None
+}
+
+/// Reads a program text. It is refused for the first fault that applies, each looked for in the
+/// whole text before the next: `TooLong`, `BadByte`, `OpenName`, `TooNested`, `TooManyTokens`,
+/// `Syntax`. `Memory` may come only once the text is known to be not too long.
+pub fn read(alloc: Global, text: &[u8]) -> Result<Tree, ReadFault>
+    ensures answer { MatchResult result (IsTextOf text.now) (IsRefusal text.now) }
+    ensures whole { (p : Program) → IsTextOf text.now p
+        → MatchResult result (λ t. t ≡ p) (λ e. e ≡ Memory) }
+{
+    if text.len() > TEXT_LIMIT {
+        return Err(ReadFault::TooLong);
+    }
+    let scanned = scan(alloc, text)?;
+    let tokens = scanned.as_slice();
+    if let Some(at) = first_too_deep(tokens) {
+        return Err(ReadFault::TooNested(at));
+    }
+    if let Some(at) = first_too_many(tokens) {
+        return Err(ReadFault::TooManyTokens(at));
+    }
+    let (globals, procs) = parse(alloc, tokens, text.len() as u32)?;
+    Ok(Tree { globals, procs })
 }

@@ -9,8 +9,7 @@ mod programs;
 mod statements;
 
 use crate::tokens::Token;
-use bp_language::TokenKind;
-use bp_tree::{Name, Names};
+use bp_language::{Name, Names, TokenKind};
 pub(crate) use programs::parse;
 use std::alloc::{AllocError, AllocFailed, Global};
 use std::marker::Model;
@@ -56,7 +55,7 @@ impl<'a> Model for Parser<'a> {
 
     ghost Value = { List SomeToken };
 
-    ghost use Rattle.bp_syntax.specs.Views.{token_list};
+    ghost use Rattle.bp_syntax.specs.Lexer.{token_list};
 
     ghost view = { λ r. token_list r.left.now };
 }

@@ -1,11 +1,11 @@
 //! Programs as trees.
 ghost use Rattle.std.specs.Prelude.{◌≡◌, ◌≤◌};
-ghost use Rattle.bp_tree.specs.Sizes.{procedures_size};
+ghost use Rattle.bp_language.specs.Ast.{procedures_size};
 ghost use Rattle.bp_language.specs.Texts.{HasText};
 ghost use Rattle.bp_language.specs.NamesIn.{HasShortNames, HasSpelledNames};
 
 use bp_language::limits::TEXT_LIMIT;
-use bp_tree::{Name, Names, Proc, Procs};
+use bp_language::{Name, Names, Proc, Procs};
 use std::marker::Model;
 
 /// The tree of a program text that was read.
@@ -16,8 +16,8 @@ pub struct Tree {
 }
 
 impl Model for Tree {
-    ghost use Rattle.bp_tree.specs.Ast.{Program};
-    ghost use Rattle.bp_tree.specs.Codes.{coded_program};
+    ghost use Rattle.bp_language.specs.Ast.{Program};
+    ghost use Rattle.bp_language.specs.Codes.{coded_program};
 
     ghost Value = { Program };
 

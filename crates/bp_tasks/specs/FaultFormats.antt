@@ -1,14 +1,14 @@
 -- In which form a task reports its faults.
 use Rattle.std.specs.Prelude.{if◌then◌else◌, ◌&&◌, ◌||◌, Bool, true, false, not}
-use Rattle.bp_tasks.specs.declared.explaining.Explaining.{Explaining}
-use Rattle.bp_tasks.specs.declared.fault_formats.FaultFormat.{FaultFormat}
-use Rattle.bp_tasks.specs.declared.fault_formats.FaultFormat.TheVariants as fault
-use Rattle.bp_tasks.specs.declared.listing_forms.ListingForm.{ListingForm}
-use Rattle.bp_tasks.specs.declared.listing_forms.ListingForm.TheVariants as listing
+use Rattle.bp_tasks.specs.declared.tasks.Explaining.{Explaining}
+use Rattle.bp_tasks.specs.declared.tasks.FaultFormat.{FaultFormat}
+use Rattle.bp_tasks.specs.declared.tasks.FaultFormat.TheVariants as fault
+use Rattle.bp_tasks.specs.declared.tasks.ListingForm.{ListingForm}
+use Rattle.bp_tasks.specs.declared.tasks.ListingForm.TheVariants as listing
 use Rattle.bp_tasks.specs.declared.tasks.Task.{Task}
 use Rattle.bp_tasks.specs.declared.tasks.Task.TheVariants.{Bundle, Check, Code, Drive, Confirm, Run, Test, Explore, Replay, Show, Migrate, Shrink}
-use Rattle.bp_tasks.specs.declared.view_options.ViewFormat.{ViewFormat}
-use Rattle.bp_tasks.specs.declared.view_options.ViewFormat.TheVariants as view
+use Rattle.bp_tasks.specs.declared.options.ViewFormat.{ViewFormat}
+use Rattle.bp_tasks.specs.declared.options.ViewFormat.TheVariants as view
 
 -- lines explain the fault after its line
 abbrev pub is_explained : FaultFormat → Bool

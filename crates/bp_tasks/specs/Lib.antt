@@ -1,2 +1,3 @@
 pub mod FaultFormats
 pub mod RunOptions
+pub mod NamedBits

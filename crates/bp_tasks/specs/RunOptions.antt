@@ -1,6 +1,6 @@
 -- What a run by real threads starts from.
 use Rattle.std.specs.Prelude.{ℕ}
-use Rattle.bp_machine.specs.Starts.{StartOf, default_start}
+use Rattle.bp_machine.specs.Setups.{StartOf, default_start}
 use Rattle.bp_tasks.specs.declared.limits.TheConstants.{DEFAULT_RING, DEFAULT_SEED, DEFAULT_TURN}
 
 -- what each run starts from, the calls of a turn, the seed of the choice bits, and the calls that

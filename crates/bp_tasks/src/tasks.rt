@@ -1,17 +1,14 @@
 //! What a user wants done: a task, its files and its options.
+//! How the code of a program is listed.
+//! How many contexts are allowed.
+//! How the run of confirmed steps ends.
+//! In which form a refusal is reported on standard error.
+//! When a fault is explained.
 ghost use Rattle.std.specs.Prelude.{◌≡◌};
-ghost use Rattle.bp_tasks.specs.FaultFormats.{fault_format, reporting};
+ghost use Rattle.bp_tasks.specs.FaultFormats.{fault_format, reporting, is_explained, explains};
 
-use crate::context_bounds::ContextBound;
-use crate::explaining::Explaining;
-use crate::explore_options::ExploreOptions;
-use crate::fault_formats::FaultFormat;
-use crate::listing_forms::ListingForm;
-use crate::run_options::RunOptions;
-use crate::test_options::TestOptions;
-use crate::verdicts::Verdict;
-use crate::view_options::{ViewFormat, ViewOptions};
-use bp_init::NamedBits;
+use crate::names::NamedBits;
+use crate::options::{ExploreOptions, RunOptions, TestOptions, ViewFormat, ViewOptions};
 use bp_machine::Start;
 
 /// A program that is checked.
@@ -212,5 +209,75 @@ impl Task<'_> {
         } else {
             FaultFormat::Line
         }
+    }
+}
+
+/// How the code of a program is listed.
+#[derive(Clone, Copy, Debug, PartialEq, Eq)]
+pub enum ListingForm {
+    /// A line for each procedure and each instruction.
+    Lines,
+    /// The same, and on the line of an instruction its place and its statement.
+    Sourced,
+    /// A JSON object on each line, with the place and the statement of each instruction.
+    Json,
+}
+
+/// How many contexts are allowed to reported steps, or to the runs of an exploration.
+#[derive(Clone, Copy, Debug, PartialEq, Eq)]
+pub enum ContextBound {
+    /// As many as the setup allows.
+    Kept,
+    /// As many as they use, and at most 1,000 in a trace, which says so in place of the setup.
+    AsUsed,
+}
+
+/// How the run ends that confirmed steps are.
+#[derive(Clone, Copy, Debug, PartialEq, Eq)]
+pub enum Verdict {
+    /// An assertion fails at the last step.
+    Failure,
+    /// No assertion fails, and the threads are deadlocked.
+    Deadlock,
+    /// Neither.
+    Run,
+}
+
+/// In which form a refusal is reported on standard error.
+#[derive(Clone, Copy, Debug, PartialEq, Eq)]
+pub enum FaultFormat {
+    /// The line of the fault.
+    Line,
+    /// The line of the fault, and lines that explain it.
+    Explained,
+    /// One JSON object on a line.
+    Json,
+}
+
+impl FaultFormat {
+    /// Whether lines that explain the fault follow.
+    pub fn is_explained(self) -> bool
+        ensures { result ≡ is_explained self }
+    {
+        matches!(self, FaultFormat::Explained)
+    }
+}
+
+/// When lines that explain a fault follow its line. Where neither is asked for, they do on a
+/// standard error that is a terminal.
+#[derive(Clone, Copy, Debug, PartialEq, Eq)]
+pub struct Explaining {
+    /// Whether each fault is to be explained.
+    pub always: bool,
+    /// Whether none is. It is not asked for with the other.
+    pub never: bool,
+}
+
+impl Explaining {
+    /// Whether a fault is explained on a standard error that is a terminal or not.
+    pub fn explains(self, on_terminal: bool) -> bool
+        ensures { result ≡ explains self on_terminal }
+    {
+        !self.never && (self.always || on_terminal)
     }
 }

@@ -1,21 +1,25 @@
 -- What the first found run of some runs says of more of them, and of a test.
-use Rattle.std.proofs.Common.{◌≡◌, ℕ, suc, ◌+◌, ◌<◌, ◌≤◌, ◌^◌, Bool, true, List, [], ◌∷◌, ◌++◌, length, length-append, Option, None, Some, refl, ap, sym, ◌∙◌, subst, arith, inl, inr}
-use Rattle.std.specs.Prelude.{MatchOption}
+use Rattle.std.proofs.Common.{◌≡◌, ℕ, suc, ◌+◌, ◌<◌, ◌≤◌, ◌^◌, Bool, true, List, [], ◌∷◌, ◌++◌, length, length-append, Option, None, Some, refl, ap, sym, ◌∙◌, subst, arith, inl, inr, ◌-◌, false, append-nil, Result, Ok, MatchOption, max, slice_index_or, is_some, IfSome}
 use Rattle.std.proofs.lemmas.List.{length_push}
-use Rattle.bp_text.proofs.GrownLists.{regrouped}
-use Rattle.bp_tree.specs.Ast.{Program}
-use Rattle.bp_machine.specs.declared.calls.Call.{Call}
-use Rattle.bp_machine.specs.declared.reports.Outcome.{Outcome}
-use Rattle.bp_machine.specs.declared.reports.Outcome.TheVariants.{Clean, Failed}
-use Rattle.bp_machine.specs.Setups.{SetupOf}
-use Rattle.bp_machine.specs.Reports.{outcome_of, is_failure}
+use Rattle.std.proofs.Math.Nat.{mul-le-mul_right}
 use Rattle.bp_text.specs.Writing.{AppendsAll, AppendsPart}
+use Rattle.bp_text.proofs.PartsOfTexts.{regrouped}
+use Rattle.bp_language.specs.Ast.{Program}
+use Rattle.bp_flat.specs.Flat.{Flat}
+use Rattle.bp_flat.specs.StandsFor.{StandsFor}
+use Rattle.bp_machine.specs.declared.calls.Call.{Call}
+use Rattle.bp_machine.specs.declared.calls.Outcome.{Outcome}
+use Rattle.bp_machine.specs.declared.calls.Outcome.TheVariants.{Clean, Failed}
+use Rattle.bp_machine.specs.Setups.{SetupOf}
+use Rattle.bp_machine.specs.Histories.{outcome_of, is_failure}
 use Rattle.bp_trace.specs.TraceText.{trace_text}
-use Rattle.bp_test.specs.declared.blocks.FoundRun.{FoundRun}
-use Rattle.bp_tasks.specs.declared.test_options.TestOptions.{TestOptions}
-use Rattle.bp_test.specs.Failing.{FailsAt}
-use Rattle.bp_test.specs.Tallies.{MadeRun}
-use Rattle.bp_test.specs.Tests.{setup_of_run, found_by, found_in, IsDeadlock, IsCleanRun, AreCleanRuns, IsFirstFound, IsFoundRun, IsWrittenRun, IsFound, IsCutRun, HasFailed, Wait}
+use Rattle.bp_tasks.specs.declared.options.TestOptions.{TestOptions}
+use Rattle.bp_test.specs.declared.waves.FoundRun.{FoundRun}
+use Rattle.bp_test.specs.Tests.{FailsAt, setup_of_run, found_by, found_in, IsDeadlock, IsCleanRun, AreCleanRuns, IsFirstFound, IsFoundRun, IsWrittenRun, IsFound, IsCutRun, HasFailed, Wait, start_of_block, IsBlock, IsEnd, AreBlocks, IsTalliedAfter, IsTallied}
+use Rattle.bp_test.specs.Tallies.{MadeRun, IsTally}
+use Rattle.bp_test.specs.declared.waves.Block.{Block}
+use Rattle.bp_test.specs.declared.plans.Plan.{Plan}
+use Rattle.bp_test.specs.declared.tallies.Tally.{Tally}
 
 module _ (t : Program) (s : SetupOf) (with_deadlock : Bool) (seed : ℕ) where
   -- runs and those after them
@@ -157,3 +161,159 @@ module _ (t : Program) (s : SetupOf) (x : TestOptions) (f : FoundRun) (runs : Li
     found = first.found;
     written = subst (λ y. AppendsPart old new (trace_text y f.history.items)) setup written;
   }
+
+-- What the blocks of a wave say one after the other.
+
+starts_rise : (from size a b runs : ℕ) → a ≤ b → start_of_block from size a runs ≤ start_of_block from size b runs
+starts_rise from size a b runs le = let more = mul-le-mul_right size le in omega (arith, more)
+
+pub none_of : (o : Option FoundRun) → is_some o ≡ false → o ≡ None
+none_of None e = refl
+none_of (Some f) e = absurd cc
+
+pub some_of : (o : Option FoundRun) → is_some o ≡ true → o ≡ None → ⊥
+some_of None some none = absurd cc
+some_of (Some f) some none = absurd cc
+
+-- what the tallies say after another one was added
+abbrev pub Adds : Tally → Tally → Tally → Type 0
+Adds old other new = (t : Program) (s : SetupOf) (runs more : List MadeRun) → IsTally t s runs old → IsTally t s more other → IsTally t s (runs ++ more) new
+
+module _ {E : Type 0} (k : Flat) (s : SetupOf) (p : Plan) (from size runs : ℕ) (t : Program) (is : StandsFor k t) (earlier : List MadeRun) where
+  -- the runs of the blocks before these, which are the rest of all, are not looked for, and are
+  -- counted; the last of them is before this one
+  pub record IsBefore (all rest : List (Result Block E)) (end : ℕ) (tally : Tally) : Type 0 where
+    pub before : ℕ
+    pub count : before + length rest ≡ length all
+    pub blocks : AreBlocks k s p from size runs before rest
+    pub made : List MadeRun
+    pub number : start_of_block from size 0 runs + length made ≡ end
+    pub ends : IsEnd p.deadline (start_of_block from size 0 runs) (start_of_block from size before runs) None end
+    pub clean : AreCleanRuns t s p.with_deadlock p.seed (start_of_block from size 0 runs) made
+    pub tallied : IsTally t s (earlier ++ made) tally
+
+  pub before_all : (all : List (Result Block E)) (tally : Tally) → AreBlocks k s p from size runs 0 all → (end : ℕ)
+      → end ≡ start_of_block from size 0 runs → IsTally t s earlier tally → IsBefore all all end tally
+  before_all all tally are end same tallied = record {
+    before = 0;
+    count = omega arith;
+    blocks = are;
+    made = [];
+    number = omega (arith, same);
+    ends = (omega (arith, same), omega (arith, same), (λ untimed none. omega (arith, same)), tt);
+    clean = tt;
+    tallied = subst (λ rs. IsTally t s rs tally) (sym (append-nil earlier)) tallied;
+  }
+
+  -- the runs before some blocks are those of the wave, as far as they were made
+  pub after_made : (all rest : List (Result Block E)) (end : ℕ) (tally : Tally) → IsBefore all rest end tally
+      → IsTalliedAfter earlier t s p.with_deadlock p.seed (start_of_block from size 0 runs) end None tally
+  after_made all rest end tally was = record {
+    runs = was.made;
+    first = ((let number = was.number in omega (arith, number)), was.clean);
+    tallied = was.tallied;
+  }
+
+  pub ends_all : (all rest : List (Result Block E)) (end : ℕ) (tally : Tally) → length rest ≡ 0
+      → IsBefore all rest end tally
+      → IsEnd p.deadline (start_of_block from size 0 runs) (start_of_block from size (length all) runs) None end
+  ends_all all rest end tally none was =
+      let same : was.before ≡ length all = let count = was.count in omega (arith, none, count) in
+      subst (λ n. IsEnd p.deadline (start_of_block from size 0 runs) (start_of_block from size n runs) None end) same was.ends
+
+  module _ (all rest : List (Result Block E)) (block : Block) (end : ℕ) (old : Tally) (was : IsBefore all (Ok block ∷ rest) end old) where
+    this : IsBlock {E = E} k s p from size runs was.before (Ok block)
+    this =
+        let same : was.before + 0 ≡ was.before = omega arith in
+        subst (λ n. IsBlock {E = E} k s p from size runs n (Ok block)) same (was.blocks 0 (Ok block) (omega arith))
+
+    rise : start_of_block from size 0 runs ≤ start_of_block from size was.before runs
+    rise = starts_rise from size 0 was.before runs (omega arith)
+
+    next_rise : start_of_block from size was.before runs ≤ start_of_block from size (was.before + 1) runs
+    next_rise = starts_rise from size was.before (was.before + 1) runs (omega arith)
+
+    last_rise : start_of_block from size (was.before + 1) runs ≤ start_of_block from size (length all) runs
+    last_rise = starts_rise from size (was.before + 1) (length all) runs (let count = was.count in omega (arith, count))
+
+    -- the block before this one was cut off
+    pub ends_cut : (block.from ≡ end → ⊥) → IsEnd p.deadline (start_of_block from size 0 runs) (start_of_block from size (length all) runs) None end
+    ends_cut cut =
+        let low = was.ends.0 in
+        let high = was.ends.1 in (
+          low,
+          omega (arith, high, rise, next_rise, last_rise),
+          (λ untimed none.
+              absurd (cut (let here = this.0 in let same = was.ends.2 untimed none in omega (arith, here, same, rise)))),
+          tt,
+        )
+
+    module _ (new : Tally) (adds : Adds old block.tally new) (here : block.from ≡ end) where
+      tallied : IsTallied t s p.with_deadlock p.seed end block.end block.found block.tally
+      tallied = subst (λ n. IsTallied t s p.with_deadlock p.seed n block.end block.found block.tally) (sym this.0 ∙ here) (this.2 t is)
+
+      abbrev both : List MadeRun
+      both = was.made ++ tallied.runs
+
+      tallied_both : IsTally t s (earlier ++ both) new
+      tallied_both =
+          simp regrouped at
+          (adds t s (earlier ++ was.made) tallied.runs was.tallied tallied.tallied)
+
+      below : end ≤ block.end
+      below = let starts = this.0 in let low = this.1.0 in omega (arith, starts, low, here)
+
+      both_first : IsFirstFound t s p.with_deadlock p.seed (start_of_block from size 0 runs) block.end block.found both
+      both_first =
+          found_later t s p.with_deadlock p.seed (start_of_block from size 0 runs) end block.end was.made was.number was.clean
+          below block.found tallied.runs tallied.first
+
+      -- where the wave ends, if this block is the last of it
+      ends_here : (n : ℕ) → start_of_block from size (was.before + 1) runs ≤ start_of_block from size n runs
+          → (o : Option FoundRun)
+          → (p.deadline ≡ None → o ≡ None → block.end ≡ max (start_of_block from size 0 runs) (start_of_block from size n runs))
+          → IfSome o (λ f. block.end ≡ f.run + 1)
+          → IsEnd p.deadline (start_of_block from size 0 runs) (start_of_block from size n runs) o block.end
+      ends_here n le o untimed at =
+          let low = was.ends.0 in
+          let high = this.1.1 in
+          (omega (arith, low, below), omega (arith, high, le, next_rise), untimed, at)
+
+      pub before_rest : is_some block.found ≡ false → IsBefore all rest block.end new
+      before_rest e =
+          let none = subst (λ o. IsFirstFound t s p.with_deadlock p.seed (start_of_block from size 0 runs) block.end o both)
+          (none_of block.found e) both_first in
+          record {
+            before = was.before + 1;
+            count = let e = was.count in omega (arith, e);
+            blocks = λ n d l.
+                let more : was.before + suc n ≡ was.before + 1 + n = omega arith in
+                subst (λ m. IsBlock {E = E} k s p from size runs m (slice_index_or rest n d)) more
+                (was.blocks (suc n) d (omega (arith, l)));
+            made = both;
+            number = let low = was.ends.0 in let many = none.0 in omega (arith, low, below, many);
+            ends =
+                ends_here (was.before + 1) (omega arith) None
+                (λ untimed o. let same = this.1.2 untimed (none_of block.found e) in omega (arith, same, rise, next_rise))
+                tt;
+            clean = none.1;
+            tallied = tallied_both;
+          }
+
+      pub ends_found : is_some block.found ≡ true
+          → IsEnd p.deadline (start_of_block from size 0 runs) (start_of_block from size (length all) runs) block.found block.end
+      ends_found e = ends_here (length all) last_rise block.found (λ untimed none. absurd (some_of block.found e none)) this.1.3
+
+      pub found_any : IsTalliedAfter earlier t s p.with_deadlock p.seed (start_of_block from size 0 runs) block.end block.found new
+      found_any = record { runs = both; first = both_first; tallied = tallied_both }
+
+-- a wave after runs that are not looked for
+pub after_wave : (t : Program) (s : SetupOf) (with_deadlock : Bool) (seed from end : ℕ) → from ≤ end
+    → (before : List MadeRun) → length before ≡ from - 0 → AreCleanRuns t s with_deadlock seed 0 before
+    → (o : Option FoundRun) (tally : Tally)
+    → IsTalliedAfter before t s with_deadlock seed from end o tally → IsTallied t s with_deadlock seed 0 end o tally
+after_wave t s with_deadlock seed from end le before count clean o tally wave = record {
+  runs = before ++ wave.runs;
+  first = found_later t s with_deadlock seed 0 from end before (omega (arith, count)) clean le o wave.runs wave.first;
+  tallied = wave.tallied;
+}

@@ -1,29 +1,22 @@
 -- What a run adds to a test.
-use Rattle.std.proofs.Common.{◌≡◌, ℕ, ◌+◌, ◌%◌, ◌^◌, Bool, true, false, ◌||◌, ◌&&◌, List, Option, None, Some, IfSome, refl, ap, sym, ◌∙◌, subst, inl, inr}
-use Rattle.std.specs.Prelude.{IfNone, IsTrue, MatchOption, ◌↔◌}
-use Rattle.bp_tree.specs.Ast.{Program}
+use Rattle.std.proofs.Common.{◌≡◌, ℕ, ◌+◌, ◌%◌, ◌^◌, Bool, true, false, ◌||◌, ◌&&◌, List, Option, None, Some, IfSome, refl, ap, sym, ◌∙◌, subst, inl, inr, IfNone, IsTrue, MatchOption, ◌↔◌}
+use Rattle.bp_language.specs.Ast.{Program}
 use Rattle.bp_flat.specs.Flat.{Flat}
 use Rattle.bp_flat.specs.StandsFor.{StandsFor}
 use Rattle.bp_machine.specs.declared.calls.Call.{Call}
-use Rattle.bp_machine.specs.declared.reports.Outcome.{Outcome}
-use Rattle.bp_machine.specs.declared.reports.Outcome.TheVariants.{Clean, Failed}
-use Rattle.bp_machine.specs.declared.reports.Report.{Report}
-use Rattle.bp_machine.specs.Deadlocks.{IsDeadlocked}
-use Rattle.bp_machine.specs.Histories.{configuration_after}
+use Rattle.bp_machine.specs.declared.calls.Outcome.{Outcome}
+use Rattle.bp_machine.specs.declared.calls.Outcome.TheVariants.{Clean, Failed}
+use Rattle.bp_machine.specs.declared.calls.Report.{Report}
+use Rattle.bp_machine.specs.Runs.{IsDeadlocked}
+use Rattle.bp_machine.specs.Histories.{configuration_after, outcome_of, is_failure, IsReport}
 use Rattle.bp_machine.specs.Setups.{SetupOf, threads, FitsCode}
-use Rattle.bp_machine.specs.Reports.{outcome_of, is_failure, IsReport}
 use Rattle.bp_machine.specs.Sessions.{SessionOf, Stands, StandsForAll}
-use Rattle.bp_machine.proofs.GrantedSteps.{within as within_contexts}
-use Rattle.bp_test.specs.Failing.{FailsAt}
-use Rattle.bp_test.specs.Keys.{IsRunKey}
-use Rattle.bp_test.specs.Reached.{place_of, MarksGrow, Reaches}
-use Rattle.bp_test.specs.Resting.{HaveReturned, IsOver}
-use Rattle.bp_test.specs.Blocks.{is_sought}
+use Rattle.bp_machine.proofs.RealFailures.{within as within_contexts}
+use Rattle.bp_test.specs.Tests.{FailsAt, HaveReturned, IsOver, is_sought, setup_of_run, IsSought, IsMadeRun, IsCleanRun, IsSoughtRun, Wait}
+use Rattle.bp_test.specs.Reached.{IsRunKey, place_of, MarksGrow, Reaches, AreWaiting}
 use Rattle.bp_test.specs.Tallies.{made}
 use Rattle.bp_test.specs.declared.waiting.Waiting.{Waiting}
-use Rattle.bp_test.specs.Waits.{AreWaiting}
-use Rattle.bp_test.specs.Tests.{setup_of_run, IsSought, IsMadeRun, IsCleanRun, IsSoughtRun, Wait}
-use Rattle.bp_test.proofs.KeysOfRuns.{run_key_without}
+use Rattle.bp_test.proofs.TallyLemmas.{run_key_without}
 use Rattle.bp_test.proofs.MarkLemmas.{same_marks}
 use Rattle.bp_test.proofs.ReachedPlaces.{reaches_with, reaches_without}
 

@@ -1,10 +1,4 @@
-pub mod Blocks
-pub mod Counts
-pub mod Distinct
-pub mod Failing
-pub mod Keys
-pub mod Reached
-pub mod Resting
-pub mod Tallies
 pub mod Tests
-pub mod Waits
+pub mod Tallies
+pub mod Reached
+pub mod Shrinks

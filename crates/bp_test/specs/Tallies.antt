@@ -1,19 +1,23 @@
 -- What the runs of a test came to, counted.
-use Rattle.std.specs.Prelude.{◌≡◌, ◌==◌, ◌^◌, ◌+◌, ◌-◌, if◌then◌else◌, ℕ, min, max, Bool, true, false, not, ◌&&◌, nat_le, List, [], ◌∷◌, Some, length, take, fold, count_by, sum_by, slice_index_or, Any}
-use Rattle.bp_tree.specs.Ast.{Program}
-use Rattle.bp_flat.specs.StandsFor.{places_of}
+use Rattle.std.specs.Prelude.{◌≡◌, ◌==◌, ◌^◌, ◌+◌, ◌-◌, if◌then◌else◌, ℕ, min, max, Bool, true, false, not, ◌&&◌, nat_le, List, [], ◌∷◌, Some, length, take, fold, count_by, sum_by, slice_index_or, Any, ◌/◌, ◌≤◌, nat_lt, zero, suc, cond, nat_eq, ◌||◌}
 use Rattle.std.specs.List.{list_any}
+use Rattle.std.specs.Set.{distinct_count}
+use Rattle.bp_language.specs.Ast.{Program}
+use Rattle.bp_flat.specs.StandsFor.{places_of}
 use Rattle.bp_machine.specs.declared.calls.Call.{Call}
 use Rattle.bp_machine.specs.declared.calls.Reply.{Reply}
 use Rattle.bp_machine.specs.declared.calls.Reply.TheVariants.{Full}
-use Rattle.bp_machine.specs.declared.reports.Report.{Report}
-use Rattle.bp_machine.specs.Reports.{is_failure}
+use Rattle.bp_machine.specs.declared.calls.Report.{Report}
+use Rattle.bp_machine.specs.Histories.{is_failure}
 use Rattle.bp_machine.specs.Setups.{SetupOf, threads}
 use Rattle.bp_test.specs.declared.tallies.Ends.{Ends}
 use Rattle.bp_test.specs.declared.tallies.Tally.{Tally}
 use Rattle.bp_test.specs.declared.limits.TheConstants.{MAX_KEYS}
-use Rattle.bp_test.specs.Keys.{IsRunKey}
-use Rattle.bp_test.specs.Reached.{has_refusal, place_of, AreMarks, HasStep, Reaches}
+use Rattle.bp_test.specs.Reached.{IsRunKey, has_refusal, place_of, AreMarks, HasStep, Reaches}
+use Rattle.bp_test.specs.declared.counts.Counts.{Counts}
+use Rattle.bp_test.specs.declared.counts.Share.{Share}
+use Rattle.bp_test.specs.declared.tallies.ContextsUsed.{ContextsUsed}
+use Rattle.bp_test.specs.declared.counts.Distinct.{Distinct}
 
 -- a run that was made: its history, the report of that, whether it ended in a deadlock, and whether
 -- each thread then was at the end of its program
@@ -168,3 +172,85 @@ with_lack false false x = record x { lacking_calls = capped (x.lacking_calls + 1
 abbrev pub count_with : (used runs : ℕ) → List ℕ → ℕ → ℕ
 count_with used runs counts k =
     if used == k then capped (slice_index_or counts k 0 + runs) else slice_index_or counts k 0
+
+-- The counts of the runs of a test that people read.
+
+-- how many runs used at most k contexts
+abbrev pub within_contexts : ℕ → List MadeRun → ℕ
+within_contexts k runs = count_by (λ r. nat_le r.report.contexts k) runs
+
+-- k is the least number of contexts that n runs or more did not exceed
+pub record IsLeastFor (runs : List MadeRun) (n k : ℕ) : Type 0 where
+  pub enough : n ≤ within_contexts k runs
+  pub least : (m : ℕ) → n ≤ within_contexts m runs → k ≤ m
+
+-- the least, the middle and the greatest number of contexts: one run used no more, at least half of
+-- them did not, and none used more; each 0 where there is no run
+pub record AreContextsUsed (runs : List MadeRun) (x : ContextsUsed) : Type 0 where
+  pub least : IsLeastFor runs (min 1 (length runs)) x.least
+  pub middle : IsLeastFor runs ((length runs + 1) / 2) x.middle
+  pub most : IsLeastFor runs (length runs) x.most
+
+-- how many of this many threads made a step in some run
+pub record IsShareOfThreads (count : ℕ) (runs : List MadeRun) (x : Share) : Type 0 where
+  pub marks : List Bool
+  pub are : AreMarks (λ i. Some i) (λ i. Any (λ r. HasStep r.history i) runs) count marks
+  pub all : x.all ≡ count
+  pub reached : x.reached ≡ count_by (λ is_set. is_set) marks
+
+-- the counts of these runs, but for the shares of statements and assertions
+pub record AreCounts (s : SetupOf) (runs : List MadeRun) (x : Counts) : Type 0 where
+  pub count : x.runs ≡ length runs
+  pub calls : x.calls ≡ capped (sum_by calls_of runs)
+  pub longest : x.longest ≡ longest_of runs
+  pub ends : x.ends ≡ ends_of runs
+  pub contexts : AreContextsUsed runs x.contexts
+  pub threads : IsShareOfThreads (threads s) runs x.threads
+
+-- What follows are devices of the proofs.
+
+-- the numbers after some runs used this many contexts, where `before` runs used fewer
+abbrev pub contexts_with : (contexts before half : ℕ) → ContextsUsed → ContextsUsed
+contexts_with contexts before half x =
+    record {
+      least = if before == 0 then contexts else x.least;
+      middle = if nat_lt before half then contexts else x.middle;
+      most = contexts;
+    }
+
+abbrev pub share_of_marks : List Bool → Share
+share_of_marks marks =
+    record { reached = count_by (λ is_set. is_set) marks; all = length marks }
+
+-- How many runs of a test were different, by their keys.
+
+-- how many of these keys are this one
+abbrev pub count_of : ℕ → List ℕ → ℕ
+count_of key keys = count_by (λ k. k == key) keys
+
+-- how many keys there are, how many different ones, and how many of them are there once
+pub record AreDistinct (keys : List ℕ) (x : Distinct) : Type 0 where
+  pub runs : x.runs ≡ distinct_count nat_eq keys
+  pub of : x.of ≡ length keys
+  pub once : x.once ≡ count_by (λ key. count_of key keys == 1) keys
+
+-- the same of the first runs of a test, by their keys
+pub record AreDistinctRuns (t : Program) (s : SetupOf) (runs : List MadeRun) (x : Distinct)
+    : Type 0 where
+  pub keys : List ℕ
+  pub are : AreKeys t s (take MAX_KEYS runs) keys
+  pub distinct : AreDistinct keys x
+
+-- What follows are devices of the proofs.
+
+-- neither neighbour of the key at this place is that key
+abbrev pub is_alone : List ℕ → ℕ → Bool
+is_alone keys n =
+    let key = slice_index_or keys n 0 in
+    (n == 0 || not (slice_index_or keys (n - 1) 0 == key))
+    && (n + 1 == length keys || not (slice_index_or keys (n + 1) 0 == key))
+
+-- how many of the first n places are so
+abbrev pub alone_before : List ℕ → ℕ → ℕ
+alone_before keys zero = 0
+alone_before keys (suc n) = alone_before keys n + cond (is_alone keys n) 1 0

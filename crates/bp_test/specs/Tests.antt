@@ -1,32 +1,69 @@
 -- What a test of a program finds.
-use Rattle.std.specs.Prelude.{◌≡◌, ◌⊎◌, ◌↔◌, ◌<◌, ◌≤◌, ◌+◌, ◌-◌, ◌%◌, ◌^◌, ℕ, suc, max, min, Bool, true, List, [], ◌∷◌, ◌++◌, Option, None, Some, length, IsTrue, MatchOption}
-use Rattle.bp_tree.specs.Ast.{Program}
+use Rattle.std.specs.Prelude.{◌≡◌, ℕ, List, ◌⊎◌, ◌<◌, true, [], ◌↔◌, ◌≤◌, ◌+◌, ◌-◌, ◌%◌, ◌^◌, suc, max, min, Bool, ◌∷◌, ◌++◌, Option, None, Some, length, IsTrue, MatchOption, ◌*◌, ◌||◌, ◌&&◌, Result, slice_index_or, IfOk, IfSome}
 use Rattle.bp_text.specs.Writing.{AppendsAll, AppendsPart}
+use Rattle.bp_language.specs.Ast.{Program}
+use Rattle.bp_flat.specs.Moves.{Configuration}
+use Rattle.bp_flat.specs.StandsFor.{StandsFor}
+use Rattle.bp_flat.specs.Flat.{Flat}
 use Rattle.bp_machine.specs.declared.calls.Call.{Call}
-use Rattle.bp_machine.specs.declared.reports.Outcome.{Outcome}
-use Rattle.bp_machine.specs.declared.reports.Outcome.TheVariants.{Clean, Failed}
-use Rattle.bp_machine.specs.declared.reports.Report.{Report}
-use Rattle.bp_machine.specs.Contexts.{IsWithin}
-use Rattle.bp_machine.specs.Deadlocks.{IsDeadlocked}
-use Rattle.bp_machine.specs.Histories.{configuration_after, granted_threads, IsLegal}
-use Rattle.bp_machine.specs.Reports.{outcome_of, is_failure, IsReport}
-use Rattle.bp_machine.specs.SeededHistories.{HasSeededBits}
+use Rattle.bp_machine.specs.declared.calls.Outcome.TheVariants.{Failed, Clean}
+use Rattle.bp_machine.specs.declared.tops.Top.{Top}
+use Rattle.bp_machine.specs.Histories.{configuration_after, outcome_of, stack_of, is_finished, is_failure, IsWithin, granted_threads, IsLegal, IsReport, HasSeededBits}
 use Rattle.bp_machine.specs.Setups.{SetupOf, threads}
+use Rattle.bp_machine.specs.Runs.{IsTop, waits, IsDeadlocked}
+use Rattle.bp_machine.specs.Sessions.{SessionOf, Stands}
+use Rattle.bp_machine.specs.declared.calls.Outcome.{Outcome}
+use Rattle.bp_machine.specs.declared.calls.Report.{Report}
 use Rattle.bp_trace.specs.TraceText.{trace_text}
-use Rattle.bp_test.specs.declared.blocks.FoundRun.{FoundRun}
-use Rattle.bp_test.specs.declared.faults.TestFault.{TestFault}
-use Rattle.bp_test.specs.declared.faults.TestFault.TheVariants as fault
 use Rattle.bp_tasks.specs.declared.limits.TheConstants.{MAX_JOBS}
-use Rattle.bp_tasks.specs.declared.test_options.TestOptions.{TestOptions}
+use Rattle.bp_tasks.specs.declared.options.TestOptions.{TestOptions}
+use Rattle.bp_test.specs.declared.waves.FoundRun.{FoundRun}
+use Rattle.bp_test.specs.declared.testing.TestFault.{TestFault}
+use Rattle.bp_test.specs.declared.testing.TestFault.TheVariants as fault
 use Rattle.bp_test.specs.declared.tallies.Tally.{Tally}
 use Rattle.bp_test.specs.declared.testing.Found.{Found}
 use Rattle.bp_test.specs.declared.testing.Found.TheVariants as found
 use Rattle.bp_test.specs.declared.testing.Tested.{Tested}
 use Rattle.bp_test.specs.declared.waiting.Waiting.{Waiting}
-use Rattle.bp_test.specs.Failing.{FailsAt}
-use Rattle.bp_test.specs.Resting.{HaveReturned, IsOver}
 use Rattle.bp_test.specs.Tallies.{MadeRun, made, IsTally}
-use Rattle.bp_test.specs.Waits.{AreWaiting}
+use Rattle.bp_test.specs.Reached.{AreWaiting}
+use Rattle.bp_test.specs.declared.waves.Block.{Block}
+use Rattle.bp_test.specs.declared.plans.Plan.{Plan}
+
+-- Where an assertion failed.
+
+-- an assertion failed after this history, and its thread stands at the instruction of this number
+pub record FailsAt (t : Program) (s : SetupOf) (h : List Call) (number : ℕ) : Type 0 where
+  pub thread : ℕ
+  pub failed : outcome_of h ≡ Failed thread
+  pub top : Top
+  pub stands : IsTop t (configuration_after t s h) thread top
+  pub is : top.number ≡ number
+
+-- Threads that rest, and histories that are over.
+
+-- each of n threads is at the end of its program
+abbrev pub HaveReturned : Configuration → ℕ → Type 0
+HaveReturned c n = (i : ℕ) → i < n → stack_of c i ≡ []
+
+-- the line of thread i is finished, or the thread waits
+abbrev pub Rests : Program → SetupOf → List Call → ℕ → Type 0
+Rests t s h i = (is_finished s h i ≡ true) ⊎ (waits t (configuration_after t s h) i ≡ true)
+
+abbrev pub EachRests : Program → SetupOf → List Call → Type 0
+EachRests t s h = (i : ℕ) → i < threads s → Rests t s h i
+
+-- an assertion failed, or each thread rests
+abbrev pub IsOver : Program → SetupOf → List Call → Type 0
+IsOver t s h = (is_failure (outcome_of h) ≡ true) ⊎ EachRests t s h
+
+-- thread i of the session rests
+abbrev pub RestsIn : SessionOf → ℕ → Type 0
+RestsIn x i =
+    (t : Program) (h : List Call)
+    → StandsFor x.code t
+    → Stands t x h
+    → Rests t x.setup h i
 
 -- how many jobs make the runs: as many as are asked for, and at least one
 abbrev pub jobs_of : TestOptions → ℕ
@@ -201,3 +238,47 @@ module _ (t : Program) (s : SetupOf) (x : TestOptions) (old new : Option (List �
   abbrev pub IsTestRefusal : TestFault → Type 0
   IsTestRefusal fault.Memory = new ≡ old
   IsTestRefusal fault.Write = IsCutRun
+
+-- Blocks of runs that are made side by side.
+
+-- a test looks for a run with this report, which ended in a deadlock or not
+abbrev pub is_sought : Bool → Report → Bool → Bool
+is_sought with_deadlock r deadlocked = is_failure r.outcome || (with_deadlock && deadlocked)
+
+-- where block n of a wave with blocks of this size begins, in a test of this many runs
+abbrev pub start_of_block : (from size n runs : ℕ) → ℕ
+start_of_block from size n runs = min (from + n * size) runs
+
+-- Runs were to be made from one number to before another, and were made to before this one: up to
+-- the one that was found, or all of them, if there is no deadline and none was found.
+abbrev pub IsEnd : (deadline : Option ℕ) → (from to : ℕ) → Option FoundRun → (end : ℕ) → Type 0
+IsEnd deadline from to found end =
+    (from ≤ end)
+    × (end ≤ max from to)
+    × (deadline ≡ None → found ≡ None → end ≡ max from to)
+    × IfSome found (λ f. end ≡ f.run + 1)
+
+module _ {E : Type 0} (k : Flat) (s : SetupOf) (p : Plan) (from size runs : ℕ) where
+  -- what block n of a wave came to
+  abbrev pub IsBlock : ℕ → Result Block E → Type 0
+  IsBlock n r =
+      let start = start_of_block from size n runs in
+      let end = start_of_block from size (n + 1) runs in
+      IfOk r (λ block.
+      (block.from ≡ start)
+      × IsEnd p.deadline start end block.found block.end
+      × ((t : Program)
+      → StandsFor k t
+      → IsTallied t s p.with_deadlock p.seed start block.end block.found block.tally))
+
+  -- the blocks of a wave, from block m on
+  abbrev pub AreBlocks : ℕ → List (Result Block E) → Type 0
+  AreBlocks m rs =
+      (n : ℕ) (d : Result Block E) → n < length rs → IsBlock (m + n) (slice_index_or rs n d)
+
+-- what was found, and the tally of the runs up to it, where these others were made before
+pub record IsTalliedAfter (before : List MadeRun) (t : Program) (s : SetupOf) (with_deadlock : Bool)
+    (seed from to : ℕ) (found : Option FoundRun) (tally : Tally) : Type 0 where
+  pub runs : List MadeRun
+  pub first : IsFirstFound t s with_deadlock seed from to found runs
+  pub tallied : IsTally t s (before ++ runs) tally

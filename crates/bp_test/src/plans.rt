@@ -2,9 +2,9 @@
 ghost use Rattle.std.specs.Prelude.{◌≡◌, IfOk};
 ghost use Rattle.bp_machine.specs.Setups.{FitsCode};
 
-use crate::deadlines::is_over;
 use crate::runs::{next_number, run_once};
 use crate::tallies::is_step;
+use crate::testing::is_over;
 use crate::visible_steps::VisibleSteps;
 use bp_flat::Code;
 use bp_machine::{Call, Session, Setup};

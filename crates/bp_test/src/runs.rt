@@ -1,21 +1,17 @@
 //! Runs: histories of a seed and of the schedule that is drawn by it.
-ghost use Rattle.std.specs.Prelude.{◌≡◌, ◌<◌, ◌+◌, ◌++◌, ◌∷◌, ◌||◌, [], ℕ, List, true, length, Some};
-ghost use Rattle.std.specs.Prelude.{IfOk, OnOk};
-ghost use Rattle.bp_tree.specs.Ast.{Program};
-ghost use Rattle.bp_flat.specs.Programs.{IsOfProgram};
-ghost use Rattle.bp_flat.specs.StandsFor.{StandsFor};
+//! Keys of runs, by which runs with the same steps are told.
+ghost use Rattle.std.specs.Prelude.{◌≡◌, ◌<◌, ◌+◌, ◌++◌, ◌∷◌, ◌||◌, [], ℕ, List, true, length, Some, IfOk, OnOk, take};
+ghost use Rattle.bp_language.specs.Ast.{Program};
+ghost use Rattle.bp_flat.specs.StandsFor.{IsOfProgram, StandsFor};
 ghost use Rattle.bp_machine.specs.declared.calls.Call.{Call as Answered};
-ghost use Rattle.bp_machine.specs.Histories.{configuration_after};
-ghost use Rattle.bp_machine.specs.Reports.{outcome_of, is_failure};
+ghost use Rattle.bp_machine.specs.Histories.{configuration_after, outcome_of, is_failure};
 ghost use Rattle.bp_machine.specs.Sessions.{Stands, StandsForAll};
 ghost use Rattle.bp_machine.specs.Setups.{threads, FitsCode};
-ghost use Rattle.bp_test.specs.Keys.{IsEndKey, IsKey, IsRunKey};
-ghost use Rattle.bp_test.specs.Reached.{has_refusal, is_marked, next_place, marks_after, place_of};
-ghost use Rattle.bp_test.specs.Reached.{refuses_context, IsNumberOf};
-ghost use Rattle.bp_test.specs.Reached.{IsReachedByCall, IsWaiting, MarksGrow, Reaches};
-ghost use Rattle.bp_test.specs.Resting.{IsOver};
+ghost use Rattle.bp_test.specs.Reached.{IsEndKey, IsKey, IsRunKey, has_refusal, is_marked, next_place, marks_after, place_of, refuses_context, IsNumberOf, IsReachedByCall, IsWaiting, MarksGrow, Reaches, key_after, key_at_end, key_with};
+ghost use Rattle.bp_test.specs.Tests.{IsOver};
+ghost use Rattle.bp_test.specs.declared.limits.TheConstants.{MAX_KEYS};
 
-use crate::keys::{FIRST_KEY, key_after, key_at_end};
+use crate::limits::MAX_KEYS;
 use crate::schedulers::Scheduler;
 use crate::tallies::mark;
 use crate::visible_steps::VisibleSteps;
@@ -244,4 +240,60 @@ pub(crate) fn run_once(
         key: end_key(session, steps.key),
         was_refused: steps.was_refused,
     })
+}
+
+/// The key of a run before its first step.
+pub(crate) const FIRST_KEY: u64 = 0x9E37_79B9_7F4A_7C15;
+
+/// The factor of each step: 2 ^ 64 over the golden ratio, which spreads small numbers well.
+const FACTOR: u64 = 0x9E37_79B9_7F4A_7C15;
+
+/// What stands for the next instruction of a thread that has none.
+const NOWHERE: u32 = u32::MAX;
+
+/// The key after a step of this thread that the instruction of this number makes. A thread is below
+/// 128, so no two steps are mixed in alike.
+fn key_with(key: u64, thread: u32, number: u32) -> u64
+    ensures { result ≡ key_with key thread number }
+{
+    let step = u64::from(number) * 128 + u64::from(thread);
+    (key ^ step).wrapping_mul(FACTOR)
+}
+
+/// The key of a run that has ended, with the next instruction of this thread. Each thread counts
+/// once, also without one, so the end of a run is not taken for steps.
+pub(crate) fn key_at_end(key: u64, thread: u32, number: Option<u32>) -> u64
+    ensures { result ≡ key_at_end key thread number }
+{
+    key_with(key, thread, number.unwrap_or(NOWHERE))
+}
+
+/// The key after a call of this thread at the instruction of this number, with this reply.
+pub(crate) fn key_after(key: u64, thread: u32, number: Option<u32>, reply: Reply) -> u64
+    ensures { result ≡ key_after key thread number reply }
+{
+    match number {
+        Some(number) if matches!(reply, Reply::Stepped | Reply::Failed) => key_with(
+            key, thread, number,
+        ),
+        _ => key,
+    }
+}
+
+/// Adds the key of a run to those of the first runs.
+pub(crate) fn push_key(keys: &mut Vec<u64>, key: u64) -> Result<(), AllocError>
+    ensures { OnOk result (keys.new.items ≡ take MAX_KEYS (keys.old.items ++ key ∷ [])) }
+{
+    keys.push(key)?;
+    keys.truncate(MAX_KEYS);
+    Ok(())
+}
+
+/// Adds the keys of later runs to those of the first runs.
+pub(crate) fn push_keys(keys: &mut Vec<u64>, others: &[u64]) -> Result<(), AllocError>
+    ensures { OnOk result (keys.new.items ≡ take MAX_KEYS (keys.old.items ++ others.now)) }
+{
+    keys.extend_from_slice(others)?;
+    keys.truncate(MAX_KEYS);
+    Ok(())
 }

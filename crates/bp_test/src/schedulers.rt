@@ -1,7 +1,7 @@
 //! Schedules that are drawn.
 ghost use Rattle.std.specs.Prelude.{◌≡◌, ◌<◌, ◌≤◌, ℕ, true, IfSome, MatchOption};
 ghost use Rattle.bp_machine.specs.Setups.{threads};
-ghost use Rattle.bp_test.specs.Resting.{RestsIn};
+ghost use Rattle.bp_test.specs.Tests.{RestsIn};
 
 use crate::runs::next_number;
 use crate::visible_steps::{VisibleSteps, bit};

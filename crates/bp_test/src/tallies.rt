@@ -1,18 +1,14 @@
 //! What runs of a test came to, counted.
-ghost use Rattle.std.specs.Prelude.{◌≡◌, ◌<◌, ◌^◌, ◌++◌, ◌∷◌, [], ℕ, true, false, List};
-ghost use Rattle.std.specs.Prelude.{length, take, slice_set, slice_index_or, IfOk, OnOk};
-ghost use Rattle.bp_tree.specs.Ast.{Program};
+ghost use Rattle.std.specs.Prelude.{◌≡◌, ◌<◌, ◌^◌, ◌++◌, ◌∷◌, [], ℕ, true, false, List, length, take, slice_set, slice_index_or, IfOk, OnOk};
+ghost use Rattle.bp_language.specs.Ast.{Program};
 ghost use Rattle.bp_flat.specs.StandsFor.{StandsFor};
-ghost use Rattle.bp_machine.specs.Replies.{is_granted};
+ghost use Rattle.bp_machine.specs.Histories.{is_granted};
 ghost use Rattle.bp_machine.specs.Setups.{SetupOf};
-ghost use Rattle.bp_test.specs.Counts.{contexts_with, AreContextsUsed};
+ghost use Rattle.bp_test.specs.Tallies.{contexts_with, AreContextsUsed, MadeRun, made, ends_of, ends_sum, count_with, has_full_stack, with_lack, IsCounted, IsTally};
 ghost use Rattle.bp_test.specs.declared.limits.TheConstants.{MAX_KEYS};
 ghost use Rattle.bp_test.specs.Reached.{has_refusal, is_marked, HasStep, MarksGrow};
-ghost use Rattle.bp_test.specs.Tallies.{MadeRun, made, ends_of, ends_sum, count_with, has_full_stack, with_lack};
-ghost use Rattle.bp_test.specs.Tallies.{IsCounted, IsTally};
 
-use crate::keys::{push_key, push_keys};
-use crate::runs::FollowedRun;
+use crate::runs::{FollowedRun, push_key, push_keys};
 use bp_flat::Code;
 use bp_machine::{Call, Outcome, Reply, Report, Setup};
 use std::alloc::{AllocError, Global};

@@ -1,27 +1,28 @@
 //! Testing a program within a bound on contexts.
-ghost use Rattle.std.specs.Prelude.{◌≡◌, MatchResult};
-ghost use Rattle.bp_tree.specs.Ast.{Program};
+//! When a test begins no more runs.
+//! Who is told how far a test is.
+//! Why a test is not finished.
+ghost use Rattle.std.specs.Prelude.{◌≡◌, MatchResult, None, false};
+ghost use Rattle.bp_language.specs.Ast.{Program};
 ghost use Rattle.bp_flat.specs.StandsFor.{StandsFor};
 ghost use Rattle.bp_machine.specs.Setups.{FitsCode};
 ghost use Rattle.bp_test.specs.Tests.{found_in, jobs_of, IsTest, IsTestRefusal};
 
-use crate::blocks::Block;
-use crate::deadlines::{Runtimes, deadline_after};
-use crate::faults::TestFault;
 use crate::plans::Plan;
-use crate::progress::Progress;
 use crate::tallies::Tally;
 use crate::waiting::Waiting;
-use crate::waves::search;
+use crate::waves::{Block, search};
 use bp_flat::Code;
 use bp_machine::{Outcome, Report, Setup};
 use bp_tasks::TestOptions;
 use bp_tasks::limits::MAX_JOBS;
+use bp_text::WriteFault;
 use bp_trace::write_trace;
-use std::alloc::Global;
+use std::alloc::{AllocError, Global};
 use std::io::Write;
 use std::thread::Threads;
 use std::time::Clock;
+use thiserror::Error;
 
 /// What a test found.
 #[derive(Clone, Copy, Debug, PartialEq, Eq)]
@@ -119,4 +120,104 @@ pub fn test<R: Threads + Sync, C: Clock + Sync, P: Progress, W: Write>(
         waiting: found.waiting,
         tally,
     })
+}
+
+/// What starts the threads of a test, and what tells the time.
+#[derive(Drop)]
+pub struct Runtimes<'a, R, C> {
+    pub threads: &'a R,
+    pub clock: &'a C,
+}
+
+/// What the clock shows, in milliseconds, where it can be read.
+pub(crate) fn millis<C: Clock>(clock: &C) -> Option<u64> {
+    let Ok(shown) = clock.monotonic() else {
+        return None;
+    };
+    Some(u64::try_from(shown.as_millis()).unwrap_or(u64::MAX))
+}
+
+/// What the clock shows after this many seconds, in milliseconds. A clock that cannot be read
+/// leaves no time.
+pub(crate) fn deadline_after<C: Clock>(clock: &C, seconds: Option<u64>) -> Option<u64>
+    ensures { seconds ≡ None → result ≡ None }
+{
+    let seconds = seconds?;
+    match millis(clock) {
+        Some(now) => Some(now.saturating_add(seconds.saturating_mul(1_000))),
+        None => Some(0),
+    }
+}
+
+/// Whether fewer than this many milliseconds are over since the clock showed this time. It is not
+/// so where the clock cannot be read.
+pub(crate) fn is_within<C: Clock>(clock: &C, start: Option<u64>, limit: u64) -> bool {
+    match (start, millis(clock)) {
+        (Some(start), Some(now)) => now < start.saturating_add(limit),
+        _ => false,
+    }
+}
+
+/// Whether no more run may begin.
+pub(crate) fn is_over<C: Clock>(clock: &C, deadline: Option<u64>) -> bool
+    ensures { deadline ≡ None → result ≡ false }
+{
+    let Some(deadline) = deadline else {
+        return false;
+    };
+    match millis(clock) {
+        Some(now) => now >= deadline,
+        None => true,
+    }
+}
+
+/// Who is told how far a test is, after each wave of blocks.
+pub trait Progress {
+    /// None of the first `done` of `runs` runs is what the test looks for.
+    fn tell(&self, done: u64, runs: u64);
+
+    /// The test makes no more runs.
+    fn end(&self);
+}
+
+/// Nobody is told.
+pub struct Untold;
+
+impl Progress for Untold {
+    fn tell(&self, _done: u64, _runs: u64) {}
+
+    fn end(&self) {}
+}
+
+/// Why a test is not finished.
+#[derive(Clone, Copy, Debug, PartialEq, Eq, Error)]
+pub enum TestFault {
+    /// There was not enough memory.
+    #[error("out of memory")]
+    Memory,
+    /// The trace could not be written whole.
+    #[error("the output could not be written")]
+    Write,
+}
+
+impl From<AllocError> for TestFault {
+    ghost use Rattle.std.specs.Prelude.{◌≡◌};
+    ghost use Rattle.bp_test.specs.declared.testing.TestFault.{TestFault};
+
+    ghost from_gives = { λ _ e. e ≡ TestFault.Memory };
+
+    fn from(_: AllocError) -> TestFault {
+        TestFault::Memory
+    }
+}
+
+impl From<WriteFault> for TestFault {
+    ghost use Rattle.std.specs.Prelude.{◌≡◌};
+    ghost use Rattle.bp_test.specs.declared.testing.TestFault.{TestFault};
+
+    ghost from_gives = { λ _ e. e ≡ TestFault.Write };
+
+    fn from(_: WriteFault) -> TestFault {
+        TestFault::Write
+    }
 }

@@ -1,18 +1,19 @@
 //! Whether a thread may step, and where threads wait.
-ghost use Rattle.std.specs.Prelude.{◌≡◌, ◌<◌, ◌↔◌, List, true, false, IsTrue, IfOk, MatchOption};
-ghost use Rattle.bp_tree.specs.Ast.{Program};
+//! Where an assertion failed.
+ghost use Rattle.std.specs.Prelude.{◌≡◌, ◌<◌, ◌↔◌, List, true, false, IsTrue, IfOk, MatchOption, IfNone, IfSome};
+ghost use Rattle.bp_language.specs.Ast.{Program};
 ghost use Rattle.bp_flat.specs.StandsFor.{StandsFor};
 ghost use Rattle.bp_machine.specs.declared.calls.Call.{Call as Answered};
-ghost use Rattle.bp_machine.specs.Histories.{configuration_after};
+ghost use Rattle.bp_machine.specs.Histories.{configuration_after, outcome_of};
 ghost use Rattle.bp_machine.specs.Sessions.{Stands};
 ghost use Rattle.bp_machine.specs.Setups.{threads};
-ghost use Rattle.bp_machine.specs.Waiting.{waits};
-ghost use Rattle.bp_test.specs.Resting.{HaveReturned, RestsIn};
-ghost use Rattle.bp_test.specs.Waits.{AreWaiting, IsWait};
+ghost use Rattle.bp_machine.specs.Runs.{waits};
+ghost use Rattle.bp_test.specs.Tests.{HaveReturned, RestsIn, FailsAt};
+ghost use Rattle.bp_test.specs.Reached.{AreWaiting, IsWait};
 
 use crate::runs::next_number;
 use bp_flat::Kind;
-use bp_machine::Session;
+use bp_machine::{Outcome, Session, failures_are_real};
 use std::alloc::{AllocError, Global};
 
 /// A thread that waits.
@@ -110,4 +111,26 @@ pub fn waiting_threads(alloc: Global, session: &Session) -> Result<Vec<Waiting>,
         }
     }
     Ok(waiting)
+}
+
+/// The number of the instruction whose assertion failed, where one did.
+pub fn failed_instruction(session: &Session) -> Option<u32>
+    ensures at { (t : Program) (h : List Answered)
+        → StandsFor session.now.code t
+        → Stands t session.now h
+        → IfSome result (FailsAt t session.now.setup h) }
+    ensures none { (t : Program) (h : List Answered)
+        → StandsFor session.now.code t
+        → Stands t session.now h
+        → IfNone result (outcome_of h ≡ Outcome.Clean) }
+{
+    failures_are_real();
+    let report = session.report();
+    let Outcome::Failed { thread } = report.outcome else {
+        return None;
+    };
+    let Some(top) = session.top(thread) else {
+        return None;
+    };
+    Some(top.number)
 }

@@ -1,9 +1,8 @@
 -- A text as it is displayed, byte by byte.
-use Rattle.std.proofs.Common.{if◌then◌else◌, ◌≡◌, ◌==◌, ◌∙◌, ◌⊎◌, inl, inr, refl, sym, ap, ℕ, zero, suc, ◌+◌, ◌-◌, ◌<◌, ◌≤◌, Bool, true, false, List, [], ◌∷◌, ◌++◌, length, take, drop, get_or, add-one, drop-cons, arith}
+use Rattle.std.proofs.Common.{if◌then◌else◌, ◌≡◌, ◌==◌, ◌∙◌, ◌⊎◌, inl, inr, refl, sym, ap, ℕ, zero, suc, ◌+◌, ◌-◌, ◌<◌, ◌≤◌, Bool, true, false, List, [], ◌∷◌, ◌++◌, length, take, drop, get_or, add-one, drop-cons, arith, ◌/◌, ◌%◌, take_all, codes, flat_map}
 use Rattle.std.specs.List.{slice_index}
 use Rattle.std.proofs.Math.Seq.{take-suc}
-use Rattle.std.proofs.lemmas.List.{take_all}
-use Rattle.bp_text.specs.Displayed.{control_bytes, control_size, displayed, displayed_after, displayed_byte, HasNoControl}
+use Rattle.bp_text.specs.Pieces.{control_bytes, control_size, displayed, displayed_after, displayed_byte, HasNoControl, hex_digit, is_control, is_marked, string_byte, IsReadAs, ends, plain, marked, numbered}
 
 same_length : (left : ℕ) (text : List ℕ) → length (displayed_after left text) ≡ length text
 same_length left [] = refl
@@ -67,3 +66,19 @@ none_displayed left (b ∷ bs) = (by_test (control_bytes left (b ∷ bs) == 0) r
 -- from the end of the text on nothing is left
 pub all_displayed : (text : List ℕ) (at : ℕ) → length text ≤ at → take at (displayed text) ≡ displayed text
 all_displayed text at past = let all : length (displayed text) ≤ at = rw (same_length 0 text) past in take_all at (displayed text) all
+
+-- A string of JSON is read as the bytes that it was made of.
+
+small : (b : ℕ) → is_control b ≡ true → b < 128
+small b control = grind arith
+
+pub read_back : (text : List ℕ) → IsReadAs (flat_map string_byte text) text
+read_back [] = ends
+read_back (b ∷ bs) = by_tests (is_marked b) refl (is_control b) refl (read_back bs)
+  where
+    by_tests : (m : Bool) → is_marked b ≡ m → (c : Bool) → is_control b ≡ c → IsReadAs (flat_map string_byte bs) bs
+        → IsReadAs ((if m then 92 ∷ b ∷ [] else if c then codes "\\u00" ++ hex_digit (b / 16) ∷ hex_digit (b % 16) ∷ []
+        else b ∷ []) ++ flat_map string_byte bs) (b ∷ bs)
+    by_tests true is c control rest = marked b (flat_map string_byte bs) bs is rest
+    by_tests false is true control rest = numbered b (flat_map string_byte bs) bs (small b control) rest
+    by_tests false is false control rest = plain b (flat_map string_byte bs) bs is control rest

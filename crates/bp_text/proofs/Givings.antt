@@ -1,15 +1,61 @@
 -- How the texts that a sink is given add up.
-use Rattle.std.proofs.Common.{◌≡◌, ℕ, Bool, false, true, List, [], ◌++◌, take, Option, Result, Ok, Err, refl, sym, subst, ◌∙◌}
+use Rattle.std.proofs.Common.{◌≡◌, refl, ℕ, ◌+◌, ◌-◌, ◌<◌, ◌≤◌, List, ◌++◌, Option, length, take, drop, get_or, flat_map, sym, subst, arith, add-one, drop-cons, take-append-drop, length-append, length-drop, [], Bool, false, true, Result, Ok, Err, ◌∙◌, suc}
+use Rattle.std.proofs.lemmas.List.{take-append-le, append-nil, append_assoc}
+use Rattle.std.proofs.Math.Seq.{take-add, take-length, take-append-add}
+use Rattle.std.proofs.lemmas.Grind.{flat_map-append}
+use Rattle.std.proofs.KnownBytes.{Appends-trans, Appends-nil, Appends-kept, Keeps-refl}
+use Rattle.std.specs.Io.KnownBytes.{Appends, Keeps}
 use Rattle.std.specs.Borrow.{MutBor}
-use Rattle.std.proofs.lemmas.List.{append-nil, append_assoc}
-use Rattle.std.specs.Io.KnownBytes.{Keeps}
-use Rattle.std.proofs.KnownBytes.{Appends-nil, Appends-kept, Keeps-refl}
 use Rattle.std.specs.Result.{is_err}
-use Rattle.bp_text.specs.Writing.{Writes}
-use Rattle.bp_text.specs.declared.writing.WriteFault.{WriteFault}
-use Rattle.bp_text.proofs.Appends.{all_then, part_then}
+use Rattle.bp_text.specs.Writing.{AppendsPart, AppendsAll, Writes, HasTaken, Given, IsFresh, result_of, IsBegun, IsCutShort, IsWritten}
+use Rattle.bp_text.specs.declared.sinks.WriteFault.{WriteFault}
 use Rattle.bp_text.specs.declared.sinks.Sink.{Sink}
-use Rattle.bp_text.specs.Sinks.{HasTaken, Given, IsFresh, result_of}
+use Rattle.bp_text.specs.Lines.{IsInParts}
+use Rattle.bp_text.proofs.PartsOfTexts.{regrouped, no_parts, parts_go_on, parts_then}
+
+-- How pieces that were written one after the other add up.
+
+-- the slice from d on
+pub all_from : (bs : List ℕ) (d : ℕ) → take (length bs - d) (drop d bs) ≡ drop d bs
+all_from bs d = subst (λ n. take n (drop d bs) ≡ drop d bs) (length-drop d bs) (take-length (drop d bs))
+
+-- d bytes stand, and n more of the rest were taken
+pub Appends_next : (a b c : Option (List ℕ)) (bs : List ℕ) (d n : ℕ) → Appends a b (take d bs)
+    → Appends b c (take n (take (length bs - d) (drop d bs))) → Appends a c (take (d + n) bs)
+Appends_next a b c bs d n p q =
+    subst (Appends a c) (sym (take-add d n bs)) (Appends-trans a b c _ _ p (rw all_from at q))
+
+-- a text that stops within its middle is a proper prefix of the whole
+pub AppendsPart_within : (a b c : Option (List ℕ)) (before text rest : List ℕ) → Appends a b before → AppendsPart b c text
+    → AppendsPart a c (before ++ (text ++ rest))
+AppendsPart_within a b c before text rest p q = record {
+  count = length before + q.count;
+  short = let h = q.short in rw (length-append before (text ++ rest), length-append text rest) (omega arith);
+  grown =
+      rw (take-append-add before (text ++ rest) q.count)
+      (Appends-trans a b c _ _ p (subst (Appends b c) (sym (take_within text rest q.count q.short)) q.grown));
+}
+  where
+    take_within : (text rest : List ℕ) (n : ℕ) → n < length text → take n (text ++ rest) ≡ take n text
+    take_within text rest n h = let le : n ≤ length text = omega arith in rw take-append-le
+
+-- the pieces before the i-th, the i-th and the others
+pub flat_map_at : {X : Type 0} (f : X → List ℕ) (xs : List X) (i : ℕ) (x : X) → i < length xs
+    → flat_map f xs ≡ flat_map f (take i xs) ++ (f (get_or xs i x) ++ flat_map f (drop (i + 1) xs))
+flat_map_at f xs i x h =
+    subst (λ ys. flat_map f ys ≡ flat_map f (take i xs) ++ (f (get_or xs i x) ++ flat_map f (drop (i + 1) xs))) (take-append-drop i xs)
+    (rw (flat_map-append f (take i xs) (drop i xs)) (rw (add-one, drop-cons xs i x) refl))
+
+-- How the pieces of a text add up.
+
+pub all_then : (a b c : Option (List ℕ)) (t u : List ℕ) → AppendsAll a b t → AppendsAll b c u → AppendsAll a c (t ++ u)
+all_then a b c t u p q = record { grown = Appends-trans a b c t u p.grown q.grown }
+
+pub part_first : (a b : Option (List ℕ)) (t u : List ℕ) → AppendsPart a b t → AppendsPart a b (t ++ u)
+part_first a b t u p = AppendsPart_within a a b [] t u (Appends-nil a) p
+
+pub part_then : (a b c : Option (List ℕ)) (t u : List ℕ) → AppendsAll a b t → AppendsPart b c u → AppendsPart a c (t ++ u)
+part_then a b c t u p q = subst (λ x. AppendsPart a c (t ++ x)) (append-nil u) (AppendsPart_within a b c t u [] p.grown q)
 
 pub and_then : {W : Type 0} {contents : W → Option (List ℕ)} {a b c : Sink W} {t u : List ℕ}
     → Given contents a b t → Given contents b c u → Given contents a c (t ++ u)
@@ -83,3 +129,93 @@ pub written_at_end : {W : Type 0} (contents : W → Option (List ℕ)) (out : Mu
 written_at_end contents out a b text r last fresh p is =
     rw (is, last.1 (sym (p.same_reference ∙ fresh.same_reference)), ← fresh.now)
     (taken_all (contents a.out.now) (contents b.out.now) b.refused text (taken_since contents a b text fresh.fine p))
+
+-- A text that is written part by part: a head, a number of parts, and an end.
+
+-- the head and the first i parts were written
+pub record HasParts (IsPart : ℕ → List ℕ → Type 0) (head : List ℕ) (i : ℕ) (a b : Option (List ℕ)) : Type 0 where
+  pub parts : List ℕ
+  pub are : IsInParts IsPart i parts
+  pub grown : Appends a b (head ++ parts)
+
+-- a text of this kind has a head, `count` parts, each of which has a text, and an end, of which there is one
+pub record IsKind (IsPart : ℕ → List ℕ → Type 0) (head : List ℕ) (count : ℕ) (IsEnd IsText : List ℕ → Type 0) : Type 0 where
+  pub whole : (parts end : List ℕ) → IsInParts IsPart count parts → IsEnd end → IsText (head ++ parts ++ end)
+  pub each : (k : ℕ) → k < count → (part : List ℕ) × IsPart k part
+  pub some_end : (end : List ℕ) × IsEnd end
+
+module _ {IsPart : ℕ → List ℕ → Type 0} {head : List ℕ} {a b : Option (List ℕ)} where
+  pub head_written : AppendsAll a b head → HasParts IsPart head 0 a b
+  head_written all = record { parts = []; are = no_parts; grown = subst (Appends a b) (sym (append-nil head)) all.grown }
+
+  pub part_written : {i : ℕ} {part : List ℕ} {e : Option (List ℕ)} → HasParts IsPart head i a b → IsPart i part
+      → AppendsAll b e part → HasParts IsPart head (suc i) a e
+  part_written {i = i} {part = part} {e = e} has is all = record {
+    parts = has.parts ++ part;
+    are = parts_then has.are part is;
+    grown = simp regrouped at (Appends-trans a b e (head ++ has.parts) part has.grown all.grown);
+  }
+
+module _ {IsPart : ℕ → List ℕ → Type 0} {head : List ℕ} {count : ℕ} {IsEnd IsText : List ℕ → Type 0} (kind : IsKind IsPart head count IsEnd IsText) where
+  goes_on : (i : ℕ) → i ≤ count → (parts : List ℕ) → IsInParts IsPart i parts → (rest : List ℕ) × IsText (head ++ (parts ++ rest))
+  goes_on i few parts are =
+      let (more, all) = parts_go_on count kind.each (count - i) i (omega (arith, few)) parts are in
+      let (end, end_is) = kind.some_end in
+      (more ++ end, simp regrouped at (kind.whole (parts ++ more) end all end_is))
+
+  cut : (a b e : Option (List ℕ)) (begun piece rest : List ℕ) → Appends a b begun → IsText (begun ++ (piece ++ rest)) → AppendsPart b e piece
+      → IsCutShort IsText a e
+  cut a b e begun piece rest grown is part = record {
+    text = begun ++ (piece ++ rest);
+    is = is;
+    written = AppendsPart_within a b e begun piece rest grown part;
+  }
+
+  -- nothing was written
+  pub none_begun : {a : Option (List ℕ)} → IsBegun IsText a a
+  none_begun {a = a} =
+      let (rest, is) = goes_on 0 (omega arith) [] no_parts in
+      record { begun = []; rest = head ++ rest; is = is; written = record { grown = Appends-nil a } }
+
+  -- a part of the head was written
+  pub head_cut : {a e : Option (List ℕ)} → AppendsPart a e head → IsCutShort IsText a e
+  head_cut {a = a} {e = e} part = let (rest, is) = goes_on 0 (omega arith) [] no_parts in cut a a e [] head rest (Appends-nil a) is part
+
+  module _ {i : ℕ} {a b : Option (List ℕ)} (has : HasParts IsPart head i a b) where
+    -- the first parts were written
+    pub parts_begun : i ≤ count → IsBegun IsText a b
+    parts_begun few =
+        let (rest, is) = goes_on i few has.parts has.are in
+        record { begun = head ++ has.parts; rest = rest; is = simp regrouped is; written = record { grown = has.grown } }
+
+    -- and a part of the next one
+    pub part_cut : i < count → {part : List ℕ} → IsPart i part → {e : Option (List ℕ)} → AppendsPart b e part → IsCutShort IsText a e
+    part_cut within {part = part} part_is {e = e} short =
+        let (rest, is) = goes_on (suc i) within (has.parts ++ part) (parts_then has.are part part_is) in
+        cut a b e (head ++ has.parts) part rest has.grown (simp regrouped (simp regrouped at is)) short
+
+    -- or a part of the end, or all
+    module _ (all : i ≡ count) {end : List ℕ} (end_is : IsEnd end) where
+      is_whole : IsText (head ++ has.parts ++ end)
+      is_whole = kind.whole has.parts end (subst (λ k. IsInParts IsPart k has.parts) all has.are) end_is
+
+      pub end_cut : {e : Option (List ℕ)} → AppendsPart b e end → IsCutShort IsText a e
+      end_cut {e = e} short = cut a b e (head ++ has.parts) end [] has.grown (simp append-nil is_whole) short
+
+      pub end_written : {e : Option (List ℕ)} → AppendsAll b e end → IsWritten IsText a e
+      end_written {e = e} done = record {
+        text = head ++ has.parts ++ end;
+        is = is_whole;
+        written = record { grown = Appends-trans a b e (head ++ has.parts) end has.grown done.grown };
+      }
+
+-- each text of a kind is one of another
+module _ {IsText IsOther : List ℕ → Type 0} (are : (text : List ℕ) → IsText text → IsOther text) {a b : Option (List ℕ)} where
+  pub written_as : IsWritten IsText a b → IsWritten IsOther a b
+  written_as x = record { text = x.text; is = are x.text x.is; written = x.written }
+
+  pub begun_as : IsBegun IsText a b → IsBegun IsOther a b
+  begun_as x = record { begun = x.begun; rest = x.rest; is = are (x.begun ++ x.rest) x.is; written = x.written }
+
+  pub cut_as : IsCutShort IsText a b → IsCutShort IsOther a b
+  cut_as x = record { text = x.text; is = are x.text x.is; written = x.written }

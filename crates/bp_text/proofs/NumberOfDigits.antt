@@ -1,14 +1,18 @@
 -- When digits are the decimal of a number of 64 bits.
-use Rattle.std.proofs.Common.{◌≡◌, ℕ, ◌+◌, ◌-◌, ◌*◌, ◌<◌, ◌≤◌, ◌^◌, ◌≢◌, ◌⊎◌, inl, inr, List, [], length, get_or, take, sym, ap, subst, ◌∙◌, arith, decimal}
 use Rattle.std.specs.Str.Parse.{AllDigits, digits_value}
+use Rattle.std.proofs.lemmas.Str.Parse.{IsNumeralModel, numerals_by_value, tells_digits, digit_at, digits_value-take-le}
+use Rattle.std.proofs.Common.{◌≡◌, ℕ, ◌+◌, ◌-◌, ◌*◌, ◌<◌, ◌≤◌, ◌^◌, ◌≢◌, ◌⊎◌, inl, inr, List, [], length, get_or, take, sym, ap, subst, ◌∙◌, arith, decimal}
 use Rattle.std.proofs.lemmas.Bool.{cases_lt}
 use Rattle.std.proofs.lemmas.List.{nil_from_length}
 use Rattle.std.proofs.lemmas.Int.Digits.{digits_more, digits_value_more}
 use Rattle.std.proofs.lemmas.Str.{digit_value_digit}
-use Rattle.std.proofs.lemmas.Str.Parse.{digit_at, digits_value-take-le}
 use Rattle.std.proofs.lemmas.Fmt.{digits_decimal, digits_value-decimal, decimal_nonempty, first_decimal, decimal_digit, decimal-digits_value}
-use Rattle.bp_text.specs.Decimals.{IsPadded, IsNumber, IsNoNumber}
-use Rattle.bp_text.proofs.Numerals.{numerals}
+use Rattle.bp_text.specs.Pieces.{IsPadded, IsNumber, IsNoNumber}
+
+-- Decimal digits are numerals of their values.
+
+pub numerals : IsNumeralModel (AllDigits 10) (digits_value 10)
+numerals = numerals_by_value (AllDigits 10) tells_digits
 
 zero_first : (n : ℕ) → n < 2 ^ 64 → get_or (decimal n) 0 0 ≡ 48 → length (decimal n) ≡ 1
 zero_first n fits e = go (cases_lt 0 n)

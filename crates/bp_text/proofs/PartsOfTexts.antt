@@ -1,13 +1,98 @@
 -- Texts of parts: with one more part, and going on to all of them.
-use Rattle.std.proofs.Common.{◌≡◌, ◌∙◌, ◌⊎◌, inl, inr, ℕ, zero, suc, ◌+◌, ◌<◌, ◌≤◌, List, [], ◌∷◌, ◌++◌, Some, length, get_or, slice_get, ap, sym, refl, subst, append-nil, arith}
-use Rattle.std.specs.List.{concat}
-use Rattle.std.proofs.lemmas.Bool.{cases_lt}
-use Rattle.std.proofs.lemmas.List.{ext_get_or, length-append}
+use Rattle.std.proofs.Common.{◌≡◌, ◌∙◌, ◌++◌, List, ap, append_assoc, append-nil, ◌+◌, ◌<◌, ℕ, zero, suc, [], ◌∷◌, Some, length, get_or, slice_get, refl, sym, arith, ◌≢◌, ◌==◌, true, false, take, flat_map, fold, ◌⊎◌, inl, inr, ◌≤◌, subst}
 use Rattle.std.proofs.lemmas.List.Folds.{concat-append}
-use Rattle.std.proofs.lemmas.Option.{slice_get_within, slice_get-get_or}
-use Rattle.bp_text.specs.Parts.{Adds, IsInParts}
-use Rattle.bp_text.proofs.GrownLists.{both_added, regrouped}
-use Rattle.bp_text.proofs.ItemsOfLists.{item_at, one_before, one_last, within}
+use Rattle.std.proofs.Math.Seq.{get_or-append_seam}
+use Rattle.std.proofs.lemmas.List.{length-append, get_or_append_left, nil_from_length, flat_map_more, take_more, ext_get_or}
+use Rattle.std.proofs.lemmas.Option.{slice_get_within, slice_get-get_or, get_or_from_slice_get}
+use Rattle.std.proofs.lemmas.Bool.{false≢true, cases_lt}
+use Rattle.std.proofs.lemmas.Bool.Decides.{Decides-eqb}
+use Rattle.std.specs.List.{concat}
+use Rattle.bp_text.specs.Lines.{Adds, IsInParts}
+
+-- Lists one after the other: with a part more, without their first part, and in other groups.
+
+-- however its parts are grouped, a list is the same: `simp regrouped`
+pub ruleset regrouped = (append_assoc, append-nil, concat-append)
+
+module _ {X : Type 0} where
+  -- two parts were added, which are one
+  pub both_added : (old now new first second all : List X) → new ≡ now ++ second → now ≡ old ++ first → first ++ second ≡ all → new ≡ old ++ all
+  both_added old now new first second all added so_far is =
+      added ∙ ap (λ xs. xs ++ second) so_far ∙ append_assoc old first second ∙ ap (λ xs. old ++ xs) is
+
+  -- the first part of what was left was added
+  pub rest_left : (old now part rest all : List X) → now ≡ old ++ part → old ++ (part ++ rest) ≡ all → now ++ rest ≡ all
+  rest_left old now part rest all added is = ap (λ xs. xs ++ rest) added ∙ append_assoc old part rest ∙ is
+
+  -- after its first part a list has the others
+  pub others_after : (all first second third : List X) → all ≡ (first ++ second) ++ third → all ≡ first ++ (second ++ third)
+  others_after all first second third is = is ∙ append_assoc first second third
+
+-- The items of a list, and of a list with one more.
+
+-- an element of a list with one more is one of the list, or that one
+module _ {A : Type 0} (xs : List A) (y : A) (k : ℕ) (z : A) (at : slice_get (xs ++ y ∷ []) k ≡ Some z) where
+  found : get_or (xs ++ y ∷ []) k z ≡ z
+  found = get_or_from_slice_get (xs ++ y ∷ []) k z z at
+
+  pub within : k < length xs + 1
+  within = omega (arith, slice_get_within (xs ++ y ∷ []) k z at, length-append xs (y ∷ []))
+
+  pub one_before : k < length xs → slice_get xs k ≡ Some z
+  one_before p = slice_get-get_or xs k z p ∙ ap Some (sym (get_or_append_left xs (y ∷ []) z k p) ∙ found)
+
+  pub one_last : k ≡ length xs → y ≡ z
+  one_last p = sym (get_or-append_seam xs y [] z) ∙ ap (λ n. get_or (xs ++ y ∷ []) n z) (sym p) ∙ found
+
+-- the item at a place within a list
+pub item_at : {X : Type 0} (xs : List X) (k : ℕ) → k < length xs → (x : X) × (slice_get xs k ≡ Some x)
+item_at [] k within = absurd (omega (arith, within))
+item_at (x ∷ xs) zero within = (x, refl)
+item_at (x ∷ xs) (suc k) within = item_at xs k (omega (arith, within))
+
+-- Whether a list has an element.
+
+pub none_left : (xs : List ℕ) → (length xs == 0) ≡ true → xs ≡ []
+none_left xs none = nil_from_length xs ((Decides-eqb (length xs) 0).0 none)
+
+pub some_left : (xs : List ℕ) → (length xs == 0) ≡ false → xs ≢ []
+some_left xs some e = let none = (Decides-eqb (length xs) 0).1 (ap length e) in false≢true (sym some ∙ none)
+
+-- Texts that are added one after the other, and the next turn of a loop that adds a text.
+
+pub one_more : {X : Type 0} (f : X → List ℕ) (old now new : List ℕ) (xs : List X) (n : ℕ) (x : X) → n < length xs
+    → now ≡ old ++ flat_map f (take n xs) → new ≡ now ++ f (get_or xs n x) → new ≡ old ++ flat_map f (take (n + 1) xs)
+one_more f old now new xs n x within so_far added =
+    added
+    ∙ ap (λ ys. ys ++ f (get_or xs n x)) so_far
+    ∙ flat_map_more f old (take n xs) (get_or xs n x)
+    ∙ ap (λ ys. old ++ flat_map f ys) (sym (take_more xs n x within))
+
+pub all_added : (old : List ℕ) (ts : List (List ℕ)) → fold (λ a t. a ++ t) old ts ≡ old ++ concat ts
+all_added old [] = sym (append-nil old)
+all_added old (t ∷ ts) = all_added (old ++ t) ts ∙ append_assoc old t (concat ts)
+
+-- one more text and others after some texts that are one
+pub all_joined : (old : List ℕ) (ts : List (List ℕ)) (t : List ℕ) (us : List (List ℕ))
+    → fold (λ a u. a ++ u) ((old ++ concat ts) ++ t) us ≡ old ++ concat (concat (ts ++ t ∷ []) ∷ us)
+all_joined old ts t us = all_added ((old ++ concat ts) ++ t) us ∙ simp regrouped
+
+-- two times some texts that are one, and others
+pub two_joined : (ts us vs : List (List ℕ)) → concat (ts ++ us ++ vs) ≡ concat (concat ts ∷ concat us ∷ vs)
+two_joined ts us vs = simp regrouped
+
+-- three times some texts that are one
+pub three_joined : (old : List ℕ) (ts us vs : List (List ℕ))
+    → fold (λ a u. a ++ u) old ts ++ concat (us ++ vs) ≡ old ++ concat (concat ts ∷ concat us ∷ concat vs ∷ [])
+three_joined old ts us vs = ap (λ x. x ++ concat (us ++ vs)) (all_added old ts) ∙ simp regrouped
+
+-- two texts that are one, and others
+pub pair_joined : (a b c : List ℕ) (us : List (List ℕ)) → a ++ b ≡ c → concat (a ∷ b ∷ us) ≡ concat (c ∷ us)
+pair_joined a b c us is = sym (rest_left a c b (concat us) _ (sym is) refl)
+
+-- they are added
+pub pair_added : (old a b c : List ℕ) → a ++ b ≡ c → old ++ a ++ b ≡ old ++ c
+pair_added old a b c is = both_added old _ _ a b c refl refl is
 
 -- each item of a list has a part, where each that is found there has one
 pub part_of_each

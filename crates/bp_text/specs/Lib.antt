@@ -1,11 +1,3 @@
-pub mod Columns
-pub mod Decimals
-pub mod Displayed
-pub mod JsonStrings
-pub mod OneLine
-pub mod Parts
 pub mod Pieces
-pub mod Positions
-pub mod Sinks
+pub mod Lines
 pub mod Writing
-pub mod WrittenTexts

@@ -1,6 +1,6 @@
 //! Decimals: how many digits a number has, and the number whose decimal some digits are.
 ghost use Rattle.std.specs.Prelude.{◌≡◌, ◌<◌, ◌≤◌, ◌^◌, ◌+◌, ◌-◌, ◌*◌, ◌↔◌, IsTrue, MatchOption, SomeIff, length, decimal};
-ghost use Rattle.bp_text.specs.Decimals.{IsPadded, IsNumber, IsNoNumber};
+ghost use Rattle.bp_text.specs.Pieces.{IsPadded, IsNumber, IsNoNumber};
 
 use itoa::Buffer;
 

@@ -1,8 +1,7 @@
 //! Excerpts of a text, for people: a line of it, and a caret below a place.
 
-use crate::columns::push_spaces;
-use crate::lines::text_from_line;
-use crate::parts::{first_line, last_line, part_before, part_from};
+use crate::lines::{first_line, last_line, part_before, part_from, text_from_line};
+use crate::pieces::push_spaces;
 use std::alloc::{AllocError, Global};
 
 /// How many spaces indent each line of an excerpt.

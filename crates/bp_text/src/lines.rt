@@ -1,9 +1,12 @@
 //! Lines of a text, which are counted from 1.
-ghost use Rattle.std.specs.Prelude.{◌≡◌, ◌==◌, ◌<◌, ◌↔◌, length, IsTrue, IfSome, MatchOption};
-ghost use Rattle.std.specs.List.{after_first};
-ghost use Rattle.bp_text.specs.OneLine.{first_line};
+//! Texts on one line: a space stands for each line feed.
+//! Where in a text a byte stands, as editors count.
+//! Parts of a text.
+ghost use Rattle.std.specs.Prelude.{◌≡◌, ◌==◌, ◌<◌, ◌↔◌, length, IsTrue, IfSome, MatchOption, ◌++◌, map, OnOk, ◌∷◌, ◌≤◌, ◌+◌, ◌^◌, [], ℕ, List, take, drop};
+ghost use Rattle.std.specs.List.{after_first, position_or_len};
+ghost use Rattle.bp_text.specs.Lines.{first_line, on_one_line, AddsOneLine, position_after, position_at};
 
-use crate::parts::{first_line, part_from};
+use std::alloc::AllocError;
 
 /// A line, without its line feed.
 #[derive(Clone, Copy, Debug)]
@@ -51,4 +54,141 @@ pub fn text_from_line(text: &[u8], number: usize) -> &[u8] {
 pub fn line_of(text: &[u8], number: usize) -> Option<Line<'_>> {
     let mut rest = text_from_line(text, number);
     take_line(&mut rest)
+}
+
+/// The byte, or a space for a line feed.
+fn on_one_line(byte: u8) -> u8
+    ensures { result ≡ on_one_line byte }
+{
+    if byte == b'\n' { b' ' } else { byte }
+}
+
+/// Adds the bytes, with a space for each line feed.
+pub fn push_on_one_line(line: &mut Vec<u8>, bytes: &[u8]) -> Result<(), AllocError>
+    ensures bytes { OnOk result (line.new.items ≡ line.old.items ++ map on_one_line bytes.now) }
+    ensures one_line { OnOk result (AddsOneLine line.old.items line.new.items) }
+{
+    for byte in bytes {
+        line.push(on_one_line(*byte))?;
+    }
+    Ok(())
+}
+
+/// A line and a column, both from 1. A column is a byte.
+#[derive(Clone, Copy, Debug, PartialEq, Eq)]
+pub struct Position {
+    pub line: usize,
+    pub column: usize,
+}
+
+/// Where a text begins.
+pub const FIRST: Position = Position { line: 1, column: 1 };
+
+/// The position after one more byte.
+fn after(position: Position, byte: u8) -> Position
+    requires line { position.line + 1 < 2 ^ 64 }
+    requires column { position.column + 1 < 2 ^ 64 }
+    ensures is { (before : List ℕ)
+        → position ≡ position_after before
+        → result ≡ position_after (before ++ byte ∷ []) }
+    ensures line { result.line ≤ position.line + 1 }
+    ensures column { result.column ≤ position.column + 1 }
+{
+    if byte == b'\n' {
+        return Position {
+            line: position.line + 1,
+            column: 1,
+        };
+    }
+    Position {
+        line: position.line,
+        column: position.column + 1,
+    }
+}
+
+/// The position after the bytes.
+pub fn after_all(position: Position, bytes: &[u8]) -> Position
+    requires line { position.line + length bytes.now < 2 ^ 64 }
+    requires column { position.column + length bytes.now < 2 ^ 64 }
+    ensures { (before : List ℕ)
+        → position ≡ position_after before
+        → result ≡ position_after (before ++ bytes.now) }
+{
+    let mut position = position;
+    for byte in bytes {
+        position = after(position, *byte);
+    }
+    position
+}
+
+/// The position of the byte at this offset, or that after the text where it has none.
+pub fn position_of(text: &[u8], at: usize) -> Position
+    ensures { result ≡ position_at text.now at }
+{
+    if at < text.len() {
+        return after_all(FIRST, &text[..at]);
+    }
+    after_all(FIRST, text)
+}
+
+/// The position of the byte at this offset, from that of another byte: quickly where that one is
+/// before it.
+pub fn position_from(text: &[u8], from: usize, position: Position, at: usize) -> Position
+    requires { position ≡ position_at text.now from }
+    ensures { result ≡ position_at text.now at }
+{
+    let size = text.len();
+    if from <= at && at < size {
+        return after_all(position, &text[from..at]);
+    }
+    position_of(text, at)
+}
+
+/// The bytes before this offset, or all of them where the text is shorter.
+pub fn part_before(text: &[u8], at: usize) -> &[u8]
+    ensures { result.now ≡ take at text.now }
+{
+    if at < text.len() {
+        return text.split_at(at).0;
+    }
+    text
+}
+
+/// The bytes from this offset on.
+pub fn part_from(text: &[u8], at: usize) -> &[u8]
+    ensures { result.now ≡ drop at text.now }
+{
+    if at < text.len() {
+        return text.split_at(at).1;
+    }
+    text.split_at(text.len()).1
+}
+
+/// How many bytes are before the first line feed, or in all where there is none.
+fn line_size(text: &[u8]) -> usize
+    ensures { result ≡ position_or_len (λ b. b == 10) text.now }
+{
+    for (i, byte) in text.iter().enumerate() {
+        if *byte == b'\n' {
+            return i;
+        }
+    }
+    text.len()
+}
+
+/// The bytes before the first line feed.
+pub fn first_line(text: &[u8]) -> &[u8]
+    ensures { result.now ≡ first_line text.now }
+{
+    part_before(text, line_size(text))
+}
+
+/// The bytes after the last line feed, or all where there is none.
+pub fn last_line(text: &[u8]) -> &[u8] {
+    for at in (0..text.len()).rev() {
+        if text[at] == b'\n' {
+            return part_from(text, at + 1);
+        }
+    }
+    text
 }

@@ -1,17 +1,12 @@
 //! Pieces of a text, and the calls that write them. A piece says what stands at its place.
+//! Fields of a line, filled with spaces to a width.
 ghost use Rattle.std.specs.Prelude.{◌≡◌, ◌++◌, decimal, flat_map, OnOk};
-ghost use Rattle.bp_text.specs.Pieces.{bit_text, key_text, list_text, piece_text, truth_text};
-ghost use Rattle.bp_text.specs.Sinks.{Given};
-ghost use Rattle.bp_text.specs.Writing.{Writes};
+ghost use Rattle.bp_text.specs.Pieces.{bit_text, key_text, list_text, piece_text, truth_text, spaces, at_left, at_right};
+ghost use Rattle.bp_text.specs.Writing.{Given, Writes};
 
-use crate::columns::{
-    push_bytes, push_left, push_right, push_spaces, put_left, put_right, put_spaces,
-};
-use crate::displayed::{push_displayed, put_displayed};
-use crate::json_strings::{push_string, put_string};
-use crate::parts::part_from;
-use crate::sinks::Sink;
-use crate::writing::WriteFault;
+use crate::displayed::{push_displayed, push_string, put_displayed, put_string};
+use crate::lines::part_from;
+use crate::sinks::{Sink, WriteFault};
 use itoa::Buffer;
 use std::alloc::AllocError;
 use std::io::Write;
@@ -199,4 +194,68 @@ pub fn push_pieces(line: &mut Vec<u8>, pieces: &[Piece<'_>]) -> Result<(), Alloc
         push_piece(line, *piece)?;
     }
     Ok(())
+}
+
+/// Adds the bytes.
+pub fn push_bytes(line: &mut Vec<u8>, bytes: &[u8]) -> Result<(), AllocError>
+    ensures { OnOk result (line.new.items ≡ line.old.items ++ bytes.now) }
+{
+    // Many pieces of a line are one byte or none, and to copy those takes far longer.
+    match bytes {
+        [] => Ok(()),
+        [byte] => {
+            line.push(*byte)?;
+            Ok(())
+        }
+        _ => line.extend_from_slice(bytes),
+    }
+}
+
+/// Adds this number of spaces.
+pub fn push_spaces(line: &mut Vec<u8>, count: usize) -> Result<(), AllocError>
+    ensures { OnOk result (line.new.items ≡ line.old.items ++ spaces count) }
+{
+    let size = line.len().checked_add(count).ok_or(AllocError)?;
+    line.resize(size, b' ')
+}
+
+/// Adds the bytes at the right of a field.
+pub fn push_right(line: &mut Vec<u8>, width: usize, bytes: &[u8]) -> Result<(), AllocError>
+    ensures { OnOk result (line.new.items ≡ line.old.items ++ at_right width bytes.now) }
+{
+    push_spaces(line, width.saturating_sub(bytes.len()))?;
+    push_bytes(line, bytes)
+}
+
+/// Adds the bytes at the left of a field.
+pub fn push_left(line: &mut Vec<u8>, width: usize, bytes: &[u8]) -> Result<(), AllocError>
+    ensures { OnOk result (line.new.items ≡ line.old.items ++ at_left width bytes.now) }
+{
+    push_bytes(line, bytes)?;
+    push_spaces(line, width.saturating_sub(bytes.len()))
+}
+
+/// Writes this number of spaces.
+pub(crate) fn put_spaces<W: Write>(count: usize, sink: &mut Sink<'_, W>)
+    ensures { Given W.contents sink.old sink.new (spaces count) }
+{
+    for done in 0..count {
+        sink.put(b" ");
+    }
+}
+
+/// Writes the bytes at the right of a field.
+pub(crate) fn put_right<W: Write>(width: usize, bytes: &[u8], sink: &mut Sink<'_, W>)
+    ensures { Given W.contents sink.old sink.new (at_right width bytes.now) }
+{
+    put_spaces(width.saturating_sub(bytes.len()), sink);
+    sink.put(bytes)
+}
+
+/// Writes the bytes at the left of a field.
+pub(crate) fn put_left<W: Write>(width: usize, bytes: &[u8], sink: &mut Sink<'_, W>)
+    ensures { Given W.contents sink.old sink.new (at_left width bytes.now) }
+{
+    sink.put(bytes);
+    put_spaces(width.saturating_sub(bytes.len()), sink)
 }

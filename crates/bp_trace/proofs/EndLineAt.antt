@@ -1,16 +1,77 @@
 -- The decimals of any length, and the end line, that begin a text.
-use Rattle.std.proofs.Common.{◌≡◌, ℕ, suc, ◌+◌, ◌<◌, ◌≤◌, List, ◌∷◌, ◌++◌, length, take, drop, get_or, Some, refl, ap, sym, ◌∙◌, subst, arith, length-append, codes, inl, inr, add-one, drop-cons, take-append-drop}
-use Rattle.std.specs.Prelude.{slice_get}
+use Rattle.std.proofs.Common.{◌≡◌, ◌≢◌, ℕ, ◌+◌, ◌<◌, ◌≤◌, Bool, List, [], ◌∷◌, ◌++◌, length, drop, None, Some, ap, sym, ◌∙◌, arith, length-append, decimal, suc, take, get_or, refl, subst, codes, inl, inr, add-one, drop-cons, take-append-drop, map, flat_map, Option, slice_get}
+use Rattle.std.proofs.lemmas.List.{drop_at, get_or-take, get_or_at, get_or_append_left, length-take-le, map-append, take_more}
 use Rattle.std.specs.Str.Parse.{AllDigits}
 use Rattle.std.proofs.lemmas.Bool.{cases_lt}
-use Rattle.std.proofs.lemmas.List.{get_or-take, get_or_at, get_or_append_left, length-take-le, drop_at}
-use Rattle.std.proofs.lemmas.Option.{slice_get-get_or, slice_get_within, get_or_from_slice_get}
+use Rattle.std.proofs.lemmas.Option.{slice_get-get_or, slice_get_within, get_or_from_slice_get, same_Some}
 use Rattle.std.proofs.lemmas.Str.Parse.{digit_at}
-use Rattle.bp_text.proofs.GrownLists.{regrouped}
-use Rattle.bp_trace.specs.Replays.{IsDecimal, IsEndLine}
-use Rattle.bp_trace.specs.EndReading.{IsNoDigit, IsDecimalAt, HasNoDecimal, IsEndAt, HasNoEnd}
-use Rattle.bp_trace.proofs.Cuts.{one_cut, digits_without}
-use Rattle.bp_trace.proofs.OneText.{front_cut}
+use Rattle.std.proofs.lemmas.List.Concat.{flat_map-append}
+use Rattle.bp_text.proofs.PartsOfTexts.{regrouped, both_added}
+use Rattle.bp_text.proofs.Givings.{flat_map_at}
+use Rattle.bp_machine.specs.declared.calls.Reply.{Reply}
+use Rattle.bp_machine.specs.declared.limits.TheConstants.{MAX_THREADS}
+use Rattle.bp_machine.specs.declared.calls.Call.{Call}
+use Rattle.bp_trace.specs.Drives.{number_at}
+use Rattle.bp_trace.specs.Reading.{IsThreadAt, HasNoThread, IsTailAt, HasNoTail, IsCallAt, HasNoCall, IsNoDigit, IsDecimalAt, HasNoDecimal, IsEndAt, HasNoEnd, IsSymbolAt, HasSymbols, IsBodyLineAt, HasNoBodyLine}
+use Rattle.bp_trace.specs.Replays.{IsDecimal, IsEndLine, IsBodyLine}
+use Rattle.bp_trace.specs.declared.traces.Version.TheVariants.{Two, One}
+use Rattle.bp_trace.specs.TraceText.{Symbol, Piece, call_of, symbol_text, piece_line, calls_of_piece, call_line}
+use Rattle.bp_trace.specs.declared.traces.Version.{Version}
+use Rattle.bp_trace.proofs.OneText.{one_number, call_then, one_cut, digits_without, front_cut, piece_then, symbols_alike, no_symbol_at_end, number_begins, one_call_line, one_piece_line}
+use Rattle.bp_trace.proofs.ScheduleLineAt.{reads_back, front, drop_front}
+
+-- The thread that begins a text, with a space after it.
+
+pub drop_more : (xs : List ℕ) (byte : ℕ) (ys : List ℕ) → drop (length xs + 1) (xs ++ byte ∷ ys) ≡ ys
+drop_more xs byte ys = simp regrouped at (drop_at (xs ++ byte ∷ []) ys (length xs + 1) (length-append xs (byte ∷ [])))
+
+module _ (n : ℕ) (text : List ℕ) (few : n ≤ MAX_THREADS) where
+  -- a thread that begins the text is the number that is read
+  is_read : (i : ℕ) (more : List ℕ) → i < n → text ≡ decimal i ++ 32 ∷ more → number_at text ≡ Some i
+  is_read i more below e = ap number_at e ∙ reads_back i more (omega (arith, below, few))
+
+  pub no_number : number_at text ≡ None → HasNoThread n text
+  no_number none = λ i more below e. let a = none in let b = is_read i more below e in cc
+
+  module _ (t : ℕ) (number : number_at text ≡ Some t) where
+    same : (i : ℕ) (more : List ℕ) → i < n → text ≡ decimal i ++ 32 ∷ more → t ≡ i
+    same i more below e = let a = number in let b = is_read i more below e in cc
+
+    pub past_threads : n ≤ t → HasNoThread n text
+    past_threads past = λ i more below e. omega (arith, past, below, same i more below e)
+
+    pub no_space : ((more : List ℕ) → drop (length (decimal t)) text ≢ 32 ∷ more) → HasNoThread n text
+    no_space none = λ i more below e.
+        let at = ap (λ k. decimal k) (same i more below e) in
+        none more (ap (λ ds. drop (length ds) text) at ∙ ap (drop (length (decimal i))) e ∙ drop_front (decimal i) (32 ∷ more))
+
+    pub has_thread : t < n → (more : List ℕ) → drop (length (decimal t)) text ≡ 32 ∷ more → IsThreadAt n text t
+    has_thread below more e = (more, below, front text t number ∙ ap (λ x. decimal t ++ x) e)
+
+-- the call that begins a text, where its thread does
+module _ (n : ℕ) (text : List ℕ) where
+  pub no_thread_no_call : HasNoThread n text → HasNoCall n text
+  no_thread_no_call none = λ x more below e. none x.thread _ below (e ∙ call_then x more)
+
+  module _ (few : n ≤ MAX_THREADS) (t : ℕ) (at : IsThreadAt n text t) where
+    pub after : drop (length (decimal t) + 1) text ≡ at.0
+    after = ap (drop (length (decimal t) + 1)) at.2 ∙ drop_more (decimal t) 32 at.0
+
+    pub one_thread : (i : ℕ) (more : List ℕ) → i < n → text ≡ decimal i ++ 32 ∷ more → (t ≡ i) × (at.0 ≡ more)
+    one_thread i more below e = one_number 32 (omega arith) t i at.0 more (omega (arith, at.1, few)) (omega (arith, below, few)) (sym at.2 ∙ e)
+
+    pub within_text : length (decimal t) + 1 ≤ length text
+    within_text = let whole = ap length at.2 in omega (arith, whole, length-append (decimal t) (32 ∷ at.0))
+
+    pub no_tail_no_call : HasNoTail (drop (length (decimal t) + 1) text) → HasNoCall n text
+    no_tail_no_call none = λ x more below e.
+        let same = one_thread x.thread _ below (e ∙ call_then x more) in
+        none x.bit x.reply more (after ∙ same.1)
+
+    pub tail_is_call : (bit : Bool) (reply : Reply) → IsTailAt (drop (length (decimal t) + 1) text) (bit, reply)
+        → IsCallAt n text (record { thread = t; bit = bit; reply = reply })
+    tail_is_call bit reply tail =
+        (tail.0, at.1, at.2 ∙ ap (λ r. decimal t ++ 32 ∷ r) (sym after ∙ tail.1) ∙ sym (call_then (record { thread = t; bit = bit; reply = reply }) tail.0))
 
 -- ---- a decimal and the byte after it
 
@@ -136,3 +197,154 @@ module _ (text : List ℕ) where
                   length-append second.digits (codes "\n"),
                 );
           }
+
+-- The line of calls that begins a text.
+
+-- ---- the symbols
+
+-- what was read of the symbols at the front of a text, up to this place
+pub record HasRead (i : ℕ) (text : List ℕ) (old new : List Call) (size : ℕ) : Type 0 where
+  pub symbols : List Symbol
+  pub within : size ≤ length text
+  pub added : new ≡ old ++ map (call_of i) symbols
+  pub begins : text ≡ flat_map symbol_text symbols ++ drop size text
+  pub size_is : size ≡ length (flat_map symbol_text symbols)
+
+module _ (i : ℕ) (text : List ℕ) (old : List Call) where
+  module _ (new : List Call) (size : ℕ) (read : HasRead i text old new size) where
+    pub symbol_read : (bit : Bool) (reply : Reply) (newer : List Call) → IsSymbolAt (drop size text) (bit, reply)
+        → newer ≡ new ++ record { thread = i; bit = bit; reply = reply } ∷ [] → HasRead i text old newer (size + 2)
+    symbol_read bit reply newer pair added =
+        let symbol : Symbol = record { bit = bit; reply = reply } in
+        let before = flat_map symbol_text read.symbols in
+        let now = before ++ symbol_text symbol in
+        let texts : flat_map symbol_text (read.symbols ++ symbol ∷ []) ≡ now = flat_map-append symbol_text read.symbols (symbol ∷ []) in
+        let long : length now ≡ size + 2 = omega (arith, read.size_is, length-append before (symbol_text symbol)) in
+        let whole : text ≡ now ++ pair.0 = read.begins ∙ ap (λ t. before ++ t) pair.1 ∙ simp regrouped in
+        let rest : drop (size + 2) text ≡ pair.0 = ap (drop (size + 2)) whole ∙ drop_at now pair.0 (size + 2) long in
+        record {
+          symbols = read.symbols ++ symbol ∷ [];
+          within = omega (arith, long, ap length whole, length-append now pair.0);
+          added = both_added old new newer _ _ _ added read.added (sym (map-append (call_of i) read.symbols (symbol ∷ [])));
+          begins = whole ∙ ap (λ t. t ++ pair.0) (sym texts) ∙ ap (λ t. flat_map symbol_text (read.symbols ++ symbol ∷ []) ++ t) (sym rest);
+          size_is = sym long ∙ ap length (sym texts);
+        }
+
+-- ---- the line of a piece
+
+-- the byte after a front of a text
+byte_after : (front more : List ℕ) (d : ℕ) → slice_get (front ++ more) (length front) ≡ Some d → more ≡ d ∷ drop 1 more
+byte_after [] [] d e = absurd (cc)
+byte_after [] (m ∷ ms) d e = ap (λ x. x ∷ ms) (same_Some m d e)
+byte_after (f ∷ fs) more d e = byte_after fs more d e
+
+reads_after : (front more : List ℕ) (d : ℕ) → slice_get (front ++ d ∷ more) (length front) ≡ Some d
+reads_after [] more d = refl
+reads_after (f ∷ fs) more d = reads_after fs more d
+
+module _ (n : ℕ) (last : Option ℕ) (text : List ℕ) where
+  module _ (few : n ≤ MAX_THREADS) (t : ℕ) (at : IsThreadAt n text t) where
+    abbrev rest : List ℕ
+    rest = drop (length (decimal t) + 1) text
+
+    -- the thread of a piece that begins the text, and what is after it
+    same_thread : (p : Piece) (more : List ℕ) → p.thread < n → text ≡ piece_line p ++ more
+        → (t ≡ p.thread) × (rest ≡ flat_map symbol_text (p.first ∷ p.others) ++ 10 ∷ more)
+    same_thread p more below begins =
+        let same = one_thread n text few t at p.thread _ below (begins ∙ piece_then p more) in
+        (same.0, after n text few t at ∙ same.1)
+
+    pub no_piece_of_last : last ≡ Some t → HasNoBodyLine Two n last text
+    no_piece_of_last is = λ line calls more b begins.
+        let same = same_thread b.piece more b.thread (begins ∙ ap (λ l. l ++ more) b.is) in
+        b.other (ap Some (sym same.0) ∙ sym is)
+
+    module _ (calls : List Call) (size : ℕ) (read : HasSymbols t rest [] calls size) where
+      pub no_piece : (0 < size → slice_get rest size ≡ Some 10 → ⊥) → HasNoBodyLine Two n last text
+      no_piece none = λ line others more b begins.
+          let symbols = b.piece.first ∷ b.piece.others in
+          let same = same_thread b.piece more b.thread (begins ∙ ap (λ l. l ++ more) b.is) in
+          let alike = symbols_alike read.symbols symbols read.more (10 ∷ more) read.ends (no_symbol_at_end more) (sym read.begins ∙ same.1) in
+          let long : size ≡ length (flat_map symbol_text symbols) = read.size_is ∙ ap (λ ts. length (flat_map symbol_text ts)) alike.0 in
+          none (omega (arith, long))
+          (ap (λ text. slice_get text size) same.1 ∙ ap (slice_get (flat_map symbol_text symbols ++ 10 ∷ more)) long
+          ∙ reads_after (flat_map symbol_text symbols) more 10)
+
+      pub has_piece : last ≢ Some t → 0 < size → slice_get rest size ≡ Some 10 → IsBodyLineAt Two n last text calls (length (decimal t) + size + 2)
+      has_piece other some ended = go read.symbols read.more read.added read.begins read.size_is
+        where
+          go : (ts : List Symbol) (more : List ℕ) → calls ≡ map (call_of t) ts → rest ≡ flat_map symbol_text ts ++ more
+              → size ≡ length (flat_map symbol_text ts)
+              → IsBodyLineAt Two n last text calls (length (decimal t) + size + 2)
+          go [] more added begins long = absurd (omega (arith, long, some))
+          go (u ∷ us) more added begins long =
+              let symbols = flat_map symbol_text (u ∷ us) in
+              let p : Piece = record { thread = t; first = u; others = us } in
+              let at_end : slice_get (symbols ++ more) (length symbols) ≡ Some 10 =
+              ap (slice_get (symbols ++ more)) (sym long) ∙ ap (λ text. slice_get text size) (sym begins) ∙ ended in
+              let line = byte_after symbols more 10 at_end in
+              record {
+                line = piece_line p;
+                more = drop 1 more;
+                is_line = record { piece = p; thread = at.1; other = λ e. other (sym e); is = refl; holds = added };
+                begins =
+                    at.2
+                    ∙ ap (λ r. decimal t ++ 32 ∷ r) (sym (after n text few t at) ∙ begins ∙ ap (λ r. symbols ++ r) line)
+                    ∙ sym (piece_then p (drop 1 more));
+                size_is = omega (arith, long, length-append (decimal t) (32 ∷ (symbols ++ codes "\n")), length-append symbols (codes "\n"));
+              }
+
+-- One line begins a text: no two lines of calls do, no two end lines, and no line of each kind.
+
+module _ (n : ℕ) (few : n ≤ MAX_THREADS) (last : Option ℕ) where
+  -- two lines of calls that begin one text are one
+  pub one_body_line : (v : Version) (line other : List ℕ) (calls others : List Call) (x y : List ℕ)
+      → IsBodyLine n last line calls v → IsBodyLine n last other others v → line ++ x ≡ other ++ y → (line ≡ other) × (calls ≡ others) × (x ≡ y)
+  one_body_line One line other calls others x y p q e =
+      let both = ap (λ l. l ++ x) (sym p.is) ∙ e ∙ ap (λ l. l ++ y) q.is in
+      let same = one_call_line p.call q.call x y (omega (arith, p.thread, few)) (omega (arith, q.thread, few)) both in
+      (p.is ∙ ap call_line same.0 ∙ sym q.is, p.holds ∙ ap (λ c. c ∷ []) same.0 ∙ sym q.holds, same.1)
+  one_body_line Two line other calls others x y p q e =
+      let both = ap (λ l. l ++ x) (sym p.is) ∙ e ∙ ap (λ l. l ++ y) q.is in
+      let same = one_piece_line p.piece q.piece x y (omega (arith, p.thread, few)) (omega (arith, q.thread, few)) both in
+      (p.is ∙ ap piece_line same.0 ∙ sym q.is, p.holds ∙ ap calls_of_piece same.0 ∙ sym q.holds, same.1)
+
+  -- a line of calls begins with a digit, and an end line with a letter
+  pub not_both : (v : Version) (line end : List ℕ) (calls : List Call) (x y : List ℕ)
+      → IsBodyLine n last line calls v → IsEndLine end → line ++ x ≢ end ++ y
+  not_both One line end calls x y p q e =
+      number_begins p.call.thread _ 101 _ (omega (arith, p.thread, few)) (omega arith)
+      (sym (call_then p.call x) ∙ ap (λ l. l ++ x) (sym p.is) ∙ e ∙ end_then end y q)
+  not_both Two line end calls x y p q e =
+      number_begins p.piece.thread _ 101 _ (omega (arith, p.thread, few)) (omega arith)
+      (sym (piece_then p.piece x) ∙ ap (λ l. l ++ x) (sym p.is) ∙ e ∙ end_then end y q)
+
+-- two end lines that begin one text are one
+pub one_end_line : (line other x y : List ℕ) → IsEndLine line → IsEndLine other → line ++ x ≡ other ++ y → (line ≡ other) × (x ≡ y)
+one_end_line line other x y p q e =
+    let both = front_cut (codes "end ") _ _ (sym (end_then line x p) ∙ e ∙ end_then other y q) in
+    let calls = one_cut 32 p.calls q.calls (p.left_open ++ 10 ∷ x) (q.left_open ++ 10 ∷ y)
+    (digits_without 32 (omega arith) p.calls p.first.each) (digits_without 32 (omega arith) q.calls q.first.each)
+    both in
+    let left_open = one_cut 10 p.left_open q.left_open x y (digits_without 10 (omega arith) p.left_open p.second.each)
+    (digits_without 10 (omega arith) q.left_open q.second.each) calls.1 in (
+      p.is
+          ∙ ap (λ t. codes "end " ++ (t ++ (codes " " ++ (p.left_open ++ codes "\n")))) calls.0
+          ∙ ap (λ t. codes "end " ++ (q.calls ++ (codes " " ++ (t ++ codes "\n")))) left_open.0
+          ∙ sym q.is,
+      left_open.1,
+    )
+
+-- A text that is the texts of a list's elements, read one after the other.
+
+module _ {X : Type 0} (f : X → List ℕ) (xs : List X) (i : ℕ) (x : X) (within : i < length xs) (text rest : List ℕ)
+    (before : text ≡ flat_map f (take i xs) ++ rest) where
+  -- the i-th begins the rest
+  pub one_more : (after : List ℕ) → rest ≡ f (get_or xs i x) ++ after → text ≡ flat_map f (take (i + 1) xs) ++ after
+  one_more after e =
+      before ∙ rw (e, take_more xs i x within) (simp (regrouped, flat_map-append))
+
+  -- it does not
+  pub one_missing : ((after : List ℕ) → rest ≢ f (get_or xs i x) ++ after) → text ≢ flat_map f xs
+  one_missing none = λ whole.
+      none (flat_map f (drop (i + 1) xs)) (front_cut (flat_map f (take i xs)) rest _ (sym before ∙ whole ∙ flat_map_at f xs i x within))

@@ -1,15 +1,44 @@
 -- Where a head stops: at the line that is due.
-use Rattle.std.proofs.Common.{◌≡◌, ◌≢◌, ◌⊎◌, inl, inr, ℕ, ◌+◌, ◌<◌, ◌^◌, Bool, List, [], ◌∷◌, ◌++◌, length, map, None, refl, sym, ap, ◌∙◌, arith, codes, decimal}
+use Rattle.std.proofs.Common.{◌≡◌, ◌≢◌, ℕ, ◌<◌, Bool, List, [], ◌∷◌, length, get_or, map, Option, None, Some, suc, zero, refl, ap, ◌∙◌, arith, codes, ◌⊎◌, inl, inr, ◌+◌, ◌^◌, ◌++◌, sym, decimal, ◌-◌, MatchOption, IfOk, Result, Ok, Err}
 use Rattle.std.specs.List.{AllByRecursion, concat}
 use Rattle.std.proofs.lemmas.List.{length-append, length-map}
-use Rattle.bp_text.proofs.GrownLists.{regrouped}
+use Rattle.bp_text.proofs.PartsOfTexts.{regrouped}
 use Rattle.bp_machine.specs.Setups.{SetupOf, setup_of}
-use Rattle.bp_trace.specs.declared.versions.Version.{Version}
-use Rattle.bp_trace.specs.declared.versions.Version.TheVariants.{One}
-use Rattle.bp_trace.specs.Heads.{IsEntryName, HasHead, BeginsHead, HeadStops}
-use Rattle.bp_trace.specs.HeadReading.{HasNoVersion, HasNoEntry, AreEntriesAt, HasNoInit, HasNoNumber, HasNoSeed}
-use Rattle.bp_trace.specs.TraceText.{version_line, entry_line, init_line, field_line, seed_word, setting_lines}
-use Rattle.bp_trace.proofs.Cuts.{same_head}
+use Rattle.bp_trace.specs.Reading.{AreNoBits, IsNoInit, HasNoVersion, HasNoEntry, AreEntriesAt, HasNoInit, HasNoNumber, HasNoSeed}
+use Rattle.bp_trace.specs.TraceText.{bit_digit, init_digits, IsEntryName, HasHead, BeginsHead, HeadStops, version_line, entry_line, init_line, field_line, seed_word, setting_lines, head_lines, head_text}
+use Rattle.bp_trace.specs.declared.traces.Version.{Version}
+use Rattle.bp_trace.specs.declared.traces.Version.TheVariants.{One}
+use Rattle.bp_trace.proofs.OneText.{same_head}
+
+-- When a value says initial bits.
+
+each_is_bit : (bits : List Bool) (i : ℕ) → i < length (map bit_digit bits) → ((b : Bool) → get_or (map bit_digit bits) i 0 ≢ bit_digit b) → ⊥
+each_is_bit [] i within none = omega arith
+each_is_bit (b ∷ bits) zero within none = none b refl
+each_is_bit (b ∷ bits) (suc i) within none = each_is_bit bits i (omega arith) none
+
+pub no_bit_at : (digits : List ℕ) (i : ℕ) → i < length digits → ((b : Bool) → get_or digits i 0 ≢ bit_digit b) → AreNoBits digits
+no_bit_at digits i within none = λ bits e. each_is_bit bits i (omega (arith, within, ap length e)) (λ b at. none b (ap (λ ds. get_or ds i 0) e ∙ at))
+
+module _ (value : List ℕ) (some : value ≢ []) (no_dash : value ≢ codes "-") where
+  other_than_bits : AreNoBits value → IsNoInit value
+  other_than_bits none [] e = no_dash e
+  other_than_bits none (b ∷ bits) e = none (b ∷ bits) e
+
+  bits_are_init : (bits : List Bool) → value ≡ map bit_digit bits → value ≡ init_digits bits
+  bits_are_init [] e = absurd (some e)
+  bits_are_init (b ∷ bits) e = e
+
+  init_is : {X : Type 0} (bits_of : X → List Bool) (o : Option X) → MatchOption o (AreNoBits value) (λ x. value ≡ map bit_digit (bits_of x))
+      → MatchOption o (IsNoInit value) (λ x. value ≡ init_digits (bits_of x))
+  init_is bits_of None none = other_than_bits none
+  init_is bits_of (Some x) e = bits_are_init (bits_of x) e
+
+  pub init_ok : {X E : Type 0} (r : Result (Option X) E) (bits_of : X → List Bool)
+      → IfOk r (λ o. MatchOption o (AreNoBits value) (λ x. value ≡ map bit_digit (bits_of x)))
+      → IfOk r (λ o. MatchOption o (IsNoInit value) (λ x. value ≡ init_digits (bits_of x)))
+  init_ok (Ok o) bits_of is = init_is bits_of o is
+  init_ok (Err e) bits_of is = tt
 
 abbrev pub contexts_line : ℕ → List ℕ
 contexts_line n = field_line (codes "contexts ") (decimal n)
@@ -175,3 +204,15 @@ module _ (text : List ℕ) (v : Version) (es : List (List ℕ)) (rest : List ℕ
                 let last_two = (same_head _ _ _ _ limits).1 in
                 let last = (same_head _ _ _ _ last_two).1 in
                 no_seed (b.setup).seed more (b.has).seed (e ∙ ap (λ t. t ++ more) (sym (same_head _ _ _ _ last).0))
+
+-- The lines of a whole head are its text.
+
+module _ (text : List ℕ) (v : Version) (s : SetupOf) (rest : List ℕ) (p : AreLinesAt text v s.entries (setting_lines s) rest) where
+  pub whole_text : text ≡ head_text v s ++ rest
+  whole_text = p.parts ∙ sym (lines_join v s.entries (setting_lines s) rest)
+
+  pub whole_size : length text - length rest ≡ length (head_text v s)
+  whole_size = omega (arith, ap length whole_text, length-append (head_text v s) rest)
+
+pub line_total : (v : Version) (s : SetupOf) → length (head_lines v s) ≡ length s.entries + 5
+line_total v s = omega (arith, length-append (map entry_line s.entries) (setting_lines s), length-map s.entries entry_line)

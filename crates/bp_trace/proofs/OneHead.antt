@@ -1,18 +1,105 @@
 -- A text has one head, or stops being one at one line.
-use Rattle.std.proofs.Common.{rules, ◌≡◌, ◌≢◌, ℕ, ◌+◌, ◌<◌, List, [], ◌∷◌, ◌++◌, length, map, refl, sym, ap, subst, ◌∙◌, arith, codes, decimal}
+use Rattle.std.proofs.Common.{List, [], ◌∷◌, ◌++◌, ℕ, ◌+◌, ◌≤◌, length, ap, ◌∙◌, arith, ◌≡◌, ◌≢◌, Option, None, Some, refl, sym, codes, decimal, rules, ◌<◌, map, subst}
 use Rattle.std.specs.List.{AllByRecursion, concat}
-use Rattle.std.proofs.lemmas.List.{append-nil, length-append}
+use Rattle.std.proofs.lemmas.List.{length-append, map_push, append_cancel_left, append-nil}
 use Rattle.std.proofs.lemmas.List.Folds.{concat-append}
-use Rattle.bp_text.proofs.GrownLists.{regrouped}
+use Rattle.bp_text.specs.Pieces.{IsNoNumber}
+use Rattle.bp_text.proofs.PartsOfTexts.{regrouped}
 use Rattle.bp_machine.specs.Setups.{SetupOf}
-use Rattle.bp_trace.specs.declared.versions.Version.{Version}
-use Rattle.bp_trace.specs.declared.versions.Version.TheVariants.{One, Two}
-use Rattle.bp_trace.specs.Heads.{IsEntryName, HasHead, BeginsHead, HeadStops}
-use Rattle.bp_trace.specs.TraceText.{version_line, entry_line, field_line, init_digits, seed_word, setting_lines, head_lines, head_text}
-use Rattle.bp_trace.specs.Writable.{Without}
-use Rattle.bp_trace.proofs.AllOfBoth.{all_of_both, all_of_first, one_between}
-use Rattle.bp_trace.proofs.Cuts.{one_cut, decimal_without}
-use Rattle.bp_trace.proofs.OneText.{HasLines, heads_alike, init_without, seed_without}
+use Rattle.bp_trace.specs.TraceText.{IsEntryName, entry_line, init_digits, field_line, seed_word, Without, HasHead, BeginsHead, HeadStops, version_line, setting_lines, head_lines, head_text}
+use Rattle.bp_trace.specs.Reading.{IsEntryAt, AreEntriesAt, BeginsWithLine, IsFieldAt, HasNoField, HasNoEntry, IsNoInit, HasNoInit, HasNoNumber, IsSeed, HasNoSeed}
+use Rattle.bp_trace.specs.declared.traces.Version.{Version}
+use Rattle.bp_trace.specs.declared.traces.Version.TheVariants.{One, Two}
+use Rattle.bp_trace.proofs.OneText.{one_cut, decimal_without, init_without, seed_without, HasLines, heads_alike}
+
+-- What holds of each element of two lists holds of each of both, and what of both of each.
+
+module _ {X : Type 0} (P : X → Type 0) where
+  pub all_of_both : (a b : List X) → AllByRecursion P a → AllByRecursion P b → AllByRecursion P (a ++ b)
+  all_of_both [] b p q = q
+  all_of_both (x ∷ a) b p q = (p.0, all_of_both a b p.1 q)
+
+  pub all_of_first : (a b : List X) → AllByRecursion P (a ++ b) → AllByRecursion P a
+  all_of_first [] b p = tt
+  all_of_first (x ∷ a) b p = (p.0, all_of_first a b p.1)
+
+  pub all_of_second : (a b : List X) → AllByRecursion P (a ++ b) → AllByRecursion P b
+  all_of_second [] b p = p
+  all_of_second (x ∷ a) b p = all_of_second a b p.1
+
+  pub one_between : (a : List X) (x : X) (b : List X) → AllByRecursion P (a ++ x ∷ b) → P x
+  one_between [] x b p = p.0
+  one_between (y ∷ a) x b p = one_between a x b p.1
+
+-- One more entry line.
+
+module _ (rest name after : List ℕ) (q : IsEntryAt rest name after) where
+  pub entries_more : (text : List ℕ) (names : List (List ℕ)) → AreEntriesAt text names rest → AreEntriesAt text (names ++ name ∷ []) after
+  entries_more text names p =
+      record {
+        names_are = all_of_both IsEntryName names (name ∷ []) p.names_are (q.name_is, tt);
+        parts = p.parts ∙ rw q.parts (simp (regrouped, map_push));
+      }
+
+  pub rest_shorter : length after + 1 ≤ length rest
+  rest_shorter = omega (arith, ap length q.parts, length-append (entry_line name) after)
+
+-- A line of a word has one value.
+
+no_cut : (line a rest : List ℕ) → Without 10 line → line ≢ a ++ 10 ∷ rest
+no_cut [] [] rest p e = absurd (cc)
+no_cut [] (b ∷ a) rest p e = absurd (cc)
+no_cut (c ∷ line) [] rest p e = p.0 (cc)
+no_cut (c ∷ line) (b ∷ a) rest p e = no_cut line a rest p.1 (cc)
+
+module _ (word text : List ℕ) where
+  field_then : (value rest : List ℕ) → field_line word value ++ rest ≡ word ++ (value ++ 10 ∷ rest)
+  field_then value rest = simp regrouped
+
+  pub no_word : ((rest : List ℕ) → text ≢ word ++ rest) → HasNoField word text
+  no_word none = λ value rest p e. none (value ++ 10 ∷ rest) (e ∙ field_then value rest)
+
+  module _ (after : List ℕ) (is : text ≡ word ++ after) where
+    pub no_line : Without 10 after → HasNoField word text
+    no_line none = λ value rest p e. no_cut after value rest none (append_cancel_left word _ _ (sym is ∙ e ∙ field_then value rest))
+
+    pub has_field : (value rest : List ℕ) → BeginsWithLine after value rest → IsFieldAt word text value rest
+    has_field value rest p = record { value_is = p.line_is; parts = is ∙ ap (λ t. word ++ t) p.parts ∙ sym (field_then value rest) }
+
+  pub no_field_no_number : HasNoField word text → HasNoNumber word text
+  no_field_no_number none = λ n rest fits e. none (decimal n) rest (decimal_without 10 (omega arith) n fits) e
+
+  -- a value that is said otherwise is the same
+  module _ (value rest : List ℕ) (p : IsFieldAt word text value rest) where
+    one_value : (other more : List ℕ) → Without 10 other → text ≡ field_line word other ++ more → value ≡ other
+    one_value other more q e =
+        (one_cut 10 value other rest more p.value_is q
+        (append_cancel_left word _ _ (sym (field_then value rest) ∙ sym p.parts ∙ e ∙ field_then other more))).0
+
+    pub no_number : IsNoNumber value → HasNoNumber word text
+    no_number none = λ n more fits e. none n fits (one_value (decimal n) more (decimal_without 10 (omega arith) n fits) e)
+
+module _ (text : List ℕ) where
+  pub no_seed : HasNoField (codes "seed ") text → HasNoSeed text
+  no_seed none = λ seed rest fits e. none (seed_word seed) rest (seed_without seed fits) e
+
+  pub no_init : HasNoField (codes "init ") text → HasNoInit text
+  no_init none = λ bits rest e. none (init_digits bits) rest (init_without bits) e
+
+  module _ (value rest : List ℕ) where
+    pub no_name : IsFieldAt (codes "entry ") text value rest → value ≡ [] → HasNoEntry text
+    no_name p none = λ name more q e. q.some (sym (one_value (codes "entry ") text value rest p name more q.line e) ∙ none)
+
+    pub no_bits : IsFieldAt (codes "init ") text value rest → IsNoInit value → HasNoInit text
+    no_bits p none = λ bits more e. none bits (one_value (codes "init ") text value rest p (init_digits bits) more (init_without bits) e)
+
+    module _ (p : IsFieldAt (codes "seed ") text value rest) where
+      pub no_seed_word : value ≢ codes "none" → IsNoNumber value → HasNoSeed text
+      no_seed_word word number = λ seed more fits e. go seed fits (one_value (codes "seed ") text value rest p (seed_word seed) more (seed_without seed fits) e)
+        where
+          go : (seed : Option ℕ) → IsSeed seed → value ≡ seed_word seed → ⊥
+          go None fits same = word same
+          go (Some n) fits same = number n (fits n refl) same
 
 names_without : (es : List (List ℕ)) → AllByRecursion IsEntryName es → AllByRecursion (Without 10) es
 names_without [] p = tt

@@ -1,32 +1,28 @@
 -- A text has at most one refusal, and one that is refused is no trace.
 use Rattle.std.proofs.Common.{◌≡◌, ◌≢◌, ℕ, ◌+◌, ◌<◌, ◌≤◌, List, ◌++◌, length, None, Some, refl, ap, sym, ◌∙◌, ◌⊎◌, inl, inr, subst, arith}
 use Rattle.std.specs.List.{AllByRecursion}
-use Rattle.bp_tree.specs.Ast.{Program}
+use Rattle.bp_language.specs.Ast.{Program}
 use Rattle.bp_language.specs.Texts.{HasText}
 use Rattle.bp_language.specs.declared.limits.TheConstants.{TEXT_LIMIT}
-use Rattle.bp_language.proofs.ShortNames.{short_names}
+use Rattle.bp_language.proofs.NamesOfTokens.{short_names}
 use Rattle.bp_language.specs.Faults.{IsLawful}
 use Rattle.bp_machine.specs.declared.setup_faults.SetupFault.{SetupFault}
-use Rattle.bp_machine.proofs.NamesOfEntries.{entries_are_names}
-use Rattle.bp_machine.proofs.SetupInRange.{fits, few_threads, few_calls, range_of}
+use Rattle.bp_machine.proofs.SetupInRange.{entries_are_names, fits, few_threads, few_calls, range_of}
 use Rattle.bp_machine.specs.declared.calls.Call.{Call}
 use Rattle.bp_machine.specs.declared.limits.TheConstants.{MAX_THREADS}
 use Rattle.bp_machine.specs.Histories.{open_lines}
 use Rattle.bp_machine.specs.Setups.{SetupOf, threads, setup_fault}
-use Rattle.bp_trace.specs.declared.replay_faults.ReplayFault.{ReplayFault}
-use Rattle.bp_trace.specs.declared.replay_faults.ReplayFault.TheVariants as fault
-use Rattle.bp_trace.specs.declared.versions.Version.{Version}
+use Rattle.bp_trace.specs.declared.faults.ReplayFault.{ReplayFault}
+use Rattle.bp_trace.specs.declared.faults.ReplayFault.TheVariants as fault
+use Rattle.bp_trace.specs.declared.traces.Version.{Version}
 use Rattle.bp_trace.specs.declared.limits.TheConstants.{MAX_TRACE}
-use Rattle.bp_trace.specs.Heads.{HasHead, HeadStops}
+use Rattle.bp_trace.specs.TraceText.{HasHead, HeadStops, head_lines, head_text, calls_text, end_line}
 use Rattle.bp_trace.specs.Laws.{OneRefusal, RefusedIsNoTrace}
 use Rattle.bp_trace.specs.Replays.{IsTrace, line_count, Reaches, HasRefusedSetup, HasRefusedRest, IsReplayRefusal, IsEndLine, IsRestRefused}
-use Rattle.bp_trace.specs.TraceText.{head_lines, head_text, calls_text, end_line}
 use Rattle.bp_trace.proofs.OneHead.{one_head, one_head_stop, whole_head_stops_nowhere}
 use Rattle.bp_trace.proofs.OneText.{front_cut}
-use Rattle.bp_trace.proofs.OwnEnds.{own_end}
-use Rattle.bp_trace.proofs.TraceLength.{trace_short}
-use Rattle.bp_trace.proofs.OneHistoryAfter.{one_history}
-use Rattle.bp_trace.proofs.OneRest.{refused, stops, one_rest, end_stops, end_not_refused}
+use Rattle.bp_trace.proofs.TraceLength.{own_end, trace_short}
+use Rattle.bp_trace.proofs.OneHistoryAfter.{one_history, refused, stops, one_rest, end_stops, end_not_refused}
 
 module _ (t : Program) (text : List ℕ) where
   -- a text that reaches what is after two histories, and what refuses it there

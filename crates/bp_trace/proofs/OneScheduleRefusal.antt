@@ -1,17 +1,16 @@
 -- A schedule has at most one refusal, and one that is refused drives its program to no history.
-use Rattle.std.proofs.Common.{◌≡◌, ◌≢◌, ℕ, ◌+◌, ◌<◌, ◌≤◌, List, [], ◌∷◌, ◌++◌, length, refl, ap, sym, ◌∙◌, subst, arith}
+use Rattle.std.proofs.Common.{◌≡◌, ◌≢◌, ℕ, ◌+◌, ◌<◌, ◌≤◌, List, [], ◌∷◌, ◌++◌, length, refl, ap, sym, ◌∙◌, subst, arith, append-nil}
 use Rattle.std.proofs.lemmas.Bool.{false≢true}
-use Rattle.std.proofs.lemmas.List.{append-nil}
-use Rattle.bp_text.proofs.GrownLists.{regrouped}
-use Rattle.bp_tree.specs.Ast.{Program}
+use Rattle.bp_text.proofs.PartsOfTexts.{regrouped}
+use Rattle.bp_language.specs.Ast.{Program}
 use Rattle.bp_machine.specs.declared.calls.Call.{Call}
 use Rattle.bp_machine.specs.declared.limits.TheConstants.{MAX_THREADS}
 use Rattle.bp_machine.specs.Setups.{SetupOf, threads}
 use Rattle.bp_machine.specs.Histories.{is_finished, IsAllowed, IsLegalAfter}
 use Rattle.bp_trace.specs.declared.faults.DriveFault.TheVariants as drive
 use Rattle.bp_trace.specs.declared.limits.TheConstants.{MAX_SCHEDULE}
-use Rattle.bp_trace.specs.declared.schedules.ScheduleLine.{ScheduleLine}
-use Rattle.bp_trace.specs.Schedules.{line_text, line_of_call, lines_of_history, schedule_text}
+use Rattle.bp_trace.specs.declared.driving.ScheduleLine.{ScheduleLine}
+use Rattle.bp_trace.specs.TraceText.{line_text, line_of_call, lines_of_history, schedule_text}
 use Rattle.bp_trace.specs.Drives.{IsDriven, IsBadLine, IsAfterFinish}
 use Rattle.bp_trace.specs.Laws.{OneScheduleRefusal, RefusedDrivesNowhere}
 use Rattle.bp_trace.proofs.LinesDriveAgain.{same_line, same_rest, same_call, not_empty}

@@ -1,27 +1,89 @@
 -- No two triples of version, setup and history have one text.
-use Rattle.std.proofs.Common.{◌≡◌, ℕ, ◌<◌, ◌≤◌, ◌^◌, ◌==◌, Bool, true, false, List, [], ◌∷◌, ◌++◌, length, map, flat_map, Option, None, Some, refl, sym, ap, ◌∙◌, arith, codes, decimal}
-use Rattle.std.specs.Prelude.{if◌then◌else◌}
-use Rattle.std.specs.List.{AllByRecursion}
-use Rattle.std.proofs.lemmas.List.{append-nil}
-use Rattle.std.proofs.lemmas.Fmt.{decimal_injective}
-use Rattle.bp_text.proofs.GrownLists.{regrouped}
+use Rattle.std.proofs.Common.{◌≡◌, ℕ, ◌<◌, ◌^◌, List, [], ◌∷◌, ◌++◌, length, refl, sym, arith, decimal, Bool, true, false, map, flat_map, ap, codes, ◌≤◌, ◌==◌, Option, None, Some, ◌∙◌, if◌then◌else◌, append-nil}
+use Rattle.std.specs.Str.Parse.{AllDigits}
+use Rattle.std.proofs.lemmas.Str.Parse.{digit_from_value}
+use Rattle.std.proofs.lemmas.Fmt.{digits_decimal, decimal_injective, decimal_nonempty}
+use Rattle.std.specs.List.{concat, AllByRecursion}
+use Rattle.bp_text.specs.Pieces.{bit_text}
+use Rattle.bp_text.proofs.NumberOfDigits.{numerals}
+use Rattle.bp_text.proofs.PartsOfTexts.{regrouped}
+use Rattle.bp_machine.specs.Setups.{SetupOf, setup_of}
 use Rattle.bp_machine.specs.declared.calls.Call.{Call}
 use Rattle.bp_machine.specs.declared.calls.Reply.{Reply}
 use Rattle.bp_machine.specs.declared.calls.Reply.TheVariants.{Stopped, Ended, NoContexts, Full, Blocked, Failed, Stepped}
-use Rattle.bp_machine.specs.Setups.{SetupOf, setup_of}
-use Rattle.bp_machine.specs.Replies.{letter_of}
-use Rattle.bp_trace.specs.Schedules.{bit_digit}
-use Rattle.bp_machine.specs.Histories.{open_lines}
-use Rattle.bp_trace.specs.declared.versions.Version.{Version}
-use Rattle.bp_trace.specs.declared.versions.Version.TheVariants.{One, Two}
-use Rattle.bp_trace.specs.Pieces.{Symbol, Piece, pieces_of, calls_of_pieces}
-use Rattle.bp_trace.specs.TraceText.{version_line, entry_line, init_digits, init_line, seed_word, head_text, call_line, symbol_text, piece_line, calls_text, end_line, text_of}
-use Rattle.bp_trace.proofs.HeadTexts.{limits_text, setup_text, head_joined}
-use Rattle.bp_trace.proofs.PieceThreads.{pieces_threads}
-use Rattle.bp_trace.proofs.PiecesAreFewest.{pieces_whole}
-use Rattle.bp_trace.specs.BodyReading.{HasNoSymbol}
-use Rattle.bp_trace.specs.Writable.{Without, IsWritable}
-use Rattle.bp_trace.proofs.Cuts.{same_head, one_cut, decimal_without, one_number, number_begins}
+use Rattle.bp_machine.specs.Histories.{letter_of, open_lines}
+use Rattle.bp_trace.specs.TraceText.{Without, bit_digit, version_line, entry_line, init_digits, init_line, seed_word, limit_lines, head_text, Symbol, Piece, pieces_of, calls_of_pieces, call_line, symbol_text, piece_line, calls_text, end_line, text_of, IsWritable}
+use Rattle.bp_trace.specs.declared.traces.Version.{Version}
+use Rattle.bp_trace.specs.declared.traces.Version.TheVariants.{One, Two}
+use Rattle.bp_trace.specs.Reading.{HasNoSymbol}
+use Rattle.bp_trace.proofs.PiecesAreFewest.{pieces_threads, pieces_whole}
+
+-- The first of a byte cuts two lists alike; and texts of numbers, which hold digits alone.
+
+pub same_head : {A : Type 0} (a b : A) (x y : List A) → a ∷ x ≡ b ∷ y → (a ≡ b) × (x ≡ y)
+same_head a b x y e = (cc, cc)
+
+pub one_cut : (byte : ℕ) (a b x y : List ℕ) → Without byte a → Without byte b → a ++ byte ∷ x ≡ b ++ byte ∷ y → (a ≡ b) × (x ≡ y)
+one_cut byte [] [] x y p q e = (refl, (same_head byte byte x y e).1)
+one_cut byte [] (d ∷ b) x y p q e = absurd (q.0 (sym (same_head byte d x (b ++ byte ∷ y) e).0))
+one_cut byte (c ∷ a) [] x y p q e = absurd (p.0 (same_head c byte (a ++ byte ∷ x) y e).0)
+one_cut byte (c ∷ a) (d ∷ b) x y p q e =
+    let heads = same_head c d (a ++ byte ∷ x) (b ++ byte ∷ y) e in
+    let rest = one_cut byte a b x y p.1 q.1 heads.1 in
+    (cc (heads.0, rest.0), rest.1)
+
+pub digits_without : (byte : ℕ) → byte < 48 → (ds : List ℕ) → AllDigits 10 ds → Without byte ds
+digits_without byte low [] p = tt
+digits_without byte low (d ∷ ds) p = (λ e. absurd (omega (arith, digit_from_value d p.0, e)), digits_without byte low ds p.1)
+
+pub decimal_without : (byte : ℕ) → byte < 48 → (n : ℕ) → n < 2 ^ 64 → Without byte (decimal n)
+decimal_without byte low n fits = digits_without byte low (decimal n) (digits_decimal numerals n fits)
+
+-- a number ends at such a byte
+pub one_number : (byte : ℕ) → byte < 48 → (m n : ℕ) (x y : List ℕ) → m < 2 ^ 64 → n < 2 ^ 64 → decimal m ++ byte ∷ x ≡ decimal n ++ byte ∷ y → (m ≡ n) × (x ≡ y)
+one_number byte low m n x y p q e =
+    let cut = one_cut byte (decimal m) (decimal n) x y (decimal_without byte low m p) (decimal_without byte low n q) e in
+    (decimal_injective m n p q cut.0, cut.1)
+
+digits_begin : (ds rest : List ℕ) (letter : ℕ) (text : List ℕ) → AllDigits 10 ds → 0 < length ds → 57 < letter → ds ++ rest ≡ letter ∷ text → ⊥
+digits_begin [] rest letter text p some high e = absurd (omega arith)
+digits_begin (d ∷ ds) rest letter text p some high e = absurd (omega (arith, digit_from_value d p.0, (same_head d letter (ds ++ rest) text e).0))
+
+-- a number does not begin with a letter
+pub number_begins : (n : ℕ) (rest : List ℕ) (letter : ℕ) (text : List ℕ) → n < 2 ^ 64 → 57 < letter → decimal n ++ rest ≡ letter ∷ text → ⊥
+number_begins n rest letter text fits high e = digits_begin (decimal n) rest letter text (digits_decimal numerals n fits) (decimal_nonempty n fits) high e
+
+-- The text of a head: its entries, its initial bits and its limits, one after the other.
+
+abbrev pub limits_text : SetupOf → List ℕ
+limits_text s = concat (
+    codes "contexts " ∷ decimal s.contexts
+    ∷ codes "\ncalls " ∷ decimal s.calls
+    ∷ codes "\nseed " ∷ seed_word s.seed
+    ∷ codes "\n" ∷ [])
+
+abbrev pub setup_text : SetupOf → List ℕ
+setup_text s = flat_map entry_line s.entries ++ (init_line s.init ++ limits_text s)
+
+entries_joined : (es : List (List ℕ)) → concat (map entry_line es) ≡ flat_map entry_line es
+entries_joined [] = refl
+entries_joined (n ∷ es) = ap (λ t. entry_line n ++ t) (entries_joined es)
+
+pub head_parts : (v : Version) (s : SetupOf) → head_text v s ≡ version_line v ++ (flat_map entry_line s.entries ++ (init_line s.init ++ concat (limit_lines s)))
+head_parts v s = simp (regrouped, entries_joined)
+
+pub head_joined : (v : Version) (s : SetupOf) → head_text v s ≡ version_line v ++ setup_text s
+head_joined v s = simp (regrouped, entries_joined)
+
+digits_joined : (bs : List Bool) → flat_map bit_text bs ≡ map bit_digit bs
+digits_joined [] = refl
+digits_joined (false ∷ bs) = ap (λ ds. 48 ∷ ds) (digits_joined bs)
+digits_joined (true ∷ bs) = ap (λ ds. 49 ∷ ds) (digits_joined bs)
+
+-- where there is a global, its digit and those of the others
+pub some_digits : (bs : List Bool) → 0 < length bs → flat_map bit_text bs ≡ init_digits bs
+some_digits [] some = absurd (omega arith)
+some_digits (b ∷ bs) some = digits_joined (b ∷ bs)
 
 one_digit : (a b : Bool) → bit_digit a ≡ bit_digit b → a ≡ b
 one_digit true true e = refl

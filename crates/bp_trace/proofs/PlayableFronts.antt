@@ -1,22 +1,18 @@
 -- A history that may be played is played call by call: its fronts may be, and the call after a front is refused by nothing.
-use Rattle.std.proofs.Common.{◌≡◌, ◌≢◌, ℕ, ◌==◌, zero, suc, Bool, true, false, cond, List, [], ◌∷◌, ◌++◌, length, Option, None, Some, is_some, refl, ap, sym, ◌∙◌, ◌⊎◌, inl, inr, subst, arith}
-use Rattle.std.specs.Prelude.{slice_get}
+use Rattle.std.proofs.Common.{◌≡◌, ◌≢◌, ℕ, ◌==◌, zero, suc, Bool, true, false, cond, List, [], ◌∷◌, ◌++◌, length, Option, None, Some, is_some, refl, ap, sym, ◌∙◌, ◌⊎◌, inl, inr, subst, arith, slice_get, append-nil}
 use Rattle.std.proofs.lemmas.Bool.{false≢true}
 use Rattle.std.proofs.lemmas.Bool.Decides.{nat_tests}
-use Rattle.std.proofs.lemmas.List.{append-nil}
-use Rattle.bp_text.proofs.GrownLists.{regrouped}
-use Rattle.bp_tree.specs.Ast.{Program}
+use Rattle.bp_text.proofs.PartsOfTexts.{regrouped}
+use Rattle.bp_language.specs.Ast.{Program}
 use Rattle.bp_machine.specs.declared.calls.Call.{Call}
-use Rattle.bp_machine.specs.Answers.{Answers}
-use Rattle.bp_machine.specs.ChoiceBits.{choice_bit}
-use Rattle.bp_machine.specs.Histories.{calls_of_thread, is_finished, configuration_after, granted_threads, IsAllowed, IsLegalAfter}
-use Rattle.bp_machine.specs.SeededHistories.{IsBitOfCall}
+use Rattle.bp_machine.specs.Histories.{Answers, choice_bit, calls_of_thread, is_finished, configuration_after, granted_threads, IsAllowed, IsLegalAfter, IsBitOfCall}
 use Rattle.bp_machine.specs.Sessions.{IsNextCall, given_bit}
 use Rattle.bp_machine.specs.Setups.{SetupOf}
-use Rattle.bp_trace.specs.declared.replay_faults.Due.{Due}
-use Rattle.bp_trace.specs.declared.replay_faults.ReplayFault.{ReplayFault}
-use Rattle.bp_trace.specs.declared.replay_faults.ReplayFault.TheVariants as fault
-use Rattle.bp_trace.specs.Replays.{IsPlayable, IsDue, IsCallFault}
+use Rattle.bp_trace.specs.declared.faults.Due.{Due}
+use Rattle.bp_trace.specs.declared.faults.ReplayFault.{ReplayFault}
+use Rattle.bp_trace.specs.declared.faults.ReplayFault.TheVariants as fault
+use Rattle.bp_trace.specs.Replays.{IsPlayable, IsDue, IsCallFault, IsRefusedAmong, IsOwnCall}
+use Rattle.bp_trace.specs.Judging.{IsDueCall, IsMismatch, IsCallRefusal}
 use Rattle.bp_trace.proofs.LinesDriveAgain.{same_answer}
 
 calls_after : (i : ℕ) (h g : List Call) → calls_of_thread i (h ++ g) ≡ calls_of_thread i h ++ calls_of_thread i g
@@ -168,3 +164,65 @@ module _ (t : Program) (s : SetupOf) where
 
     pub one_call_fault : (f g : ReplayFault) → IsCallFault t s h n x f → IsCallFault t s h n x g → f ≡ g
     one_call_fault f g p q = one_refused f g (refused f p) (refused g q)
+
+-- Of the calls of a line at most one is refused, and with one refusal.
+
+-- of two places in a list one is before the other, or they are one
+abbrev Places : List Call → Call → List Call → Call → Type 0
+Places a x b y =
+    ((a ≡ b) × (x ≡ y)) ⊎ (((k : List Call) × (b ≡ a ++ x ∷ k)) ⊎ ((k : List Call) × (a ≡ b ++ y ∷ k)))
+
+one_place : (a b after others : List Call) (x y : Call) → a ++ x ∷ after ≡ b ++ y ∷ others → Places a x b y
+one_place [] [] after others x y e = inl (refl, cc)
+one_place [] (c ∷ b) after others x y e = let same : x ≡ c = cc in inr (inl (b, ap (λ z. z ∷ b) (sym same)))
+one_place (c ∷ a) [] after others x y e = let same : c ≡ y = cc in inr (inr (a, ap (λ z. z ∷ a) same))
+one_place (c ∷ a) (d ∷ b) after others x y e =
+    let same : c ≡ d = cc in
+    go same (one_place a b after others x y cc)
+  where
+    go : c ≡ d → Places a x b y → Places (c ∷ a) x (d ∷ b) y
+    go same (inl p) = inl (ap (λ z. z ∷ a) same ∙ ap (λ z. d ∷ z) p.0, p.1)
+    go same (inr (inl p)) = inr (inl (p.0, ap (λ z. z ∷ b) (sym same) ∙ ap (λ z. c ∷ z) p.1))
+    go same (inr (inr p)) = inr (inr (p.0, ap (λ z. z ∷ a) same ∙ ap (λ z. d ∷ z) p.1))
+
+module _ (t : Program) (s : SetupOf) (h : List Call) (n : ℕ) (calls : List Call) where
+  not_before : (f g : ReplayFault) (p : IsRefusedAmong t s h n calls f) (q : IsRefusedAmong t s h n calls g) (k : List Call) → q.good ≡ p.good ++ p.call ∷ k → ⊥
+  not_before f g p q k e =
+      not_refused t s (h ++ p.good) p.call k (simp regrouped (rw e at q.playable)) n f p.refused
+
+  pub one_among : (f g : ReplayFault) → IsRefusedAmong t s h n calls f → IsRefusedAmong t s h n calls g → f ≡ g
+  one_among f g p q = elim (one_place p.good q.good p.others q.others p.call q.call (sym p.parts ∙ q.parts)) [
+    | inl same ↦
+        let refused = subst (λ z. IsCallFault t s (h ++ z) n p.call f) same.0 p.refused in
+        one_call_fault t s (h ++ q.good) n q.call f g (subst (λ x. IsCallFault t s (h ++ q.good) n x f) same.1 refused) q.refused
+    | inr other ↦ elim other [
+      | inl before ↦ absurd (not_before f g p q before.0 before.1)
+      | inr after ↦ absurd (not_before g f q p after.0 after.1)
+    ]
+  ]
+
+-- A call that differs from the machine's own is refused, and so is one where the machine makes none.
+
+module _ (t : Program) (s : SetupOf) (h : List Call) (n : ℕ) (x own : Call) (next : IsOwnCall t s h x own) where
+  is_due : (due : Due) → IsDueCall own x n (length h) due → IsDue t s h n x due
+  is_due due is = record { calls = is.calls; own = subst (IsOwnCall t s h x) (sym is.call) next }
+
+  other_fault : (f : ReplayFault) → IsMismatch own x n (length h) f → IsCallFault t s h n x f
+  other_fault (fault.Bit m due) is = (is.0, is_due due is.1, λ e. is.2 (ap (λ (y : Call). y.bit) (sym is.1.call) ∙ e))
+  other_fault (fault.Reply m due) is = (
+    is.0,
+    is_due due is.1,
+    ap (λ (y : Call). y.bit) is.1.call ∙ is.2,
+    λ e. is.3 (ap (λ (y : Call). y.reply) (sym is.1.call) ∙ e),
+  )
+  other_fault fault.TooLong is = absurd is
+  other_fault (fault.Head m) is = absurd is
+  other_fault (fault.Setup e) is = absurd is
+  other_fault (fault.Line m) is = absurd is
+  other_fault (fault.AfterFinish m made) is = absurd is
+  other_fault (fault.NoEnd c) is = absurd is
+  other_fault (fault.EndCount m c) is = absurd is
+  other_fault fault.Memory is = absurd is
+
+  pub other_call_refused : (f : ReplayFault) → IsMismatch own x n (length h) f → IsCallRefusal t s h n x f
+  other_call_refused f is = inr (other_fault f is)

@@ -1,30 +1,25 @@
 -- A text whose head and lines of calls were read is a trace, or is refused.
-use Rattle.std.proofs.Common.{◌≡◌, ◌⊎◌, ℕ, ◌+◌, ◌≤◌, List, [], ◌∷◌, ◌++◌, length, flat_map, drop, None, refl, ap, sym, ◌∙◌, subst, arith, inl, inr, length-append}
-use Rattle.std.proofs.lemmas.List.{drop_at}
-use Rattle.bp_tree.specs.Ast.{Program}
+use Rattle.std.proofs.Common.{◌≡◌, ◌⊎◌, ℕ, ◌+◌, ◌≤◌, List, [], ◌∷◌, ◌++◌, length, flat_map, drop, None, refl, ap, sym, ◌∙◌, subst, arith, inl, inr, length-append, drop_at}
+use Rattle.bp_language.specs.Ast.{Program}
 use Rattle.bp_machine.specs.declared.calls.Call.{Call}
-use Rattle.bp_machine.specs.declared.reports.Report.{Report}
-use Rattle.bp_machine.specs.Histories.{open_lines}
-use Rattle.bp_machine.specs.Reports.{IsReport}
+use Rattle.bp_machine.specs.declared.calls.Report.{Report}
+use Rattle.bp_machine.specs.Histories.{open_lines, IsReport}
 use Rattle.bp_machine.specs.Setups.{SetupOf, setup_fault}
 use Rattle.bp_trace.specs.declared.limits.TheConstants.{MAX_TRACE}
 use Rattle.bp_trace.specs.declared.playing.Body.{Body}
-use Rattle.bp_trace.specs.declared.replay_faults.ReplayFault.{ReplayFault}
-use Rattle.bp_trace.specs.declared.replay_faults.ReplayFault.TheVariants as fault
-use Rattle.bp_trace.specs.declared.versions.Version.{Version}
-use Rattle.bp_trace.specs.declared.versions.Version.TheVariants.{One, Two}
-use Rattle.bp_trace.specs.EndReading.{counts, IsEndRefusal}
+use Rattle.bp_trace.specs.declared.faults.ReplayFault.{ReplayFault}
+use Rattle.bp_trace.specs.declared.faults.ReplayFault.TheVariants as fault
+use Rattle.bp_trace.specs.declared.traces.Version.{Version}
+use Rattle.bp_trace.specs.declared.traces.Version.TheVariants.{One, Two}
+use Rattle.bp_trace.specs.Reading.{counts, IsEndRefusal, setup_of_head, IsHeadOf}
 use Rattle.bp_trace.specs.declared.heads.Head.{Head}
-use Rattle.bp_trace.specs.HeadReading.{setup_of_head, IsHeadOf}
-use Rattle.bp_trace.specs.Heads.{HasHead}
+use Rattle.bp_trace.specs.TraceText.{HasHead, version_line, entry_line, init_line, head_lines, head_text, calls_text, end_line}
 use Rattle.bp_trace.specs.declared.replaying.Opened.{Opened}
-use Rattle.bp_trace.specs.Accepted.{IsLongestAccepted}
+use Rattle.bp_trace.specs.Replays.{IsLongestAccepted, counts_of, IsPlayable, IsTrace, line_count, HasOtherEnd, HasMoreAfter, Reaches, IsRestRefused, HasRefusedRest, IsReplayRefusal}
 use Rattle.bp_trace.specs.Judging.{IsBody, IsBodyRefusal, HasRefusedBody, FitsText, IsOpened}
-use Rattle.bp_trace.specs.Replays.{counts_of, IsPlayable, IsTrace, line_count, HasOtherEnd, HasMoreAfter, Reaches, IsRestRefused, HasRefusedRest, IsReplayRefusal}
-use Rattle.bp_trace.specs.TraceText.{version_line, entry_line, init_line, head_lines, head_text, calls_text, end_line}
-use Rattle.bp_trace.proofs.HeadTexts.{limits_text, setup_text, head_joined}
+use Rattle.bp_trace.proofs.OneText.{limits_text, setup_text, head_joined}
 use Rattle.bp_trace.proofs.LongestAccepted.{longest_before_no_line, longest_before_refused}
-use Rattle.bp_trace.proofs.WholeHead.{line_total}
+use Rattle.bp_trace.proofs.HeadStopsAt.{line_total}
 
 -- ---- each line of a head has a byte
 

@@ -1,27 +1,26 @@
 -- The trace of a legal history is short enough to be replayed.
-use Rattle.std.proofs.Common.{◌≡◌, ◌∙◌, ℕ, zero, suc, ◌+◌, ◌*◌, ◌<◌, ◌≤◌, ◌^◌, Bool, true, false, cond, List, [], ◌∷◌, ◌++◌, length, flat_map, Option, None, Some, refl, ap, arith, length-append, codes, decimal}
+use Rattle.std.proofs.Common.{◌≡◌, ◌∙◌, ℕ, zero, suc, ◌+◌, ◌*◌, ◌<◌, ◌≤◌, ◌^◌, Bool, true, false, cond, List, [], ◌∷◌, ◌++◌, length, flat_map, Option, None, Some, refl, ap, arith, length-append, codes, decimal, inl, inr}
 use Rattle.std.specs.List.{AllByRecursion}
 use Rattle.std.proofs.Math.Nat.{mul-le-mul_left, mul-le-mul_right}
 use Rattle.std.proofs.lemmas.List.{length-map}
-use Rattle.std.proofs.lemmas.Fmt.{length-decimal-le}
-use Rattle.bp_tree.specs.Ast.{Program}
+use Rattle.std.proofs.lemmas.Fmt.{length-decimal-le, digits_decimal, decimal_nonempty, first_decimal, decimal_digit}
+use Rattle.std.proofs.lemmas.Bool.{cases_lt}
+use Rattle.bp_text.proofs.NumberOfDigits.{numerals}
+use Rattle.bp_language.specs.Ast.{Program}
 use Rattle.bp_language.specs.declared.limits.TheConstants.{TEXT_LIMIT}
-use Rattle.bp_machine.specs.declared.limits.TheConstants.{MAX_THREADS}
+use Rattle.bp_machine.specs.declared.limits.TheConstants.{MAX_THREADS, MAX_CALLS}
 use Rattle.bp_machine.specs.declared.calls.Call.{Call}
 use Rattle.bp_machine.specs.Setups.{SetupOf, threads, IsInRange}
-use Rattle.bp_machine.specs.Histories.{is_finished, open_below, open_lines, IsLegal}
-use Rattle.bp_machine.specs.Replies.{letter_of}
-use Rattle.bp_machine.proofs.LegalLength.{AllBelow, all_below, legal_length}
+use Rattle.bp_machine.specs.Histories.{is_finished, open_below, open_lines, IsLegal, letter_of}
+use Rattle.bp_machine.proofs.HistoriesAreRuns.{AllBelow, all_below, legal_length}
 use Rattle.bp_trace.specs.declared.limits.TheConstants.{MAX_TRACE}
-use Rattle.bp_trace.specs.declared.versions.Version.{Version}
-use Rattle.bp_trace.specs.declared.versions.Version.TheVariants.{One, Two}
-use Rattle.bp_trace.specs.Schedules.{bit_digit}
-use Rattle.bp_trace.specs.Pieces.{Symbol, Piece, calls_of_piece, calls_of_pieces, pieces_of, call_of}
-use Rattle.bp_trace.specs.TraceText.{version_line, entry_line, init_digits, init_line, seed_word, head_text, call_line, symbol_text, piece_line, calls_text, end_line, text_of}
-use Rattle.bp_trace.proofs.HeadTexts.{limits_text, setup_text, head_joined}
-use Rattle.bp_trace.proofs.PieceThreads.{pieces_threads}
-use Rattle.bp_trace.proofs.PiecesAreFewest.{pieces_whole}
-use Rattle.bp_trace.proofs.ScheduleLength.{few_digits}
+use Rattle.bp_trace.specs.declared.traces.Version.{Version}
+use Rattle.bp_trace.specs.declared.traces.Version.TheVariants.{One, Two}
+use Rattle.bp_trace.specs.TraceText.{bit_digit, Symbol, Piece, calls_of_piece, calls_of_pieces, pieces_of, call_of, version_line, entry_line, init_digits, init_line, seed_word, head_text, call_line, symbol_text, piece_line, calls_text, end_line, text_of}
+use Rattle.bp_trace.specs.Replays.{IsDecimal, IsEndLine}
+use Rattle.bp_trace.proofs.OneText.{limits_text, setup_text, head_joined}
+use Rattle.bp_trace.proofs.PiecesAreFewest.{pieces_threads, pieces_whole}
+use Rattle.bp_trace.proofs.LinesDriveAgain.{few_digits}
 
 number_short : (n : ℕ) → n < 2 ^ 64 → length (decimal n) ≤ 20
 number_short n fits = length-decimal-le 20 n (omega arith) (omega (arith, fits)) fits
@@ -130,3 +129,36 @@ module _ (t : Program) (v : Version) (s : SetupOf) (h : List Call) (range : IsIn
       let body = length-append (calls_text v h) (end_line (length h) (open_lines s h)) in
       let whole = length-append (head_text v s) (calls_text v h ++ end_line (length h) (open_lines s h)) in
       omega (arith, version_short v, head, body, whole, setup_short, end_short, history_short v (threads s) h range.few (all_below t s h legal), few_calls)
+
+-- The end of a history is an end line.
+
+decimal_is : (n : ℕ) → n < 2 ^ 64 → IsDecimal (decimal n)
+decimal_is n fits = record {
+  some = decimal_nonempty n fits;
+  each = digits_decimal numerals n fits;
+  first = λ e. elim (cases_lt 0 n) [
+    | inl some ↦ absurd (omega (arith, first_decimal n some fits, e))
+    | inr none ↦ let zero : n ≡ 0 = omega arith in rw (zero, decimal_digit 0 (omega arith)) refl
+  ];
+}
+
+-- the numbers of an end have 64 bits
+pub counts_fit : (t : Program) (s : SetupOf) (h : List Call) → threads s ≤ MAX_THREADS → s.calls ≤ MAX_CALLS
+    → IsLegal t s h → (length h < 2 ^ 64) × (open_lines s h < 2 ^ 64)
+counts_fit t s h few calls legal =
+    let long = legal_length t s h legal in
+    let one = mul-le-mul_right s.calls few in
+    let other = mul-le-mul_left MAX_THREADS calls in
+    (omega (arith, long, one, other), omega (arith, open_few (threads s) s h, few))
+
+pub own_end : (t : Program) (s : SetupOf) (h : List Call) → threads s ≤ MAX_THREADS → s.calls ≤ MAX_CALLS
+    → IsLegal t s h → IsEndLine (end_line (length h) (open_lines s h))
+own_end t s h few calls legal =
+    let fit = counts_fit t s h few calls legal in
+    record {
+      calls = decimal (length h);
+      left_open = decimal (open_lines s h);
+      first = decimal_is (length h) fit.0;
+      second = decimal_is (open_lines s h) fit.1;
+      is = refl;
+    }

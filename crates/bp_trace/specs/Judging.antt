@@ -1,34 +1,30 @@
 -- How a replay judges a call: a device, which no public clause names.
 use Rattle.std.specs.Prelude.{◌≡◌, ◌≢◌, ◌⊎◌, ◌≤◌, ◌+◌, ◌++◌, ℕ, List, [], Option, length, map, drop}
 use Rattle.std.specs.Option.{option_map, option_to_list}
-use Rattle.bp_tree.specs.Ast.{Program}
+use Rattle.bp_language.specs.Ast.{Program}
 use Rattle.bp_machine.specs.declared.calls.Call.{Call}
-use Rattle.bp_machine.specs.declared.ask_faults.AskFault.{AskFault}
-use Rattle.bp_machine.specs.declared.ask_faults.AskFault.TheVariants as refused
+use Rattle.bp_machine.specs.declared.calls.AskFault.{AskFault}
+use Rattle.bp_machine.specs.declared.calls.AskFault.TheVariants as refused
 use Rattle.bp_flat.specs.StandsFor.{StandsFor}
 use Rattle.bp_machine.specs.declared.setup_faults.SetupFault.{SetupFault}
 use Rattle.bp_machine.specs.declared.setup_faults.SetupFault.TheVariants as refused_setup
-use Rattle.bp_machine.specs.ContextCounts.{last_thread}
-use Rattle.bp_machine.specs.declared.reports.Report.{Report}
-use Rattle.bp_machine.specs.PrintedRows.{PrintedRow, printed_rows}
-use Rattle.bp_machine.specs.Reports.{IsReport}
-use Rattle.bp_machine.specs.Sessions.{SessionOf, Stands}
+use Rattle.bp_machine.specs.Sessions.{last_thread, SessionOf, Stands}
+use Rattle.bp_machine.specs.declared.calls.Report.{Report}
+use Rattle.bp_machine.specs.Runs.{PrintedRow, printed_rows}
+use Rattle.bp_machine.specs.Histories.{IsReport}
 use Rattle.bp_machine.specs.Setups.{SetupOf, threads}
 use Rattle.bp_trace.specs.declared.judging.Printed.{Printed}
 use Rattle.bp_trace.specs.declared.judging.Played.{Played}
 use Rattle.bp_trace.specs.declared.playing.Body.{Body}
 use Rattle.bp_trace.specs.declared.replaying.Opened.{Opened}
 use Rattle.bp_trace.specs.declared.limits.TheConstants.{MAX_TRACE}
-use Rattle.bp_trace.specs.declared.versions.Version.{Version}
-use Rattle.bp_trace.specs.Heads.{HasHead}
-use Rattle.bp_trace.specs.TraceText.{calls_text, head_lines, head_text}
-use Rattle.bp_trace.specs.BodyReading.{HasNoBodyLine}
-use Rattle.bp_trace.specs.Replayed.{row_of}
-use Rattle.bp_trace.specs.declared.replay_faults.Due.{Due}
-use Rattle.bp_trace.specs.declared.replay_faults.ReplayFault.{ReplayFault}
-use Rattle.bp_trace.specs.declared.replay_faults.ReplayFault.TheVariants as fault
-use Rattle.bp_trace.specs.Accepted.{IsLongestAccepted}
-use Rattle.bp_trace.specs.Replays.{IsPlayable, line_count, IsCallFault, IsRefusedAmong, IsReplayRefusal, IsTrace, HasRefusedCall}
+use Rattle.bp_trace.specs.declared.traces.Version.{Version}
+use Rattle.bp_trace.specs.TraceText.{HasHead, calls_text, head_lines, head_text}
+use Rattle.bp_trace.specs.Reading.{HasNoBodyLine}
+use Rattle.bp_trace.specs.Replays.{row_of, IsLongestAccepted, IsPlayable, line_count, IsCallFault, IsRefusedAmong, IsReplayRefusal, IsTrace, HasRefusedCall}
+use Rattle.bp_trace.specs.declared.faults.Due.{Due}
+use Rattle.bp_trace.specs.declared.faults.ReplayFault.{ReplayFault}
+use Rattle.bp_trace.specs.declared.faults.ReplayFault.TheVariants as fault
 
 -- the rows of a call, which prints one or none
 abbrev pub rows_of : Option Printed → List PrintedRow

@@ -1,22 +1,18 @@
 -- Laws of schedules and traces.
 use Rattle.std.specs.Prelude.{◌≡◌, ◌≢◌, ℕ, List, length, map}
-use Rattle.bp_tree.specs.Ast.{Program}
-use Rattle.bp_flat.specs.Configurations.{Configuration}
+use Rattle.bp_language.specs.Ast.{Program}
+use Rattle.bp_flat.specs.Moves.{Configuration}
 use Rattle.bp_language.specs.Texts.{HasText}
 use Rattle.bp_language.specs.Faults.{IsLawful}
 use Rattle.bp_machine.specs.declared.calls.Call.{Call}
-use Rattle.bp_machine.specs.BoundedRuns.{IsBoundedRun, history_of_run}
-use Rattle.bp_machine.specs.Contexts.{IsLeastWithin}
+use Rattle.bp_machine.specs.Runs.{IsBoundedRun, history_of_run}
+use Rattle.bp_machine.specs.Histories.{IsLeastWithin, IsLegal}
 use Rattle.bp_machine.specs.Setups.{SetupOf, IsInRange}
-use Rattle.bp_machine.specs.Histories.{IsLegal}
-use Rattle.bp_trace.specs.Pieces.{calls_of_pieces, pieces_of}
-use Rattle.bp_trace.specs.Schedules.{schedule_text, lines_of_history}
-use Rattle.bp_trace.specs.declared.replay_faults.ReplayFault.{ReplayFault}
-use Rattle.bp_trace.specs.declared.replay_faults.ReplayFault.TheVariants.{Memory}
-use Rattle.bp_trace.specs.declared.versions.Version.{Version}
+use Rattle.bp_trace.specs.TraceText.{calls_of_pieces, pieces_of, schedule_text, lines_of_history, text_of, IsWritable}
+use Rattle.bp_trace.specs.declared.faults.ReplayFault.{ReplayFault}
+use Rattle.bp_trace.specs.declared.faults.ReplayFault.TheVariants.{Memory}
+use Rattle.bp_trace.specs.declared.traces.Version.{Version}
 use Rattle.bp_trace.specs.Replays.{IsTrace, IsReplayRefusal}
-use Rattle.bp_trace.specs.TraceText.{text_of}
-use Rattle.bp_trace.specs.Writable.{IsWritable}
 use Rattle.bp_trace.specs.declared.faults.DriveFault.{DriveFault}
 use Rattle.bp_trace.specs.declared.faults.DriveFault.TheVariants as drive
 use Rattle.bp_trace.specs.Drives.{IsDriven, IsBadLine, IsAfterFinish, IsScheduleRefusal}

@@ -1,24 +1,47 @@
 -- What a text is to a replay: the trace of a legal history, or what refuses it.
-use Rattle.std.specs.Prelude.{◌≡◌, ◌≢◌, ◌⊎◌, ◌<◌, ◌≤◌, ℕ, ◌+◌, true, List, [], ◌∷◌, ◌++◌, Option, None, Some, length, map, codes, slice_index}
+use Rattle.std.specs.Prelude.{List, ◌≡◌, ◌≢◌, ◌⊎◌, ◌<◌, ◌≤◌, ℕ, ◌+◌, true, [], ◌∷◌, ◌++◌, Option, None, Some, length, map, codes, slice_index}
 use Rattle.std.specs.Str.Parse.{AllDigits}
-use Rattle.bp_tree.specs.Ast.{Program}
+use Rattle.std.specs.List.{AllByRecursion}
+use Rattle.bp_text.specs.Writing.{AppendsAll, AppendsPart}
+use Rattle.bp_language.specs.Ast.{Program}
+use Rattle.bp_flat.specs.StandsFor.{StandsFor}
 use Rattle.bp_machine.specs.declared.calls.Call.{Call}
-use Rattle.bp_machine.specs.declared.setup_faults.SetupFault.{SetupFault}
+use Rattle.bp_machine.specs.declared.calls.AskFault.{AskFault}
+use Rattle.bp_machine.specs.declared.calls.AskFault.TheVariants.{Memory}
+use Rattle.bp_machine.specs.Sessions.{IsNextCall, IsAskRefusal, given_bit, last_thread, Stands}
 use Rattle.bp_machine.specs.Setups.{SetupOf, threads, setup_fault}
-use Rattle.bp_machine.specs.ContextCounts.{last_thread}
-use Rattle.bp_machine.specs.Histories.{is_finished, open_lines, IsLegal}
-use Rattle.bp_machine.specs.SeededHistories.{HasSeededBits}
-use Rattle.bp_trace.specs.OwnCalls.{IsOwnCall}
+use Rattle.bp_machine.specs.declared.setup_faults.SetupFault.{SetupFault}
+use Rattle.bp_machine.specs.Histories.{is_finished, open_lines, IsLegal, HasSeededBits, IsReport}
+use Rattle.bp_machine.specs.Runs.{PrintedRow, printed_rows}
+use Rattle.bp_machine.specs.declared.calls.Report.{Report}
 use Rattle.bp_trace.specs.declared.limits.TheConstants.{MAX_TRACE}
-use Rattle.bp_trace.specs.declared.replay_faults.EndCounts.{EndCounts}
-use Rattle.bp_trace.specs.declared.replay_faults.Due.{Due}
-use Rattle.bp_trace.specs.declared.replay_faults.ReplayFault.{ReplayFault}
-use Rattle.bp_trace.specs.declared.replay_faults.ReplayFault.TheVariants as fault
-use Rattle.bp_trace.specs.declared.versions.Version.{Version}
-use Rattle.bp_trace.specs.declared.versions.Version.TheVariants.{One, Two}
-use Rattle.bp_trace.specs.Heads.{HasHead, HeadStops}
-use Rattle.bp_trace.specs.Pieces.{Piece, pieces_of, calls_of_piece}
-use Rattle.bp_trace.specs.TraceText.{head_lines, head_text, call_line, piece_line, calls_text, end_line, text_of}
+use Rattle.bp_trace.specs.declared.faults.EndCounts.{EndCounts}
+use Rattle.bp_trace.specs.declared.faults.Due.{Due}
+use Rattle.bp_trace.specs.declared.faults.ReplayFault.{ReplayFault}
+use Rattle.bp_trace.specs.declared.faults.ReplayFault.TheVariants as fault
+use Rattle.bp_trace.specs.declared.traces.Version.{Version}
+use Rattle.bp_trace.specs.declared.traces.Version.TheVariants.{One, Two}
+use Rattle.bp_trace.specs.TraceText.{HasHead, HeadStops, Piece, pieces_of, calls_of_piece, head_lines, head_text, call_line, piece_line, calls_text, end_line, text_of, trace_text_2}
+use Rattle.bp_trace.specs.declared.replaying.AcceptedTrace.{AcceptedTrace}
+use Rattle.bp_trace.specs.declared.judging.Printed.{Printed}
+use Rattle.bp_trace.specs.declared.replaying.Replayed.{Replayed}
+use Rattle.bp_trace.specs.declared.replaying.Watched.{Watched}
+use Rattle.bp_trace.specs.declared.faults.MigrateFault.{MigrateFault}
+use Rattle.bp_trace.specs.declared.faults.MigrateFault.TheVariants as refusal
+
+-- The machine's own call for a recorded one.
+
+-- After the history h a call x was recorded: of its thread, with the bit of the seed, else with its
+-- own bit.
+module _ (t : Program) (s : SetupOf) (h : List Call) (x : Call) where
+  -- this call comes next
+  abbrev pub IsOwnCall : Call → Type 0
+  IsOwnCall own = IsNextCall t s h x.thread (given_bit s x.bit) own
+
+  -- why no call comes next; memory may be refused to whoever watches it, too
+  abbrev pub IsOwnRefusal : AskFault → Type 0
+  IsOwnRefusal Memory = Unit {0}
+  IsOwnRefusal f = IsAskRefusal t s h x.thread (given_bit s x.bit) f
 
 -- the history is legal, and has the bits of the seed where there is one
 pub record IsPlayable (t : Program) (s : SetupOf) (h : List Call) : Type 0 where
@@ -202,3 +225,101 @@ module _ (t : Program) (text : List ℕ) where
   IsReplayRefusal (fault.Setup f) = IsShort × HasRefusedSetup f
   IsReplayRefusal fault.Memory = IsShort
   IsReplayRefusal f = IsShort × HasRefusedRest f
+
+-- Which calls of a text are accepted, where the text as a whole may be no trace.
+
+-- no calls of a text are accepted that has this fault: it has no head, or the setup is refused, or
+-- memory was
+abbrev pub HasNoCalls : ReplayFault → Type 0
+HasNoCalls fault.TooLong = Unit {0}
+HasNoCalls (fault.Head k) = Unit {0}
+HasNoCalls (fault.Setup f) = Unit {0}
+HasNoCalls fault.Memory = Unit {0}
+HasNoCalls f = ⊥
+
+module _ (t : Program) (text : List ℕ) where
+  -- These calls of the text are accepted: it begins with the head of a setup that the program
+  -- takes, and with whole lines of calls of its threads. These are the first of them, and may be
+  -- played.
+  pub record IsAccepted (v : Version) (s : SetupOf) (h : List Call) : Type 0 where
+    pub head : HasHead s
+    pub fine : setup_fault t s ≡ None
+    pub playable : IsPlayable t s h
+    pub others : List Call
+    pub threads : AllByRecursion (λ x. x.thread < threads s) others
+    pub rest : List ℕ
+    pub parts : text ≡ head_text v s ++ (calls_text v (h ++ others) ++ rest)
+
+  -- and no more are: all others that are accepted are the first of these
+  pub record IsLongestAccepted (v : Version) (s : SetupOf) (h : List Call) : Type 0 where
+    pub accepted : IsAccepted v s h
+    pub longest : (w : Version) (r : SetupOf) (g : List Call)
+        → IsAccepted w r g
+        → (more : List Call) × (h ≡ g ++ more)
+
+  -- the text is a trace
+  pub record IsSomeTrace : Type 0 where
+    pub version : Version
+    pub setup : SetupOf
+    pub history : List Call
+    pub is : IsTrace t version setup history text
+
+  -- the text is refused for this fault, and this is the trace of its calls that are accepted
+  pub record IsAcceptedTrace (x : AcceptedTrace) : Type 0 where
+    pub version : Version
+    pub setup : SetupOf
+    pub history : List Call
+    pub longest : IsLongestAccepted version setup history
+    pub trace : x.trace.items ≡ text_of version setup history
+    pub calls : x.calls ≡ length history
+    pub refused : IsReplayRefusal t text x.fault
+
+-- What a replay answers: a setup, a history, what its steps printed, and its report.
+
+-- a row of the answer
+abbrev pub row_of : Printed → PrintedRow
+row_of p = record { thread = p.thread; values = p.values.items }
+
+-- the text is a trace, and this is what it says
+pub record IsReplayed (t : Program) (text : List ℕ) (r : Replayed) : Type 0 where
+  pub version : Version
+  pub trace : IsTrace t version r.setup r.history.items text
+  pub printed : map row_of r.printed.items ≡ printed_rows t r.setup r.history.items
+  pub report : IsReport r.setup r.history.items r.report
+
+-- so it was replayed, the session stands after its history, and the watcher has seen that
+pub record IsWatched
+    {O : Type 0} (sees : O → Program → SetupOf → List Call → Type 0) (t : Program) (text : List ℕ)
+    (w : Watched O)
+    : Type 0 where
+  pub replayed : IsReplayed t text w.replayed
+  pub stands : Stands t w.session w.replayed.history.items
+  pub code : StandsFor w.session.code t
+  pub setup : w.session.setup ≡ w.replayed.setup
+  pub seen : sees w.watcher t w.replayed.setup w.replayed.history.items
+
+-- What a text is migrated to.
+
+-- the bytes of the writer before and after a call
+module _ (t : Program) (text : List ℕ) (old new : Option (List ℕ)) where
+  -- the text is a trace, and that of version 2 of its setup and history was written
+  pub record IsMigrated (r : Report) : Type 0 where
+    pub version : Version
+    pub setup : SetupOf
+    pub history : List Call
+    pub trace : IsTrace t version setup history text
+    pub written : AppendsAll old new (trace_text_2 setup history)
+    pub report : IsReport setup history r
+
+  -- the text is a trace, and a proper prefix of the new one was written
+  pub record IsPartlyWritten : Type 0 where
+    pub version : Version
+    pub setup : SetupOf
+    pub history : List Call
+    pub trace : IsTrace t version setup history text
+    pub written : AppendsPart old new (trace_text_2 setup history)
+
+  -- each refusal, the first that applies
+  abbrev pub IsMigrateRefusal : MigrateFault → Type 0
+  IsMigrateRefusal (refusal.Replay f) = (new ≡ old) × IsReplayRefusal t text f
+  IsMigrateRefusal refusal.Write = IsPartlyWritten

@@ -1,14 +1,82 @@
--- The texts of a trace: a setup and a history, in either version.
-use Rattle.std.specs.Prelude.{ℕ, Bool, List, [], ◌∷◌, ◌++◌, Option, None, Some, length, map, flat_map, codes, decimal}
-use Rattle.std.specs.List.{concat}
+-- The text of a trace: the setups that have one, its head, and the lines of its calls; schedules.
+use Rattle.std.specs.Prelude.{◌≡◌, ◌≢◌, ◌<◌, ℕ, Bool, true, false, List, [], ◌∷◌, ◌++◌, map, flat_map, decimal, if◌then◌else◌, ◌==◌, Option, None, Some, length, codes, ◌^◌, ◌+◌}
+use Rattle.std.specs.List.{concat, AllByRecursion}
 use Rattle.bp_machine.specs.declared.calls.Call.{Call}
+use Rattle.bp_machine.specs.declared.calls.Reply.{Reply}
 use Rattle.bp_machine.specs.Setups.{SetupOf}
-use Rattle.bp_machine.specs.Histories.{open_lines}
-use Rattle.bp_machine.specs.Replies.{letter_of}
-use Rattle.bp_trace.specs.declared.versions.Version.{Version}
-use Rattle.bp_trace.specs.declared.versions.Version.TheVariants.{One, Two}
-use Rattle.bp_trace.specs.Schedules.{bit_digit}
-use Rattle.bp_trace.specs.Pieces.{Symbol, Piece, pieces_of}
+use Rattle.bp_machine.specs.Histories.{open_lines, letter_of}
+use Rattle.bp_trace.specs.declared.driving.ScheduleLine.{ScheduleLine}
+use Rattle.bp_trace.specs.declared.traces.Version.{Version}
+use Rattle.bp_trace.specs.declared.traces.Version.TheVariants.{One, Two}
+
+-- Schedules: lines that say which thread makes the next call, and with which choice bit.
+
+abbrev pub bit_digit : Bool → ℕ
+bit_digit false = 48
+bit_digit true = 49
+
+-- the thread, a space, the bit and a line feed
+abbrev pub line_text : ScheduleLine → List ℕ
+line_text x = decimal x.thread ++ 32 ∷ bit_digit x.bit ∷ 10 ∷ []
+
+abbrev pub schedule_text : List ScheduleLine → List ℕ
+schedule_text xs = flat_map line_text xs
+
+-- what a schedule says of a call
+abbrev pub line_of_call : Call → ScheduleLine
+line_of_call x = record { thread = x.thread; bit = x.bit }
+
+abbrev pub lines_of_history : List Call → List ScheduleLine
+lines_of_history h = map line_of_call h
+
+-- this line of a thread below n begins the text
+abbrev pub IsLineAt : ℕ → List ℕ → ScheduleLine → Type 0
+IsLineAt n text x = (more : List ℕ) × (x.thread < n) × (text ≡ line_text x ++ more)
+
+-- no line of a thread below n begins the text
+abbrev pub HasNoLine : ℕ → List ℕ → Type 0
+HasNoLine n text = (x : ScheduleLine) (more : List ℕ) → x.thread < n → text ≢ line_text x ++ more
+
+-- The pieces of a history: the cut of its calls into the fewest lists of one thread each.
+
+-- a choice bit and the reply to it
+pub record Symbol : Type 0 where
+  pub bit : Bool
+  pub reply : Reply
+
+-- successive calls of one thread, at least one
+pub record Piece : Type 0 where
+  pub thread : ℕ
+  pub first : Symbol
+  pub others : List Symbol
+
+abbrev pub symbol_of : Call → Symbol
+symbol_of x = record { bit = x.bit; reply = x.reply }
+
+abbrev pub call_of : ℕ → Symbol → Call
+call_of i symbol = record { thread = i; bit = symbol.bit; reply = symbol.reply }
+
+abbrev pub calls_of_piece : Piece → List Call
+calls_of_piece p = map (call_of p.thread) (p.first ∷ p.others)
+
+abbrev pub calls_of_pieces : List Piece → List Call
+calls_of_pieces ps = flat_map calls_of_piece ps
+
+abbrev pub piece_of : Call → List Symbol → Piece
+piece_of x others = record { thread = x.thread; first = symbol_of x; others = others }
+
+-- a call and then the pieces: it belongs to the first of them where that is of its thread
+abbrev pub with_call : Call → List Piece → List Piece
+with_call x [] = piece_of x [] ∷ []
+with_call x (p ∷ ps) =
+    if x.thread == p.thread then piece_of x (p.first ∷ p.others) ∷ ps
+    else piece_of x [] ∷ p ∷ ps
+
+abbrev pub pieces_of : List Call → List Piece
+pieces_of [] = []
+pieces_of (x ∷ xs) = with_call x (pieces_of xs)
+
+-- The texts of a trace: a setup and a history, in either version.
 
 abbrev pub entry_line : List ℕ → List ℕ
 entry_line name = codes "entry " ++ (name ++ codes "\n")
@@ -84,3 +152,50 @@ trace_text s h = text_of One s h
 
 abbrev pub trace_text_2 : SetupOf → List Call → List ℕ
 trace_text_2 s h = text_of Two s h
+
+-- What the text of a trace can hold.
+
+-- no byte of the text is this one
+abbrev pub Without : ℕ → List ℕ → Type 0
+Without byte text = AllByRecursion (λ b. b ≢ byte) text
+
+-- the names have no line feed, and the numbers have 64 bits
+pub record IsWritable (s : SetupOf) (h : List Call) : Type 0 where
+  pub names : AllByRecursion (Without 10) s.entries
+  pub contexts : s.contexts < 2 ^ 64
+  pub calls : s.calls < 2 ^ 64
+  pub seed : (n : ℕ) → s.seed ≡ Some n → n < 2 ^ 64
+  pub threads : AllByRecursion (λ x. x.thread < 2 ^ 64) h
+
+-- Heads of traces: which setups have one, and where a text stops being one.
+
+-- a name that an entry line can hold
+pub record IsEntryName (name : List ℕ) : Type 0 where
+  pub some : name ≢ []
+  pub line : Without 10 name
+
+-- the setup can be said in a head: each name is on its line, and the numbers have 64 bits
+pub record HasHead (s : SetupOf) : Type 0 where
+  pub names : AllByRecursion IsEntryName s.entries
+  pub contexts : s.contexts < 2 ^ 64
+  pub calls : s.calls < 2 ^ 64
+  pub seed : (n : ℕ) → s.seed ≡ Some n → n < 2 ^ 64
+
+-- these are the first lines of some head
+pub record BeginsHead (lines : List (List ℕ)) : Type 0 where
+  pub version : Version
+  pub setup : SetupOf
+  pub has : HasHead setup
+  pub more : List (List ℕ)
+  pub is : head_lines version setup ≡ lines ++ more
+
+-- the first lines of the text begin a head and are none yet, and no line that may follow them
+-- follows: line k is malformed or missing
+pub record HeadStops (text : List ℕ) (k : ℕ) : Type 0 where
+  pub front : List (List ℕ)
+  pub rest : List ℕ
+  pub parts : text ≡ concat front ++ rest
+  pub place : k ≡ length front + 1
+  pub due : List ℕ
+  pub begins : BeginsHead (front ++ due ∷ [])
+  pub stops : (line more : List ℕ) → BeginsHead (front ++ line ∷ []) → rest ≢ line ++ more

@@ -1,11 +1,11 @@
 //! The line that ends a trace.
 ghost use Rattle.std.specs.Prelude.{◌≡◌, ◌↔◌, ◌<◌, ◌≤◌, ◌-◌, ◌^◌, ℕ, Some, IsTrue, take, length, flat_map, slice_get, MatchOption, MatchResult};
 ghost use Rattle.std.specs.Str.Parse.{AllDigits};
-ghost use Rattle.bp_trace.specs.EndReading.{IsNoDigit, IsDecimalAt, HasNoDecimal, IsEndAt, HasNoEnd, IsEndRefusal};
+ghost use Rattle.bp_trace.specs.Reading.{IsNoDigit, IsDecimalAt, HasNoDecimal, IsEndAt, HasNoEnd, IsEndRefusal};
 ghost use Rattle.bp_trace.specs.TraceText.{end_line};
 
-use crate::replay_faults::{EndCounts, ReplayFault};
-use crate::schedules::text_from;
+use crate::driving::text_from;
+use crate::faults::{EndCounts, ReplayFault};
 use crate::trace_lines::has_byte;
 use itoa::Buffer;
 

@@ -1,5 +1,7 @@
 //! Why a schedule is not played.
-
+//! Why a text is no trace.
+//! Why a trace is not migrated.
+use bp_machine::{Call, SetupFault};
 use bp_text::WriteFault;
 use std::alloc::AllocError;
 use thiserror::Error;
@@ -43,5 +45,102 @@ impl From<WriteFault> for DriveFault {
 
     fn from(_: WriteFault) -> DriveFault {
         DriveFault::Write
+    }
+}
+
+/// The machine's own call, which is due where a trace has another one.
+#[derive(Clone, Copy, Debug, PartialEq, Eq)]
+pub struct Due {
+    /// How many calls the trace has before.
+    pub calls: u64,
+    pub call: Call,
+}
+
+/// What the end line of a trace has to count.
+#[derive(Clone, Copy, Debug, PartialEq, Eq)]
+pub struct EndCounts {
+    pub calls: u64,
+    /// How many threads may make another call.
+    pub left_open: u32,
+}
+
+/// Why a text is no trace of a program: the first of these that applies. Lines are counted from 1.
+#[derive(Clone, Copy, Debug, PartialEq, Eq, Error)]
+pub enum ReplayFault {
+    /// The text has more than 67,108,864 bytes.
+    #[error("the trace is too long")]
+    TooLong,
+    /// This line of the head is not as expected, or is not there.
+    #[error("line {0} of the trace is not the one that the head has there")]
+    Head(u32),
+    /// The program does not take the setup that the head says.
+    #[error("{0}")]
+    Setup(SetupFault),
+    /// This line is neither one of calls of a thread of the setup nor an end, or it is after the
+    /// end.
+    #[error("line {0} of the trace is not a line of calls or the end")]
+    Line(u32),
+    /// The thread of a call on this line has made its last one. The number counts the calls before.
+    #[error("line {0} of the trace is of a thread that has made its last call")]
+    AfterFinish(u32, u64),
+    /// The choice bit of a call on this line is not that of the seed, which the machine's own call
+    /// has.
+    #[error("line {0} of the trace has another choice bit than the seed")]
+    Bit(u32, Due),
+    /// The machine's own call has another reply than a call on this line.
+    #[error("line {0} of the trace has another reply than the machine")]
+    Reply(u32, Due),
+    /// There is no end line. It has to count this.
+    #[error("the trace has no end")]
+    NoEnd(EndCounts),
+    /// This line is an end, but does not count this.
+    #[error("the end of the trace counts other calls or open lines")]
+    EndCount(u32, EndCounts),
+    /// There was not enough memory.
+    #[error("out of memory")]
+    Memory,
+}
+
+impl From<AllocError> for ReplayFault {
+    ghost use Rattle.std.specs.Prelude.{◌≡◌};
+    ghost use Rattle.bp_trace.specs.declared.faults.ReplayFault.{ReplayFault};
+
+    ghost from_gives = { λ _ e. e ≡ ReplayFault.Memory };
+
+    fn from(_: AllocError) -> ReplayFault {
+        ReplayFault::Memory
+    }
+}
+
+/// Why a trace is not migrated: the first of these that applies.
+#[derive(Clone, Copy, Debug, PartialEq, Eq, Error)]
+pub enum MigrateFault {
+    /// The text is no trace of the program.
+    #[error("{0}")]
+    Replay(ReplayFault),
+    /// The new text could not be written whole.
+    #[error("the output could not be written")]
+    Write,
+}
+
+impl From<ReplayFault> for MigrateFault {
+    ghost use Rattle.std.specs.Prelude.{◌≡◌};
+    ghost use Rattle.bp_trace.specs.declared.faults.MigrateFault.{MigrateFault};
+
+    ghost from_gives = { λ f e. e ≡ MigrateFault.Replay f };
+
+    fn from(fault: ReplayFault) -> MigrateFault {
+        MigrateFault::Replay(fault)
+    }
+}
+
+impl From<WriteFault> for MigrateFault {
+    ghost use Rattle.std.specs.Prelude.{◌≡◌};
+    ghost use Rattle.bp_trace.specs.declared.faults.MigrateFault.{MigrateFault};
+
+    ghost from_gives = { λ _ e. e ≡ MigrateFault.Write };
+
+    fn from(_: WriteFault) -> MigrateFault {
+        MigrateFault::Write
     }
 }

@@ -1,14 +1,12 @@
 //! Heads of traces, read line by line.
 ghost use Rattle.std.specs.Prelude.{◌≡◌, ◌≤◌, ◌+◌, ◌++◌, IfOk, MatchOption, MatchResult, length, map};
 ghost use Rattle.bp_trace.specs.declared.limits.TheConstants.{MAX_TRACE};
-ghost use Rattle.bp_trace.specs.Schedules.{bit_digit};
-ghost use Rattle.bp_trace.specs.TraceText.{version_line, init_digits, init_line};
-ghost use Rattle.bp_trace.specs.Writable.{Without};
-ghost use Rattle.bp_trace.specs.HeadReading.{BeginsWithLine, HasNoFront, IsFieldAt, HasNoField, HasNoVersion, IsEntryAt, HasNoEntry, AreEntriesAt, AreNoBits, IsNoInit, HasNoInit, IsNumberAt, HasNoNumber, IsSeedAt, HasNoSeed, IsHeadOf, IsHeadRefusal};
+ghost use Rattle.bp_trace.specs.TraceText.{bit_digit, version_line, init_digits, init_line, Without};
+ghost use Rattle.bp_trace.specs.Reading.{BeginsWithLine, HasNoFront, IsFieldAt, HasNoField, HasNoVersion, IsEntryAt, HasNoEntry, AreEntriesAt, AreNoBits, IsNoInit, HasNoInit, IsNumberAt, HasNoNumber, IsSeedAt, HasNoSeed, IsHeadOf, IsHeadRefusal};
 
-use crate::replay_faults::ReplayFault;
+use crate::faults::ReplayFault;
 use crate::trace_lines::bit_of;
-use crate::versions::Version;
+use crate::traces::Version;
 use bp_text::number_of;
 use std::alloc::{AllocError, Global};
 

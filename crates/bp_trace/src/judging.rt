@@ -1,18 +1,17 @@
 //! Judging the calls of a trace, one after the other.
 ghost use Rattle.std.specs.Prelude.{◌≡◌, ◌<◌, ◌++◌, ◌∷◌, [], List, Some, IfOk, IfErr, OnOk, length, map};
-ghost use Rattle.bp_tree.specs.Ast.{Program};
+ghost use Rattle.bp_language.specs.Ast.{Program};
 ghost use Rattle.bp_flat.specs.StandsFor.{StandsFor};
 ghost use Rattle.bp_machine.specs.declared.calls.Call.{Call as Answered};
-ghost use Rattle.bp_machine.specs.Histories.{configuration_after};
-ghost use Rattle.bp_machine.specs.Replies.{is_granted};
-ghost use Rattle.bp_machine.specs.PrintedRows.{rows_of_call};
+ghost use Rattle.bp_machine.specs.Histories.{configuration_after, is_granted};
+ghost use Rattle.bp_machine.specs.Runs.{rows_of_call};
 ghost use Rattle.bp_machine.specs.Setups.{threads};
 ghost use Rattle.bp_machine.specs.Sessions.{Stands};
-ghost use Rattle.bp_trace.specs.Replayed.{row_of};
+ghost use Rattle.bp_trace.specs.Replays.{row_of};
 ghost use Rattle.bp_trace.specs.Judging.{rows_of, replay_fault_of, IsOwnAs, IsMismatch, IsCallRefusal};
 
-use crate::replay_faults::{Due, ReplayFault};
-use crate::watchers::Watcher;
+use crate::faults::{Due, ReplayFault};
+use crate::playing::Watcher;
 use bp_machine::{AskFault, Call, Reply, Session};
 use std::alloc::AllocError;
 

@@ -1,21 +1,23 @@
 //! Playing the lines of calls of a trace.
-ghost use Rattle.std.specs.Prelude.{◌≡◌, ◌<◌, ◌+◌, ◌^◌, ◌++◌, [], length, map, IfOk, IfErr, OnOk};
+//! Watching a replay: each call is made by a watcher, which may look at the session before and
+//! after it.
+ghost use Rattle.std.specs.Prelude.{◌≡◌, ◌<◌, ◌+◌, ◌^◌, ◌++◌, [], length, map, IfOk, IfErr, OnOk, ◌∷◌, List, MatchResult};
 ghost use Rattle.std.specs.List.{AllByRecursion};
-ghost use Rattle.bp_tree.specs.Ast.{Program};
+ghost use Rattle.bp_language.specs.Ast.{Program};
 ghost use Rattle.bp_flat.specs.StandsFor.{StandsFor};
-ghost use Rattle.bp_machine.specs.ContextCounts.{last_thread};
-ghost use Rattle.bp_machine.specs.Setups.{threads};
-ghost use Rattle.bp_machine.specs.Sessions.{StandsForAll};
+ghost use Rattle.bp_machine.specs.Sessions.{last_thread, StandsForAll, Stands};
+ghost use Rattle.bp_machine.specs.Setups.{threads, SetupOf};
+ghost use Rattle.bp_machine.specs.declared.calls.Call.{Call as Answered};
 ghost use Rattle.bp_trace.specs.Judging.{ArePlayed, IsBody, IsBodyRefusal, IsLineRefused, Watches, WatchesAll};
+ghost use Rattle.bp_trace.specs.Replays.{IsOwnCall, IsOwnRefusal};
 
-use crate::body_lines::body_line_at;
+use crate::driving::text_from;
+use crate::faults::ReplayFault;
 use crate::judging::{Played, judge};
-use crate::replay_faults::ReplayFault;
-use crate::schedules::text_from;
-use crate::versions::Version;
-use crate::watchers::Watcher;
-use bp_machine::{Call, Session, Setup};
-use std::alloc::Global;
+use crate::trace_lines::body_line_at;
+use crate::traces::Version;
+use bp_machine::{AskFault, Call, Session, Setup};
+use std::alloc::{AllocError, Global};
 
 /// The calls of a trace, how many bytes their lines have, and the number of the line after them.
 #[derive(Drop)]
@@ -113,5 +115,54 @@ pub(crate) fn play<O: Watcher + Drop>(
         }
         size += more;
         line += 1;
+    }
+}
+
+/// Who makes the calls of a replay.
+pub trait Watcher {
+    /// What it has seen of a history of a program under a setup, and what it was at first.
+    ghost sees: { Self → Self → Program → SetupOf → List Answered → Type 0 };
+
+    /// Begins with the setup, before any call.
+    fn begin(&mut self, setup: &Setup) -> Result<(), AllocError>
+        ensures { (t : Program) → OnOk result (sees self.old self.new t setup.now []) };
+
+    /// Makes the machine's own call for a recorded one: of its thread, and with its bit where the
+    /// setup has no seed. It may also be refused memory of its own, after the call was made.
+    fn make(&mut self, session: &mut Session, recorded: &Call) -> Result<Call, AskFault>
+        ensures answer { (t : Program) (h : List Answered)
+            → StandsFor session.old.code t
+            → Stands t session.old h
+            → MatchResult result
+            (IsOwnCall t session.old.setup h recorded.now)
+            (IsOwnRefusal t session.old.setup h recorded.now) }
+        ensures stands { (t : Program) (h : List Answered)
+            → StandsFor session.old.code t
+            → Stands t session.old h
+            → IfOk result (λ own. Stands t session.new (h ++ own ∷ [])) }
+        ensures kept { (session.new.code ≡ session.old.code)
+            × (session.new.setup ≡ session.old.setup) }
+        ensures sees { (first : Self) (t : Program) (h : List Answered)
+            → StandsFor session.old.code t
+            → Stands t session.old h
+            → sees first self.old t session.old.setup h
+            → IfOk result (λ own. sees first self.new t session.old.setup (h ++ own ∷ [])) };
+}
+
+/// A watcher that only makes the calls.
+#[derive(Clone, Copy, Debug, Drop)]
+pub struct Unwatched;
+
+impl Watcher for Unwatched {
+    ghost sees = { λ _ _ _ _ _. Unit {0} };
+
+    fn begin(&mut self, _setup: &Setup) -> Result<(), AllocError> {
+        Ok(())
+    }
+
+    // Inlined, so that what a call does stays in registers.
+    #[inline(always)]
+    fn make(&mut self, session: &mut Session, recorded: &Call) -> Result<Call, AskFault> {
+        session.ask_as_recorded(recorded.thread, recorded.bit)
     }
 }

@@ -1,28 +1,28 @@
 //! Replaying a trace: a text that is one of a legal history, or is refused by the first thing in it
 //! that is not as expected.
-ghost use Rattle.std.specs.Prelude.{◌≡◌, [], IfOk, None, MatchResult};
-ghost use Rattle.bp_tree.specs.Ast.{Program};
+//! Migrating a trace to version 2.
+//! The calls of a text that are accepted, where the text as a whole is no trace.
+ghost use Rattle.std.specs.Prelude.{◌≡◌, [], IfOk, None, MatchResult, MatchOption};
+ghost use Rattle.bp_language.specs.Ast.{Program};
 ghost use Rattle.bp_flat.specs.StandsFor.{StandsFor};
 ghost use Rattle.bp_machine.specs.Sessions.{StandsForAll};
 ghost use Rattle.bp_machine.specs.Setups.{setup_fault, IsSetupRefusal};
-ghost use Rattle.bp_trace.specs.Accepted.{HasNoCalls};
-ghost use Rattle.bp_trace.specs.HeadReading.{setup_of_head};
+ghost use Rattle.bp_trace.specs.Replays.{HasNoCalls, IsReplayed, IsWatched, IsReplayRefusal, IsMigrated, IsMigrateRefusal, IsAcceptedTrace, IsSomeTrace};
+ghost use Rattle.bp_trace.specs.Reading.{setup_of_head};
 ghost use Rattle.bp_trace.specs.Judging.{replay_fault_of_setup, ArePlayed, FitsText, IsOpened, IsPlayedTrace, IsRefusedOpened, WatchesAll};
-ghost use Rattle.bp_trace.specs.Replayed.{IsReplayed, IsWatched};
-ghost use Rattle.bp_trace.specs.Replays.{IsReplayRefusal};
 
+use crate::driving::text_from;
 use crate::end_lines::judge_end;
+use crate::faults::{MigrateFault, ReplayFault};
 use crate::heads::{Head, read_head};
 use crate::judging::{Played, Printed};
 use crate::limits::MAX_TRACE;
-use crate::playing::play;
-use crate::replay_faults::ReplayFault;
-use crate::schedules::text_from;
-use crate::versions::Version;
-use crate::watchers::{Unwatched, Watcher};
+use crate::playing::{Unwatched, Watcher, play};
+use crate::traces::{Version, write_with_open_lines};
 use bp_flat::Code;
-use bp_machine::{Call, Report, Session, Setup, SetupFault};
+use bp_machine::{Call, Report, Session, Setup, SetupFault, open_lines};
 use std::alloc::Global;
+use std::io::Write;
 
 /// A trace that was replayed: its setup and history, what the steps of the history printed, and
 /// the report of the history.
@@ -188,4 +188,78 @@ pub fn replay(alloc: Global, code: &Code, text: &[u8]) -> Result<Replayed, Repla
         → MatchResult result (IsReplayed t text.now) (IsReplayRefusal t text.now) }
 {
     Ok(replay_watched(alloc, code, text, Unwatched)?.replayed)
+}
+
+/// Writes the trace of version 2 of the setup and history whose trace, in either version, is given.
+/// At a refusal nothing is written, but for a writer that refuses: it then has a proper prefix of
+/// the trace.
+pub fn migrate<W: Write>(
+    alloc: Global,
+    code: &Code,
+    text: &[u8],
+    out: &mut W,
+) -> Result<Report, MigrateFault>
+    ensures { (t : Program)
+        → StandsFor code.now t
+        → MatchResult result
+        (IsMigrated t text.now (W.contents out.old) (W.contents out.new))
+        (IsMigrateRefusal t text.now (W.contents out.old) (W.contents out.new)) }
+{
+    code.is_of_a_program();
+    let replayed = replay(alloc, code, text)?;
+    let report = replayed.report;
+    write_with_open_lines(
+        Version::Two,
+        &replayed.setup,
+        replayed.history.as_slice(),
+        report.left_open,
+        out,
+    )?;
+    Ok(report)
+}
+
+/// The trace of the calls of a text that are accepted, and what refuses the text after them.
+#[derive(Drop)]
+pub struct AcceptedTrace {
+    pub trace: Vec<u8>,
+    /// How many calls these are.
+    pub calls: u64,
+    pub fault: ReplayFault,
+}
+
+/// The trace of the longest beginning of the calls of a text that is accepted, if a call, a line
+/// after the head or the end is refused. There is none of a text that is a trace itself. A text
+/// without the head of a setup that the program takes is refused.
+pub fn accepted_trace(
+    alloc: Global,
+    code: &Code,
+    text: &[u8],
+) -> Result<Option<AcceptedTrace>, ReplayFault>
+    ensures { (t : Program)
+        → StandsFor code.now t
+        → MatchResult result
+        (λ o. MatchOption o (IsSomeTrace t text.now) (IsAcceptedTrace t text.now))
+        (λ f. IsReplayRefusal t text.now f × HasNoCalls f) }
+{
+    let opened = open(alloc, code, text)?;
+    let mut session = Session::new(alloc, code, &opened.setup)?;
+    let mut kept = Vec::new(alloc);
+    let fault = match play_opened(alloc, &mut session, &opened, text, Unwatched, &mut kept) {
+        Ok(_) => return Ok(None),
+        Err(ReplayFault::Memory) => return Err(ReplayFault::Memory),
+        Err(fault) => fault,
+    };
+    let (setup, history) = (&opened.setup, kept.as_slice());
+    let left_open = open_lines(setup, history);
+    let mut trace = Vec::new(alloc);
+    let done = write_with_open_lines(opened.version, setup, history, left_open, &mut trace);
+    if done.is_err() {
+        return Err(ReplayFault::Memory);
+    }
+    let calls = history.len() as u64;
+    Ok(Some(AcceptedTrace {
+        trace,
+        calls,
+        fault,
+    }))
 }

@@ -1,13 +1,21 @@
 //! The lines of calls in a trace.
-ghost use Rattle.std.specs.Prelude.{◌≡◌, ◌≢◌, ◌↔◌, ◌≤◌, Bool, Some, IsTrue, slice_get, MatchBool, MatchOption};
+//! Writing the line of a call: by one write, for each thread that a setup may have.
+//! The lines of calls in a trace of either version.
+ghost use Rattle.std.specs.Prelude.{◌≡◌, ◌≢◌, ◌↔◌, ◌≤◌, Bool, Some, IsTrue, slice_get, MatchBool, MatchOption, ◌<◌, [], IfOk};
+ghost use Rattle.bp_text.specs.Writing.{Given, Writes};
 ghost use Rattle.bp_machine.specs.declared.limits.TheConstants.{MAX_THREADS};
 ghost use Rattle.bp_machine.specs.declared.calls.Reply.{Reply as Answer};
-ghost use Rattle.bp_machine.specs.Replies.{letter_of};
-ghost use Rattle.bp_trace.specs.Schedules.{bit_digit};
-ghost use Rattle.bp_trace.specs.TraceReading.{BeginsWithSpace, HasNoSpace, IsThreadAt, HasNoThread, IsTailAt, HasNoTail, IsCallAt, HasNoCall};
+ghost use Rattle.bp_machine.specs.Histories.{letter_of};
+ghost use Rattle.bp_trace.specs.TraceText.{bit_digit, call_line};
+ghost use Rattle.bp_trace.specs.Reading.{BeginsWithSpace, HasNoSpace, IsThreadAt, HasNoThread, IsTailAt, HasNoTail, IsCallAt, HasNoCall, HasNoSymbol, IsSymbolAt, HasSymbols, HasNoBodyLine, IsBodyLineAt};
 
-use crate::schedules::{digit_count, number_at, text_from};
+use crate::driving::{digit_count, number_at, text_from};
+use crate::traces::{Version, bit_digit};
 use bp_machine::{Call, Reply};
+use bp_text::Piece::{Bytes, Number};
+use bp_text::{Sink, WriteFault};
+use std::alloc::AllocError;
+use std::io::Write;
 
 pub(crate) fn bit_of(byte: u8) -> Option<bool>
     ensures { MatchOption result
@@ -98,5 +106,151 @@ pub(crate) fn call_at(threads: u32, text: &[u8]) -> Option<Call>
     match tail_at(text_from(text, digit_count(thread) + 1)) {
         None => None,
         Some((bit, reply)) => Some(Call { thread, bit, reply }),
+    }
+}
+
+/// Writes the line of a call of a thread with one digit.
+fn put_with_one_digit<W: Write>(call: &Call, sink: &mut Sink<'_, W>)
+    requires { call.now.thread < 10 }
+    ensures { Given W.contents sink.old sink.new (call_line call.now) }
+{
+    let digit = b'0' + call.thread as u8;
+    let bit = bit_digit(call.bit);
+    sink.put(&[digit, b' ', bit, b' ', call.reply.letter(), b'\n'])
+}
+
+/// Writes the line of a call of a thread with two digits.
+fn put_with_two_digits<W: Write>(call: &Call, sink: &mut Sink<'_, W>)
+    requires two { 10 ≤ call.now.thread }
+    requires few { call.now.thread < 100 }
+    ensures { Given W.contents sink.old sink.new (call_line call.now) }
+{
+    let tens = b'0' + (call.thread / 10) as u8;
+    let ones = b'0' + (call.thread % 10) as u8;
+    let bit = bit_digit(call.bit);
+    sink.put(&[tens, ones, b' ', bit, b' ', call.reply.letter(), b'\n'])
+}
+
+/// Writes the line of a call.
+pub fn put_call<W: Write>(call: &Call, sink: &mut Sink<'_, W>)
+    ensures { Given W.contents sink.old sink.new (call_line call.now) }
+{
+    if call.thread < 10 {
+        return put_with_one_digit(call, sink);
+    }
+    if call.thread < 100 {
+        return put_with_two_digits(call, sink);
+    }
+    let thread = Number(u64::from(call.thread));
+    let rest = [b' ', bit_digit(call.bit), b' ', call.reply.letter(), b'\n'];
+    sink.put_pieces(&[thread, Bytes(&rest)])
+}
+
+/// Writes the line of a call.
+pub fn write_call<W: Write>(call: &Call, out: &mut W) -> Result<(), WriteFault>
+    ensures { Writes (W.contents out.old) (W.contents out.new) (call_line call.now) result }
+{
+    let mut sink = Sink::new(out);
+    put_call(call, &mut sink);
+    sink.finish()
+}
+
+/// The bit and the reply that begin the text, with nothing between them.
+fn symbol_at(text: &[u8]) -> Option<(bool, Reply)>
+    ensures { MatchOption result (HasNoSymbol text.now) (IsSymbolAt text.now) }
+{
+    let (Some(digit), Some(letter)) = (text.first(), text.get(1)) else {
+        return None;
+    };
+    match (bit_of(*digit), reply_of(*letter)) {
+        (Some(bit), Some(reply)) => Some((bit, reply)),
+        _ => None,
+    }
+}
+
+/// Adds the calls of a thread for the symbols at the front of the text, and answers how many bytes
+/// these have.
+#[inline(always)]
+fn read_symbols(thread: u32, text: &[u8], calls: &mut Vec<Call>) -> Result<usize, AllocError>
+    ensures { IfOk result (HasSymbols thread text.now calls.old.items calls.new.items) }
+{
+    let mut size = 0;
+    while let Some((bit, reply)) = symbol_at(text_from(text, size)) {
+        calls.push(Call { thread, bit, reply })?;
+        size += 2;
+    }
+    Ok(size)
+}
+
+/// Reads the line of a call that begins the text.
+#[inline(always)]
+fn read_call(
+    threads: u32,
+    last: Option<u32>,
+    text: &[u8],
+    calls: &mut Vec<Call>,
+) -> Result<Option<usize>, AllocError>
+    requires few { threads ≤ MAX_THREADS }
+    requires empty { calls.old.items ≡ [] }
+    ensures { IfOk result (λ o. MatchOption o
+        (HasNoBodyLine Version.One threads last text.now)
+        (IsBodyLineAt Version.One threads last text.now calls.new.items)) }
+{
+    let Some(call) = call_at(threads, text) else {
+        return Ok(None);
+    };
+    calls.push(call)?;
+    Ok(Some(digit_count(call.thread) + 5))
+}
+
+/// Reads the line of a piece that begins the text, after a call of the thread `last`.
+#[inline(always)]
+fn read_piece(
+    threads: u32,
+    last: Option<u32>,
+    text: &[u8],
+    calls: &mut Vec<Call>,
+) -> Result<Option<usize>, AllocError>
+    requires few { threads ≤ MAX_THREADS }
+    requires empty { calls.old.items ≡ [] }
+    ensures { IfOk result (λ o. MatchOption o
+        (HasNoBodyLine Version.Two threads last text.now)
+        (IsBodyLineAt Version.Two threads last text.now calls.new.items)) }
+{
+    let Some(thread) = thread_at(threads, text) else {
+        return Ok(None);
+    };
+    if last == Some(thread) {
+        return Ok(None);
+    }
+    let symbols = text_from(text, digit_count(thread) + 1);
+    let size = read_symbols(thread, symbols, calls)?;
+    if size > 0 && has_byte(b'\n', symbols, size) {
+        Ok(Some(digit_count(thread) + size + 2))
+    } else {
+        Ok(None)
+    }
+}
+
+/// Reads the line of calls that begins the text, after a call of the thread `last`, or after the
+/// head, into `calls`, which drops what it held; and answers how many bytes the line has. There is
+/// no answer where there is no such line; what `calls` then holds is not said.
+#[inline(always)]
+pub(crate) fn body_line_at(
+    version: Version,
+    threads: u32,
+    last: Option<u32>,
+    text: &[u8],
+    calls: &mut Vec<Call>,
+) -> Result<Option<usize>, AllocError>
+    requires { threads ≤ MAX_THREADS }
+    ensures { IfOk result (λ o. MatchOption o
+        (HasNoBodyLine version threads last text.now)
+        (IsBodyLineAt version threads last text.now calls.new.items)) }
+{
+    calls.clear();
+    match version {
+        Version::One => read_call(threads, last, text, calls),
+        Version::Two => read_piece(threads, last, text, calls),
     }
 }

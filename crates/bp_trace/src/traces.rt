@@ -1,16 +1,15 @@
 //! Writing the text of a trace.
-ghost use Rattle.std.specs.Prelude.{◌≡◌, map, flat_map, string_bytes};
+//! The versions of traces.
+//! Writing the calls of a history by its pieces.
+ghost use Rattle.std.specs.Prelude.{◌≡◌, map, flat_map, string_bytes, None};
 ghost use Rattle.std.specs.List.{concat};
 ghost use Rattle.bp_text.specs.Pieces.{piece_text};
-ghost use Rattle.bp_text.specs.Sinks.{Given};
-ghost use Rattle.bp_text.specs.Writing.{Writes};
+ghost use Rattle.bp_text.specs.Writing.{Given, Writes};
 ghost use Rattle.bp_machine.specs.Histories.{open_lines};
-ghost use Rattle.bp_trace.specs.Schedules.{bit_digit};
-ghost use Rattle.bp_trace.specs.TraceText.{entry_line, init_digits, init_line, limit_lines, seed_word, version_line, head_text, call_line, end_line, calls_text, text_of, trace_text, trace_text_2};
+ghost use Rattle.bp_trace.specs.TraceText.{bit_digit, entry_line, init_digits, init_line, limit_lines, seed_word, version_line, head_text, call_line, end_line, calls_text, text_of, trace_text, trace_text_2, pieces_of, piece_line};
+ghost use Rattle.bp_trace.specs.Reading.{line_start, opening, symbol_after, symbols_after};
 
-use crate::call_lines::put_call;
-use crate::pieces::put_pieces;
-use crate::versions::Version;
+use crate::trace_lines::put_call;
 use bp_machine::{Call, Setup, open_lines};
 use bp_text::Piece::{Bytes, Number};
 use bp_text::{Piece, Sink, WriteFault};
@@ -188,4 +187,70 @@ pub fn write_trace2<W: Write>(
 {
     let left_open = open_lines(setup, history);
     write_with_open_lines(Version::Two, setup, history, left_open, out)
+}
+
+/// How the calls of a trace are written.
+#[derive(Clone, Copy, Debug, PartialEq, Eq)]
+pub enum Version {
+    /// A line for each call.
+    One,
+    /// A line for each list of successive calls of one thread.
+    Two,
+}
+
+/// Begins the line of a thread, after the end of the line before it, where there is one.
+fn put_start<W: Write>(is_first: bool, thread: u32, sink: &mut Sink<'_, W>)
+    ensures { Given W.contents sink.old sink.new (line_start is_first thread) }
+{
+    let end = if is_first {
+        b"".as_slice()
+    } else {
+        b"\n".as_slice()
+    };
+    sink.put_pieces(&[Bytes(end), Number(u64::from(thread)), Bytes(b" ")])
+}
+
+/// Writes what begins a call after one of this thread, or after none.
+fn put_opening<W: Write>(last: Option<u32>, thread: u32, sink: &mut Sink<'_, W>)
+    ensures { Given W.contents sink.old sink.new (opening last thread) }
+{
+    match last {
+        Some(last) if last == thread => {}
+        Some(_) => put_start(false, thread, sink),
+        None => put_start(true, thread, sink),
+    }
+}
+
+/// Writes a call after one of this thread, or after none.
+fn put_symbol<W: Write>(last: Option<u32>, call: &Call, sink: &mut Sink<'_, W>)
+    ensures { Given W.contents sink.old sink.new (symbol_after last call.now) }
+{
+    put_opening(last, call.thread, sink);
+    sink.put(&[bit_digit(call.bit), call.reply.letter()])
+}
+
+/// Writes the calls of a history without the end of the last line.
+#[tactic(auto, using(bp_text::proofs::Givings::left_after))]
+fn put_symbols<W: Write>(history: &[Call], sink: &mut Sink<'_, W>)
+    ensures { Given W.contents sink.old sink.new (symbols_after None history.now) }
+{
+    let mut last = None;
+    let mut calls = history;
+    while let Some((call, more)) = calls.split_first() {
+        put_symbol(last, call, sink);
+        last = Some(call.thread);
+        calls = more;
+    }
+}
+
+/// Writes a line for each piece of a history.
+pub(crate) fn put_pieces<W: Write>(history: &[Call], sink: &mut Sink<'_, W>)
+    ensures { let text = flat_map piece_line (pieces_of history.now) in
+        Given W.contents sink.old sink.new text }
+{
+    if history.is_empty() {
+        return;
+    }
+    put_symbols(history, sink);
+    sink.put(b"\n")
 }

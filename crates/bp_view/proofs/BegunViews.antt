@@ -1,30 +1,138 @@
 -- What was written of a view, call by call, is the beginning of a whole one.
-use Rattle.std.proofs.Common.{◌≡◌, ◌∙◌, ◌<◌, ◌≤◌, ◌+◌, ℕ, suc, List, [], ◌∷◌, ◌++◌, Option, Some, length, drop, take, get_or, slice_get, add-one, ap, sym, refl, subst, drop-cons, take-append-drop, arith}
-use Rattle.std.proofs.lemmas.List.{take_all, take_more}
+use Rattle.std.proofs.Common.{◌≡◌, ◌∙◌, ◌<◌, ◌≤◌, ◌++◌, ◌-◌, ℕ, zero, suc, Bool, true, false, cond, List, [], ◌∷◌, codes, take, length, length-append, length-take, get_or, map, max, min, ap, refl, arith, slice_get, Some, ◌+◌, Option, drop, add-one, sym, subst, drop-cons, take-append-drop, ◌&&◌, ◌⊎◌, inl, inr, None, nat_le, unwrap_or, decimal, append-nil, add-zero, Bor, nat_lt, option_map}
+use Rattle.std.proofs.lemmas.Bool.Decides.{nat_tests}
+use Rattle.std.proofs.lemmas.List.{take_all, take_more, length-take-le}
 use Rattle.std.proofs.lemmas.Option.{slice_get-get_or}
-use Rattle.bp_tree.specs.Ast.{Program}
-use Rattle.bp_flat.specs.Flat.{Flat}
-use Rattle.bp_flat.specs.StandsFor.{places_of, StandsFor}
-use Rattle.bp_machine.specs.declared.calls.Call.{Call}
-use Rattle.bp_machine.specs.declared.reports.Report.{Report}
-use Rattle.bp_machine.specs.Reports.{outcome_of}
-use Rattle.bp_machine.specs.Sessions.{Stands}
-use Rattle.bp_machine.specs.Setups.{SetupOf}
+use Rattle.std.proofs.KnownBytes.{Appends-nil}
+use Rattle.std.specs.List.{concat}
+use Rattle.std.specs.Option.{option_copied}
 use Rattle.bp_text.specs.Writing.{AppendsAll}
-use Rattle.bp_text.proofs.GrownLists.{both_added}
-use Rattle.bp_text.proofs.WrittenParts.{HasParts, IsKind, part_written}
+use Rattle.bp_text.proofs.PartsOfTexts.{part_of_each, both_added, regrouped}
+use Rattle.bp_text.proofs.Givings.{HasParts, IsKind, part_written}
+use Rattle.bp_language.specs.Ast.{Procedure, Program, Name}
+use Rattle.bp_flat.specs.StandsFor.{Place, start_of_block, StandsFor, places_of}
+use Rattle.bp_flat.specs.Flat.{Flat}
+use Rattle.bp_flat.specs.Moves.{binding}
+use Rattle.bp_flat.proofs.ProceduresOfPlaces.{starts}
+use Rattle.bp_machine.specs.declared.calls.Call.{Call}
+use Rattle.bp_machine.specs.declared.calls.Report.{Report}
+use Rattle.bp_machine.specs.Histories.{configuration_after, IsLegal, outcome_of}
+use Rattle.bp_machine.specs.Setups.{SetupOf}
+use Rattle.bp_machine.specs.Sessions.{Stands}
 use Rattle.bp_trace.specs.Replays.{IsPlayable}
 use Rattle.bp_trace.proofs.PlayableFronts.{front}
-use Rattle.bp_source.proofs.TextsOfStatements.{texts_are, shown_texts}
+use Rattle.bp_source.specs.declared.source_statements.SourceStatement.{SourceStatement}
+use Rattle.bp_source.specs.SourceStatements.{place_text, AreSourceStatementsAt, AreSourceStatements}
+use Rattle.bp_source.proofs.SourceStatementLists.{shown_texts, texts_are}
+use Rattle.bp_tasks.specs.declared.options.ViewFormat.{ViewFormat}
+use Rattle.bp_tasks.specs.declared.options.ViewOptions.{ViewOptions}
+use Rattle.bp_tasks.specs.declared.options.ViewFormat.TheVariants.{Columns}
+use Rattle.bp_view.specs.CallFacts.{printed_by, changes_by}
+use Rattle.bp_view.specs.Filters.{calls_of, before_last, is_asked, is_between, is_late, is_of_thread, skipped, is_seen, watched_names}
+use Rattle.bp_view.specs.declared.filters.CallFilter.{CallFilter}
+use Rattle.bp_view.proofs.WholeFacts as facts
+use Rattle.bp_view.specs.Lines.{shortened, longest, variables_text}
+use Rattle.bp_view.specs.declared.view_contexts.Widths.{Widths}
+use Rattle.bp_view.specs.Views.{filter_of, foot_text, IsFoot, has_line, line_in, IsShownLine, IsViewLine, IsViewLineIf, after_foot, IsEnd, IsStateIf, IsViewContextOf, HasMade, IsView, IsViewable}
+use Rattle.bp_view.specs.States.{state_text, IsStateText}
 use Rattle.bp_view.specs.declared.view_contexts.ViewContext.{ViewContext}
 use Rattle.bp_view.specs.declared.writers.ViewWriter.{ViewWriter}
-use Rattle.bp_view.specs.Ends.{IsEnd}
-use Rattle.bp_view.specs.SetupLines.{view_head}
-use Rattle.bp_view.specs.ViewContexts.{IsViewContextOf}
-use Rattle.bp_view.specs.Views.{HasMade, IsShownLine, IsView, IsViewable}
-use Rattle.bp_view.proofs.LongestPlaces.{places_are}
-use Rattle.bp_view.proofs.WholeEnds.{some_end}
-use Rattle.bp_view.proofs.WholeViews.{each_line}
+use Rattle.bp_view.specs.SetupLines.{view_head, globals_line, thread_line, thread_lines}
+
+-- The longest place of the source statements of a program.
+
+abbrev pub place_items : List SourceStatement → List (List ℕ)
+place_items statements = map (λ s. s.place.items) statements
+
+pub longest_more : (n : ℕ) (statements : List SourceStatement) (x : SourceStatement) → n < length statements
+    → longest (place_items (take (suc n) statements)) ≡ max (longest (place_items (take n statements))) (length (get_or statements n x).place.items)
+longest_more n [] x h = absurd (omega arith)
+longest_more zero (y ∷ statements) x h = omega arith
+longest_more (suc n) (y ∷ statements) x h =
+    let within : n < length statements = omega arith in
+    let here = longest_more n statements x within in
+    omega (arith, here)
+
+-- a statement has at most this many bytes in its column
+pub shortened_length : (room : ℕ) (statement : List ℕ) → 2 ≤ room → length (shortened room statement) ≡ min (length statement) room
+shortened_length room statement least = by_size (nat_lt room (length statement)) refl
+  where
+    by_size : (b : Bool) → nat_lt room (length statement) ≡ b → length (cond b (take (room - 2) statement ++ codes "..") statement)
+        ≡ min (length statement) room
+    by_size true long =
+        let more : room < length statement = grind (arith, nat_tests, long) in
+        let size = length-append (take (room - 2) statement) (codes "..") in
+        let front : length (take (room - 2) statement) ≡ room - 2 = simp length-take (omega (arith, more)) in
+        omega (arith, more, size, front, least)
+    by_size false short = let most : length statement ≤ room = grind (arith, nat_tests, short) in omega (arith, most)
+
+pub longest_statement_more : (room n : ℕ) (statements : List SourceStatement) (x : SourceStatement) → n < length statements
+    → longest (map (shortened room) (shown_texts (take (suc n) statements)))
+    ≡ max (longest (map (shortened room) (shown_texts (take n statements)))) (length (shortened room (get_or statements n x).excerpt.text.items))
+longest_statement_more room n [] x h = absurd (omega arith)
+longest_statement_more room zero (y ∷ statements) x h = omega arith
+longest_statement_more room (suc n) (y ∷ statements) x h =
+    let within : n < length statements = omega arith in
+    let here = longest_statement_more room n statements x within in
+    omega (arith, here)
+
+-- the places of the source statements are those of the statements
+pub places_are : (text : List ℕ) (ps : List Procedure) (xs : List Place) (statements : List SourceStatement) → AreSourceStatementsAt text ps xs statements
+    → place_items statements ≡ map (place_text text) (starts xs)
+places_are text ps [] [] are = refl
+places_are text ps [] (x ∷ statements) are = elim are [ ]
+places_are text ps (s ∷ xs) [] are = elim are [ ]
+places_are text ps (s ∷ xs) (x ∷ statements) are =
+    ap (λ p. p ∷ place_items statements) are.0.place ∙ ap (λ ys. place_text text (start_of_block s.left) ∷ ys) (places_are text ps xs statements are.1)
+
+-- Each history of a program has a view, and what was written of one goes on to a whole one.
+
+module _ (c : Flat) (t : Program) (code : StandsFor c t) (text : List ℕ) (statements : List SourceStatement)
+    (are : AreSourceStatements text t statements) (s : SetupOf) where
+  module _ (o : ViewOptions) (w : Widths) (whole : List Call) where
+    view_line : (h : List Call) (x : Call) → (line : List ℕ) × IsViewLine t text s o w whole h x line
+    view_line h x =
+        let (f, f_are) = facts.some_call c t code text statements are s h x in
+        let printed = printed_by (configuration_after t s h) x in
+        (line_in o.format o.has_colour w f (calls_of (filter_of o) whole h x) printed, record { facts = f; facts_are = f_are; is = refl })
+
+    shown_line : (h : List Call) (x : Call) → (line : List ℕ) × IsShownLine t text s o w whole h x line
+    shown_line h x = by_shown (has_line t text s o w whole h x)
+      where
+        by_shown : (b : Bool) → (line : List ℕ) × IsViewLineIf t text s o w whole b h x line
+        by_shown true = view_line h x
+        by_shown false = ([], refl)
+
+    -- each call of the history has a line
+    pub each_line : (k : ℕ) → k < length whole
+        → (line : List ℕ) × ((x : Call) → slice_get whole k ≡ Some x → IsShownLine t text s o w whole (take k whole) x line)
+    each_line = part_of_each (λ k x line. IsShownLine t text s o w whole (take k whole) x line) whole (λ k x at. shown_line (take k whole) x)
+
+  pub some_foot : (h : List Call) (format : ViewFormat) (file : List ℕ) → IsLegal t s h → (r : Report) → r.outcome ≡ outcome_of h
+      → (foot : List ℕ) × IsFoot format file t text s h r foot
+  some_foot h format file legal r is =
+      let (x, x_are) = facts.some_foot c t code text statements are s h legal r is in
+      (foot_text format file x, record { facts = x; facts_are = x_are; is = refl })
+
+-- Each history has an end of a view, since its state and its foot have facts.
+
+module _ (c : Flat) (t : Program) (code : StandsFor c t) (text : List ℕ) (statements : List SourceStatement)
+    (are : AreSourceStatements text t statements) (s : SetupOf) where
+  module _ (h : List Call) where
+    some_state : (format : ViewFormat) → (said : List ℕ) × IsStateText format t text s h (length h) said
+    some_state format =
+        let (x, x_are) = facts.some_state c t code text statements are s h in
+        (state_text format x, record { facts = x; facts_are = x_are; is = refl })
+
+    state_if : (format : ViewFormat) (asked : Bool) → (said : List ℕ) × IsStateIf format t text s h asked said
+    state_if format true = let (state, state_is) = some_state format in (after_foot format state, (state, refl, state_is))
+    state_if format false = ([], refl)
+
+  pub some_end : (o : ViewOptions) (file : List ℕ) (h : List Call) → IsLegal t s h → (r : Report) → r.outcome ≡ outcome_of h → (end : List ℕ) × IsEnd o file t text s h r end
+  some_end o file h legal r is =
+      let (foot, foot_is) = some_foot c t code text statements are s h o.format file legal r is in
+      let (state, state_is) = state_if h o.format o.has_state in
+      (foot ++ state, record { foot = foot; foot_is = foot_is; state = state; state_is = state_is; is = refl })
 
 module _ (t : Program) (text : List ℕ) (s : SetupOf) (x : ViewContext) where
   abbrev pub head : List ℕ
@@ -108,3 +216,90 @@ module _ {c : Flat} {t : Program} {text : List ℕ} {s : SetupOf} {r : Report} {
         few = omega (arith, within);
         parts = subst (λ k. HasParts (IsLine t text s x) (head t text s x) k a e) (sym (add-one i)) (part_written has.parts line all);
       }
+
+-- The calls before those that are asked for have no lines.
+
+either : (m n a : ℕ) → a ≤ max m n → (a ≤ m) ⊎ (a ≤ n)
+either m n a few = by_test (nat_le a m) refl
+  where
+    by_test : (b : Bool) → nat_le a m ≡ b → (a ≤ m) ⊎ (a ≤ n)
+    by_test true e = inl (grind (arith, nat_tests))
+    by_test false e = inr (let more : m < a = grind (arith, nat_tests) in omega (arith, more, few))
+
+-- a call before the first that is asked for, or before the last ones
+early : (f : CallFilter) (count n : ℕ) → n < unwrap_or f.from 0 → is_between f.from f.to n ≡ false
+early f count n few =
+    let e : nat_le (unwrap_or f.from 0) n ≡ false = grind (arith, nat_tests) in
+    ap (λ b. b && nat_le n (unwrap_or f.to n)) e
+
+not_late : (last : Option ℕ) (count n : ℕ) → 0 < n → n ≤ before_last last count → is_late last count n ≡ false
+not_late None count n some few = absurd (omega (arith, some, few))
+not_late (Some last) count n some few = grind (arith, nat_tests)
+
+and_false : (a b : Bool) → b ≡ false → a && b ≡ false
+and_false true b e = e
+and_false false b e = refl
+
+not_asked : (f : CallFilter) (count n i : ℕ) → 0 < n → n ≤ skipped f count → is_asked f count n i ≡ false
+not_asked f count n i some few = by_reason (either _ _ n few)
+  where
+    by_reason : (n ≤ unwrap_or f.from 0 - 1) ⊎ (n ≤ before_last f.last count) → is_asked f count n i ≡ false
+    by_reason (inl before) =
+        and_false (is_of_thread f.thread i) _ (and_false (is_late f.last count n) _ (early f count n (omega (arith, some, before))))
+    by_reason (inr before) =
+        and_false (is_of_thread f.thread i) _ (ap (λ b. b && is_between f.from f.to n) (not_late f.last count n some before))
+
+module _ (t : Program) (text : List ℕ) (s : SetupOf) (x : ViewContext) where
+  abbrev calls : List Call
+  calls = x.history.now
+
+  -- call k, from 0, is one of those before
+  no_line : (k : ℕ) → k < length calls → suc k ≤ skipped (filter_of x.options) (length calls) → IsLine t text s x k []
+  no_line k within before call at =
+      let long : length (take k calls) ≡ k = length-take-le k calls (omega (arith, within)) in
+      let early : suc (length (take k calls)) ≤ skipped (filter_of x.options) (length calls) = omega (arith, long, before) in
+      let none = not_asked (filter_of x.options) (length calls) (suc (length (take k calls))) call.thread (omega arith) early in
+      let rest = is_seen (watched_names x.options.watch) (changes_by t s (take k calls) call)
+      && nat_lt 0 (calls_of (filter_of x.options) calls (take k calls) call) in
+      subst (λ b. IsViewLineIf t text s x.options x.widths calls b (take k calls) call []) (sym (ap (λ b. b && rest) none)) refl
+
+  module _ {head : List ℕ} {a b : Option (List ℕ)} (has : HasParts (IsLine t text s x) head 0 a b) where
+    -- so the head alone is a text with the lines of these calls
+    pub none_before : (m : ℕ) → m ≤ length calls → m ≤ skipped (filter_of x.options) (length calls) → HasParts (IsLine t text s x) head m a b
+    none_before zero few before = has
+    none_before (suc m) few before =
+        part_written (none_before m (omega (arith, few)) (omega (arith, before))) (no_line m (omega (arith, few)) before) (record { grown = Appends-nil b })
+
+-- One thread more, and the line of globals where there are some.
+
+five_parts : (a b c d e : List ℕ) → concat (a ∷ b ∷ c ∷ d ∷ e ∷ []) ≡ a ++ b ++ c ++ d ++ e
+five_parts a b c d e = simp regrouped
+
+pub line_of_pieces : (i : ℕ) (entry : List ℕ) → concat (codes "thread " ∷ decimal i ∷ codes " begins in " ∷ entry ∷ codes "\n" ∷ []) ≡ thread_line i entry
+line_of_pieces i entry = five_parts (codes "thread ") (decimal i) (codes " begins in ") entry (codes "\n")
+
+pub thread_more : (i n : ℕ) (es : List (List ℕ)) → n < length es
+    → thread_lines i (take (suc n) es) ≡ thread_lines i (take n es) ++ thread_line (i + n) (unwrap_or (slice_get es n) [])
+thread_more i n [] h = absurd (omega arith)
+thread_more i zero (x ∷ es) h = append-nil (thread_line i x) ∙ ap (λ k. thread_line k x) (sym (add-zero i))
+thread_more i (suc n) (x ∷ es) h =
+    let within : n < length es = omega arith in
+    let place : suc i + n ≡ i + suc n = omega arith in
+    let entry = unwrap_or (slice_get es n) [] in
+    let others = thread_lines (suc i) (take n es) in
+    let more = thread_more (suc i) n es within ∙ ap (λ k. others ++ thread_line k entry) place in
+    sym (both_added (thread_line i x) _ _ others (thread_line (i + suc n) entry) _ refl refl (sym more))
+
+-- there is a line where there is a global
+pub line_of_some : (xs : List Name) (bits : List Bool) → 0 < length xs
+    → globals_line (binding xs bits) ≡ (codes "globals" ++ variables_text Columns None (binding xs bits)) ++ codes "\n"
+line_of_some [] bits h = absurd (omega arith)
+line_of_some (x ∷ xs) [] h = refl
+line_of_some (x ∷ xs) (b ∷ bits) h = refl
+
+-- Mapping over an option of references is mapping over the option of what they refer to.
+
+pub copied : {A B : Type 0} (f : A → B) (x : Option (Bor A))
+    → option_map (λ r. f r.now) x ≡ option_map f (option_copied x)
+copied f None = refl
+copied f (Some r) = refl

@@ -1,28 +1,42 @@
 -- A history has one view.
-use Rattle.std.proofs.Common.{◌≡◌, ◌∙◌, ◌<◌, ◌++◌, ℕ, Bool, true, false, List, Some, length, map, slice_get, take, ap, ap₂, subst, sym, refl}
-use Rattle.bp_tree.specs.Ast.{Program}
-use Rattle.bp_flat.specs.StandsFor.{places_of}
-use Rattle.bp_flat.specs.Starts.{starts_of}
+use Rattle.std.proofs.Common.{◌≡◌, ◌∙◌, ℕ, List, ap, sym, ◌<◌, ◌++◌, Bool, true, false, Some, length, map, slice_get, take, ap₂, subst, refl, suc, None}
+use Rattle.bp_text.specs.Lines.{IsInParts}
+use Rattle.bp_text.proofs.PartsOfTexts.{item_at, one_of_parts}
+use Rattle.bp_language.specs.Ast.{Program}
+use Rattle.bp_flat.specs.StandsFor.{places_of, starts_of}
 use Rattle.bp_machine.specs.declared.calls.Call.{Call}
-use Rattle.bp_machine.specs.declared.reports.Report.{Report}
-use Rattle.bp_machine.specs.Histories.{configuration_after}
+use Rattle.bp_machine.specs.declared.calls.Report.{Report}
 use Rattle.bp_machine.specs.Setups.{SetupOf}
-use Rattle.bp_text.proofs.ItemsOfLists.{item_at}
-use Rattle.bp_text.proofs.PartsOfTexts.{one_of_parts}
-use Rattle.bp_source.specs.Places.{place_text}
+use Rattle.bp_machine.specs.Histories.{configuration_after, granted_threads}
+use Rattle.bp_machine.proofs.ContextCounts.{least_opened}
+use Rattle.bp_source.specs.SourceStatements.{place_text}
 use Rattle.bp_source.proofs.OneStatement.{one_list_of_statements}
-use Rattle.bp_facts.specs.CallFacts.{printed_by, ShownCall}
-use Rattle.bp_facts.specs.Filters.{calls_of}
-use Rattle.bp_facts.proofs.OneCall.{one_call}
-use Rattle.bp_tasks.specs.declared.view_options.ViewOptions.{ViewOptions}
+use Rattle.bp_tasks.specs.declared.options.ViewFormat.{ViewFormat}
+use Rattle.bp_tasks.specs.declared.options.ViewOptions.{ViewOptions}
+use Rattle.bp_view.specs.CallFacts.{printed_by, ShownCall}
+use Rattle.bp_view.specs.Filters.{calls_of}
+use Rattle.bp_view.proofs.OneFoot as facts
+use Rattle.bp_view.proofs.SingleFacts as states
+use Rattle.bp_view.proofs.SingleFacts.{one_call}
+use Rattle.bp_view.proofs.OneContext.{one_context}
+use Rattle.bp_view.specs.Views.{foot_text, IsFoot, after_foot, IsEnd, IsStateIf, filter_of, has_line, line_in, AreLines, IsShownLine, IsView, IsViewLineIf}
+use Rattle.bp_view.specs.States.{state_text, IsStateText}
 use Rattle.bp_view.specs.declared.view_contexts.Widths.{Widths}
-use Rattle.bp_view.specs.Ends.{after_foot, IsEnd, IsStateIf}
 use Rattle.bp_view.specs.SetupLines.{view_head}
-use Rattle.bp_view.specs.Options.{filter_of}
-use Rattle.bp_view.specs.Views.{has_line, line_in, AreLines, IsShownLine, IsView, IsViewLineIf}
-use Rattle.bp_view.specs.Widths.{extent, AreWidths, Extent}
-use Rattle.bp_view.proofs.OneFootText.{one_foot}
-use Rattle.bp_view.proofs.OneStateText.{one_state}
+use Rattle.bp_view.specs.Lines.{extent, AreWidths, Extent}
+use Rattle.bp_view.specs.ContextLines.{context_text, contexts_head, AreContextLines, IsContextLine}
+
+-- A foot has one text, since it has one set of facts.
+
+pub one_foot : (format : ViewFormat) (file : List ℕ) (t : Program) (text : List ℕ) (s : SetupOf) (h : List Call) (r : Report) (v w : List ℕ)
+    → IsFoot format file t text s h r v → IsFoot format file t text s h r w → v ≡ w
+one_foot format file t text s h r v w x y = x.is ∙ ap (foot_text format file) (facts.one_foot t text s h r x.facts y.facts x.facts_are y.facts_are) ∙ sym y.is
+
+-- A state has one text, since it has one set of facts.
+
+pub one_state : (format : ViewFormat) (t : Program) (text : List ℕ) (s : SetupOf) (h : List Call) (count : ℕ) (v w : List ℕ)
+    → IsStateText format t text s h count v → IsStateText format t text s h count w → v ≡ w
+one_state format t text s h count v w x y = x.is ∙ ap (state_text format) (states.one_state t text s h count x.facts y.facts x.facts_are y.facts_are) ∙ sym y.is
 
 pub one_widths : (s : SetupOf) (e : Extent) (a b : Widths) → AreWidths s e a → AreWidths s e b → a ≡ b
 one_widths s e a b x y = λ i. record {
@@ -77,3 +91,22 @@ one_view t text s h r o file v w x y =
     ∙ ap (λ z. view_head o t.globals s z ++ x.lines ++ x.end) widths
     ∙ ap₂ (λ a b. view_head o t.globals s y.widths ++ a ++ b) lines end
     ∙ sym y.is
+
+-- A history has one list of its contexts, since each context has one set of facts.
+
+pub one_list : (format : ViewFormat) (t : Program) (text : List ℕ) (s : SetupOf) (h : List Call) (v w : List ℕ)
+    → AreContextLines format t text s h v → AreContextLines format t text s h w → v ≡ w
+one_list format t text s h v w x y =
+    let statements = one_list_of_statements text (places_of t.procedures) x.statements y.statements x.statements_are y.statements_are in
+    let places = map (place_text text) (starts_of t) in
+    let widths_are =
+    subst (λ texts. AreWidths s (extent (length h) places texts (length t.procedures) None) x.widths) statements x.widths_are in
+    let widths = one_widths s (extent (length h) places y.statements (length t.procedures) None) x.widths y.widths widths_are y.widths_are in
+    let count = least_opened x.count (granted_threads h) x.count_is ∙ sym (least_opened y.count (granted_threads h) y.count_is) in
+    let in_widths = subst (λ z. IsInParts (λ k line. IsContextLine format t text s h z (suc k) line) x.count x.lines) widths x.lines_are in
+    let in_count = subst (λ n. IsInParts (λ k line. IsContextLine format t text s h y.widths (suc k) line) n x.lines) count in_widths in
+    let lines = one_of_parts y.count (each y.widths) x.lines y.lines in_count y.lines_are in
+    x.is ∙ ap₂ (λ n lines. contexts_head format (length h) n ++ lines) count lines ∙ sym y.is
+  where
+    each : (z : Widths) (k : ℕ) (p q : List ℕ) → k < y.count → IsContextLine format t text s h z (suc k) p → IsContextLine format t text s h z (suc k) q → p ≡ q
+    each z k p q few a b = a.is ∙ ap (context_text format z) (one_context t text s h (suc k) a.facts b.facts a.facts_are b.facts_are) ∙ sym b.is

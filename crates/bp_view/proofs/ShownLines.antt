@@ -1,23 +1,226 @@
 -- The line of a call, where it has one, and nothing where it has none.
-use Rattle.std.proofs.Common.{◌≡◌, ◌∙◌, ◌&&◌, ◌++◌, ℕ, suc, Bool, true, false, nat_lt, List, [], Option, length, ap, ap₂, sym, refl, subst, append-nil}
-use Rattle.bp_tree.specs.Ast.{Program}
-use Rattle.bp_flat.specs.Configurations.{Configuration}
+use Rattle.std.proofs.Common.{if◌then◌else◌, ◌≡◌, ◌∙◌, ◌+◌, ◌-◌, ◌<◌, ◌++◌, ℕ, zero, suc, true, List, [], ◌∷◌, codes, nat_lt, take, drop, length, length-drop, ap, ap₂, refl, sym, arith, ◌≤◌, length-append, append-nil, ◌/◌, ◌%◌, ◌^◌, ◌==◌, ◌⊎◌, inl, inr, false, decimal, append_assoc, max, Bool, Option, None, ◌&&◌, subst, slice_set}
+use Rattle.std.proofs.lemmas.Bool.Decides.{nat_tests}
+use Rattle.std.specs.List.{concat}
+use Rattle.std.proofs.lemmas.Bool.{cases_lt}
+use Rattle.std.proofs.lemmas.Fmt.{decimal_digit, decimal_step}
+use Rattle.std.proofs.Math.ListN.{length-replicate}
+use Rattle.std.proofs.lemmas.List.{replicate-append-replicate}
+use Rattle.bp_text.specs.Pieces.{spaces, at_right, at_left}
+use Rattle.bp_text.specs.Lines.{Adds}
+use Rattle.bp_text.proofs.PartsOfTexts.{both_added, all_added, regrouped, pair_added}
+use Rattle.bp_language.specs.Ast.{Program}
+use Rattle.bp_flat.specs.Moves.{Configuration}
 use Rattle.bp_machine.specs.declared.calls.Call.{Call}
-use Rattle.bp_machine.specs.Histories.{configuration_after}
+use Rattle.bp_machine.specs.Histories.{is_granted, configuration_after}
 use Rattle.bp_machine.specs.Setups.{SetupOf}
-use Rattle.bp_text.specs.Parts.{Adds}
-use Rattle.bp_facts.specs.declared.filters.CallFilter.{CallFilter}
-use Rattle.bp_facts.specs.declared.replayed_calls.ReplayedCall.{ReplayedCall}
-use Rattle.bp_facts.specs.CallFacts.{changes_by, printed_by, AreCallFacts, ShownCall}
-use Rattle.bp_facts.specs.Filters.{calls_at, calls_of, is_asked}
-use Rattle.bp_facts.specs.ReplayedCalls.{IsReplayedCall}
-use Rattle.bp_facts.specs.Watches.{is_seen, watched_names}
-use Rattle.bp_tasks.specs.declared.view_options.ViewOptions.{ViewOptions}
-use Rattle.bp_view.specs.declared.view_contexts.ViewContext.{ViewContext}
+use Rattle.bp_tasks.specs.declared.options.ViewFormat.{ViewFormat}
+use Rattle.bp_tasks.specs.declared.options.ViewFormat.TheVariants.{Columns, Json}
+use Rattle.bp_tasks.specs.declared.options.ViewOptions.{ViewOptions}
+use Rattle.bp_view.specs.CallFacts.{ShownCall, printed_by, changes_by, AreCallFacts, IsReplayedCall}
+use Rattle.bp_view.specs.declared.filters.CallFilter.{CallFilter}
+use Rattle.bp_view.specs.declared.checkpoints.ReplayedCall.{ReplayedCall}
+use Rattle.bp_view.specs.Filters.{calls_at, calls_of, is_asked, is_seen, watched_names}
+use Rattle.bp_view.specs.Lines.{shortened, after_room, front_text, tens_digits, tens_text, turn_texts, field_texts, mark_text}
+use Rattle.bp_view.specs.declared.fronts.FrontKey.{FrontKey}
 use Rattle.bp_view.specs.declared.view_contexts.Widths.{Widths}
-use Rattle.bp_view.specs.Options.{filter_of}
-use Rattle.bp_view.specs.Views.{has_line, line_in, printed_in, IsShownLine, IsViewLineIf}
-use Rattle.bp_view.proofs.PrintedValues.{printed_line}
+use Rattle.bp_view.specs.Views.{line_in, next_print_in, printed_in, filter_of, has_line, IsShownLine, IsViewLineIf}
+use Rattle.bp_view.specs.States.{condition_lines, values_line}
+use Rattle.bp_view.specs.declared.view_contexts.ViewContext.{ViewContext}
+
+-- What is after the first bytes of a line, cut.
+
+abbrev nothing : List ℕ
+nothing = []
+
+none_taken : (k : ℕ) → take k nothing ≡ nothing
+none_taken zero = refl
+none_taken (suc k) = refl
+
+taken_both : (n k : ℕ) (xs : List ℕ) → take (n + k) xs ≡ take n xs ++ take k (drop n xs)
+taken_both zero k xs = let same : 0 + k ≡ k = omega arith in ap (λ m. take m xs) same
+taken_both (suc n) k [] = none_taken (suc n + k) ∙ sym (none_taken k)
+taken_both (suc n) k (x ∷ xs) =
+    let same : suc n + k ≡ suc (n + k) = omega arith in
+    ap (λ m. take m (x ∷ xs)) same ∙ ap (λ ys. x ∷ ys) (taken_both n k xs)
+
+pub taken : (a b : List ℕ) → take (length a) (a ++ b) ≡ a
+taken [] b = refl
+taken (x ∷ a) b = ap (λ ys. x ∷ ys) (taken a b)
+
+dropped : (a b : List ℕ) → drop (length a) (a ++ b) ≡ b
+dropped [] b = refl
+dropped (x ∷ a) b = dropped a b
+
+-- a line that is too long after its first bytes
+pub cut : (columns start : ℕ) (line : List ℕ) → columns < length line - start
+    → take (start + (columns - 2)) line ++ codes ".." ≡ take start line ++ shortened columns (drop start line)
+cut columns start line more =
+    let rest = drop start line in
+    let long : nat_lt columns (length rest) ≡ true = let size = length-drop start line in grind (arith, nat_tests, size, more) in
+    let own = ap (λ b. if b then take (columns - 2) rest ++ codes ".." else rest) (sym long) in
+    both_added (take start line) _ _ (take (columns - 2) rest) (codes "..") _ refl (taken_both start (columns - 2) line) own
+
+-- what was added to a line is cut
+pub added_cut : (columns : ℕ) (first more line : List ℕ) (start : ℕ) → start ≡ length first → line ≡ first ++ more
+    → take start line ++ shortened columns (drop start line) ≡ first ++ shortened columns more
+added_cut columns first more line start begins is =
+    ap₂ (λ n y. take n y ++ shortened columns (drop n y)) begins is
+    ∙ ap₂ (λ a b. a ++ shortened columns b) (taken first more) (dropped first more)
+
+-- A note after spaces, and a line that has no note and loses these spaces.
+
+pub some_note : (old spaced new note : List ℕ) (room : ℕ) → spaced ≡ old ++ spaces room → new ≡ spaced ++ note → length spaced < length new
+    → new ≡ old ++ after_room room note
+some_note old spaced new [] room has is more = absurd (omega (arith, ap length is, length-append spaced [], more))
+some_note old spaced new (b ∷ bs) room has is more =
+    is ∙ ap (λ y. y ++ (b ∷ bs)) has ∙ all_added old (spaces room ∷ (b ∷ bs) ∷ [])
+
+pub no_note : (old spaced new note : List ℕ) (room : ℕ) → spaced ≡ old ++ spaces room → new ≡ spaced ++ note → length new ≤ length spaced
+    → (end : ℕ) → end ≡ length old → take end new ≡ old ++ after_room room note
+no_note old spaced new [] room has is few end ends =
+    ap (λ n. take n new) ends
+    ∙ ap (λ y. take (length old) y) (is ∙ append-nil spaced ∙ has)
+    ∙ taken old (spaces room)
+    ∙ sym (append-nil old)
+no_note old spaced new (b ∷ bs) room has is few end ends = absurd (omega (arith, ap length is, length-append spaced (b ∷ bs), few))
+
+-- The fields of a line before its place, by their parts that are kept.
+
+abbrev pub key_of : Widths → ShownCall → FrontKey
+key_of w f =
+    record {
+      tens = f.number / 10;
+      thread = f.call.thread;
+      context = f.context;
+      number_width = w.number;
+      thread_width = w.thread;
+      context_width = w.context;
+    }
+
+-- a number in its column is its digits before the last, in a column that is one narrower, and the last
+number_split : (width n : ℕ) → n < 2 ^ 64 → at_right (width - 1) (tens_digits (n / 10)) ++ (48 + n % 10) ∷ [] ≡ at_right width (decimal n)
+number_split width n fits = by_size (cases_lt n 10)
+  where
+    by_size : (n < 10) ⊎ (10 ≤ n) → at_right (width - 1) (tens_digits (n / 10)) ++ (48 + n % 10) ∷ [] ≡ at_right width (decimal n)
+    by_size (inl few) =
+        let none : n / 10 ≡ 0 = omega arith in
+        let own : n % 10 ≡ n = omega arith in
+        let digit = decimal_digit n few in
+        let gap : (width - 1) - 0 ≡ width - 1 = omega arith in
+        ap₂ (λ t d. at_right (width - 1) (tens_digits t) ++ (48 + d) ∷ []) none own
+        ∙ ap (λ xs. xs ++ (48 + n) ∷ []) (append-nil (spaces ((width - 1) - 0)) ∙ ap spaces gap)
+        ∙ ap (at_right width) (sym digit)
+    by_size (inr many) =
+        let tens = n / 10 in
+        let some : (tens == 0) ≡ false = let more : 1 ≤ tens = omega arith in grind (arith, nat_tests, more) in
+        let front = decimal tens in
+        let last = (48 + n % 10) ∷ [] in
+        let gap : (width - 1) - length front ≡ width - length (front ++ last) = omega (arith, length-append front last) in
+        ap (λ b. at_right (width - 1) (if b then [] else front) ++ last) some
+        ∙ append_assoc (spaces ((width - 1) - length front)) front last
+        ∙ ap (λ k. spaces k ++ (front ++ last)) gap
+        ∙ ap (at_right width) (sym (decimal_step n many fits))
+
+-- the fields of a call
+pub fields_are : (w : Widths) (f : ShownCall) (mark digit : ℕ) → f.number < 2 ^ 64
+    → mark ∷ [] ≡ mark_text f.switch → digit ≡ 48 + f.number % 10 → front_text (key_of w f) mark digit ≡ concat (field_texts w f)
+fields_are w f mark digit fits sign last =
+    let front = tens_text (key_of w f) in
+    let rest = concat (turn_texts (key_of w f)) in
+    let number = at_right w.number (decimal f.number) in
+    ap (λ d. mark ∷ (front ++ d ∷ rest)) last
+    ∙ ap (λ xs. mark ∷ xs) (sym (append_assoc front ((48 + f.number % 10) ∷ []) rest))
+    ∙ ap (λ xs. mark ∷ (xs ++ rest)) (number_split w.number f.number fits)
+    ∙ ap (λ xs. xs ++ (number ++ rest)) sign
+
+-- another last digit
+pub digit_put : (a : List ℕ) (d e : ℕ) (b : List ℕ) → slice_set (a ++ d ∷ b) (length a) e ≡ a ++ e ∷ b
+digit_put [] d e b = refl
+digit_put (x ∷ a) d e b = ap (λ ys. x ∷ ys) (digit_put a d e b)
+
+-- another sign and another last digit
+pub parts_put : (k : FrontKey) (text : List ℕ) (m d mark digit last : ℕ) → text ≡ front_text k m d → last ≡ suc (length (tens_text k))
+    → slice_set (slice_set text 0 mark) last digit ≡ front_text k mark digit
+parts_put k text m d mark digit last is ends =
+    ap₂ (λ xs i. slice_set (slice_set xs 0 mark) i digit) is ends
+    ∙ ap (λ xs. mark ∷ xs) (digit_put (tens_text k) d digit (concat (turn_texts k)))
+
+-- The place of a call and its statement, with the spaces between them, and how long the place is in its column.
+
+gap_added : (old place statement : List ℕ) (padding indent : ℕ)
+    → old ++ place ++ spaces (padding + indent) ++ statement ≡ old ++ (place ++ spaces padding) ++ concat (spaces indent ∷ statement ∷ [])
+gap_added old place statement padding indent =
+    ap (λ gap. old ++ place ++ gap ++ statement) (sym (replicate-append-replicate padding indent 32)) ∙ simp regrouped
+
+pub statement_added : (old place shown end whole : List ℕ) (padding indent gap : ℕ) → gap ≡ padding + indent → shown ++ end ≡ whole
+    → old ++ place ++ spaces gap ++ shown ++ end ≡ old ++ (place ++ spaces padding) ++ concat (spaces indent ∷ whole ∷ [])
+statement_added old place shown end whole padding indent gap gap_is cut =
+    ap (λ n. old ++ place ++ spaces n ++ shown ++ end) gap_is
+    ∙ pair_added (old ++ place ++ spaces (padding + indent)) shown end whole cut
+    ∙ gap_added old place whole padding indent
+
+pub place_length : (width : ℕ) (place : List ℕ) → length (at_left width place) ≡ max width (length place)
+place_length width place = omega (arith, length-append place (spaces (width - length place)), length-replicate {A = ℕ} (width - length place) 32)
+
+-- The values that a call prints are those that were next, where it made a step.
+
+abbrev prints_nothing : Option (List Bool)
+prints_nothing = None
+
+none_anyway : (b : Bool) → (if b then prints_nothing else prints_nothing) ≡ prints_nothing
+none_anyway true = refl
+none_anyway false = refl
+
+pub printed_of : (format : ViewFormat) (c : Configuration) (x : Call) (values next : Option (List Bool)) → next ≡ next_print_in format c x.thread
+    → values ≡ (if is_granted x.reply then next else None) → values ≡ printed_in format c x
+printed_of Columns c x values next are is = is ∙ ap (λ o. if is_granted x.reply then o else None) are ∙ none_anyway (is_granted x.reply)
+printed_of Json c x values next are is = is ∙ ap (λ o. if is_granted x.reply then o else None) are
+
+-- a line shows the printed values that its format shows
+pub printed_line : (format : ViewFormat) (has_colour : Bool) (w : Widths) (f : ShownCall) (calls : ℕ) (c : Configuration) (x : Call)
+    → line_in format has_colour w f calls (printed_in format c x) ≡ line_in format has_colour w f calls (printed_by c x)
+printed_line Columns has_colour w f calls c x = refl
+printed_line Json has_colour w f calls c x = refl
+
+-- Texts that are joined in one order are those that are joined in another.
+
+condition_parts : (a b c d l v : List ℕ) → concat (a ∷ b ∷ c ∷ d ∷ l ∷ v ∷ []) ≡ concat (concat (a ∷ b ∷ c ∷ d ∷ []) ∷ (l ++ v) ∷ [])
+condition_parts a b c d l v = simp regrouped
+
+statement_joined : (place statement lead values : List ℕ) → lead ++ values ≡ values_line values
+    → concat (codes " at " ∷ place ∷ codes ": " ∷ statement ∷ lead ∷ values ∷ []) ≡ condition_lines place statement values
+statement_joined place statement lead values line =
+    condition_parts (codes " at ") place (codes ": ") statement lead values
+    ∙ ap (λ x. concat (concat (codes " at " ∷ place ∷ codes ": " ∷ statement ∷ []) ∷ x ∷ [])) line
+
+place_parts : (a n k l b c d e f g : List ℕ)
+    → concat (a ∷ n ∷ k ∷ l ∷ b ∷ c ∷ d ∷ e ∷ f ∷ g ∷ []) ≡ concat (a ∷ (n ++ k ++ (l ++ b ++ c)) ∷ d ∷ e ∷ f ∷ g ∷ [])
+place_parts a n k l b c d e f g = simp regrouped
+
+pub condition_joined : (file line column statement lead values : List ℕ) → lead ++ values ≡ values_line values
+    → concat (codes " at " ∷ file ∷ codes ":" ∷ line ∷ codes ":" ∷ column ∷ codes ": " ∷ statement ∷ lead ∷ values ∷ [])
+    ≡ condition_lines (file ++ codes ":" ++ (line ++ codes ":" ++ column)) statement values
+condition_joined file line column statement lead values is =
+    place_parts (codes " at ") file (codes ":") line (codes ":") column (codes ": ") statement lead values
+    ∙ statement_joined (file ++ codes ":" ++ (line ++ codes ":" ++ column)) statement lead values is
+
+frame_parts : (a b c d e f g h z : List ℕ)
+    → concat (a ∷ b ∷ c ∷ d ∷ e ∷ f ∷ g ∷ h ∷ z ∷ []) ≡ concat (concat (a ∷ b ∷ []) ∷ concat (c ∷ d ∷ e ∷ f ∷ g ∷ h ∷ []) ∷ z ∷ [])
+frame_parts a b c d e f g h z = simp regrouped
+
+pub frame_joined : (lead name place statement line values : List ℕ) → line ++ values ≡ values_line values
+    → concat (lead ∷ name ∷ codes " at " ∷ place ∷ codes ": " ∷ statement ∷ line ∷ values ∷ codes "\n" ∷ [])
+    ≡ concat (concat (lead ∷ name ∷ []) ∷ condition_lines place statement values ∷ codes "\n" ∷ [])
+frame_joined lead name place statement line values is =
+    frame_parts lead name (codes " at ") place (codes ": ") statement line values (codes "\n")
+    ∙ ap (λ x. concat (concat (lead ∷ name ∷ []) ∷ x ∷ codes "\n" ∷ [])) (statement_joined place statement line values is)
+
+pub foot_joined : (a b c d e f g o w z : List ℕ) → concat (a ∷ b ∷ c ∷ d ∷ e ∷ f ∷ g ∷ o ∷ w ∷ z ∷ []) ≡ concat (a ∷ b ∷ c ∷ d ∷ e ∷ f ∷ g ∷ []) ++ o ++ w ++ z
+foot_joined a b c d e f g o w z = simp regrouped
+
+pub limits_joined : (old a b c d e f : List ℕ) → old ++ concat (a ∷ b ∷ c ∷ d ∷ e ∷ f ∷ []) ≡ old ++ (a ++ b ++ c) ++ (d ++ e ++ f)
+limits_joined old a b c d e f = simp regrouped
 
 module _ (t : Program) (text : List ℕ) (s : SetupOf) (context : ViewContext) (h : List Call) (x : Call) where
   abbrev o : ViewOptions

@@ -1,27 +1,31 @@
 -- The context of a replayed trace is one of which a view can be made, and its view is one of the trace.
-use Rattle.std.proofs.Common.{◌≡◌, ◌∙◌, ℕ, List, Option, ap, refl, subst, sym}
-use Rattle.bp_tree.specs.Ast.{Program}
+use Rattle.std.proofs.Common.{◌≡◌, ◌∙◌, ℕ, List, Option, ap, refl, subst, sym, ◌++◌, suc, None, length}
+use Rattle.bp_text.specs.Writing.{IsWritten}
+use Rattle.bp_text.specs.Lines.{Adds, IsInParts}
+use Rattle.bp_text.proofs.Givings.{begun_as, cut_as, written_as}
+use Rattle.bp_language.specs.Ast.{Program}
 use Rattle.bp_flat.specs.Flat.{Flat}
-use Rattle.bp_flat.specs.StandsFor.{StandsFor}
+use Rattle.bp_flat.specs.StandsFor.{StandsFor, places_of}
 use Rattle.bp_machine.specs.declared.calls.Call.{Call}
-use Rattle.bp_machine.specs.Reports.{outcome_of}
+use Rattle.bp_machine.specs.Histories.{outcome_of}
 use Rattle.bp_machine.specs.Setups.{SetupOf, threads}
-use Rattle.bp_text.specs.WrittenTexts.{IsWritten}
-use Rattle.bp_text.proofs.WrittenParts.{begun_as, cut_as, written_as}
 use Rattle.bp_trace.specs.declared.replaying.Replayed.{Replayed}
 use Rattle.bp_trace.specs.Replays.{IsPlayable}
 use Rattle.bp_source.specs.declared.source_statements.SourceStatement.{SourceStatement}
 use Rattle.bp_source.specs.SourceStatements.{AreSourceStatements}
-use Rattle.bp_facts.specs.Watches.{watched_names, AreDeclared, IsUndeclared}
-use Rattle.bp_facts.specs.declared.faults.ViewFault.{ViewFault}
-use Rattle.bp_facts.specs.declared.faults.ViewFault.TheVariants.{Memory, NoThread, NoVariable, Replay, Write}
-use Rattle.bp_tasks.specs.declared.view_options.ViewOptions.{ViewOptions}
+use Rattle.bp_source.proofs.SourceStatementLists.{texts_are, shown_texts}
+use Rattle.bp_tasks.specs.declared.options.ViewOptions.{ViewOptions}
+use Rattle.bp_view.specs.Filters.{watched_names, AreDeclared, IsUndeclared}
+use Rattle.bp_view.specs.declared.faults.ViewFault.{ViewFault}
+use Rattle.bp_view.specs.declared.faults.ViewFault.TheVariants.{Memory, NoThread, NoVariable, Replay, Write}
+use Rattle.bp_view.specs.declared.spans.Span.{Span}
+use Rattle.bp_view.specs.ContextFacts.{AreSpans}
 use Rattle.bp_view.specs.declared.view_contexts.ViewContext.{ViewContext}
-use Rattle.bp_view.specs.declared.shown_traces.ShownTrace.{ShownTrace}
-use Rattle.bp_view.specs.ViewContexts.{IsViewContextOf}
-use Rattle.bp_view.specs.ShownTraces.{IsShownTrace}
-use Rattle.bp_view.specs.Views.{IsMissing, IsStopped, IsThere, IsView, IsViewOfTrace, IsViewRefusal, IsViewable, IsViewed}
-use Rattle.bp_view.specs.Widths.{extent_of, AreWidths}
+use Rattle.bp_view.specs.declared.view_contexts.ShownTrace.{ShownTrace}
+use Rattle.bp_view.specs.Views.{IsViewContextOf, IsShownTrace, IsMissing, IsStopped, IsThere, IsView, IsViewOfTrace, IsViewRefusal, IsViewable, IsViewed}
+use Rattle.bp_view.specs.Lines.{extent_of, AreWidths}
+use Rattle.bp_view.specs.ContextLines.{contexts_head, AreContextLines, IsContextLine}
+use Rattle.bp_view.proofs.BegunViews.{places_are}
 
 module _ {t : Program} {text trace : List ℕ} {shown : ShownTrace} (is : IsShownTrace t text t trace shown) where
   abbrev r : Replayed
@@ -70,3 +74,28 @@ module _ {t : Program} {text trace : List ℕ} {shown : ShownTrace} (is : IsShow
     stopped a b (NoVariable n) why = absurd why
     stopped a b Memory why = begun_as (λ view is. (r.report, of_trace view is)) why
     stopped a b Write why = cut_as (λ view is. (r.report, of_trace view is)) why
+
+-- The lines of all spans of a history are those of its contexts.
+
+module _ (t : Program) (text : List ℕ) (s : SetupOf) (h : List Call) (context : ViewContext) where
+  abbrev Lines : ℕ → List ℕ → Type 0
+  Lines n said = IsInParts (λ k part. IsContextLine context.options.format t text s h context.widths (suc k) part) n said
+
+  pub all_contexts : IsViewContextOf t text context → AreWidths s (extent_of context) context.widths → context.options.columns ≡ None
+      → length context.history.now ≡ length h
+      → (spans : List Span) → AreSpans t s h spans → (said : List ℕ)
+      → Adds (Lines (length spans)) (contexts_head context.options.format (length context.history.now) (length spans)) said
+      → AreContextLines context.options.format t text s h said
+  all_contexts known widths columns count spans are said lines = record {
+    count = length spans;
+    count_is = are.count.used;
+    widths = context.widths;
+    statements = shown_texts context.program.statements.now;
+    statements_are = texts_are text t.procedures (places_of t.procedures) context.program.statements.now known.program.statements;
+    widths_are =
+        let places = places_are text t.procedures (places_of t.procedures) context.program.statements.now known.program.statements in
+        rw (places, count, known.program.procedures, columns) at widths;
+    lines = lines.more;
+    lines_are = lines.more_are;
+    is = lines.is ∙ ap (λ n. contexts_head context.options.format n (length spans) ++ lines.more) count;
+  }

@@ -2,29 +2,23 @@
 -- thread stands before and after it, and the globals that it changed.
 use Rattle.std.specs.Prelude.{◌≡◌, ◌-◌, ℕ, suc, List, [], ◌∷◌, ◌++◌, Option, None, Some, codes, decimal, length, map}
 use Rattle.std.specs.List.{concat}
-use Rattle.bp_tree.specs.Ast.{Program}
-use Rattle.bp_flat.specs.StandsFor.{places_of}
-use Rattle.bp_flat.specs.Starts.{starts_of}
+use Rattle.bp_language.specs.Ast.{Program}
+use Rattle.bp_flat.specs.StandsFor.{places_of, starts_of}
 use Rattle.bp_machine.specs.declared.calls.Call.{Call}
-use Rattle.bp_machine.specs.declared.reports.Report.{Report}
-use Rattle.bp_machine.specs.Contexts.{IsLeastWithin}
-use Rattle.bp_machine.specs.Histories.{granted_threads}
+use Rattle.bp_machine.specs.declared.calls.Report.{Report}
+use Rattle.bp_machine.specs.Histories.{IsLeastWithin, granted_threads}
 use Rattle.bp_machine.specs.Setups.{SetupOf}
-use Rattle.bp_text.specs.declared.positions.Position.{Position}
-use Rattle.bp_text.specs.Columns.{at_left, at_right}
-use Rattle.bp_text.specs.Pieces.{key_text, list_text}
+use Rattle.bp_text.specs.declared.lines.Position.{Position}
+use Rattle.bp_text.specs.Pieces.{at_left, at_right, key_text, list_text}
 use Rattle.bp_trace.specs.declared.replaying.Replayed.{Replayed}
-use Rattle.bp_trace.specs.Replayed.{IsReplayed}
-use Rattle.bp_text.specs.Parts.{IsInParts}
-use Rattle.bp_source.specs.SourceStatements.{AreStatements}
-use Rattle.bp_source.specs.Places.{place_text}
-use Rattle.bp_facts.specs.ContextFacts.{AreContextFacts, ShownContext}
-use Rattle.bp_tasks.specs.declared.view_options.ViewFormat.{ViewFormat}
-use Rattle.bp_tasks.specs.declared.view_options.ViewFormat.TheVariants.{Columns, Json}
+use Rattle.bp_trace.specs.Replays.{IsReplayed}
+use Rattle.bp_text.specs.Lines.{IsInParts}
+use Rattle.bp_source.specs.SourceStatements.{AreStatements, place_text}
+use Rattle.bp_view.specs.ContextFacts.{AreContextFacts, ShownContext}
+use Rattle.bp_tasks.specs.declared.options.ViewFormat.{ViewFormat}
+use Rattle.bp_tasks.specs.declared.options.ViewFormat.TheVariants.{Columns, Json}
 use Rattle.bp_view.specs.declared.view_contexts.Widths.{Widths}
-use Rattle.bp_view.specs.Lines.{after_room}
-use Rattle.bp_view.specs.Variables.{entries_text}
-use Rattle.bp_view.specs.Widths.{extent, AreWidths}
+use Rattle.bp_view.specs.Lines.{after_room, entries_text, extent, AreWidths}
 
 -- a context for people
 abbrev pub context_line : Widths → ShownContext → List ℕ

@@ -1,38 +1,78 @@
--- Laws of views.
-use Rattle.std.specs.Prelude.{◌≡◌, ℕ, List}
-use Rattle.bp_tree.specs.Ast.{Program}
+-- Laws of facts.
+use Rattle.std.specs.Prelude.{if◌then◌else◌, ◌≡◌, ◌≢◌, ◌==◌, nat_lt, ℕ, Bool, List, [], ◌∷◌, ◌++◌, Option, None, Some, flat_map, length, map}
+use Rattle.bp_language.specs.Ast.{Procedure, Program}
+use Rattle.bp_language.specs.Faults.{HasDistinctNames}
+use Rattle.bp_flat.specs.Moves.{Frame, Configuration, Valuation, binding, update}
+use Rattle.bp_machine.specs.Histories.{stack_of, configuration_after}
 use Rattle.bp_machine.specs.declared.calls.Call.{Call}
-use Rattle.bp_machine.specs.declared.reports.Report.{Report}
 use Rattle.bp_machine.specs.Setups.{SetupOf}
-use Rattle.bp_tasks.specs.declared.view_options.ViewFormat.{ViewFormat}
-use Rattle.bp_tasks.specs.declared.view_options.ViewOptions.{ViewOptions}
-use Rattle.bp_view.specs.ContextLines.{AreContextLines}
-use Rattle.bp_view.specs.States.{IsStateText}
-use Rattle.bp_view.specs.Views.{IsView}
+use Rattle.bp_view.specs.CallFacts.{Entry, changes_by}
 
--- of a program and its text, in a setup, a history has at most one view with this report
-abbrev pub OneView : Type 0
-OneView =
-    (t : Program) (text : List ℕ) (s : SetupOf) (h : List Call) (r : Report) (o : ViewOptions)
-    (file : List ℕ) (v w : List ℕ)
-    → IsView t text s h r o file v
-    → IsView t text s h r o file w
-    → v ≡ w
+-- What the changes of a call make of the values before it.
 
--- and at most one state within this many calls
-abbrev pub OneState : Type 0
-OneState =
-    (format : ViewFormat) (t : Program) (text : List ℕ) (s : SetupOf) (h : List Call) (count : ℕ)
-    (v w : List ℕ)
-    → IsStateText format t text s h count v
-    → IsStateText format t text s h count w
-    → v ≡ w
+-- the globals with a change; that of a local leaves them
+abbrev pub global_with : Option Procedure → Valuation → List ℕ → Bool → Valuation
+global_with None g x b = update g x b
+global_with (Some p) g x b = g
 
--- and at most one list of its contexts
-abbrev pub OneListOfContexts : Type 0
-OneListOfContexts =
-    (format : ViewFormat) (t : Program) (text : List ℕ) (s : SetupOf) (h : List Call)
-    (v w : List ℕ)
-    → AreContextLines format t text s h v
-    → AreContextLines format t text s h w
-    → v ≡ w
+abbrev pub globals_with : Valuation → List Entry → Valuation
+globals_with g [] = g
+globals_with g (e ∷ es) = globals_with (global_with e.owner g e.name e.value) es
+
+-- the locals with a change; that of a global leaves them
+abbrev pub local_with : Option Procedure → Valuation → List ℕ → Bool → Valuation
+local_with None l x b = l
+local_with (Some p) l x b = update l x b
+
+abbrev pub locals_with : Valuation → List Entry → Valuation
+locals_with l [] = l
+locals_with l (e ∷ es) = locals_with (local_with e.owner l e.name e.value) es
+
+-- the locals that changes name, with their values
+abbrev pub local_in : Option Procedure → List ℕ → Bool → Valuation
+local_in None x b = []
+local_in (Some p) x b = (x, b) ∷ []
+
+abbrev pub locals_in : List Entry → Valuation
+locals_in es = flat_map (λ e. local_in e.owner e.name e.value) es
+
+-- the procedures of a stack's frames, with their locals
+abbrev pub variables_of : List Frame → List (Procedure × Valuation)
+variables_of fs = map (λ f. (f.procedure, f.locals)) fs
+
+-- The frames of a stack after a call with these changes, where it then has depth n, with a frame of
+-- p at its top. A frame that the call entered has the formals that the changes name, and 0 for each
+-- declared local. The frame at the top that stays has the changes. One that was left is gone. Those
+-- below have their values.
+abbrev pub variables_with
+    : List (Procedure × Valuation) → (n : ℕ) → Procedure → List Entry
+    → List (Procedure × Valuation)
+variables_with [] n p es = []
+variables_with (f ∷ fs) n p es =
+    if nat_lt (length (f ∷ fs)) n then (p, locals_in es ++ binding p.locals []) ∷ f ∷ fs
+    else if length (f ∷ fs) == n then (f.0, locals_with f.1 es) ∷ fs
+    else fs
+
+abbrev pub AreVariablesWith : (before after : List Frame) → List Entry → Type 0
+AreVariablesWith [] after es = after ≡ []
+AreVariablesWith (f ∷ fs) [] es = fs ≡ []
+AreVariablesWith (f ∷ fs) (g ∷ gs) es =
+    let before = variables_of (f ∷ fs) in
+    variables_of (g ∷ gs) ≡ variables_with before (length (g ∷ gs)) g.procedure es
+
+-- these changes of a call of thread i lead from the values of one configuration to those of the
+-- other
+pub record AreReplayed (c d : Configuration) (i : ℕ) (es : List Entry) : Type 0 where
+  pub globals : d.globals ≡ globals_with c.globals es
+  pub own : AreVariablesWith (stack_of c i) (stack_of d i) es
+  pub others : (j : ℕ) → j ≢ i → stack_of d j ≡ stack_of c j
+
+-- The changes of a call lead from the values before it to those after it, in a program in which no
+-- two names of a kind are spelled alike.
+abbrev pub ChangesReplay : Type 0
+ChangesReplay =
+    (t : Program) (s : SetupOf) (h : List Call) (x : Call)
+    → HasDistinctNames t
+    → let before = configuration_after t s h in
+    let after = configuration_after t s (h ++ x ∷ []) in
+    AreReplayed before after x.thread (changes_by t s h x)

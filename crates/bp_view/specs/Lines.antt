@@ -1,17 +1,100 @@
--- The line of a call in columns.
-use Rattle.std.specs.Prelude.{if◌then◌else◌, ◌-◌, ◌*◌, nat_lt, min, ℕ, Bool, List, [], ◌∷◌, Option, None, Some, codes, decimal, length}
+-- The line of a call in columns, its object in JSON, and what both are made of.
+use Rattle.std.specs.Prelude.{if◌then◌else◌, ℕ, Bool, true, false, List, [], ◌∷◌, ◌++◌, codes, ◌-◌, Option, None, Some, length, max, min, nat_lt, take, flat_map, map, option_map, ◌*◌, decimal, ◌==◌, ◌≡◌, ◌+◌}
 use Rattle.std.specs.List.{concat}
+use Rattle.bp_text.specs.Pieces.{string_text, bit_text, key_text, string_or_null, at_left, at_right, spaces, bit_or_null, list_text, number_or_null, truth_text}
+use Rattle.bp_language.specs.Ast.{Procedure}
+use Rattle.bp_flat.specs.Moves.{Valuation}
 use Rattle.bp_machine.specs.declared.calls.Reply.{Reply}
-use Rattle.bp_machine.specs.declared.calls.Reply.TheVariants.{Stopped, Ended, NoContexts, Full, Blocked, Failed, Stepped}
-use Rattle.bp_text.specs.Columns.{at_left, at_right, spaces}
-use Rattle.bp_facts.specs.CallFacts.{choice_of, ShownCall}
-use Rattle.bp_view.specs.declared.colours.Colour.{Colour}
-use Rattle.bp_tasks.specs.declared.view_options.ViewFormat.TheVariants.{Columns}
+use Rattle.bp_machine.specs.declared.calls.Reply.TheVariants.{Failed, Stopped, Ended, NoContexts, Full, Blocked, Stepped}
+use Rattle.bp_machine.specs.Setups.{SetupOf, threads}
+use Rattle.bp_source.specs.Listings.{column_of, line_of}
+use Rattle.bp_tasks.specs.declared.options.ViewFormat.{ViewFormat}
+use Rattle.bp_tasks.specs.declared.options.ViewFormat.TheVariants.{Columns, Json}
+use Rattle.bp_view.specs.CallFacts.{owned, Entry, choice_of, ShownCall}
+use Rattle.bp_view.specs.declared.fronts.Colour.{Colour}
+use Rattle.bp_view.specs.declared.fronts.Colour.TheVariants.{Plain, Red, Yellow}
+use Rattle.bp_view.specs.declared.statement_columns.TheConstants.{LEAST_STATEMENT, MAX_STATEMENT, OTHER_COLUMNS}
 use Rattle.bp_view.specs.declared.view_contexts.TheConstants.{MAX_INDENTS}
 use Rattle.bp_view.specs.declared.view_contexts.Widths.{Widths}
-use Rattle.bp_view.specs.Colours.{closing, colour_of, opening}
-use Rattle.bp_view.specs.StatementColumns.{shortened}
-use Rattle.bp_view.specs.Variables.{entries_text}
+use Rattle.bp_view.specs.declared.fronts.FrontKey.{FrontKey}
+use Rattle.bp_view.specs.declared.view_contexts.ViewContext.{ViewContext}
+
+-- The colours of a view's lines, for a terminal.
+
+-- a failure is red, another step after one of another thread is yellow; all lines are plain where
+-- no colours are wanted
+abbrev pub colour_of : (wanted : Bool) → Reply → (switch : Bool) → Colour
+colour_of false reply switch = Plain
+colour_of true Failed switch = Red
+colour_of true reply switch = if switch then Yellow else Plain
+
+-- the sign of a terminal with this code
+abbrev pub sign : List ℕ → List ℕ
+sign code = 27 ∷ 91 ∷ (code ++ codes "m")
+
+abbrev pub opening : Colour → List ℕ
+opening Red = sign (codes "31")
+opening Yellow = sign (codes "33")
+opening Plain = []
+
+abbrev pub closing : Colour → List ℕ
+closing Red = sign (codes "0")
+closing Yellow = sign (codes "0")
+closing Plain = []
+
+-- How many columns a statement has, and how a text is cut.
+
+-- the most bytes of a statement: where a line has this many columns, those that the other fields
+-- and a note leave, from LEAST_STATEMENT to MAX_STATEMENT
+abbrev pub statement_room : Option ℕ → ℕ
+statement_room None = MAX_STATEMENT
+statement_room (Some columns) = max LEAST_STATEMENT (min MAX_STATEMENT (columns - OTHER_COLUMNS))
+
+-- at most this many bytes: a longer text is cut, and ends with two dots
+abbrev pub shortened : (room : ℕ) → List ℕ → List ℕ
+shortened room statement =
+    if nat_lt room (length statement) then take (room - 2) statement ++ codes ".." else statement
+
+-- The texts of variables with their values.
+
+-- the procedure of a local, and a dot; a global has none
+abbrev pub owner_text : Option Procedure → List ℕ
+owner_text None = []
+owner_text (Some p) = concat (p.name.text ∷ codes "." ∷ [])
+
+-- a variable with its value, for people
+abbrev pub assignment_text : Option Procedure → List ℕ → Bool → List ℕ
+assignment_text owner name value =
+    concat (
+    codes " " ∷ owner_text owner
+    ∷ name ∷ codes "=" ∷ bit_text value ∷ [])
+
+-- the same as an object of JSON after a comma
+abbrev pub variable_object : Option Procedure → List ℕ → Bool → List ℕ
+variable_object owner name value =
+    concat (
+    codes ",{\"procedure\":" ∷ string_or_null (option_map (λ p. p.name.text) owner)
+    ∷ key_text (codes "name") ∷ string_text name
+    ∷ key_text (codes "value") ∷ bit_text value
+    ∷ codes "}" ∷ [])
+
+-- the same in a view of this format
+abbrev pub variable_text : ViewFormat → Option Procedure → List ℕ → Bool → List ℕ
+variable_text Columns owner name value = assignment_text owner name value
+variable_text Json owner name value = variable_object owner name value
+
+-- the same of an entry, and of several
+abbrev pub entry_text : ViewFormat → Entry → List ℕ
+entry_text format x = variable_text format x.owner x.name x.value
+
+abbrev pub entries_text : ViewFormat → List Entry → List ℕ
+entries_text format xs = flat_map (entry_text format) xs
+
+-- the same of the variables of an owner
+abbrev pub variables_text : ViewFormat → Option Procedure → Valuation → List ℕ
+variables_text format owner values = entries_text format (owned owner values)
+
+-- The line of a call in columns.
 
 -- what is said of a reply
 abbrev pub reply_note : Reply → List ℕ
@@ -123,3 +206,118 @@ line_text w colour f calls =
 abbrev pub column_line : (has_colour : Bool) → Widths → ShownCall → (calls : ℕ) → List ℕ
 column_line has_colour w f calls =
     line_text w (colour_of has_colour f.call.reply f.switch) f calls
+
+-- The object of a call in JSON.
+
+-- what is said of a reply
+abbrev pub reply_name : Reply → List ℕ
+reply_name Stopped = codes "stopped"
+reply_name Ended = codes "ended"
+reply_name NoContexts = codes "out_of_contexts"
+reply_name Full = codes "stack_full"
+reply_name Blocked = codes "waits"
+reply_name Failed = codes "failed"
+reply_name Stepped = codes "stepped"
+
+-- the texts of the members of a call that have one value each: its own, what its thread has next,
+-- and the reply
+abbrev pub member_texts : ShownCall → List (List ℕ)
+member_texts f =
+    codes "{\"kind\":\"call\""
+    ∷ key_text (codes "number") ∷ decimal f.number
+    ∷ key_text (codes "thread") ∷ decimal f.call.thread
+    ∷ key_text (codes "context") ∷ number_or_null f.context
+    ∷ key_text (codes "switch") ∷ truth_text f.switch
+    ∷ key_text (codes "line") ∷ number_or_null (line_of f.next.position)
+    ∷ key_text (codes "column") ∷ number_or_null (column_of f.next.position)
+    ∷ key_text (codes "procedure") ∷ string_or_null f.next.procedure
+    ∷ key_text (codes "depth") ∷ decimal f.next.depth
+    ∷ key_text (codes "statement") ∷ string_or_null f.next.text
+    ∷ key_text (codes "choice") ∷ bit_or_null (choice_of f)
+    ∷ key_text (codes "reply") ∷ string_text (reply_name f.call.reply)
+    ∷ []
+
+abbrev pub bit_item : Bool → List ℕ
+bit_item bit = concat (codes "," ∷ bit_text bit ∷ [])
+
+abbrev pub printed_text : Option (List Bool) → List ℕ
+printed_text None = codes "null"
+printed_text (Some values) = list_text (flat_map bit_item values)
+
+-- a call: the members that have one value each, what it changed and what it printed
+abbrev pub call_object : ShownCall → (printed : Option (List Bool)) → List ℕ
+call_object f printed =
+    concat (
+    concat (member_texts f)
+    ∷ key_text (codes "changes") ∷ list_text (entries_text Json f.changes)
+    ∷ key_text (codes "printed") ∷ printed_text printed
+    ∷ codes "}\n" ∷ [])
+
+-- A device: the fields of a line before its place, of which a text is kept from line to line.
+
+-- the digits of a number before its last, where this is a tenth of the number
+abbrev pub tens_digits : ℕ → List ℕ
+tens_digits tens = if tens == 0 then [] else decimal tens
+
+-- the same in the column of the number
+abbrev pub tens_text : FrontKey → List ℕ
+tens_text k = at_right (k.number_width - 1) (tens_digits k.tens)
+
+-- the fields of thread and context, with a space before, between and after them
+abbrev pub turn_texts : FrontKey → List (List ℕ)
+turn_texts k =
+    codes " "
+    ∷ at_right k.thread_width (decimal k.thread) ∷ codes " "
+    ∷ at_right k.context_width (context_text k.context) ∷ codes " " ∷ []
+
+-- all of them, with this sign before them, and with this last digit of the number
+abbrev pub front_text : FrontKey → (mark digit : ℕ) → List ℕ
+front_text k mark digit = mark ∷ (tens_text k ++ digit ∷ concat (turn_texts k))
+
+-- How wide the columns of a view are: one width of each for all its lines.
+
+-- the length of the longest of these texts
+abbrev pub longest : List (List ℕ) → ℕ
+longest [] = 0
+longest (x ∷ xs) = max (length x) (longest xs)
+
+-- What the widths of a view follow from: its number of calls, the places and the texts of the
+-- statements of its program, the number of its procedures, and how many columns a line may have.
+pub record Extent : Type 0 where
+  pub calls : ℕ
+  pub places : List (List ℕ)
+  pub statements : List (List ℕ)
+  pub procedures : ℕ
+  pub columns : Option ℕ
+
+abbrev pub extent : ℕ → List (List ℕ) → List (List ℕ) → ℕ → Option ℕ → Extent
+extent calls places statements procedures columns =
+    record {
+      calls = calls;
+      places = places;
+      statements = statements;
+      procedures = procedures;
+      columns = columns;
+    }
+
+-- The widths of a view: those of the greatest number of a call, of the number of threads, of the
+-- limit of the contexts, and of the longest place. The notes begin after the longest statement as
+-- its column has it, where it is moved by two columns for each procedure, up to the most by which
+-- one is moved. Lines and statements are cut where lines may have only this many columns.
+pub record AreWidths (s : SetupOf) (e : Extent) (w : Widths) : Type 0 where
+  pub number : w.number ≡ length (decimal e.calls)
+  pub thread : w.thread ≡ length (decimal (threads s))
+  pub context : w.context ≡ length (decimal s.contexts)
+  pub place : w.place ≡ max 1 (longest e.places)
+  pub notes :
+      let room = statement_room e.columns in
+      w.notes ≡ longest (map (shortened room) e.statements) + 2 * min e.procedures MAX_INDENTS
+  pub statement : w.statement ≡ statement_room e.columns
+  pub line : w.line ≡ e.columns
+
+-- a device: the extent that the code reads from its context
+abbrev pub extent_of : ViewContext → Extent
+extent_of x =
+    let places = map (λ s. s.place.items) x.program.statements.now in
+    let statements = map (λ s. s.excerpt.text.items) x.program.statements.now in
+    extent (length x.history.now) places statements (length x.program.procs.now) x.options.columns

@@ -1,17 +1,43 @@
 -- The head of a view: the setup of its history.
-use Rattle.std.specs.Prelude.{if◌then◌else◌, ℕ, suc, List, [], ◌∷◌, ◌++◌, Option, None, Some, codes, decimal, flat_map}
+use Rattle.std.specs.Prelude.{ℕ, List, [], ◌∷◌, codes, max, if◌then◌else◌, suc, ◌++◌, Option, None, Some, decimal, flat_map}
 use Rattle.std.specs.List.{concat}
-use Rattle.bp_tree.specs.Ast.{Name}
-use Rattle.bp_flat.specs.Values.{Valuation, binding}
+use Rattle.bp_text.specs.Pieces.{at_left, at_right, key_text, list_text, number_or_null}
+use Rattle.bp_language.specs.Ast.{Name}
+use Rattle.bp_flat.specs.Moves.{Valuation, binding}
 use Rattle.bp_machine.specs.Setups.{SetupOf}
-use Rattle.bp_text.specs.Pieces.{key_text, list_text, number_or_null}
-use Rattle.bp_source.specs.Programs.{string_item}
-use Rattle.bp_tasks.specs.declared.view_options.ViewFormat.{ViewFormat}
-use Rattle.bp_tasks.specs.declared.view_options.ViewFormat.TheVariants.{Columns, Json}
-use Rattle.bp_tasks.specs.declared.view_options.ViewOptions.{ViewOptions}
+use Rattle.bp_source.specs.Listings.{string_item}
+use Rattle.bp_tasks.specs.declared.options.ViewFormat.{ViewFormat}
+use Rattle.bp_tasks.specs.declared.options.ViewFormat.TheVariants.{Columns, Json}
+use Rattle.bp_tasks.specs.declared.options.ViewOptions.{ViewOptions}
 use Rattle.bp_view.specs.declared.view_contexts.Widths.{Widths}
-use Rattle.bp_view.specs.Headings.{headings_in}
-use Rattle.bp_view.specs.Variables.{variables_text}
+use Rattle.bp_view.specs.Lines.{variables_text}
+
+-- The headings over the columns of a view.
+
+-- each column is as wide as its heading at least
+abbrev pub under_headings : Widths → Widths
+under_headings w =
+    record w {
+      number = max 4 w.number;
+      thread = max 6 w.thread;
+      context = max 7 w.context;
+      place = max 5 w.place;
+    }
+
+-- the headings of columns of these widths
+abbrev pub headings_line : Widths → List ℕ
+headings_line w =
+    concat (
+    codes " " ∷ at_right w.number (codes "call")
+    ∷ codes " " ∷ at_right w.thread (codes "thread")
+    ∷ codes " " ∷ at_right w.context (codes "context")
+    ∷ codes " " ∷ at_left w.place (codes "place")
+    ∷ codes "  statement\n" ∷ [])
+
+-- objects have none
+abbrev pub headings_in : ViewFormat → Widths → List ℕ
+headings_in Columns w = headings_line (under_headings w)
+headings_in Json w = []
 
 -- the number of a thread, and the procedure in which it begins
 abbrev pub thread_line : ℕ → List ℕ → List ℕ

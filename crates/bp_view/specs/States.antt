@@ -1,24 +1,104 @@
--- The text of a state, from its facts: the values of the globals, and how each thread stands.
-use Rattle.std.specs.Prelude.{◌≡◌, ℕ, List, [], ◌∷◌, Option, None, Some, codes, decimal, flat_map, length, take}
+-- The text of a state, from its facts, and of the conditions and frames in it.
+use Rattle.std.specs.Prelude.{ℕ, List, [], ◌∷◌, ◌++◌, codes, decimal, map, if◌then◌else◌, ◌==◌, Some, flat_map, ◌≡◌, Option, None, length, take}
 use Rattle.std.specs.List.{concat}
-use Rattle.bp_tree.specs.Ast.{Program}
+use Rattle.bp_text.specs.declared.lines.Position.{Position}
+use Rattle.bp_text.specs.Pieces.{string_text, displayed, key_text, list_text, number_or_null}
+use Rattle.bp_language.specs.Ast.{Program}
 use Rattle.bp_machine.specs.declared.calls.Call.{Call}
-use Rattle.bp_machine.specs.declared.reports.Outcome.{Outcome}
-use Rattle.bp_machine.specs.declared.reports.Outcome.TheVariants.{Clean, Failed}
-use Rattle.bp_machine.specs.declared.reports.Report.{Report}
+use Rattle.bp_machine.specs.declared.calls.Outcome.{Outcome}
+use Rattle.bp_machine.specs.declared.calls.Outcome.TheVariants.{Clean, Failed}
+use Rattle.bp_machine.specs.declared.calls.Report.{Report}
 use Rattle.bp_machine.specs.Setups.{SetupOf}
-use Rattle.bp_text.specs.JsonStrings.{string_text}
-use Rattle.bp_text.specs.Pieces.{key_text, list_text, number_or_null}
 use Rattle.bp_trace.specs.declared.replaying.Replayed.{Replayed}
-use Rattle.bp_trace.specs.Replayed.{IsReplayed}
-use Rattle.bp_facts.specs.declared.standings.Standing.{Standing}
-use Rattle.bp_facts.specs.declared.standings.Standing.TheVariants as standing
-use Rattle.bp_facts.specs.StateFacts.{AreStateFacts, ShownState, ShownThread}
-use Rattle.bp_tasks.specs.declared.view_options.ViewFormat.{ViewFormat}
-use Rattle.bp_tasks.specs.declared.view_options.ViewFormat.TheVariants.{Columns, Json}
-use Rattle.bp_view.specs.Frames.{frames_text}
+use Rattle.bp_trace.specs.Replays.{IsReplayed}
+use Rattle.bp_source.specs.SourceStatements.{position_text}
+use Rattle.bp_source.specs.Listings.{column_of, line_of}
+use Rattle.bp_tasks.specs.declared.options.ViewFormat.{ViewFormat}
+use Rattle.bp_tasks.specs.declared.options.ViewFormat.TheVariants.{Columns, Json}
+use Rattle.bp_view.specs.FootFacts.{ShownCondition}
+use Rattle.bp_view.specs.StateFacts.{ShownFrame, AreStateFacts, ShownState, ShownThread}
+use Rattle.bp_view.specs.declared.state_facts.Standing.{Standing}
+use Rattle.bp_view.specs.declared.state_facts.Standing.TheVariants as standing
+use Rattle.bp_view.specs.Lines.{entries_text, variables_text}
 use Rattle.bp_view.specs.SetupLines.{globals_line}
-use Rattle.bp_view.specs.Variables.{variables_text}
+
+-- The text of a condition, which is an assertion or an assumption, from its facts.
+
+-- a line of values, and none where there are none
+abbrev pub values_line : List ℕ → List ℕ
+values_line [] = []
+values_line (b ∷ bs) = codes "\nvalues" ++ b ∷ bs
+
+-- where a statement begins, its text, and the line of its values
+abbrev pub condition_lines : (place statement values : List ℕ) → List ℕ
+condition_lines place statement values =
+    concat (
+    concat (codes " at " ∷ place ∷ codes ": " ∷ statement ∷ [])
+    ∷ values_line values
+    ∷ [])
+
+-- the same as the members of an object
+abbrev pub condition_members : Position → (statement values : List ℕ) → List ℕ
+condition_members position statement values =
+    concat (
+    key_text (codes "line") ∷ decimal position.line
+    ∷ key_text (codes "column") ∷ decimal position.column
+    ∷ key_text (codes "statement") ∷ string_text statement
+    ∷ key_text (codes "values") ∷ list_text values
+    ∷ [])
+
+-- what is said of a condition in a view of this format; for people its place is in a file
+abbrev pub condition_text : ViewFormat → (file : List ℕ) → ShownCondition → List ℕ
+condition_text Columns file x =
+    let place = displayed file ++ codes ":" ++ position_text x.position in
+    condition_lines place x.text (entries_text Columns x.values)
+condition_text Json file x = condition_members x.position x.text (entries_text Json x.values)
+
+-- the object of the thread that stands at it, and what is said of it
+abbrev pub condition_object : ShownCondition → List ℕ
+condition_object x =
+    concat (
+    codes "{\"thread\":" ∷ decimal x.thread ∷ condition_text Json [] x ∷ codes "}" ∷ [])
+
+-- The text of a frame of a stack, from its facts.
+
+-- what comes before the procedure of a frame below n others: those below the top go on after
+-- returns
+abbrev pub lead : ℕ → List ℕ
+lead n = if n == 0 then codes "in " else codes "then in "
+
+-- the values of the variables of a frame
+abbrev pub locals_text : ViewFormat → ShownFrame → List ℕ
+locals_text format x = variables_text format (Some x.procedure) x.locals
+
+-- a frame for people: its procedure, the place and the text of its next statement, and the line of
+-- its values
+abbrev pub frame_lines : ShownFrame → (values : List ℕ) → List ℕ
+frame_lines x values =
+    concat (
+    concat (lead x.above ∷ x.procedure.name.text ∷ [])
+    ∷ condition_lines x.place x.text values
+    ∷ codes "\n" ∷ [])
+
+-- the same as an object of JSON after a comma
+abbrev pub frame_object : ShownFrame → (values : List ℕ) → List ℕ
+frame_object x values =
+    concat (
+    codes ",{\"procedure\":" ∷ string_text x.procedure.name.text
+    ∷ key_text (codes "line") ∷ number_or_null (line_of x.position)
+    ∷ key_text (codes "column") ∷ number_or_null (column_of x.position)
+    ∷ key_text (codes "statement") ∷ string_text x.text
+    ∷ key_text (codes "locals") ∷ list_text values
+    ∷ codes "}" ∷ [])
+
+abbrev pub frame_text : ViewFormat → ShownFrame → List ℕ
+frame_text Columns x = frame_lines x (locals_text Columns x)
+frame_text Json x = frame_object x (locals_text Json x)
+
+abbrev pub frames_text : ViewFormat → List ShownFrame → List ℕ
+frames_text format xs = flat_map (frame_text format) xs
+
+-- The text of a state, from its facts: the values of the globals, and how each thread stands.
 
 -- how a thread stands, for people
 abbrev pub standing_text : Standing → List ℕ

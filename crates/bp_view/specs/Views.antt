@@ -1,45 +1,173 @@
 -- The view of a history of a program: a line for each of its calls that is shown.
-use Rattle.std.specs.Prelude.{◌≡◌, ◌<◌, ◌≤◌, ◌&&◌, ℕ, suc, Bool, true, false, nat_lt, List, [], ◌++◌, Option, None, Some, length, map, take, slice_get}
-use Rattle.bp_tree.specs.Ast.{Program}
-use Rattle.bp_flat.specs.Configurations.{Configuration}
+use Rattle.std.specs.Prelude.{◌≡◌, ℕ, Bool, true, false, List, [], ◌∷◌, ◌++◌, Option, None, Some, codes, decimal, flat_map, length, ◌≤◌, map, ◌<◌, ◌&&◌, suc, nat_lt, take, slice_get}
+use Rattle.std.specs.List.{concat}
+use Rattle.bp_text.specs.Pieces.{key_text, list_text}
+use Rattle.bp_text.specs.Lines.{IsInParts}
+use Rattle.bp_text.specs.Writing.{IsBegun, IsCutShort, IsWritten}
+use Rattle.bp_language.specs.Ast.{Program}
+use Rattle.bp_flat.specs.Moves.{Configuration}
 use Rattle.bp_flat.specs.Flat.{Flat}
-use Rattle.bp_flat.specs.StandsFor.{places_of, StandsFor}
-use Rattle.bp_flat.specs.Starts.{starts_of}
+use Rattle.bp_flat.specs.StandsFor.{places_of, StandsFor, starts_of}
 use Rattle.bp_machine.specs.declared.calls.Call.{Call}
-use Rattle.bp_machine.specs.declared.reports.Report.{Report}
-use Rattle.bp_machine.specs.Answers.{stack_of}
-use Rattle.bp_machine.specs.ContextCounts.{last_thread}
-use Rattle.bp_machine.specs.Histories.{configuration_after, granted_threads}
-use Rattle.bp_machine.specs.PrintedRows.{values_printed}
-use Rattle.bp_machine.specs.Reports.{outcome_of}
-use Rattle.bp_machine.specs.Sessions.{Stands}
+use Rattle.bp_machine.specs.declared.calls.Report.{Report}
 use Rattle.bp_machine.specs.Setups.{SetupOf, threads}
-use Rattle.bp_text.specs.Parts.{IsInParts}
-use Rattle.bp_text.specs.WrittenTexts.{IsBegun, IsCutShort, IsWritten}
+use Rattle.bp_machine.specs.Histories.{stack_of, configuration_after, granted_threads, outcome_of}
+use Rattle.bp_machine.specs.Sessions.{last_thread, Stands}
+use Rattle.bp_machine.specs.Runs.{values_printed}
+use Rattle.bp_trace.specs.declared.limits.TheConstants.{MAX_TRACE}
+use Rattle.bp_trace.specs.Replays.{IsReplayed, IsPlayable, IsReplayRefusal}
 use Rattle.bp_trace.specs.declared.replaying.Replayed.{Replayed}
-use Rattle.bp_trace.specs.Replayed.{IsReplayed}
-use Rattle.bp_trace.specs.Replays.{IsPlayable, IsReplayRefusal}
-use Rattle.bp_source.specs.Places.{place_text}
-use Rattle.bp_source.specs.SourceStatements.{AreStatements}
-use Rattle.bp_facts.specs.CallFacts.{changes_by, printed_by, AreCallFacts, ShownCall}
-use Rattle.bp_facts.specs.Filters.{calls_of, is_asked}
-use Rattle.bp_facts.specs.Watches.{is_seen, watched_names, AreDeclared, IsUndeclared}
-use Rattle.bp_facts.specs.declared.faults.ViewFault.{ViewFault}
-use Rattle.bp_facts.specs.declared.faults.ViewFault.TheVariants.{Memory, NoThread, NoVariable, Replay, Write}
-use Rattle.bp_tasks.specs.declared.view_options.ViewFormat.{ViewFormat}
-use Rattle.bp_tasks.specs.declared.view_options.ViewFormat.TheVariants.{Columns, Json}
-use Rattle.bp_tasks.specs.declared.view_options.ViewOptions.{ViewOptions}
+use Rattle.bp_source.specs.SourceStatements.{AreSourceStatements, place_text, AreStatements}
+use Rattle.bp_tasks.specs.declared.options.ViewFormat.{ViewFormat}
+use Rattle.bp_tasks.specs.declared.options.ViewFormat.TheVariants.{Columns, Json}
+use Rattle.bp_tasks.specs.declared.options.ViewOptions.{ViewOptions}
+use Rattle.bp_view.specs.FootFacts.{AreFootFacts, ShownCondition, ShownFoot}
+use Rattle.bp_view.specs.declared.filters.CallFilter.{CallFilter}
+use Rattle.bp_view.specs.CallFacts.{AreProgramFacts, changes_by, printed_by, AreCallFacts, ShownCall}
+use Rattle.bp_view.specs.Filters.{watched_names, calls_of, is_asked, is_seen, AreDeclared, IsUndeclared}
+use Rattle.bp_view.specs.declared.faults.ViewFault.{ViewFault}
+use Rattle.bp_view.specs.declared.faults.ViewFault.TheVariants.{Memory, NoThread, NoVariable, Replay, Write}
+use Rattle.bp_view.specs.States.{condition_object, condition_text, IsStateText}
+use Rattle.bp_view.specs.declared.view_contexts.ShownTrace.{ShownTrace}
 use Rattle.bp_view.specs.declared.view_contexts.ViewContext.{ViewContext}
 use Rattle.bp_view.specs.declared.view_contexts.Widths.{Widths}
 use Rattle.bp_view.specs.declared.writers.ViewWriter.{ViewWriter}
-use Rattle.bp_view.specs.Ends.{IsEnd}
-use Rattle.bp_view.specs.Headings.{under_headings}
-use Rattle.bp_view.specs.SetupLines.{view_head}
-use Rattle.bp_view.specs.JsonCalls.{call_object}
-use Rattle.bp_view.specs.Lines.{column_line}
-use Rattle.bp_view.specs.Options.{filter_of}
-use Rattle.bp_view.specs.ViewContexts.{IsViewContextOf}
-use Rattle.bp_view.specs.Widths.{extent, extent_of, AreWidths}
+use Rattle.bp_view.specs.SetupLines.{under_headings, view_head}
+use Rattle.bp_view.specs.Lines.{call_object, column_line, extent, extent_of, AreWidths}
+use Rattle.bp_view.specs.ContextLines.{AreContextLines}
+
+-- The text of the foot of a view, from its facts: the report of the history.
+
+-- the calls of a history, the contexts of its steps, and the threads that may continue
+abbrev pub counts_line : Report → List ℕ
+counts_line r =
+    concat (
+    codes "\n" ∷ decimal r.calls
+    ∷ codes " calls, contexts " ∷ decimal r.contexts
+    ∷ codes ", open threads " ∷ decimal r.left_open
+    ∷ codes "\n" ∷ [])
+
+-- the thread whose assertion failed, and what is said of the assertion, which is in this file
+abbrev pub failure_text : ViewFormat → (file : List ℕ) → ShownCondition → List ℕ
+failure_text Columns file x =
+    concat (
+    concat (codes "an assertion of thread " ∷ decimal x.thread ∷ codes " failed" ∷ [])
+    ∷ condition_text Columns file x ∷ [])
+failure_text Json file x = condition_object x
+
+-- what is said where no assertion failed, and the threads are deadlocked or not
+abbrev pub clean_text : ViewFormat → (deadlocked : Bool) → List ℕ
+clean_text Columns true = codes "deadlock"
+clean_text Columns false = codes "no assertion failed"
+clean_text Json deadlocked = codes "null"
+
+abbrev pub outcome_text
+    : ViewFormat → (file : List ℕ) → (deadlocked : Bool)
+    → (failure : Option ShownCondition) → List ℕ
+outcome_text format file deadlocked None = clean_text format deadlocked
+outcome_text format file deadlocked (Some x) = failure_text format file x
+
+-- a thread that waits, after a line feed or a comma, and what is said of its assumption
+abbrev pub wait_text : ViewFormat → (file : List ℕ) → ShownCondition → List ℕ
+wait_text Columns file x =
+    concat (
+    concat (codes "\nthread " ∷ decimal x.thread ∷ codes " waits" ∷ [])
+    ∷ condition_text Columns file x ∷ [])
+wait_text Json file x = codes "," ++ condition_object x
+
+abbrev pub waits_text : ViewFormat → (file : List ℕ) → List ShownCondition → List ℕ
+waits_text format file xs = flat_map (wait_text format file) xs
+
+-- the counts of a report, this text of its outcome, and this one of the threads that wait
+abbrev pub foot_in_format : ViewFormat → Report → (outcome waits : List ℕ) → List ℕ
+foot_in_format Columns r outcome waits = counts_line r ++ outcome ++ waits ++ codes "\n"
+foot_in_format Json r outcome waits =
+    concat (
+    codes "{\"kind\":\"end\""
+    ∷ key_text (codes "calls") ∷ decimal r.calls
+    ∷ key_text (codes "contexts") ∷ decimal r.contexts
+    ∷ key_text (codes "open") ∷ decimal r.left_open
+    ∷ key_text (codes "failure") ∷ outcome
+    ∷ key_text (codes "deadlock") ∷ list_text waits
+    ∷ codes "}\n" ∷ [])
+
+abbrev pub foot_text : ViewFormat → (file : List ℕ) → ShownFoot → List ℕ
+foot_text format file x =
+    let outcome = outcome_text format file x.deadlocked x.failure in
+    foot_in_format format x.report outcome (waits_text format file x.waits)
+
+-- of a program and its text, in a setup: the foot at the end of the history h, with its report
+pub record IsFoot
+    (format : ViewFormat) (file : List ℕ)
+    (t : Program) (text : List ℕ) (s : SetupOf) (h : List Call) (r : Report) (foot : List ℕ)
+    : Type 0 where
+  pub facts : ShownFoot
+  pub facts_are : AreFootFacts t text s h r facts
+  pub is : foot ≡ foot_text format file facts
+
+-- The end of a view: its foot, and the state after the last call where that is asked for.
+
+-- a state after a foot: for people there is an empty line between them
+abbrev pub after_foot : ViewFormat → List ℕ → List ℕ
+after_foot Columns state = codes "\n" ++ state
+after_foot Json state = state
+
+-- Of a program and its text, in a setup; at the end of the history h.
+module _ (format : ViewFormat) (t : Program) (text : List ℕ) (s : SetupOf) (h : List Call) where
+  -- the state after the last call, where it is asked for; nothing where it is not
+  abbrev pub IsStateIf : Bool → List ℕ → Type 0
+  IsStateIf true said =
+      (state : List ℕ)
+      × (said ≡ after_foot format state)
+      × IsStateText format t text s h (length h) state
+  IsStateIf false said = said ≡ []
+
+-- the foot with the report of a history, and the state after its last call where that is asked for
+pub record IsEnd
+    (o : ViewOptions) (file : List ℕ)
+    (t : Program) (text : List ℕ) (s : SetupOf) (h : List Call) (r : Report) (end : List ℕ)
+    : Type 0 where
+  pub foot : List ℕ
+  pub foot_is : IsFoot o.format file t text s h r foot
+  pub state : List ℕ
+  pub state_is : IsStateIf o.format t text s h o.has_state state
+  pub is : end ≡ foot ++ state
+
+-- Which calls a view shows, by its options.
+
+-- equal waits have one line: objects are never folded
+abbrev pub folds_in : ViewFormat → Bool → Bool
+folds_in Columns fold = fold
+folds_in Json fold = false
+
+-- the calls that are asked for
+abbrev pub filter_of : ViewOptions → CallFilter
+filter_of o =
+    record {
+      thread = o.thread;
+      last = o.last;
+      from = o.from;
+      to = o.to;
+      folds = folds_in o.format o.fold;
+    }
+
+-- A device: a trace that was replayed, with the source statements of its program.
+
+-- the source statements are those of the program p, and the text of the trace is one of t
+pub record IsShownTrace
+    (p : Program) (text : List ℕ) (t : Program) (trace : List ℕ) (x : ShownTrace)
+    : Type 0 where
+  pub statements : AreSourceStatements text p x.statements.items
+  pub is : IsReplayed t trace x.replayed
+  pub short : length trace ≤ MAX_TRACE
+
+-- A device: the context that a view is made in.
+
+-- the context has what the lines show of the program and its text
+pub record IsViewContextOf (t : Program) (text : List ℕ) (x : ViewContext) : Type 0 where
+  pub program : AreProgramFacts t text x.program
+  pub filter : x.filter ≡ filter_of x.options
+  pub names : map (λ n. n.now) x.names.now ≡ watched_names x.options.watch
 
 -- a thread whose calls alone are to be shown is one of n threads
 abbrev pub IsThere : Option ℕ → (n : ℕ) → Type 0
@@ -193,3 +321,32 @@ pub record IsViewable
   pub widths : AreWidths s (extent_of x) x.widths
   pub playable : IsPlayable t s x.history.now
   pub outcome : r.outcome ≡ outcome_of x.history.now
+
+-- Laws of views.
+
+-- of a program and its text, in a setup, a history has at most one view with this report
+abbrev pub OneView : Type 0
+OneView =
+    (t : Program) (text : List ℕ) (s : SetupOf) (h : List Call) (r : Report) (o : ViewOptions)
+    (file : List ℕ) (v w : List ℕ)
+    → IsView t text s h r o file v
+    → IsView t text s h r o file w
+    → v ≡ w
+
+-- and at most one state within this many calls
+abbrev pub OneState : Type 0
+OneState =
+    (format : ViewFormat) (t : Program) (text : List ℕ) (s : SetupOf) (h : List Call) (count : ℕ)
+    (v w : List ℕ)
+    → IsStateText format t text s h count v
+    → IsStateText format t text s h count w
+    → v ≡ w
+
+-- and at most one list of its contexts
+abbrev pub OneListOfContexts : Type 0
+OneListOfContexts =
+    (format : ViewFormat) (t : Program) (text : List ℕ) (s : SetupOf) (h : List Call)
+    (v w : List ℕ)
+    → AreContextLines format t text s h v
+    → AreContextLines format t text s h w
+    → v ≡ w

@@ -1,26 +1,26 @@
 //! The contexts of a history, a line for each.
 ghost use Rattle.std.specs.Prelude.{◌≡◌, ◌++◌, ℕ, suc, List, length, map, MatchResult, IfOk, OnOk};
-ghost use Rattle.bp_tree.specs.Ast.{Program};
+ghost use Rattle.bp_language.specs.Ast.{Program};
 ghost use Rattle.bp_flat.specs.StandsFor.{StandsFor};
 ghost use Rattle.bp_machine.specs.declared.calls.Call.{Call as Answered};
 ghost use Rattle.bp_machine.specs.Setups.{FitsCode, SetupOf};
 ghost use Rattle.bp_trace.specs.Replays.{IsPlayable, IsReplayRefusal};
 ghost use Rattle.bp_text.specs.Pieces.{key_text};
-ghost use Rattle.bp_text.specs.Parts.{Adds, IsInParts};
+ghost use Rattle.bp_text.specs.Lines.{Adds, IsInParts};
 ghost use Rattle.bp_source.specs.SourceStatements.{AreSourceStatements};
-ghost use Rattle.bp_facts.specs.ChangeFacts.{entry_of};
-ghost use Rattle.bp_facts.specs.ContextFacts.{context_in};
-ghost use Rattle.bp_facts.specs.Spans.{AreSpans, IsSpan};
-ghost use Rattle.bp_tasks.specs.declared.view_options.ViewFormat.TheVariants.{Columns, Json};
+ghost use Rattle.bp_view.specs.CallFacts.{entry_of};
+ghost use Rattle.bp_view.specs.ContextFacts.{context_in, AreSpans, IsSpan};
+ghost use Rattle.bp_tasks.specs.declared.options.ViewFormat.TheVariants.{Columns, Json};
 ghost use Rattle.bp_view.specs.ContextLines.{context_line, context_object, context_text, contexts_head, position_or_null, AreContextLines, AreContextsOfTrace, IsContextLine};
-ghost use Rattle.bp_view.specs.ViewContexts.{IsViewContextOf};
-ghost use Rattle.bp_view.specs.Variables.{entries_text};
+ghost use Rattle.bp_view.specs.Views.{IsViewContextOf};
+ghost use Rattle.bp_view.specs.Lines.{entries_text};
 
+use crate::call_facts::{ContextFacts, facts_of_context, fill_changes_within};
+use crate::change_facts::Change;
 use crate::lines::{push_changed, spaces_before};
-use crate::shown_traces::{ShownTrace, shown_trace_of};
-use crate::view_contexts::{ViewContext, Widths};
-use bp_check::Checked;
-use bp_facts::{Change, ContextFacts, Span, facts_of_context, fill_changes_within, spans_of};
+use crate::spans::{Span, spans_of};
+use crate::view_contexts::{ShownTrace, ViewContext, Widths, shown_trace_of};
+use bp_code::Checked;
 use bp_flat::Code;
 use bp_machine::Report;
 use bp_source::{push_three, push_two};

@@ -1,15 +1,19 @@
 //! The fields of a line before its place. Most lines have them as the line before has them, but for
 //! the sign of a switch and the last digit of the number.
-ghost use Rattle.std.specs.Prelude.{◌≡◌, Some, length, suc, OnOk};
-ghost use Rattle.bp_text.specs.Columns.{at_right};
-ghost use Rattle.bp_text.specs.Pieces.{piece_text};
+//! The colours of a view's lines.
+//! The headings over the columns of a view.
+ghost use Rattle.std.specs.Prelude.{◌≡◌, Some, length, suc, OnOk, ◌++◌};
+ghost use Rattle.bp_text.specs.Pieces.{at_right, piece_text};
 ghost use Rattle.bp_view.specs.declared.fronts.FrontKey.{FrontKey};
-ghost use Rattle.bp_view.specs.Fronts.{front_text, tens_digits, tens_text};
-ghost use Rattle.bp_view.specs.Lines.{context_text};
+ghost use Rattle.bp_view.specs.Lines.{front_text, tens_digits, tens_text, context_text, colour_of, opening};
+ghost use Rattle.bp_view.specs.SetupLines.{headings_in, headings_line, under_headings};
 
+use crate::view_contexts::Widths;
+use bp_machine::Reply;
 use bp_source::{push_four, push_two};
-use bp_text::Piece;
-use bp_text::Piece::{Bytes, NumberRight, Right};
+use bp_tasks::ViewFormat;
+use bp_text::Piece::{Bytes, Left, NumberRight, Right};
+use bp_text::{Piece, push_pieces};
 use std::alloc::{AllocError, Global};
 
 /// What these fields are made from, but for the sign and the last digit.
@@ -107,5 +111,100 @@ impl Front {
         self.mark = mark;
         self.digit = digit;
         Ok(())
+    }
+}
+
+/// The colour of a line.
+#[derive(Clone, Copy)]
+pub(crate) enum Colour {
+    Red,
+    Yellow,
+    Plain,
+}
+
+impl Colour {
+    /// A failure is red, and another step after one of another thread is yellow. All lines are
+    /// plain where no colours are wanted.
+    pub(crate) fn of(has_colour: bool, reply: Reply, is_switch: bool) -> Colour
+        ensures { result ≡ colour_of has_colour reply is_switch }
+    {
+        if !has_colour {
+            return Colour::Plain;
+        }
+        match reply {
+            Reply::Failed => Colour::Red,
+            _ if is_switch => Colour::Yellow,
+            _ => Colour::Plain,
+        }
+    }
+
+    /// The sign that begins the colour.
+    pub(crate) fn opening(self) -> &'static [u8]
+        ensures { result.now ≡ opening self }
+    {
+        match self {
+            Colour::Red => b"\x1b[31m",
+            Colour::Yellow => b"\x1b[33m",
+            Colour::Plain => b"",
+        }
+    }
+}
+
+const CALL: &[u8] = b"call";
+
+const THREAD: &[u8] = b"thread";
+
+const CONTEXT: &[u8] = b"context";
+
+const PLACE: &[u8] = b"place";
+
+impl Widths {
+    /// The same, but each column is as wide as its heading at least.
+    pub(crate) fn under_headings(self) -> Widths
+        ensures { result ≡ under_headings self }
+    {
+        Widths {
+            number: self.number.max(CALL.len()),
+            thread: self.thread.max(THREAD.len()),
+            context: self.context.max(CONTEXT.len()),
+            place: self.place.max(PLACE.len()),
+            notes: self.notes,
+            statement: self.statement,
+            line: self.line,
+        }
+    }
+}
+
+/// Adds the headings of columns of these widths.
+fn push_line(head: &mut Vec<u8>, widths: Widths) -> Result<(), AllocError>
+    ensures { OnOk result (head.new.items ≡ head.old.items ++ headings_line widths) }
+{
+    push_pieces(
+        head,
+        &[
+            Bytes(b" "),
+            Right(widths.number, CALL),
+            Bytes(b" "),
+            Right(widths.thread, THREAD),
+            Bytes(b" "),
+            Right(widths.context, CONTEXT),
+            Bytes(b" "),
+            Left(widths.place, PLACE),
+            Bytes(b"  statement\n"),
+        ],
+    )
+}
+
+/// Adds the headings of a view, in its format.
+pub(crate) fn push_headings(
+    head: &mut Vec<u8>,
+    format: ViewFormat,
+    widths: Widths,
+) -> Result<(), AllocError>
+    ensures { OnOk result (head.new.items ≡ head.old.items ++ headings_in format widths) }
+{
+    match format {
+        ViewFormat::Columns => push_line(head, widths.under_headings()),
+        ViewFormat::Json => Ok(()),
     }
 }

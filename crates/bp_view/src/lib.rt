@@ -1,21 +1,23 @@
-//! Views of histories, for people and in JSON: the texts of the facts of `bp_facts`.
+//! What a history did, as plain values: facts of calls, changes, contexts, states and ends. And the
+//! texts of these facts, for people and in JSON.
 #![tactic(auto)]
 
-mod colours;
-mod conditions;
+mod call_facts;
+mod change_facts;
+mod checkpoints;
 mod contexts;
-mod ends;
+mod faults;
+mod filters;
+mod foot_facts;
 mod frames;
 mod fronts;
-mod headings;
-mod json_calls;
 mod laws;
 mod lines;
-mod options;
 mod outcomes;
+mod program_facts;
 mod setup_lines;
-mod shown;
-mod shown_traces;
+mod spans;
+mod state_facts;
 mod statement_columns;
 mod states;
 mod variables;
@@ -23,8 +25,21 @@ mod view_contexts;
 mod views;
 mod writers;
 
+pub use call_facts::{
+    CallFacts, ContextFacts, Next, facts_of_call, facts_of_context, fill_changes_within,
+};
+pub use change_facts::{Change, fill_changes};
+pub use checkpoints::{
+    Checkpoint, ReplayedCall, last_step, printed_by, replay_to_checkpoint, replayed_call,
+};
 pub use contexts::contexts_of;
-pub use laws::views_are_single;
+pub use faults::ViewFault;
+pub use filters::{CallFilter, calls_to};
+pub use foot_facts::{ConditionFacts, FootFacts, facts_of_foot};
+pub use laws::{changes_replay, lines_stand_for_each_call_once, views_are_single};
 pub use outcomes::{outcome_text, waits_text};
+pub use program_facts::{ProgramFacts, facts_of_program, has_watched, undeclared, watched_names};
+pub use spans::{Span, StandingPoint, spans_of};
+pub use state_facts::{FrameFacts, Standing, StateFacts, ThreadFacts, facts_of_state};
 pub use states::state_at;
 pub use views::view;

@@ -1,19 +1,16 @@
 //! The line of a call in columns, from its facts.
 ghost use Rattle.std.specs.Prelude.{◌≡◌, ◌++◌, ◌∷◌, [], codes, map, OnOk};
 ghost use Rattle.std.specs.List.{concat};
-ghost use Rattle.bp_text.specs.Columns.{at_left, spaces};
-ghost use Rattle.bp_facts.specs.CallFacts.{facts_in, next_in};
-ghost use Rattle.bp_facts.specs.ChangeFacts.{entry_of};
-ghost use Rattle.bp_view.specs.Colours.{closing};
-ghost use Rattle.bp_view.specs.Lines.{after_room, call_text, choice_text, column_line, field_texts, fitted_text, indented, mark_text, narrow_text, note_text, reply_note, times_text};
-ghost use Rattle.bp_view.specs.Variables.{entries_text};
+ghost use Rattle.bp_text.specs.Pieces.{at_left, spaces};
+ghost use Rattle.bp_view.specs.CallFacts.{facts_in, next_in, entry_of};
+ghost use Rattle.bp_view.specs.Lines.{closing, after_room, call_text, choice_text, column_line, field_texts, fitted_text, indented, mark_text, narrow_text, note_text, reply_note, times_text, entries_text};
 
-use crate::colours::Colour;
-use crate::fronts::{Front, FrontKey};
+use crate::call_facts::{CallFacts, Next};
+use crate::change_facts::Change;
+use crate::fronts::{Colour, Front, FrontKey};
 use crate::statement_columns::{cut_after, in_column};
 use crate::variables::push_value;
 use crate::view_contexts::{MAX_INDENTS, Widths};
-use bp_facts::{CallFacts, Change, Next};
 use bp_machine::Reply;
 use bp_source::{push_three, push_two};
 use bp_tasks::ViewFormat;

@@ -1,18 +1,17 @@
 //! The text of the foot of a view, from its facts: the report of the history.
 ghost use Rattle.std.specs.Prelude.{◌≡◌, ◌++◌, ℕ, List, map, option_map, OnOk, IfOk};
-ghost use Rattle.bp_tree.specs.Ast.{Program};
+ghost use Rattle.bp_language.specs.Ast.{Program};
 ghost use Rattle.bp_flat.specs.StandsFor.{StandsFor};
 ghost use Rattle.bp_machine.specs.declared.calls.Call.{Call as Answered};
-ghost use Rattle.bp_machine.specs.Reports.{outcome_of};
+ghost use Rattle.bp_machine.specs.Histories.{outcome_of};
 ghost use Rattle.bp_machine.specs.Sessions.{Stands};
-ghost use Rattle.bp_facts.specs.FootFacts.{condition_in};
-ghost use Rattle.bp_tasks.specs.declared.view_options.ViewFormat.TheVariants.{Columns, Json};
-ghost use Rattle.bp_view.specs.Outcomes.{clean_text, failure_text, foot_in_format, outcome_text, wait_text, waits_text, IsFoot};
-ghost use Rattle.bp_view.specs.ViewContexts.{IsViewContextOf};
+ghost use Rattle.bp_view.specs.FootFacts.{condition_in};
+ghost use Rattle.bp_tasks.specs.declared.options.ViewFormat.TheVariants.{Columns, Json};
+ghost use Rattle.bp_view.specs.Views.{clean_text, failure_text, foot_in_format, outcome_text, wait_text, waits_text, IsFoot, IsViewContextOf};
 
-use crate::conditions::{push_condition, push_condition_object};
+use crate::foot_facts::{ConditionFacts, facts_of_foot};
+use crate::frames::{push_condition, push_condition_object};
 use crate::view_contexts::ViewContext;
-use bp_facts::{ConditionFacts, facts_of_foot};
 use bp_machine::{Report, Session};
 use bp_source::push_three;
 use bp_tasks::ViewFormat;

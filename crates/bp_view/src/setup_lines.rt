@@ -1,19 +1,19 @@
 //! The head of a view: the setup of the history.
 ghost use Rattle.std.specs.Prelude.{◌≡◌, ◌++◌, [], None, codes, false, flat_map, slice_get, unwrap_or, OnOk, IfOk};
-ghost use Rattle.bp_flat.specs.Values.{binding};
-ghost use Rattle.bp_source.specs.Programs.{string_item};
+ghost use Rattle.bp_flat.specs.Moves.{binding};
+ghost use Rattle.bp_source.specs.Listings.{string_item};
 ghost use Rattle.bp_view.specs.SetupLines.{globals_line, head_lines, head_object, number_line, seed_line, setup_head, thread_lines, view_head};
-ghost use Rattle.bp_view.specs.Variables.{variables_text};
+ghost use Rattle.bp_view.specs.Lines.{variables_text};
 
-use crate::headings::push_headings;
+use crate::fronts::push_headings;
 use crate::variables::push_value;
 use crate::view_contexts::ViewContext;
+use bp_language::Name;
 use bp_machine::Setup;
 use bp_source::{push_item, push_three};
 use bp_tasks::{ViewFormat, ViewOptions};
 use bp_text::Piece::{Bytes, Key, List, Number, NumberOrNull, Text};
 use bp_text::{push_bytes, push_pieces};
-use bp_tree::Name;
 use std::alloc::{AllocError, Global};
 
 /// The name of a thread's entry procedure.

@@ -1,6 +1,6 @@
 //! How many columns a statement has, and how a text is cut.
 ghost use Rattle.std.specs.Prelude.{◌≡◌, ◌++◌, ◌≤◌, ◌<◌, drop, length, take, OnOk};
-ghost use Rattle.bp_view.specs.StatementColumns.{shortened, statement_room};
+ghost use Rattle.bp_view.specs.Lines.{shortened, statement_room};
 
 use bp_text::{part_before, push_bytes};
 use std::alloc::AllocError;

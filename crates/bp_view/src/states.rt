@@ -1,30 +1,30 @@
 //! The text of a state, from its facts: the values of the globals, and how each thread stands.
 ghost use Rattle.std.specs.Prelude.{◌≡◌, ◌++◌, ℕ, List, length, map, take, IfOk, MatchResult, OnOk};
-ghost use Rattle.bp_tree.specs.Ast.{Program};
-ghost use Rattle.bp_flat.specs.Bits.{bits_of};
+ghost use Rattle.bp_language.specs.Ast.{Program};
+ghost use Rattle.bp_flat.specs.InstrEffects.{bits_of};
 ghost use Rattle.bp_flat.specs.StandsFor.{valuation_of, StandsFor};
 ghost use Rattle.bp_machine.specs.Sessions.{Stands};
 ghost use Rattle.bp_trace.specs.Replays.{IsReplayRefusal};
 ghost use Rattle.bp_source.specs.SourceStatements.{AreSourceStatements};
-ghost use Rattle.bp_facts.specs.StateFacts.{state_in, thread_in};
+ghost use Rattle.bp_view.specs.StateFacts.{state_in, thread_in};
 ghost use Rattle.bp_view.specs.SetupLines.{globals_line};
-ghost use Rattle.bp_view.specs.ViewContexts.{IsViewContextOf};
+ghost use Rattle.bp_view.specs.Views.{IsViewContextOf};
 ghost use Rattle.bp_view.specs.States.{failed_line, failed_thread, standing_name, standing_text, state_lines, state_members, state_object, state_text, thread_lines, thread_object, thread_text, threads_text, IsStateOfTrace, IsStateText};
 
+use crate::filters::calls_to;
 use crate::frames::push_frames;
-use crate::shown_traces::{ShownTrace, shown_trace_to};
+use crate::state_facts::{Standing, StateFacts, ThreadFacts, facts_of_state};
 use crate::variables::push_values;
-use crate::view_contexts::ViewContext;
-use bp_check::Checked;
-use bp_facts::{Standing, StateFacts, ThreadFacts, calls_to, facts_of_state};
+use crate::view_contexts::{ShownTrace, ViewContext, shown_trace_to};
+use bp_code::Checked;
 use bp_flat::Code;
+use bp_language::Name;
 use bp_machine::{Call, Outcome, Report, Session};
 use bp_source::push_four;
 use bp_tasks::ViewFormat;
 use bp_text::Piece::{Bytes, Key, List, Number, NumberOrNull, Text};
 use bp_text::{push_bytes, push_pieces};
 use bp_trace::ReplayFault;
-use bp_tree::Name;
 use std::alloc::{AllocError, Global};
 
 /// How a thread stands, for people.

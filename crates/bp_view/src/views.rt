@@ -1,32 +1,37 @@
 //! The view of a trace.
-ghost use Rattle.std.specs.Prelude.{◌≡◌, ◌≤◌, ℕ, List, length, map, take, MatchResult};
-ghost use Rattle.bp_tree.specs.Ast.{Program};
+//! The end of a view.
+ghost use Rattle.std.specs.Prelude.{◌≡◌, ◌≤◌, ℕ, List, length, map, take, MatchResult, IfOk, OnOk};
+ghost use Rattle.bp_text.specs.Writing.{IsWritten};
+ghost use Rattle.bp_text.specs.Lines.{Adds};
+ghost use Rattle.bp_language.specs.Ast.{Program};
 ghost use Rattle.bp_flat.specs.StandsFor.{StandsFor};
 ghost use Rattle.bp_machine.specs.Setups.{threads};
-ghost use Rattle.bp_text.specs.WrittenTexts.{IsWritten};
-ghost use Rattle.bp_facts.specs.Checkpoints.{IsCheckpoint};
-ghost use Rattle.bp_facts.specs.Filters.{skipped};
-ghost use Rattle.bp_facts.specs.Watches.{watched_names};
-ghost use Rattle.bp_view.specs.Options.{filter_of};
+ghost use Rattle.bp_machine.specs.declared.calls.Call.{Call as Answered};
+ghost use Rattle.bp_machine.specs.Histories.{outcome_of};
+ghost use Rattle.bp_machine.specs.Sessions.{Stands};
+ghost use Rattle.bp_view.specs.Checkpoints.{IsCheckpoint};
+ghost use Rattle.bp_view.specs.Filters.{skipped, watched_names};
+ghost use Rattle.bp_view.specs.Views.{filter_of, IsShownTrace, HasMade, IsMissing, IsStopped, IsThere, IsView, IsViewRefusal, IsViewable, IsViewed, IsEnd, IsStateIf, IsViewContextOf};
 ghost use Rattle.bp_view.specs.SetupLines.{view_head};
-ghost use Rattle.bp_view.specs.ShownTraces.{IsShownTrace};
-ghost use Rattle.bp_view.specs.Views.{HasMade, IsMissing, IsStopped, IsThere, IsView, IsViewRefusal, IsViewable, IsViewed};
 
-use crate::ends::end_of;
+use crate::checkpoints::Checkpoint;
+use crate::faults::ViewFault;
 use crate::fronts::Front;
-use crate::options::filter_of;
+use crate::outcomes::foot_of;
+use crate::program_facts::{undeclared, watched_names};
 use crate::setup_lines::head_of;
-use crate::shown_traces::{ShownTrace, shown_trace_before};
-use crate::view_contexts::view_context_of;
-use crate::writers::ViewWriter;
-use bp_check::Checked;
-use bp_facts::{Checkpoint, ViewFault, undeclared, watched_names};
+use crate::states::state_of;
+use crate::view_contexts::{ShownTrace, ViewContext, shown_trace_before, view_context_of};
+use crate::writers::{ViewWriter, filter_of};
+use bp_code::Checked;
 use bp_flat::Code;
-use bp_machine::{Report, Setup};
-use bp_tasks::ViewOptions;
-use bp_text::put;
+use bp_machine::{Report, Session, Setup};
+use bp_source::push_two;
+use bp_tasks::{ViewFormat, ViewOptions};
+use bp_text::Piece::Bytes;
+use bp_text::{push_bytes, put};
 use bp_trace::ReplayFault;
-use std::alloc::Global;
+use std::alloc::{AllocError, Global};
 use std::io::Write;
 
 /// Refuses a thread that is not there, where the calls of one thread alone are to be shown.
@@ -174,4 +179,55 @@ pub fn view<W: Write>(
     };
     write_view(alloc, checked, &shown, start, options, file, &names, out)?;
     Ok(shown.replayed.report)
+}
+
+/// Adds the state of the session after a foot, where it is asked for. The session stands after the
+/// last call.
+fn push_state(
+    alloc: Global,
+    view: &mut Vec<u8>,
+    context: &ViewContext<'_>,
+    session: &Session,
+) -> Result<(), AllocError>
+    ensures { (t : Program) (text : List ℕ) (h : List Answered)
+        → IsViewContextOf t text context.now
+        → StandsFor session.now.code t
+        → Stands t session.now h
+        → context.now.history.now ≡ h
+        → let o = context.now.options in
+        let state = IsStateIf o.format t text session.now.setup h o.has_state in
+        OnOk result (Adds state view.old.items view.new.items) }
+{
+    if !context.options.has_state {
+        return Ok(());
+    }
+    let history = context.history;
+    let state = state_of(alloc, context, session, history, history.len() as u64)?;
+    match context.options.format {
+        ViewFormat::Columns => push_two(view, Bytes(b"\n"), Bytes(&state)),
+        ViewFormat::Json => push_bytes(view, &state),
+    }
+}
+
+/// The foot of the view of a history with this report, and the state after it where that is asked
+/// for. The session stands after the history.
+pub(crate) fn end_of(
+    alloc: Global,
+    context: &ViewContext<'_>,
+    session: &Session,
+    report: Report,
+) -> Result<Vec<u8>, AllocError>
+    ensures { (t : Program) (text : List ℕ) (h : List Answered)
+        → IsViewContextOf t text context.now
+        → StandsFor session.now.code t
+        → Stands t session.now h
+        → context.now.history.now ≡ h
+        → report.outcome ≡ outcome_of h
+        → let s = session.now.setup in
+        let file = context.now.file.now in
+        IfOk result (λ v. IsEnd context.now.options file t text s h report v.items) }
+{
+    let mut end = foot_of(alloc, context, session, report)?;
+    push_state(alloc, &mut end, context, session)?;
+    Ok(end)
 }

@@ -1,22 +1,31 @@
 //! The lines of a view, each made by a session that makes the call once more.
-ghost use Rattle.std.specs.Prelude.{◌≡◌, ◌++◌, ◌∷◌, [], ℕ, List, option_map, MatchResult, OnOk};
-ghost use Rattle.bp_tree.specs.Ast.{Program};
+//! The lines of the calls that are shown.
+//! Which calls a view shows, by its options.
+ghost use Rattle.std.specs.Prelude.{◌≡◌, ◌++◌, ◌∷◌, [], ℕ, List, option_map, MatchResult, OnOk, None};
+ghost use Rattle.bp_text.specs.Lines.{Adds};
+ghost use Rattle.bp_language.specs.Ast.{Program};
 ghost use Rattle.bp_flat.specs.StandsFor.{StandsFor};
 ghost use Rattle.bp_machine.specs.declared.calls.Call.{Call as Answered};
-ghost use Rattle.bp_machine.specs.Answers.{stack_of};
-ghost use Rattle.bp_machine.specs.Histories.{configuration_after};
-ghost use Rattle.bp_machine.specs.PrintedRows.{values_printed};
+ghost use Rattle.bp_machine.specs.Histories.{stack_of, configuration_after};
+ghost use Rattle.bp_machine.specs.Runs.{values_printed};
 ghost use Rattle.bp_machine.specs.Sessions.{Stands, IsPrintRefusal};
+ghost use Rattle.bp_machine.specs.Setups.{SetupOf};
 ghost use Rattle.bp_trace.specs.Replays.{IsPlayable};
-ghost use Rattle.bp_view.specs.ViewContexts.{IsViewContextOf};
-ghost use Rattle.bp_view.specs.Views.{next_print_in};
+ghost use Rattle.bp_view.specs.CallFacts.{facts_in, IsReplayedCall};
+ghost use Rattle.bp_view.specs.Views.{IsViewContextOf, next_print_in, line_in, printed_in, IsShownLine, filter_of};
 
+use crate::call_facts::{CallFacts, facts_of_call};
+use crate::change_facts::{Change, fill_changes};
+use crate::checkpoints::{ReplayedCall, last_step, printed_by, replayed_call};
+use crate::filters::CallFilter;
 use crate::fronts::Front;
-use crate::shown::push_shown;
+use crate::lines::push_line;
+use crate::program_facts::has_watched;
+use crate::variables::push_object;
 use crate::view_contexts::ViewContext;
-use bp_facts::{Change, last_step, printed_by, replayed_call};
 use bp_machine::{AskFault, Call, Session};
-use bp_tasks::ViewFormat;
+use bp_tasks::{ViewFormat, ViewOptions};
+use std::alloc::AllocError;
 
 /// The values that the next statement of a thread prints, where a view of this format shows them.
 fn next_print(
@@ -102,5 +111,106 @@ impl ViewWriter<'_> {
         self.last = last_step(self.last, &replayed.call);
         self.made = number;
         Ok(())
+    }
+}
+
+/// Adds the line of a call in the format of the view, which stands for this many calls; the call
+/// printed these values, if any. `note` is room for parts of it, and `front` has those of another
+/// line that are kept.
+fn push_line_in(
+    view: &mut Vec<u8>,
+    note: &mut Vec<u8>,
+    front: &mut Front,
+    context: &ViewContext<'_>,
+    facts: &CallFacts<'_>,
+    calls: usize,
+    printed: Option<&[bool]>,
+) -> Result<(), AllocError>
+    ensures { let o = context.now.options in
+        let printed = option_map (λ v. v.now) printed.entry in
+        let f = facts_in facts.now in
+        let line = line_in o.format o.has_colour context.now.widths f calls printed in
+        OnOk result (view.new.items ≡ view.old.items ++ line) }
+{
+    let options = context.options;
+    match options.format {
+        ViewFormat::Columns => {
+            let widths = context.widths.under_headings();
+            push_line(view, front, &widths, options.has_colour, facts, calls)
+        }
+        ViewFormat::Json => push_object(view, note, facts, printed),
+    }
+}
+
+/// Adds the line of a call, where it is shown: it is asked for, it changed what is watched, and its
+/// line stands for a call. `note` is room for parts of the line, `front` has those of another line
+/// that are kept, and `changes` is room for what the call changed.
+pub(crate) fn push_shown<'a>(
+    view: &mut Vec<u8>,
+    note: &mut Vec<u8>,
+    front: &mut Front,
+    changes: &mut Vec<Change<'a>>,
+    context: &ViewContext<'a>,
+    replayed: &ReplayedCall,
+    printed: Option<&[bool]>,
+) -> Result<(), AllocError>
+    ensures { (t : Program) (text : List ℕ) (s : SetupOf) (h : List Answered) (x : Answered)
+        → IsViewContextOf t text context.now
+        → IsReplayedCall t s h x replayed.now
+        → let o = context.now.options in
+        option_map (λ v. v.now) printed.entry ≡ printed_in o.format (configuration_after t s h) x
+        → let line = IsShownLine t text s o context.now.widths context.now.history.now h x in
+        OnOk result (Adds line view.old.items view.new.items) }
+{
+    let count = context.history.len() as u64;
+    if !context
+        .filter
+        .asks_for(replayed.call.thread, replayed.number, count)
+    {
+        return Ok(());
+    }
+    fill_changes(changes, &context.program, replayed)?;
+    if !has_watched(context.names, changes) {
+        return Ok(());
+    }
+    let calls = context
+        .filter
+        .calls_in_line(context.history, &replayed.call, replayed.number);
+    if calls > 0 {
+        let facts = facts_of_call(&context.program, replayed, changes);
+        push_line_in(view, note, front, context, &facts, calls, printed)?;
+    }
+    Ok(())
+}
+
+/// All calls, without colours.
+pub(crate) fn all_calls<'a>(format: ViewFormat) -> ViewOptions<'a>
+    ensures { (result.format ≡ format) × (result.watch ≡ None) × (result.columns ≡ None) }
+{
+    ViewOptions {
+        thread: None,
+        last: None,
+        from: None,
+        to: None,
+        watch: None,
+        fold: false,
+        has_state: false,
+        is_brief: false,
+        has_colour: false,
+        columns: None,
+        format,
+    }
+}
+
+/// The calls that are asked for. Equal waits have one line in columns alone.
+pub(crate) fn filter_of(options: &ViewOptions<'_>) -> CallFilter
+    ensures { result ≡ filter_of options.now }
+{
+    CallFilter {
+        thread: options.thread,
+        last: options.last,
+        from: options.from,
+        to: options.to,
+        folds: options.fold && matches!(options.format, ViewFormat::Columns),
     }
 }

@@ -1,3 +1,2 @@
-pub mod Refusals
 pub mod Statuses
 pub mod Tasks

@@ -1,19 +1,44 @@
 -- How runs end whose arguments ask for no task: the exit status, and what is left on both streams.
-use Rattle.std.specs.Prelude.{◌≡◌, ◌⊎◌, ℕ, Bool, true, false, List, Option, Result, Ok, Err, string_bytes}
+use Rattle.std.specs.Prelude.{ℕ, List, [], ◌∷◌, codes, ◌≡◌, ◌⊎◌, Bool, true, false, Option, Result, Ok, Err, string_bytes}
+use Rattle.std.specs.List.{concat}
 use Rattle.std.specs.declared.io.ErrorKind.{ErrorKind as IoErrorKind}
 use Rattle.std.specs.declared.io.ErrorKind.TheVariants as io
+use Rattle.bp_text.specs.Pieces.{string_text, key_text}
 use Rattle.bp_text.specs.Writing.{Writes}
-use Rattle.bp_text.specs.declared.writing.WriteFault.{WriteFault}
-use Rattle.bp_text.specs.declared.writing.WriteFault.TheVariants as write
-use Rattle.bp_commands.specs.RunEnds.{HasFaultLine}
+use Rattle.bp_text.specs.declared.sinks.WriteFault.{WriteFault}
+use Rattle.bp_text.specs.declared.sinks.WriteFault.TheVariants as write
+use Rattle.bp_messages.specs.declared.faults.Fault.TheVariants as fault
+use Rattle.bp_commands.specs.FaultReports.{HasFaultLine}
 use Rattle.bp_commands.specs.Jobs.{Held}
 use Rattle.bp_commands.specs.declared.run_ends.RunEnd.{RunEnd}
-use Rattle.bp_messages.specs.declared.faults.Fault.TheVariants as fault
 use Rattle.bp_arguments.specs.declared.no_tasks.NoTask.{NoTask}
 use Rattle.bp_arguments.specs.declared.no_tasks.NoTask.TheVariants.{Memory, Printed, Refused}
 use Rattle.bp_arguments.specs.declared.no_tasks.Refusal.{Refusal}
 use Rattle.bp_arguments.specs.NoTasks.{IsRefused}
-use Rattle.btrun.specs.Refusals.{refusal_object}
+
+-- What is said of refused arguments to programs.
+
+-- a member that is null
+abbrev pub no_member : List ℕ → List ℕ
+no_member key = concat (key_text key ∷ codes "null" ∷ [])
+
+-- the object on refused arguments, which say this; the fault has no number and no place
+abbrev pub refusal_object : (message : List ℕ) → List ℕ
+refusal_object message =
+    concat (
+    codes "{\"kind\":\"fault\",\"version\":1"
+    ∷ no_member (codes "number")
+    ∷ key_text (codes "name") ∷ string_text (codes "Arguments")
+    ∷ no_member (codes "file")
+    ∷ no_member (codes "offset")
+    ∷ no_member (codes "line")
+    ∷ no_member (codes "column")
+    ∷ no_member (codes "thread")
+    ∷ no_member (codes "wanted")
+    ∷ no_member (codes "step")
+    ∷ key_text (codes "message") ∷ string_text message
+    ∷ codes "}\n"
+    ∷ [])
 
 -- what is said of arguments that are not read; for a text on them there may be no memory
 abbrev pub IsUnread : IoErrorKind → NoTask → Type 0

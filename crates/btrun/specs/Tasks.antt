@@ -1,27 +1,22 @@
 -- What a run does, by its task.
 use Rattle.std.specs.Prelude.{ℕ, Bool, true, false, List, Option, None, Some, option_map}
-use Rattle.bp_commands.specs.Checks.{checks}
-use Rattle.bp_commands.specs.Commands.{Command}
-use Rattle.bp_commands.specs.Drives.{drives_by_names}
+use Rattle.bp_commands.specs.Programs.{checks, lists}
+use Rattle.bp_commands.specs.Commands.{Command, Pair}
+use Rattle.bp_commands.specs.Traces.{drives_by_names, shrinks, migrates, replays}
 use Rattle.bp_commands.specs.declared.explanations.SecondInput.TheVariants.{Schedule, Steps, Trace}
-use Rattle.bp_commands.specs.RunEnds.{done, of_report, of_run}
-use Rattle.bp_tasks.specs.declared.fault_formats.FaultFormat.{FaultFormat}
-use Rattle.bp_commands.specs.Given.{Pair}
+use Rattle.bp_commands.specs.FaultReports.{done, of_report, of_run}
+use Rattle.bp_tasks.specs.declared.tasks.FaultFormat.{FaultFormat}
 use Rattle.bp_commands.specs.Jobs.{on_bundle, on_file, on_files, Job}
-use Rattle.bp_commands.specs.Listings.{lists}
 use Rattle.bp_commands.specs.Runs.{runs_by_names}
-use Rattle.bp_commands.specs.Shrinks.{shrinks}
 use Rattle.bp_commands.specs.Tests.{of_test, tests_by_names}
-use Rattle.bp_commands.specs.Traces.{migrates, replays}
-use Rattle.bp_show.specs.Confirms.{confirms_by_names, of_confirm}
-use Rattle.bp_show.specs.Explores.{explores_by_names, of_exploration}
-use Rattle.bp_show.specs.Shows.{shows_as}
-use Rattle.bp_show.specs.Throughs.{explores_through_by_names, of_through}
-use Rattle.bp_show.specs.ValidCalls.{on_valid_calls}
-use Rattle.bp_show.specs.declared.confirming.VerdictForm.{VerdictForm}
-use Rattle.bp_show.specs.declared.exploration_texts.ExplorationForm.{ExplorationForm}
-use Rattle.bp_machine.specs.declared.reports.Report.{Report}
-use Rattle.bp_messages.specs.declared.test_reports.TestReport.{TestReport}
+use Rattle.bp_commands.specs.Confirms.{confirms_by_names, of_confirm}
+use Rattle.bp_commands.specs.Explores.{explores_by_names, of_exploration}
+use Rattle.bp_commands.specs.Shows.{shows_as, on_valid_calls}
+use Rattle.bp_commands.specs.Throughs.{explores_through_by_names, of_through}
+use Rattle.bp_commands.specs.declared.confirming.VerdictForm.{VerdictForm}
+use Rattle.bp_commands.specs.declared.exploration_texts.ExplorationForm.{ExplorationForm}
+use Rattle.bp_machine.specs.declared.calls.Report.{Report}
+use Rattle.bp_messages.specs.declared.summaries.TestReport.{TestReport}
 use Rattle.bp_trace.specs.declared.limits.TheConstants.{MAX_SCHEDULE, MAX_TRACE}
 use Rattle.bp_tasks.specs.FaultFormats.{fault_format}
 use Rattle.bp_tasks.specs.declared.tasks.ConfirmTask.{ConfirmTask}
@@ -30,8 +25,8 @@ use Rattle.bp_tasks.specs.declared.tasks.ShowTask.{ShowTask}
 use Rattle.bp_tasks.specs.declared.tasks.Task.{Task}
 use Rattle.bp_tasks.specs.declared.tasks.Task.TheVariants.{Bundle, Check, Code, Drive, Confirm, Run, Test, Explore, Replay, Show, Migrate, Shrink}
 use Rattle.bp_tasks.specs.declared.tasks.TestTask.{TestTask}
-use Rattle.bp_tasks.specs.declared.view_options.ViewFormat.{ViewFormat}
-use Rattle.bp_tasks.specs.declared.view_options.ViewOptions.{ViewOptions}
+use Rattle.bp_tasks.specs.declared.options.ViewFormat.{ViewFormat}
+use Rattle.bp_tasks.specs.declared.options.ViewOptions.{ViewOptions}
 use Rattle.btrun.specs.declared.tasks.Screen.{Screen}
 
 -- the options of a view on this screen

@@ -4,7 +4,6 @@
 
 mod host_files;
 mod progress_lines;
-mod refusals;
 mod runs;
 mod tasks;
 mod usage;

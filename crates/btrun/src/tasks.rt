@@ -5,18 +5,16 @@ ghost use Rattle.bp_commands.specs.Jobs.{held, IsRun};
 ghost use Rattle.btrun.specs.Tasks.{exploration_asked, explore_job, form_asked, job_of, on_screen, on_trace, show_job, valid_if};
 
 use bp_commands::{
-    Check, Drive, Files, Io, ListCode, Migrate, Replay, Run, RunEnd, Shrink, Streams, Test,
-    TraceCommand, run_by_workers, run_on_bundle, run_on_pair, run_on_program,
+    Check, Confirm, Drive, ExplorationForm, Explore, Files, Io, ListCode, Migrate, Replay, Run,
+    RunEnd, Show, ShowContexts, ShowState, ShowSteps, ShowValid, Shrink, Streams, Test,
+    TraceCommand, VerdictForm, run_by_workers, run_on_bundle, run_on_pair, run_on_program,
 };
 use bp_explore::Watcher;
-use bp_init::{NamedBits, NamedStart};
 use bp_machine::Start;
 use bp_run::Spread;
-use bp_show::{
-    Confirm, ExplorationForm, Explore, Show, ShowContexts, ShowState, ShowSteps, ShowValid,
-    VerdictForm,
+use bp_tasks::{
+    ConfirmTask, ExploreTask, NamedBits, NamedStart, RunTask, ShowTask, Task, TestTask, ViewOptions,
 };
-use bp_tasks::{ConfirmTask, ExploreTask, RunTask, ShowTask, Task, TestTask, ViewOptions};
 use bp_test::Progress;
 use std::alloc::Global;
 use std::io::{BufWriter, Read, Write};

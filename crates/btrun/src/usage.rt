@@ -1,14 +1,15 @@
 //! A run whose arguments ask for no task: for help or the version, or for nothing that there is.
+//! What is said of refused arguments to programs: one JSON object.
 ghost use Rattle.std.specs.IoError.{error_kind};
 ghost use Rattle.bp_text.specs.Writing.{Writes};
 ghost use Rattle.bp_commands.specs.Jobs.{held};
-ghost use Rattle.btrun.specs.Statuses.{refusal_text, IsEndWithout, IsLackOfMemory, IsPrintedEnd, IsUnread};
+ghost use Rattle.btrun.specs.Statuses.{refusal_text, IsEndWithout, IsLackOfMemory, IsPrintedEnd, IsUnread, refusal_object};
 
-use crate::refusals::put_refusal;
 use bp_arguments::{NoTask, Refusal, not_utf8};
 use bp_commands::{Explained, RunEnd, end};
 use bp_messages::Fault;
-use bp_text::{WriteFault, put};
+use bp_text::Piece::{Bytes, Key, NumberOrNull, Text, TextOrNull};
+use bp_text::{WriteFault, put, put_pieces};
 use std::alloc::Global;
 use std::io::{self, Write};
 
@@ -80,4 +81,37 @@ pub fn end_without_task<W: Write, E: Write>(
             },
         },
     }
+}
+
+/// Writes the object on refused arguments, which says what is wrong with them.
+pub(crate) fn put_refusal<W: Write>(message: &[u8], out: &mut W) -> Result<(), WriteFault>
+    ensures { Writes (W.contents out.old) (W.contents out.new) (refusal_object message.now) result }
+{
+    put_pieces(
+        out,
+        &[
+            Bytes(b"{\"kind\":\"fault\",\"version\":1"),
+            Key(b"number"),
+            NumberOrNull(None),
+            Key(b"name"),
+            Text(b"Arguments"),
+            Key(b"file"),
+            TextOrNull(None),
+            Key(b"offset"),
+            NumberOrNull(None),
+            Key(b"line"),
+            NumberOrNull(None),
+            Key(b"column"),
+            NumberOrNull(None),
+            Key(b"thread"),
+            NumberOrNull(None),
+            Key(b"wanted"),
+            TextOrNull(None),
+            Key(b"step"),
+            TextOrNull(None),
+            Key(b"message"),
+            Text(message),
+            Bytes(b"}\n"),
+        ],
+    )
 }

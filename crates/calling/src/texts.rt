@@ -1,7 +1,6 @@
 //! Reading, checking and compiling a text.
 
-use bp_check::check;
-use bp_code::{Code, compile};
+use bp_code::{Code, check, compile};
 use bp_syntax::read;
 use std::alloc::Global;
 

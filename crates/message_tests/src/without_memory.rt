@@ -1,7 +1,6 @@
 //! Lines of answers and of faults, and the exit status. The test prints a line once all is ready;
 //! `.ci/growths` refuses each growth after it, and none may be asked for.
-use bp_check::{Checked, check};
-use bp_code::{Code, WriteFault, compile};
+use bp_code::{Checked, Code, WriteFault, check, compile};
 use bp_commands::show_check;
 use bp_machine::SetupFault;
 use bp_messages::{Fault, exit_status, show_fault, show_replay};

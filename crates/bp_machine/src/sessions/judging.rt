@@ -1,13 +1,12 @@
 //! How a session judges a call before it makes it.
 ghost use Rattle.std.specs.Prelude.{◌≡◌, ◌++◌, ◌∷◌, [], List, Option, None, Some, IfOk, OnErr, MatchResult};
-ghost use Rattle.bp_tree.specs.Ast.{Program};
+ghost use Rattle.bp_language.specs.Ast.{Program};
 ghost use Rattle.bp_flat.specs.StandsFor.{StandsFor};
 ghost use Rattle.bp_machine.specs.declared.calls.Call.{Call as Answered};
 ghost use Rattle.bp_machine.specs.Sessions.{Stands, IsNextCall, IsAskRefusal, given_bit};
-ghost use Rattle.bp_machine.specs.KeptSessions.{IsKeptBit, IsBitRefusal, IsGiven, IsJudged, IsKeptRefusal};
+ghost use Rattle.bp_machine.specs.Transitions.{IsKeptBit, IsBitRefusal, IsGiven, IsJudged, IsKeptRefusal};
 
-use crate::ask_faults::AskFault;
-use crate::calls::Call;
+use crate::calls::{AskFault, Call};
 use crate::sessions::{Judged, Session, draw};
 use bp_flat::steps_alike;
 

@@ -1,20 +1,15 @@
 //! What a session tells of the machine after the calls that it answered.
 ghost use Rattle.std.specs.Prelude.{◌≡◌, ◌<◌, [], List, drop, slice_get, option_map, is_some, length, MatchOption, MatchResult};
-ghost use Rattle.bp_tree.specs.Ast.{Program};
-ghost use Rattle.bp_flat.specs.Bits.{bits_of};
+ghost use Rattle.bp_language.specs.Ast.{Program};
+ghost use Rattle.bp_flat.specs.InstrEffects.{bits_of};
 ghost use Rattle.bp_flat.specs.StandsFor.{valuation_of, StandsFor};
 ghost use Rattle.bp_machine.specs.declared.calls.Call.{Call as Answered};
-ghost use Rattle.bp_machine.specs.Contexts.{IsLeastWithin};
-ghost use Rattle.bp_machine.specs.Answers.{stack_of};
-ghost use Rattle.bp_machine.specs.PrintedRows.{values_printed};
-ghost use Rattle.bp_machine.specs.Tops.{IsTop, IsTopOf};
+ghost use Rattle.bp_machine.specs.Histories.{IsLeastWithin, stack_of, calls_of_thread, granted_threads, configuration_after, is_finished, open_lines, IsReport};
+ghost use Rattle.bp_machine.specs.Runs.{values_printed, IsTop, IsTopOf};
 ghost use Rattle.bp_machine.specs.Setups.{threads};
-ghost use Rattle.bp_machine.specs.Histories.{calls_of_thread, granted_threads, configuration_after, is_finished, open_lines};
-ghost use Rattle.bp_machine.specs.Reports.{IsReport};
 ghost use Rattle.bp_machine.specs.Sessions.{Stands, IsPrintRefusal};
 
-use crate::ask_faults::AskFault;
-use crate::reports::Report;
+use crate::calls::{AskFault, Report};
 use crate::sessions::Session;
 use crate::tops::Top;
 use bp_flat::{Kind, Store};

@@ -2,8 +2,7 @@
 ghost use Rattle.std.specs.Prelude.{◌≡◌};
 ghost use Rattle.bp_syntax.specs.ParserState as rule;
 
-use bp_language::TokenKind;
-use bp_tree::Op;
+use bp_language::{Op, TokenKind};
 
 /// How strongly an operator that associates to the left binds: the strongest first.
 #[derive(Clone, Copy, PartialEq, Eq)]

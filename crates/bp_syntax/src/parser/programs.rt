@@ -1,13 +1,12 @@
 //! Declarations, procedures and programs.
 ghost use Rattle.std.specs.Prelude.{◌≡◌, ◌<◌, ◌≤◌, [], length, OnOk, MatchResult};
-ghost use Rattle.bp_syntax.specs.Views.{token_list};
+ghost use Rattle.bp_syntax.specs.Lexer.{token_list};
 ghost use Rattle.bp_syntax.specs.ParserState.{MoreDecls, MoreProcs, FormalsThen, ProcThen, ReadsPhrase, Reads, Parses, whole_program, program_of, IsParseFault};
 
 use crate::faults::ReadFault;
 use crate::parser::{Parser, Stop};
 use crate::tokens::Token;
-use bp_language::TokenKind;
-use bp_tree::{Names, Proc, Procs};
+use bp_language::{Names, Proc, Procs, TokenKind};
 use std::alloc::Global;
 
 impl<'a> Parser<'a> {

@@ -1,14 +1,13 @@
 //! Desks and boards: what was asked before a refusal stands, and the thread continues after it.
 ghost use Rattle.std.specs.Prelude.{◌≡◌, true, is_some, IfOk};
 ghost use Rattle.bp_machine.specs.Setups.{threads, FitsCode};
-ghost use Rattle.bp_board.specs.Kits.{IsNamed};
+ghost use Rattle.bp_run.specs.Desks.{IsNamed};
 
 use super::ready::{begin, calls, setup, tell, wants};
 use crate::common::code_of;
-use bp_board::{Board, Calls, Desk, Kit, Seat, Tap, gather};
 use bp_code::Code;
 use bp_machine::{AskFault, Session, Setup};
-use bp_run::{Open, Signals, Unfinished, work};
+use bp_run::{Board, Calls, Desk, Kit, Open, Seat, Signals, Tap, Unfinished, gather, work};
 use std::alloc::{AllocError, Global};
 use std::marker::Brand;
 use std::rt::Runtime;

@@ -5,8 +5,7 @@ ghost use Rattle.bp_machine.specs.Setups.{FitsCode};
 
 use super::ready::{begin, program, setup, tell, wants};
 use crate::common::mains;
-use bp_check::{Checked, check};
-use bp_code::{Code, compile};
+use bp_code::{Checked, Code, check, compile};
 use bp_machine::Setup;
 use bp_syntax::{Tree, read};
 use bp_trace::{drive, migrate, replay};

@@ -2,8 +2,7 @@
 //! one, the others end, and its line stays open after the calls that it made.
 use super::ready::{begin, say, wants};
 use crate::common::{code_of, names};
-use bp_check::CheckFault;
-use bp_code::ProgramFault;
+use bp_code::{CheckFault, ProgramFault};
 use bp_machine::{Outcome, Reply, Report, SetupFault, Start};
 use bp_run::{Gate, RunFault, RunOptions, RunReport, WorkerCount, run};
 use bp_syntax::ReadFault;

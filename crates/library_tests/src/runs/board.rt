@@ -7,10 +7,10 @@ ghost use Rattle.std.specs.Prelude.{◌≡◌, true, is_some, IfOk};
 ghost use Rattle.bp_machine.specs.Setups.{threads, FitsCode};
 
 use crate::common::mains;
-use bp_board::Kit;
-use bp_board::limits::MAX_RING;
 use bp_code::Code;
 use bp_machine::Setup;
+use bp_run::Kit;
+use bp_run::limits::MAX_RING;
 use std::alloc::Global;
 use std::test::Fail;
 

@@ -1,7 +1,7 @@
-//! Tests of `bp_check`: a refused tree is handed back. Which trees are lawful, and at which place
+//! Tests of the check of `bp_code`: a refused tree is handed back. Which trees are lawful, and at which place
 //! and how others are refused, is shown by the cases of the command `check`.
 
-use bp_check::{CheckFault, CheckRefusal, check};
+use bp_code::{CheckFault, CheckRefusal, check};
 use bp_syntax::read;
 use std::alloc::Global;
 use std::test::Fail;

@@ -1,5 +1,5 @@
 use Rattle.std.proofs.Common.{IsTrue, rules}
-use Rattle.bp_advice.proofs.Gaps.{no_gaps, has_no_tokens, after_gap}
+use Rattle.bp_advice.proofs.AllKinds.{no_gaps, has_no_tokens, after_gap}
 use Rattle.bp_advice.proofs.around.is_gap.Goals as goal
 
 pub loop-lexeme-preserved : goal.loop-lexeme-preserved

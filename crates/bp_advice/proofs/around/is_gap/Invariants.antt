@@ -1,5 +1,5 @@
 use Rattle.std.proofs.Common.{length}
-use Rattle.bp_advice.proofs.Gaps.{HasOnlyGaps}
+use Rattle.bp_advice.proofs.AllKinds.{HasOnlyGaps}
 use Rattle.bp_advice.proofs.around.is_gap.Given as goal
 
 abbrev pub invariant-loop-lexeme : goal.invariant-loop-lexeme

@@ -1,6 +1,6 @@
 use Rattle.std.proofs.Common.{refl}
-use Rattle.bp_text.proofs.FirstLines.{first_on_one_line}
-use Rattle.bp_text.specs.OneLine.{IsOneLine}
+use Rattle.bp_text.proofs.LinesOfTexts.{first_on_one_line}
+use Rattle.bp_text.specs.Lines.{IsOneLine}
 use Rattle.bp_advice.proofs.explanations.explained.Goals as goal
 
 pub returns : goal.returns

@@ -2,7 +2,7 @@ use Rattle.std.proofs.Common.{◌∙◌, ◌+◌, ap, drop, map, refl, sym}
 use Rattle.std.proofs.lemmas.List.{drop_more}
 use Rattle.clap.specs.Simple.{app_of}
 use Rattle.bp_arguments.specs.Commands.{row_rule, with_rules}
-use Rattle.bp_arguments.proofs.CommandShapes.{HasShape, with_argument}
+use Rattle.bp_arguments.proofs.NoHelpEntered.{HasShape, with_argument}
 use Rattle.bp_arguments.proofs.arguments.with_rows.Goals as goal
 
 pub loop-row-preserved : goal.loop-row-preserved

@@ -2,9 +2,9 @@ use Rattle.std.proofs.Common.{◌∙◌, ◌+◌, ap, drop, get_or, map, refl, s
 use Rattle.std.proofs.lemmas.List.{drop_more}
 use Rattle.clap.specs.Simple.{app_of}
 use Rattle.bp_arguments.specs.Commands.{command_app, with_commands}
-use Rattle.bp_arguments.specs.declared.names.Named.TheVariants.{Check}
-use Rattle.bp_arguments.specs.declared.names.TheConstants.{NAMED}
-use Rattle.bp_arguments.proofs.CommandShapes.{with_command}
+use Rattle.bp_arguments.specs.declared.table.Named.TheVariants.{Check}
+use Rattle.bp_arguments.specs.declared.table.TheConstants.{NAMED}
+use Rattle.bp_arguments.proofs.NoHelpEntered.{with_command}
 use Rattle.bp_arguments.proofs.commands.command.Goals as goal
 
 pub loop-command-preserved : goal.loop-command-preserved

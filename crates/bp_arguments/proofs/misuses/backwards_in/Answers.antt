@@ -1,6 +1,6 @@
 use Rattle.std.proofs.Common.{◌∙◌, ap₂}
 use Rattle.bp_arguments.specs.Misuses.{descending}
-use Rattle.bp_arguments.proofs.NumberTexts.{number_is}
+use Rattle.bp_arguments.proofs.GivenArguments.{number_is}
 use Rattle.bp_arguments.proofs.misuses.backwards_in.Goals as goal
 
 pub returns : goal.returns

@@ -1,6 +1,6 @@
 use Rattle.std.proofs.Common.{◌∙◌}
 use Rattle.clap.specs.Matches.{found_of}
-use Rattle.bp_arguments.proofs.OptionsGiven.{given_is}
+use Rattle.bp_arguments.proofs.GivenArguments.{given_is}
 use Rattle.bp_arguments.proofs.misuses.is_on_line.Goals as goal
 
 pub returns : goal.returns

@@ -1,7 +1,7 @@
 use Rattle.std.proofs.Common.{map, string_bytes}
 use Rattle.clap.specs.Words.{kind_of}
 use Rattle.bp_arguments.specs.Commands.{arguments_fault}
-use Rattle.bp_arguments.proofs.NoTaskKinds.{of_kinds}
+use Rattle.bp_arguments.proofs.NoHelpEntered.{of_kinds}
 use Rattle.bp_arguments.proofs.no_tasks.read_arguments.Goals as goal
 
 pub returns-in-Err-clause-refusal : goal.returns-in-Err-clause-refusal

@@ -1,7 +1,7 @@
 use Rattle.std.proofs.Common.{◌∙◌, ap, map}
 use Rattle.clap.specs.Simple.{app_of_fields}
 use Rattle.bp_arguments.specs.Commands.{file_app, row_rule, with_rules}
-use Rattle.bp_arguments.proofs.CommandShapes.{HasShape, if_ok, of_same_shape}
+use Rattle.bp_arguments.proofs.NoHelpEntered.{HasShape, if_ok, of_same_shape}
 use Rattle.bp_arguments.proofs.table.with_help.Goals as goal
 
 pub returns : goal.returns

@@ -1,11 +1,10 @@
-use Rattle.std.proofs.Common.{◌∙◌, ap, codes, length, refl, subst, sym}
-use Rattle.std.specs.Prelude.{string_bytes}
+use Rattle.std.proofs.Common.{◌∙◌, ap, codes, length, refl, subst, sym, string_bytes}
 use Rattle.std.proofs.lemmas.List.{length-map}
 use Rattle.clap.proofs.WalkLemmas.{first_value-rows}
 use Rattle.clap.specs.Matches.{found_of}
 use Rattle.clap.specs.Walk.{one_of}
 use Rattle.clap.specs.Words.{rows_of}
-use Rattle.bp_arguments.specs.TestArguments.{contexts_for}
+use Rattle.bp_arguments.specs.CommandArguments.{contexts_for}
 use Rattle.bp_arguments.specs.Values.{IsNumberOf}
 use Rattle.bp_arguments.proofs.GivenArguments.{value_read}
 use Rattle.bp_arguments.proofs.test.test_arguments.Goals as goal

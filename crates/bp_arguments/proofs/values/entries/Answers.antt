@@ -2,7 +2,7 @@ use Rattle.std.proofs.Common.{◌≡◌, ◌∙◌, codes, map, string_bytes}
 use Rattle.clap.proofs.WalkLemmas.{raw_values-rows}
 use Rattle.clap.specs.Matches.{found_of}
 use Rattle.clap.specs.Walk.{rows_of}
-use Rattle.bp_arguments.proofs.CommandShapes.{if_ok}
+use Rattle.bp_arguments.proofs.NoHelpEntered.{if_ok}
 use Rattle.bp_arguments.proofs.GivenArguments.{names_read, no_names_read}
 use Rattle.bp_arguments.specs.Values.{entries_in}
 use Rattle.bp_arguments.proofs.values.entries.Goals as goal

@@ -1,8 +1,7 @@
-use Rattle.std.proofs.Common.{◌∙◌, ap, codes, sym}
+use Rattle.std.proofs.Common.{◌∙◌, ap, codes, sym, option_and_then}
 use Rattle.clap.proofs.WalkLemmas.{first_value-rows}
 use Rattle.clap.specs.Matches.{found_of}
 use Rattle.bp_arguments.proofs.GivenArguments.{no_text_read, text_read}
-use Rattle.std.specs.Prelude.{option_and_then}
 use Rattle.bp_arguments.specs.Values.{verdict_named}
 use Rattle.bp_arguments.proofs.values.expected_verdict.Goals as goal
 

@@ -1,8 +1,7 @@
-use Rattle.std.proofs.Common.{◌≡◌, ◌∙◌, ap, codes, option_map, subst, sym, IfOk}
+use Rattle.std.proofs.Common.{◌≡◌, ◌∙◌, ap, codes, option_map, subst, sym, IfOk, option_and_then}
 use Rattle.clap.proofs.WalkLemmas.{first_value-rows}
 use Rattle.clap.specs.Matches.{found_of}
 use Rattle.bp_arguments.proofs.GivenArguments.{no_text_read, text_read}
-use Rattle.std.specs.Prelude.{option_and_then}
 use Rattle.bp_arguments.specs.Values.{bits_given}
 use Rattle.bp_arguments.proofs.values.init.Goals as goal
 

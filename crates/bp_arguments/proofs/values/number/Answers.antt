@@ -3,7 +3,7 @@ use Rattle.clap.proofs.WalkLemmas.{one_text-rows}
 use Rattle.std.specs.Str.Parse.{ParsesUnsigned, ExplainsUnsignedError, HasUnsignedDigitsIfOk}
 use Rattle.clap.specs.Matches.{one_text, found_of}
 use Rattle.bp_arguments.specs.Values.{IsNumberOf}
-use Rattle.bp_arguments.proofs.NumberGiven.{number_given}
+use Rattle.bp_arguments.proofs.GivenArguments.{number_given}
 use Rattle.bp_arguments.proofs.values.number.Goals as goal
 
 pub returns : goal.returns

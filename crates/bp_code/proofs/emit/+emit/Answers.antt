@@ -1,12 +1,11 @@
 use Rattle.std.proofs.lemmas.Grind.{common_steps}
 use Rattle.std.proofs.Common.{◌≡◌, ◌+◌, ap, subst, arith, length, drop}
-use Rattle.bp_tree.specs.Blocks.{block_of, statement_of}
-use Rattle.bp_tree.specs.Depth.{depth}
+use Rattle.bp_language.specs.Blocks.{block_of, statement_of}
+use Rattle.bp_language.specs.Depth.{depth}
 use Rattle.bp_code.specs.Environments.{environment_of}
 use Rattle.bp_code.specs.Compiled.{block_size, size}
-use Rattle.bp_code.specs.Layouts.{block_sizes, AreSizesOf}
-use Rattle.bp_code.proofs.BlockItems.{block_item, item_depth, code_more}
-use Rattle.bp_code.proofs.SizesInLayout.{inside, behind, second_part}
+use Rattle.bp_code.specs.Compilable.{block_sizes, AreSizesOf}
+use Rattle.bp_code.proofs.BlockItems.{block_item, item_depth, code_more, inside, behind, second_part}
 use Rattle.bp_code.proofs.emit.+emit.Goals as goal
 
 pub emit_block-size_at-requires : goal.emit_block-size_at-requires

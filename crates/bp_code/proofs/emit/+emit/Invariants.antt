@@ -1,11 +1,11 @@
 use Rattle.std.proofs.Common.{◌≡◌, ◌+◌, ◌*◌, ◌++◌, length, drop}
-use Rattle.bp_tree.specs.Ast.{Branches, Loops}
-use Rattle.bp_tree.specs.Views.{decision_of}
-use Rattle.bp_tree.specs.Blocks.{block_of, statement_of}
-use Rattle.bp_tree.specs.Depth.{depth, statement_depth}
+use Rattle.bp_language.specs.Ast.{Branches, Loops}
+use Rattle.bp_language.specs.Views.{decision_of}
+use Rattle.bp_language.specs.Blocks.{block_of, statement_of}
+use Rattle.bp_language.specs.Depth.{depth, statement_depth}
 use Rattle.bp_code.specs.Environments.{environment_of}
 use Rattle.bp_code.specs.Known.{IsKnown}
-use Rattle.bp_code.specs.Layouts.{block_sizes, AreSizesOf}
+use Rattle.bp_code.specs.Compilable.{block_sizes, AreSizesOf}
 use Rattle.bp_code.specs.Compiled.{block_size, block_code}
 use Rattle.bp_code.proofs.emit.+emit.Given as goal
 

@@ -2,16 +2,14 @@ use Rattle.std.proofs.lemmas.Grind.{common_steps}
 use Rattle.std.proofs.Common.{◌≡◌, ◌+◌, ◌-◌, ap, arith, length, [], ◌∷◌, ◌++◌, length-append, rules}
 use Rattle.std.proofs.lemmas.List.{set_at}
 use Rattle.std.proofs.lemmas.Result.{on_ok_weaker}
-use Rattle.bp_text.proofs.GrownLists.{regrouped}
-use Rattle.bp_tree.specs.Views.{decision_of}
-use Rattle.bp_tree.specs.Blocks.{statement_of}
-use Rattle.bp_tree.specs.Depth.{depth, statement_depth}
-use Rattle.bp_check.specs.Tables.{index_in}
+use Rattle.bp_text.proofs.PartsOfTexts.{regrouped}
+use Rattle.bp_language.specs.Views.{decision_of}
+use Rattle.bp_language.specs.Blocks.{statement_of}
+use Rattle.bp_language.specs.Depth.{depth, statement_depth}
+use Rattle.bp_code.specs.Sets.{index_in}
 use Rattle.bp_code.specs.Compiled.{block_size, size}
-use Rattle.bp_code.specs.Layouts.{block_sizes, inner_sizes}
-use Rattle.bp_code.proofs.BlockItems.{block_item, item_depth}
-use Rattle.bp_code.proofs.SizesInLayout.{sizes_length, inner_length}
-use Rattle.bp_code.proofs.NotedStatements.{sizes_more, labels_more, labels_of_both}
+use Rattle.bp_code.specs.Compilable.{block_sizes, inner_sizes}
+use Rattle.bp_code.proofs.BlockItems.{block_item, item_depth, sizes_length, inner_length, sizes_more, labels_more, labels_of_both}
 use Rattle.bp_code.proofs.layout.+note.Goals as goal
 
 pub note-overflow_cast-len : goal.note-overflow_cast-len

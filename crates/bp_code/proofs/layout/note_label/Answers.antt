@@ -1,7 +1,7 @@
 use Rattle.std.proofs.Common.{◌≡◌, None, arith}
 use Rattle.std.proofs.lemmas.Map.Text.{btree_map_updates_str}
-use Rattle.bp_check.specs.Tables.{index_in}
-use Rattle.bp_code.proofs.NotedStatements.{noted}
+use Rattle.bp_code.specs.Sets.{index_in}
+use Rattle.bp_code.proofs.BlockItems.{noted}
 use Rattle.bp_code.proofs.layout.note_label.Goals as goal
 
 pub returns-in_ok-insert : goal.returns-in_ok-insert

@@ -1,8 +1,8 @@
 use Rattle.std.proofs.Common.{sym, ◌∙◌, length, append-nil}
-use Rattle.bp_tree.specs.Ast.{Program}
-use Rattle.bp_flat.proofs.ListItems.{drop_item, dropped_all}
-use Rattle.bp_code.proofs.DeclaredIsKnown.{all_few, all_known}
-use Rattle.bp_code.proofs.NamesOfHeadings.{names_of_headings}
+use Rattle.bp_language.specs.Ast.{Program}
+use Rattle.bp_flat.proofs.ProceduresOfPlaces.{drop_item, dropped_all}
+use Rattle.bp_code.proofs.LawfulIsCompilable.{all_few, all_known}
+use Rattle.bp_code.proofs.ListingLines.{names_of_headings}
 use Rattle.bp_code.proofs.CompiledStandsFor.{flat_stands}
 use Rattle.bp_code.proofs.programs.compile_program.Goals as goal
 

@@ -1,9 +1,9 @@
 use Rattle.std.proofs.Common.{◌≡◌, ap, ◌∙◌, arith, length, [], ◌∷◌, ◌++◌}
 use Rattle.std.proofs.lemmas.Result.{on_ok_weaker}
-use Rattle.bp_text.proofs.GrownLists.{regrouped}
+use Rattle.bp_text.proofs.PartsOfTexts.{regrouped}
 use Rattle.bp_flat.specs.Flat.{Return}
 use Rattle.bp_code.specs.Compiled.{block_size}
-use Rattle.bp_code.proofs.SizesInLayout.{sizes_length, whole_table}
+use Rattle.bp_code.proofs.BlockItems.{sizes_length, whole_table}
 use Rattle.bp_code.proofs.programs.emit_proc.Goals as goal
 
 pub overflow_cast-end : goal.overflow_cast-end

@@ -1,9 +1,8 @@
 use Rattle.std.proofs.lemmas.Grind.{common_steps}
 use Rattle.std.proofs.Common.{ap, arith}
-use Rattle.bp_tree.specs.Blocks.{statement_of}
-use Rattle.bp_tree.specs.Depth.{statement_depth}
-use Rattle.bp_code.proofs.BlockItems.{item_depth}
-use Rattle.bp_code.proofs.StartsOfPlaces.{starts_more}
+use Rattle.bp_language.specs.Blocks.{statement_of}
+use Rattle.bp_language.specs.Depth.{statement_depth}
+use Rattle.bp_code.proofs.BlockItems.{item_depth, starts_more}
 use Rattle.bp_code.proofs.starts.+note_starts.Goals as goal
 
 pub note_block-note_inside-requires : goal.note_block-note_inside-requires

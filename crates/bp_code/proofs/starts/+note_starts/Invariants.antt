@@ -1,7 +1,7 @@
 use Rattle.std.proofs.Common.{◌≡◌, ◌+◌, ◌*◌, ◌++◌, drop}
-use Rattle.bp_tree.specs.Blocks.{block_of, statement_of}
-use Rattle.bp_tree.specs.Depth.{depth, statement_depth}
-use Rattle.bp_flat.specs.Starts.{block_starts}
+use Rattle.bp_language.specs.Blocks.{block_of, statement_of}
+use Rattle.bp_language.specs.Depth.{depth, statement_depth}
+use Rattle.bp_flat.specs.StandsFor.{block_starts}
 use Rattle.bp_code.proofs.starts.+note_starts.Given as goal
 
 abbrev pub invariant-note_block-loop-stmt : goal.invariant-note_block-loop-stmt

@@ -1,6 +1,6 @@
 use Rattle.std.proofs.Common.{sym, ◌∙◌, append-nil}
-use Rattle.bp_flat.proofs.ListItems.{dropped_all}
-use Rattle.bp_code.proofs.StartsOfPlaces.{procs_more}
+use Rattle.bp_flat.proofs.ProceduresOfPlaces.{dropped_all}
+use Rattle.bp_code.proofs.BlockItems.{procs_more}
 use Rattle.bp_code.proofs.starts.statement_starts.Goals as goal
 
 pub loop-proc-preserved : goal.loop-proc-preserved

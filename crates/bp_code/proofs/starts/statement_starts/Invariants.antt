@@ -1,6 +1,6 @@
 use Rattle.std.proofs.Common.{◌≡◌, ◌++◌, drop}
 use Rattle.bp_flat.specs.StandsFor.{places_of}
-use Rattle.bp_code.proofs.StartsOfPlaces.{starts}
+use Rattle.bp_code.proofs.BlockItems.{starts}
 use Rattle.bp_code.proofs.starts.statement_starts.Given as goal
 
 abbrev pub invariant-loop-proc : goal.invariant-loop-proc

@@ -1,5 +1,5 @@
 use Rattle.std.proofs.Common.{◌≡◌, map, take, drop}
-use Rattle.bp_tree.specs.Views.{expression_of}
+use Rattle.bp_language.specs.Views.{expression_of}
 use Rattle.bp_flat.specs.Views.{formula_of}
 use Rattle.bp_code.specs.Environments.{environment_of}
 use Rattle.bp_language.specs.NamesIn.{NamesInExpressions}

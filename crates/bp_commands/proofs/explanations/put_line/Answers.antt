@@ -1,5 +1,5 @@
 use Rattle.std.proofs.Common.{◌++◌, ◌∷◌, [], refl}
-use Rattle.bp_text.proofs.FirstLines.{first_on_one_line}
+use Rattle.bp_text.proofs.LinesOfTexts.{first_on_one_line}
 use Rattle.bp_commands.proofs.explanations.put_line.Goals as goal
 
 pub returns : goal.returns

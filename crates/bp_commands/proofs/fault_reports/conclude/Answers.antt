@@ -1,6 +1,6 @@
 use Rattle.std.proofs.Common.{sym}
 use Rattle.bp_commands.specs.FaultReports.{IsObjectIn}
-use Rattle.bp_commands.proofs.ExplainedRuns.{by_lines}
+use Rattle.bp_commands.proofs.ConcludedReads.{by_lines}
 use Rattle.bp_commands.proofs.fault_reports.conclude.Goals as goal
 
 pub returns-in-true-Err : goal.returns-in-true-Err

@@ -1,4 +1,4 @@
-use Rattle.bp_commands.proofs.ExplainedRuns.{says}
+use Rattle.bp_commands.proofs.ConcludedReads.{says}
 use Rattle.bp_commands.proofs.fault_reports.explain.Goals as goal
 
 pub returns : goal.returns

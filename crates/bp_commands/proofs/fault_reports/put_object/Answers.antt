@@ -1,7 +1,6 @@
 use Rattle.std.proofs.Common.{refl, option_map, subst}
-use Rattle.bp_confirm.specs.StepLines.{value_of}
-use Rattle.bp_messages.specs.FaultObjects.{fault_object, name_in}
-use Rattle.bp_messages.specs.StepObjects.{IsValueIn}
+use Rattle.bp_confirm.specs.Steps.{value_of}
+use Rattle.bp_messages.specs.FaultObjects.{fault_object, name_in, IsValueIn}
 use Rattle.bp_commands.specs.FaultReports.{IsObjectWith}
 use Rattle.bp_commands.proofs.fault_reports.put_object.Goals as goal
 

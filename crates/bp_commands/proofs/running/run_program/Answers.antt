@@ -1,4 +1,4 @@
-use Rattle.bp_commands.specs.Given.{text_alone}
+use Rattle.bp_commands.specs.Commands.{text_alone}
 use Rattle.bp_commands.specs.Runs.{runs_by_names}
 use Rattle.bp_commands.proofs.Answered.{answered}
 use Rattle.bp_commands.proofs.running.run_program.Goals as goal

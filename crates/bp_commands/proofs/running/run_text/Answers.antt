@@ -2,9 +2,9 @@ use Rattle.std.proofs.Common.{ap, subst}
 use Rattle.std.proofs.lemmas.Result.{err_from_is_err_and}
 use Rattle.bp_tasks.specs.RunOptions.{options_of}
 use Rattle.bp_commands.specs.Commands.{AnswersOf}
-use Rattle.bp_commands.specs.NamedStarts.{AreNamesRefused}
+use Rattle.bp_commands.specs.Programs.{AreNamesRefused}
 use Rattle.bp_commands.specs.Runs.{runs, runs_by_names}
-use Rattle.bp_commands.proofs.AnswersByNames.{answers_found, answers_start, names_refused}
+use Rattle.bp_commands.proofs.Answered.{answers_found, answers_start, names_refused}
 use Rattle.bp_commands.proofs.running.run_text.Goals as goal
 
 pub returns-in_err-found : goal.returns-in_err-found

@@ -1,9 +1,8 @@
 use Rattle.std.proofs.Common.{ℕ, List, Option}
 use Rattle.std.specs.Io.Buffered.{writer_contents}
-use Rattle.bp_commands.specs.Explanations.{ExplainsPair, AreReadOr}
-use Rattle.bp_commands.specs.Files.{rest_of, pair_of_files}
-use Rattle.bp_commands.specs.Given.{Pair}
-use Rattle.bp_commands.specs.FaultReports.{IsFileOfPair, IsObjectIn}
+use Rattle.bp_commands.specs.FaultReports.{ExplainsPair, AreReadOr, IsFileOfPair, IsObjectIn}
+use Rattle.bp_commands.specs.Jobs.{rest_of, pair_of_files}
+use Rattle.bp_commands.specs.Commands.{Pair}
 use Rattle.bp_commands.proofs.ConcludedReads.{concluded_read}
 use Rattle.bp_commands.proofs.runs.run_on_pair.Goals as goal
 

@@ -1,8 +1,7 @@
 use Rattle.std.specs.Io.Buffered.{writer_contents}
-use Rattle.bp_commands.specs.Explanations.{ExplainsText, AreReadOr}
-use Rattle.bp_commands.specs.Files.{rest_of}
-use Rattle.bp_commands.specs.Given.{text_alone, text_alone_of}
-use Rattle.bp_commands.specs.FaultReports.{IsFileOfText, IsObjectIn}
+use Rattle.bp_commands.specs.FaultReports.{ExplainsText, AreReadOr, IsFileOfText, IsObjectIn}
+use Rattle.bp_commands.specs.Jobs.{rest_of}
+use Rattle.bp_commands.specs.Commands.{text_alone, text_alone_of}
 use Rattle.bp_commands.proofs.ConcludedReads.{concluded_read}
 use Rattle.bp_commands.proofs.runs.run_on_program.Goals as goal
 

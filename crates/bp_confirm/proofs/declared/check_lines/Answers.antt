@@ -1,7 +1,7 @@
 use Rattle.std.proofs.Common.{◌≡◌, ap, sym, subst, arith}
-use Rattle.bp_confirm.specs.DeclaredLines.{AreDeclaredLines, IsDeclared, IsFirstUndeclared, IsOfNoThread, IsOfNoVariable}
+use Rattle.bp_confirm.specs.ConfirmedTexts.{AreDeclaredLines, IsDeclared, IsFirstUndeclared, IsOfNoThread, IsOfNoVariable}
 use Rattle.bp_confirm.specs.KeptLines.{kept_lines}
-use Rattle.bp_confirm.proofs.FirstStray.{first_stray}
+use Rattle.bp_confirm.proofs.OneTextRefusal.{first_stray}
 use Rattle.bp_confirm.proofs.LinesKept.{all_at}
 use Rattle.bp_confirm.proofs.declared.check_lines.Goals as goal
 

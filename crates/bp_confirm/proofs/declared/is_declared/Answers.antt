@@ -1,9 +1,7 @@
-use Rattle.std.proofs.Common.{◌≡◌, ◌∙◌, Some, ap, sym, subst}
-use Rattle.std.specs.Prelude.{option_map, slice_get}
+use Rattle.std.proofs.Common.{◌≡◌, ◌∙◌, Some, ap, sym, subst, option_map, slice_get}
 use Rattle.std.proofs.lemmas.Slice.Eq.{bytes_eq-Decides}
-use Rattle.bp_source.specs.VariableNames.{declares}
-use Rattle.bp_confirm.proofs.KnownNames.{known_there}
-use Rattle.bp_confirm.proofs.ValuesSeen.{got_item}
+use Rattle.bp_source.specs.Names.{declares}
+use Rattle.bp_confirm.proofs.ValuesSeen.{known_there, got_item}
 use Rattle.bp_confirm.proofs.declared.is_declared.Goals as goal
 
 pub returns-in-Some-clause-is : goal.returns-in-Some-clause-is

@@ -1,9 +1,9 @@
 use Rattle.std.proofs.Common.{◌∙◌, sym, subst}
-use Rattle.bp_confirm.specs.DeclaredLines.{AreDeclared}
-use Rattle.bp_confirm.specs.StepLines.{value_of}
-use Rattle.bp_confirm.specs.ValuesIn.{values_in}
-use Rattle.bp_confirm.proofs.FirstStray.{first_undeclared, declared_more}
-use Rattle.bp_confirm.proofs.ValuesOnLines.{all_read, none_read, one_more_read, value_there}
+use Rattle.bp_confirm.specs.ConfirmedTexts.{AreDeclared}
+use Rattle.bp_confirm.specs.Steps.{value_of}
+use Rattle.bp_confirm.specs.LineReading.{values_in}
+use Rattle.bp_confirm.proofs.OneTextRefusal.{first_undeclared, declared_more}
+use Rattle.bp_confirm.proofs.OneReading.{all_read, none_read, one_more_read, value_there}
 use Rattle.bp_confirm.proofs.declared.undeclared_value.Goals as goal
 
 pub loop-value-init : goal.loop-value-init

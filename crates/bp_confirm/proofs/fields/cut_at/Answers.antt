@@ -1,7 +1,6 @@
-use Rattle.std.proofs.Common.{subst, arith}
-use Rattle.std.proofs.lemmas.List.{take_all}
-use Rattle.bp_trace.specs.Writable.{Without}
-use Rattle.bp_confirm.proofs.Cuts.{cut_here, without_more}
+use Rattle.std.proofs.Common.{subst, arith, take_all}
+use Rattle.bp_trace.specs.TraceText.{Without}
+use Rattle.bp_confirm.proofs.OneNumberAt.{cut_here, without_more}
 use Rattle.bp_confirm.proofs.fields.cut_at.Goals as goal
 
 pub returns-then-it-byte : goal.returns-then-it-byte

@@ -1,4 +1,4 @@
-use Rattle.bp_confirm.proofs.Cuts.{field_here, field_whole}
+use Rattle.bp_confirm.proofs.OneNumberAt.{field_here, field_whole}
 use Rattle.bp_confirm.proofs.fields.field_at.Goals as goal
 
 pub returns-in-Some : goal.returns-in-Some

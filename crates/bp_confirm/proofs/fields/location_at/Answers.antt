@@ -1,4 +1,4 @@
-use Rattle.bp_confirm.proofs.OneStepAt.{no_column_number}
+use Rattle.bp_confirm.proofs.OneStepLine.{no_column_number}
 use Rattle.bp_confirm.proofs.fields.location_at.Goals as goal
 
 pub returns-in-None : goal.returns-in-None

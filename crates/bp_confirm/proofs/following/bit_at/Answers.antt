@@ -1,10 +1,8 @@
-use Rattle.std.proofs.Common.{◌∙◌, true, ap, refl, sym}
-use Rattle.std.specs.Prelude.{slice_get, option_map}
+use Rattle.std.proofs.Common.{◌∙◌, true, ap, refl, sym, slice_get, option_map}
 use Rattle.bp_machine.specs.Histories.{configuration_after}
 use Rattle.bp_confirm.specs.Inferred.{some_follow}
-use Rattle.bp_confirm.specs.Places.{place_of}
-use Rattle.bp_confirm.specs.Steps.{next_place}
-use Rattle.bp_confirm.proofs.BitsAtTops.{inferred_here}
+use Rattle.bp_confirm.specs.Steps.{place_of, next_place}
+use Rattle.bp_confirm.proofs.StepsFollowed.{inferred_here}
 use Rattle.bp_confirm.proofs.following.bit_at.Goals as goal
 
 pub returns : goal.returns

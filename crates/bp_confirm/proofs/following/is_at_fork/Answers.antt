@@ -1,7 +1,6 @@
-use Rattle.std.proofs.Common.{◌∙◌, ap}
-use Rattle.std.specs.Prelude.{slice_get}
+use Rattle.std.proofs.Common.{◌∙◌, ap, slice_get}
 use Rattle.bp_machine.specs.Histories.{configuration_after}
-use Rattle.bp_confirm.proofs.BitsAtTops.{fork_here}
+use Rattle.bp_confirm.proofs.StepsFollowed.{fork_here}
 use Rattle.bp_confirm.proofs.following.is_at_fork.Goals as goal
 
 pub returns : goal.returns

@@ -1,13 +1,11 @@
 use Rattle.std.proofs.Common.{◌∙◌, ◌+◌, ◌++◌, ◌∷◌, [], length, Some, refl, sym, subst}
 use Rattle.bp_machine.specs.Histories.{configuration_after}
-use Rattle.bp_confirm.specs.declared.faults.StepReason.TheVariants.{Elsewhere, Ambiguous, Finished, Refused, Differs}
-use Rattle.bp_confirm.specs.Changes.{IsDifference}
-use Rattle.bp_confirm.specs.Confirms.{GoesOnAt}
+use Rattle.bp_confirm.specs.declared.confirming.StepReason.TheVariants.{Elsewhere, Ambiguous, Finished, Refused, Differs}
+use Rattle.bp_confirm.specs.Confirms.{IsDifference, GoesOnAt}
 use Rattle.bp_confirm.specs.Inferred.{Follows}
-use Rattle.bp_confirm.specs.StepLines.{StepLineOf, step_of}
-use Rattle.bp_confirm.specs.StepRefusals.{IsNotTaken, TellsNext, refusal_of}
-use Rattle.bp_confirm.specs.Steps.{SeesValues}
-use Rattle.bp_confirm.specs.ValuesIn.{values_in}
+use Rattle.bp_confirm.specs.Steps.{StepLineOf, step_of, SeesValues}
+use Rattle.bp_confirm.specs.FollowedSteps.{IsNotTaken, TellsNext, refusal_of}
+use Rattle.bp_confirm.specs.LineReading.{values_in}
 use Rattle.bp_confirm.proofs.BitsOfEffects.{if_clear, if_unclear}
 use Rattle.bp_confirm.proofs.StepsFollowed.{elsewhere, ambiguous, finished, answered, others_seen}
 use Rattle.bp_confirm.proofs.following.take_step.Goals as goal

@@ -1,13 +1,12 @@
 use Rattle.std.proofs.Common.{◌≡◌, ◌∙◌, ◌⊎◌, inl, inr, ℕ, false, get_or, refl, sym, subst}
 use Rattle.bp_flat.specs.StandsFor.{StandsFor}
-use Rattle.bp_machine.specs.Deadlocks.{IsDeadlocked}
+use Rattle.bp_machine.specs.Runs.{IsDeadlocked}
 use Rattle.bp_machine.specs.Histories.{configuration_after}
 use Rattle.bp_machine.specs.Sessions.{Stands}
 use Rattle.bp_machine.specs.Setups.{threads}
-use Rattle.bp_confirm.specs.Inferred.{ones, IsFollowed}
-use Rattle.bp_confirm.specs.LastChoices.{deciding, waiting_bits, waits_after}
-use Rattle.bp_confirm.specs.StepLines.{steps_of}
-use Rattle.bp_confirm.proofs.ChosenBits.{decided, of_some, plain_confirmed, table_is, taken_by_zeros}
+use Rattle.bp_confirm.specs.Inferred.{ones, IsFollowed, deciding, waiting_bits, waits_after}
+use Rattle.bp_confirm.specs.Steps.{steps_of}
+use Rattle.bp_confirm.proofs.OneConfirmed.{decided, of_some, plain_confirmed, table_is, taken_by_zeros}
 use Rattle.bp_confirm.proofs.histories.confirm_lines.Goals as goal
 
 pub returns-then-not-zeroed-clause-confirmed : goal.returns-then-not-zeroed-clause-confirmed

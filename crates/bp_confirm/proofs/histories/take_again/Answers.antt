@@ -1,7 +1,7 @@
 use Rattle.std.proofs.Common.{subst}
 use Rattle.bp_confirm.specs.Confirms.{IsNotFollowed}
-use Rattle.bp_confirm.specs.LastBits.{last_bits}
-use Rattle.bp_confirm.proofs.LastBitsTaken.{never_refused}
+use Rattle.bp_confirm.specs.FollowedSteps.{last_bits}
+use Rattle.bp_confirm.proofs.OneStepRefusal.{never_refused}
 use Rattle.bp_confirm.proofs.histories.take_again.Goals as goal
 
 pub returns-in-Err-Refusal-clause-refused : goal.returns-in-Err-Refusal-clause-refused

@@ -1,5 +1,5 @@
-use Rattle.bp_confirm.specs.ValuesIn.{values_in}
-use Rattle.bp_confirm.proofs.ListedValues.{seen_or_not}
+use Rattle.bp_confirm.specs.LineReading.{values_in}
+use Rattle.bp_confirm.proofs.LinesKept.{seen_or_not}
 use Rattle.bp_confirm.proofs.listed_lines.sees_values.Goals as goal
 
 pub returns : goal.returns

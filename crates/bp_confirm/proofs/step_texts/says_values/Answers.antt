@@ -1,7 +1,7 @@
 use Rattle.std.proofs.Common.{◌∙◌, [], refl, sym}
-use Rattle.bp_text.proofs.Lengths.{none_left, some_left}
+use Rattle.bp_text.proofs.PartsOfTexts.{none_left, some_left}
 use Rattle.bp_confirm.proofs.OneStepLine.{no_value_no_values, values_more, line_rest, whole_values}
-use Rattle.bp_confirm.proofs.ValuesRead.{says}
+use Rattle.bp_confirm.proofs.OneName.{says}
 use Rattle.bp_confirm.proofs.step_texts.says_values.Goals as goal
 
 pub loop-rest-init : goal.loop-rest-init

@@ -1,7 +1,7 @@
 use Rattle.std.proofs.Common.{◌≡◌, ◌++◌, length}
-use Rattle.bp_flat.specs.Values.{Valuation}
-use Rattle.bp_trace.specs.Writable.{Without}
-use Rattle.bp_confirm.specs.StepTexts.{AreNamed, values_text}
+use Rattle.bp_flat.specs.Moves.{Valuation}
+use Rattle.bp_trace.specs.TraceText.{Without}
+use Rattle.bp_confirm.specs.Steps.{AreNamed, values_text}
 use Rattle.bp_confirm.proofs.step_texts.says_values.Given as goal
 
 abbrev pub invariant-loop-rest : goal.invariant-loop-rest

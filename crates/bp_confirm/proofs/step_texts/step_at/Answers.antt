@@ -1,4 +1,4 @@
-use Rattle.bp_confirm.proofs.OneStepAt.{no_thread, no_space_after, no_location, no_values_line, has_step}
+use Rattle.bp_confirm.proofs.OneStepLine.{no_thread, no_space_after, no_location, no_values_line, has_step}
 use Rattle.bp_confirm.proofs.step_texts.step_at.Goals as goal
 
 pub returns-in_default : goal.returns-in_default

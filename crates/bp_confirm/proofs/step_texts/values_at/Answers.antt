@@ -1,4 +1,4 @@
-use Rattle.bp_confirm.proofs.OneStepAt.{no_feed, no_values}
+use Rattle.bp_confirm.proofs.OneStepLine.{no_feed, no_values}
 use Rattle.bp_confirm.proofs.step_texts.values_at.Goals as goal
 
 pub returns-in_default-cut_at : goal.returns-in_default-cut_at

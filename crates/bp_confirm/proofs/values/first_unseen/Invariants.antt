@@ -1,10 +1,10 @@
 use Rattle.std.proofs.Common.{◌≡◌, ℕ, List, length, take}
-use Rattle.bp_flat.specs.Configurations.{Configuration}
-use Rattle.bp_confirm.specs.ListedLines.{AreShown}
-use Rattle.bp_confirm.specs.SourcePoints.{source_points_of}
+use Rattle.bp_flat.specs.Moves.{Configuration}
+use Rattle.bp_confirm.specs.OwnSteps.{AreShown}
+use Rattle.bp_confirm.specs.FollowedSteps.{source_points_of}
 use Rattle.bp_confirm.specs.Steps.{SeesValues}
-use Rattle.bp_confirm.specs.ValuesIn.{values_in}
-use Rattle.bp_confirm.proofs.ValuesOnLines.{AreReadTo}
+use Rattle.bp_confirm.specs.LineReading.{values_in}
+use Rattle.bp_confirm.proofs.OneReading.{AreReadTo}
 use Rattle.bp_confirm.proofs.values.first_unseen.Given as goal
 
 abbrev pub invariant-loop-value : goal.invariant-loop-value

@@ -1,8 +1,8 @@
 use Rattle.std.proofs.Common.{◌≡◌, ◌≢◌, ◌∙◌, List, ℕ, ap, sym, subst}
-use Rattle.bp_flat.specs.Bits.{bits_of}
+use Rattle.bp_flat.specs.InstrEffects.{bits_of}
 use Rattle.bp_flat.specs.StandsFor.{valuation_of, variables}
-use Rattle.bp_source.specs.VariableNames.{qualified}
-use Rattle.bp_confirm.proofs.OwnValues.{by_no_name, by_own_name, by_qualified_name}
+use Rattle.bp_source.specs.Names.{qualified}
+use Rattle.bp_confirm.proofs.ValuesSeen.{by_no_name, by_own_name, by_qualified_name}
 use Rattle.bp_confirm.proofs.values.own_value.Goals as goal
 
 pub returns-in-Some : goal.returns-in-Some

@@ -1,9 +1,8 @@
 use Rattle.std.proofs.lemmas.Grind.{common_steps}
 use Rattle.std.proofs.Common.{◌<◌, length, sym, ap, subst, ◌∙◌, arith, length-append, ◌∷◌}
 use Rattle.std.proofs.lemmas.Bool.{false≢true}
-use Rattle.bp_text.proofs.Lengths.{none_left}
-use Rattle.bp_explain.proofs.FirstCuts.{line_first, rest_after}
-use Rattle.bp_explain.proofs.HeadLines.{entry_cut}
+use Rattle.bp_text.proofs.PartsOfTexts.{none_left}
+use Rattle.bp_explain.proofs.HeadLines.{line_first, rest_after, entry_cut}
 use Rattle.bp_explain.proofs.trace_heads.after_entry.Goals as goal
 use Rattle.bp_explain.proofs.trace_heads.after_entry.Goals.{then-is_empty-via-then-is_empty, then-is_empty-via-else-is_empty+then-not-line}
 

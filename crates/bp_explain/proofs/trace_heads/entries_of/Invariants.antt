@@ -1,5 +1,5 @@
 use Rattle.std.proofs.Common.{◌+◌, ◌≤◌, length}
-use Rattle.bp_explain.specs.TraceParts.{BeginsWithHead}
+use Rattle.bp_explain.specs.Explained.{BeginsWithHead}
 use Rattle.bp_explain.proofs.HeadLines.{EntriesLeft}
 use Rattle.bp_explain.proofs.trace_heads.entries_of.Given as goal
 

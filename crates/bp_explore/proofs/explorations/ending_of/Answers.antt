@@ -1,9 +1,8 @@
 use Rattle.std.proofs.Common.{subst}
-use Rattle.bp_explore.specs.Counts.{failures}
-use Rattle.bp_explore.specs.declared.explored.Finding.TheVariants.{Failure, Deadlock}
+use Rattle.bp_explore.specs.Searches.{failures, IsSearchEnd}
+use Rattle.bp_explore.specs.declared.explorations.Finding.TheVariants.{Failure, Deadlock}
 use Rattle.bp_explore.specs.declared.searches.SearchEnd.{SearchEnd}
-use Rattle.bp_explore.specs.Searches.{IsSearchEnd}
-use Rattle.bp_explore.proofs.FailuresFound.{none_below_of, none_of, safe_of}
+use Rattle.bp_explore.proofs.MadeSteps.{none_below_of, none_of, safe_of}
 use Rattle.bp_explore.proofs.PlayedRuns.{played_answer}
 use Rattle.bp_explore.proofs.explorations.ending_of.Goals as goal
 

@@ -1,4 +1,4 @@
-use Rattle.bp_explore.proofs.FirstState.{start_shown}
+use Rattle.bp_explore.proofs.ReachedNodes.{start_shown}
 use Rattle.bp_explore.proofs.explorations.explore.Goals as goal
 
 pub search-end-requires-clause-begins : goal.search-end-requires-clause-begins

@@ -1,6 +1,5 @@
 use Rattle.std.proofs.Common.{take}
-use Rattle.bp_explore.specs.Cells.{IsPacked, take_times}
-use Rattle.bp_explore.specs.Packing.{take_frame}
+use Rattle.bp_explore.specs.States.{IsPacked, take_times, take_frame}
 use Rattle.bp_explore.proofs.packing.push_frames.Given as goal
 
 abbrev pub invariant-loop-frame : goal.invariant-loop-frame

@@ -1,8 +1,6 @@
 use Rattle.std.proofs.Common.{◌≡◌, ◌+◌, ◌++◌, ◌∷◌, [], take, sym, subst}
-use Rattle.bp_explore.specs.Cells.{IsPacked, take_times}
-use Rattle.bp_explore.specs.Packing.{take_stack}
-use Rattle.bp_explore.specs.States.{frames_of}
-use Rattle.bp_explore.proofs.PackedCells.{packed_more, frames_next}
+use Rattle.bp_explore.specs.States.{IsPacked, take_times, take_stack, frames_of}
+use Rattle.bp_explore.proofs.PackedNodes.{packed_more, frames_next}
 use Rattle.bp_explore.proofs.packing.push_stacks.Goals as goal
 
 pub loop-stack-preserved : goal.loop-stack-preserved

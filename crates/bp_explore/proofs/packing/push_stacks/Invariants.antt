@@ -1,7 +1,5 @@
 use Rattle.std.proofs.Common.{take}
-use Rattle.bp_explore.specs.Cells.{IsPacked, take_times}
-use Rattle.bp_explore.specs.Packing.{take_stack}
-use Rattle.bp_explore.specs.States.{frames_of}
+use Rattle.bp_explore.specs.States.{IsPacked, take_times, take_stack, frames_of}
 use Rattle.bp_explore.proofs.packing.push_stacks.Given as goal
 
 abbrev pub invariant-loop-stack : goal.invariant-loop-stack

@@ -1,8 +1,7 @@
 use Rattle.std.proofs.lemmas.List.{reverse-append}
 use Rattle.std.proofs.Common.{◌∷◌, [], drop, reverse, sym, ap, ◌∙◌}
-use Rattle.bp_explore.specs.Cells.{take_number}
-use Rattle.bp_explore.specs.Packing.{take_frame}
-use Rattle.bp_explore.proofs.PackedCells.{times_more}
+use Rattle.bp_explore.specs.States.{take_number, take_frame}
+use Rattle.bp_explore.proofs.PackedNodes.{times_more}
 use Rattle.bp_explore.proofs.packing.read_stack.Goals as goal
 
 pub loop-n-preserved : goal.loop-n-preserved

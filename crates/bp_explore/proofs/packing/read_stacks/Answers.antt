@@ -1,9 +1,6 @@
-use Rattle.std.proofs.Common.{◌≡◌, ◌+◌, ◌++◌, ◌∷◌, [], ◌<◌, length, take, drop, sym, ap, ◌∙◌, arith}
-use Rattle.std.specs.Prelude.{slice_set}
-use Rattle.std.proofs.lemmas.List.{length-set}
-use Rattle.bp_explore.specs.Packing.{take_stack}
-use Rattle.bp_explore.specs.States.{frames_of}
-use Rattle.bp_explore.proofs.PackedCells.{times_more, frames_set}
+use Rattle.std.proofs.Common.{◌≡◌, ◌+◌, ◌++◌, ◌∷◌, [], ◌<◌, length, take, drop, sym, ap, ◌∙◌, arith, slice_set, length-set}
+use Rattle.bp_explore.specs.States.{take_stack, frames_of}
+use Rattle.bp_explore.proofs.PackedNodes.{times_more, frames_set}
 use Rattle.bp_explore.proofs.packing.read_stacks.Goals as goal
 
 pub loop-i-preserved : goal.loop-i-preserved

@@ -1,7 +1,5 @@
 use Rattle.std.proofs.Common.{◌≡◌, drop, take, length}
-use Rattle.bp_explore.specs.Cells.{take_times}
-use Rattle.bp_explore.specs.Packing.{take_stack}
-use Rattle.bp_explore.specs.States.{frames_of}
+use Rattle.bp_explore.specs.States.{take_times, take_stack, frames_of}
 use Rattle.bp_explore.proofs.packing.read_stacks.Given as goal
 
 abbrev pub invariant-loop-i : goal.invariant-loop-i

@@ -1,7 +1,7 @@
 use Rattle.std.proofs.Common.{◌≡◌, ◌∙◌, ap, nat_eq, ◌%◌, ◌-◌, ◌^◌, ◌/◌, arith}
 use Rattle.std.proofs.Math.Nat.{mod-eq_of_lt}
 use Rattle.std.proofs.lemmas.Nat.Bits.{shr_and_one}
-use Rattle.bp_flat.proofs.HalvesOfWords.{low_bit, high_bit}
+use Rattle.bp_flat.proofs.WordBits.{low_bit, high_bit}
 use Rattle.bp_flat.proofs.stores.bit_at.Goals as goal
 use Rattle.bp_flat.proofs.stores.bit_at.Goals.{then-slot-lt64, else-slot-lt64}
 

@@ -1,7 +1,7 @@
 use Rattle.std.proofs.Common.{◌∙◌}
 use Rattle.std.proofs.lemmas.Option.{slice_get-get_or}
-use Rattle.bp_flat.specs.Bits.{bits_of}
-use Rattle.bp_flat.proofs.BitsFrom.{bits_from_more}
+use Rattle.bp_flat.specs.InstrEffects.{bits_of}
+use Rattle.bp_flat.proofs.WordBits.{bits_from_more}
 use Rattle.bp_flat.proofs.stores.word_of.Goals as goal
 
 pub loop-i-preserved : goal.loop-i-preserved

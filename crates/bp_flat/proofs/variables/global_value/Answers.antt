@@ -1,7 +1,5 @@
-use Rattle.std.proofs.Common.{◌∙◌, ap, sym}
-use Rattle.std.specs.Prelude.{option_map}
-use Rattle.std.proofs.Common.{Some}
-use Rattle.bp_flat.specs.Bits.{bits_of}
+use Rattle.std.proofs.Common.{◌∙◌, ap, sym, Some, option_map}
+use Rattle.bp_flat.specs.InstrEffects.{bits_of}
 use Rattle.bp_flat.proofs.SlotsOfNames.{value_of_slot}
 use Rattle.bp_flat.proofs.variables.global_value.Goals as goal
 

@@ -1,6 +1,6 @@
 use Rattle.std.proofs.Common.{◌≡◌, ◌∙◌, ◌+◌, None, Some, ap, ap₂, length, sym}
 use Rattle.std.specs.Option.{option_or}
-use Rattle.bp_language.specs.Tables.{first_index}
+use Rattle.bp_language.specs.Faults.{first_index}
 use Rattle.bp_flat.proofs.SlotsOfNames.{index_after, index_append}
 use Rattle.bp_flat.proofs.variables.local_slot_of.Goals as goal
 

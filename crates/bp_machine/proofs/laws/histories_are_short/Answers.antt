@@ -1,4 +1,4 @@
-use Rattle.bp_machine.proofs.LegalLength.{legal_length}
+use Rattle.bp_machine.proofs.HistoriesAreRuns.{legal_length}
 use Rattle.bp_machine.proofs.laws.histories_are_short.Goals as goal
 
 pub returns : goal.returns

@@ -1,4 +1,4 @@
-use Rattle.bp_machine.proofs.GrantedSteps.{runs}
+use Rattle.bp_machine.proofs.RealFailures.{runs}
 use Rattle.bp_machine.proofs.laws.steps_are_a_run.Goals as goal
 
 pub returns : goal.returns

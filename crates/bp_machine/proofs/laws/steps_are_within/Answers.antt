@@ -1,4 +1,4 @@
-use Rattle.bp_machine.proofs.GrantedSteps.{within}
+use Rattle.bp_machine.proofs.RealFailures.{within}
 use Rattle.bp_machine.proofs.laws.steps_are_within.Goals as goal
 
 pub returns : goal.returns

@@ -1,6 +1,5 @@
-use Rattle.std.proofs.Common.{◌≡◌, ℕ, Some, length}
-use Rattle.std.specs.Prelude.{slice_get}
-use Rattle.bp_machine.specs.ChoiceBits.{ChoicesOf, IsAt}
+use Rattle.std.proofs.Common.{◌≡◌, ℕ, Some, length, slice_get}
+use Rattle.bp_machine.specs.Histories.{ChoicesOf, IsAt}
 use Rattle.bp_machine.proofs.sessions.restart_choices.Given as goal
 
 abbrev pub invariant-loop-thread : goal.invariant-loop-thread

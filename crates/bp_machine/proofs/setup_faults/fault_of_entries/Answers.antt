@@ -1,5 +1,5 @@
 use Rattle.std.proofs.Common.{◌∙◌, sym, string_bytes}
-use Rattle.bp_machine.proofs.EntryFaults.{refused, fine}
+use Rattle.bp_machine.proofs.SetupInRange.{refused, fine}
 use Rattle.bp_machine.proofs.setup_faults.fault_of_entries.Goals as goal
 
 pub returns-then-is_some : goal.returns-then-is_some

@@ -1,6 +1,5 @@
-use Rattle.std.proofs.Common.{◌-◌, ◌∙◌, ap, sym, arith, length}
-use Rattle.std.specs.Prelude.{slice_get}
-use Rattle.bp_machine.proofs.StackTops.{entered, top_is}
+use Rattle.std.proofs.Common.{◌-◌, ◌∙◌, ap, sym, arith, length, slice_get}
+use Rattle.bp_machine.proofs.SessionsInOrder.{entered, top_is}
 use Rattle.bp_machine.proofs.stacks.enter.Goals as goal
 
 pub returns-then-count-gt1-clause-items : goal.returns-then-count-gt1-clause-items

@@ -1,5 +1,5 @@
 use Rattle.std.proofs.Common.{arith}
-use Rattle.bp_machine.proofs.StackTops.{replaced}
+use Rattle.bp_machine.proofs.SessionsInOrder.{replaced}
 use Rattle.bp_machine.proofs.stacks.replace_top.Goals as goal
 
 pub returns-then-count-gt0-clause-items : goal.returns-then-count-gt0-clause-items

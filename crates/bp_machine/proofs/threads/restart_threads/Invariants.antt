@@ -1,5 +1,5 @@
 use Rattle.std.proofs.Common.{◌≡◌, length, map, take, string_bytes, vec_len}
-use Rattle.bp_machine.specs.GuestThreads.{first_thread, guests}
+use Rattle.bp_machine.specs.Sessions.{first_thread, guests}
 use Rattle.bp_machine.proofs.threads.restart_threads.Given as goal
 
 abbrev pub invariant-loop-i : goal.invariant-loop-i

@@ -1,7 +1,6 @@
-use Rattle.std.proofs.Common.{length, map}
-use Rattle.std.specs.Prelude.{string_bytes}
+use Rattle.std.proofs.Common.{length, map, string_bytes}
 use Rattle.bp_text.proofs.Givings.{IsLeft}
-use Rattle.bp_messages.specs.AskedTests.{names_text}
+use Rattle.bp_messages.specs.Summaries.{names_text}
 use Rattle.bp_messages.proofs.asked_tests.put_names.Given as goal
 
 abbrev pub invariant-loop-name : goal.invariant-loop-name

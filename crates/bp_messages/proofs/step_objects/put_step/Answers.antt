@@ -1,7 +1,7 @@
 use Rattle.std.proofs.Common.{option_map, subst}
-use Rattle.bp_confirm.specs.StepLines.{value_of}
-use Rattle.bp_text.specs.Sinks.{Given}
-use Rattle.bp_messages.specs.StepObjects.{step_member}
+use Rattle.bp_confirm.specs.Steps.{value_of}
+use Rattle.bp_text.specs.Writing.{Given}
+use Rattle.bp_messages.specs.FaultObjects.{step_member}
 use Rattle.bp_messages.proofs.step_objects.put_step.Goals as goal
 
 pub returns-in-None : goal.returns-in-None

@@ -1,4 +1,4 @@
-use Rattle.bp_run.proofs.Scribing.{scribed_none, scribed_more}
+use Rattle.bp_run.proofs.Played.{scribed_none, scribed_more}
 use Rattle.bp_run.proofs.scribes.scribe.Goals as goal
 
 pub loop-init : goal.loop-init

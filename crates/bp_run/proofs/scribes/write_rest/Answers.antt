@@ -1,4 +1,4 @@
-use Rattle.bp_run.proofs.Scribing.{rest_begins, rest_more}
+use Rattle.bp_run.proofs.Played.{rest_begins, rest_more}
 use Rattle.bp_run.proofs.scribes.write_rest.Goals as goal
 
 pub loop-call-init : goal.loop-call-init

@@ -1,4 +1,4 @@
-use Rattle.bp_run.proofs.Scribing.{staged_all}
+use Rattle.bp_run.proofs.Played.{staged_all}
 use Rattle.bp_run.proofs.scribes.write_running.Goals as goal
 
 pub returns-then-all_started : goal.returns-then-all_started

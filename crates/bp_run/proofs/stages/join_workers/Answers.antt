@@ -3,7 +3,7 @@ use Rattle.std.specs.Result.{is_ok}
 use Rattle.std.proofs.lemmas.Bool.{false≢true}
 use Rattle.std.proofs.lemmas.Grind.{common_steps}
 use Rattle.std.proofs.lemmas.List.Elements.{All-push, All-same, All-pop}
-use Rattle.bp_board.specs.Seats.{SeatOf}
+use Rattle.bp_run.specs.Desks.{SeatOf}
 use Rattle.bp_run.specs.Works.{TellsShut}
 use Rattle.bp_run.specs.declared.workers.Unfinished.{Unfinished}
 use Rattle.bp_run.proofs.stages.join_workers.Goals.{then-all_done, else-all_done}

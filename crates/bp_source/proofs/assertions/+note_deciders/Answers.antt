@@ -1,7 +1,7 @@
 use Rattle.std.proofs.Common.{◌∙◌, ap, arith, map}
-use Rattle.bp_tree.specs.Blocks.{statement_of}
-use Rattle.bp_tree.specs.Depth.{statement_depth}
-use Rattle.bp_source.specs.Assertions.{decision_in, reading_of}
+use Rattle.bp_language.specs.Blocks.{statement_of}
+use Rattle.bp_language.specs.Depth.{statement_depth}
+use Rattle.bp_source.specs.Names.{decision_in, reading_of}
 use Rattle.bp_source.proofs.DecidersOfPlaces.{depth_inside, noted_one, statement_more}
 use Rattle.bp_source.proofs.assertions.+note_deciders.Goals as goal
 

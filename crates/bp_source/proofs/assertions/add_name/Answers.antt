@@ -1,7 +1,7 @@
 use Rattle.std.proofs.Common.{if◌then◌else◌, ◌≡◌, ◌∙◌, ◌++◌, ◌∷◌, [], true, false, map, ap, sym}
 use Rattle.std.proofs.lemmas.List.{map-append}
 use Rattle.bp_source.specs.Names.{is_among, is_named}
-use Rattle.bp_source.proofs.AmongNames.{among_named}
+use Rattle.bp_source.proofs.DecidersOfPlaces.{among_named}
 use Rattle.bp_source.proofs.assertions.add_name.Goals as goal
 
 pub returns-in_ok-push : goal.returns-in_ok-push

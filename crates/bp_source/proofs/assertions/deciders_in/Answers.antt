@@ -1,6 +1,6 @@
 use Rattle.std.proofs.Common.{◌∙◌, append-nil, map, refl, sym}
-use Rattle.bp_flat.proofs.ListItems.{dropped_all}
-use Rattle.bp_source.specs.Assertions.{reading_of}
+use Rattle.bp_flat.proofs.ProceduresOfPlaces.{dropped_all}
+use Rattle.bp_source.specs.Names.{reading_of}
 use Rattle.bp_source.proofs.DecidersOfPlaces.{noted_one, procedure_more}
 use Rattle.bp_source.proofs.assertions.deciders_in.Goals as goal
 

@@ -1,6 +1,6 @@
 use Rattle.std.proofs.Common.{◌≡◌, ◌++◌, drop, map}
 use Rattle.bp_flat.specs.StandsFor.{places_of}
-use Rattle.bp_source.specs.Assertions.{reading_of}
+use Rattle.bp_source.specs.Names.{reading_of}
 use Rattle.bp_source.proofs.DecidersOfPlaces.{asserted}
 use Rattle.bp_source.proofs.assertions.deciders_in.Given as goal
 

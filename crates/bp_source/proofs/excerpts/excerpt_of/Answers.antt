@@ -1,8 +1,7 @@
-use Rattle.std.proofs.Common.{sym, subst}
-use Rattle.std.specs.Prelude.{◌||◌}
-use Rattle.bp_text.proofs.TextsOnOneLine.{one_line_after}
-use Rattle.bp_source.specs.Statements.{Lexeme, is_choice}
-use Rattle.bp_source.proofs.LexemesOfStatements.{ReadsTo, reads_all, reads_more}
+use Rattle.std.proofs.Common.{sym, subst, ◌||◌}
+use Rattle.bp_text.proofs.LinesOfTexts.{one_line_after}
+use Rattle.bp_source.specs.SourceStatements.{Lexeme, is_choice}
+use Rattle.bp_source.proofs.OneStatement.{ReadsTo, reads_all, reads_more}
 use Rattle.bp_source.proofs.excerpts.excerpt_of.Goals as goal
 
 pub loop-lexeme-preserved : goal.loop-lexeme-preserved

@@ -1,6 +1,6 @@
 use Rattle.std.proofs.Common.{length}
-use Rattle.bp_text.specs.OneLine.{IsOneLine}
-use Rattle.bp_source.proofs.LexemesOfStatements.{ReadsTo}
+use Rattle.bp_text.specs.Lines.{IsOneLine}
+use Rattle.bp_source.proofs.OneStatement.{ReadsTo}
 use Rattle.bp_source.proofs.excerpts.excerpt_of.Given as goal
 
 abbrev pub invariant-loop-lexeme : goal.invariant-loop-lexeme

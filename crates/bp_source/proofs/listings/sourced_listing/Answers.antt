@@ -1,7 +1,7 @@
 use Rattle.std.proofs.Common.{◌≡◌, ◌∙◌, ◌++◌, ◌==◌, ◌<◌, ℕ, List, [], ◌∷◌, length, ap, sym, refl, subst, append-nil, arith}
 use Rattle.std.specs.List.{after_first}
-use Rattle.bp_text.specs.OneLine.{first_line}
-use Rattle.bp_text.proofs.GrownLists.{rest_left}
+use Rattle.bp_text.specs.Lines.{first_line}
+use Rattle.bp_text.proofs.PartsOfTexts.{rest_left}
 use Rattle.bp_source.specs.declared.source_statements.SourceStatement.{SourceStatement}
 use Rattle.bp_source.specs.Listings.{line_with, statements_after, IsSourced, nothing, line}
 use Rattle.bp_source.proofs.listings.sourced_listing.Goals as goal

@@ -1,8 +1,7 @@
 use Rattle.std.proofs.Common.{[], ◌∷◌, codes}
-use Rattle.bp_text.specs.JsonStrings.{string_text}
-use Rattle.bp_text.specs.Pieces.{key_text}
-use Rattle.bp_source.specs.Programs.{name_list}
-use Rattle.bp_source.proofs.JoinedPieces.{first_joined, when_ok}
+use Rattle.bp_text.specs.Pieces.{string_text, key_text}
+use Rattle.bp_source.specs.Listings.{name_list}
+use Rattle.bp_source.proofs.DecidersOfPlaces.{first_joined, when_ok}
 use Rattle.bp_source.proofs.programs.push_procedure.Goals as goal
 
 pub returns : goal.returns

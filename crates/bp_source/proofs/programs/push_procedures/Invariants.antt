@@ -1,5 +1,5 @@
 use Rattle.std.proofs.Common.{◌≡◌, ◌++◌, flat_map, take}
-use Rattle.bp_source.specs.Programs.{procedure_item}
+use Rattle.bp_source.specs.Listings.{procedure_item}
 use Rattle.bp_source.proofs.programs.push_procedures.Given as goal
 
 abbrev pub invariant-loop-proc : goal.invariant-loop-proc

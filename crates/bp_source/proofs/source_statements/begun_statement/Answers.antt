@@ -1,9 +1,6 @@
-use Rattle.std.proofs.Common.{◌∙◌, Some, ap, subst, sym}
-use Rattle.std.specs.Prelude.{option_map}
-use Rattle.bp_text.specs.Positions.{position_at}
-use Rattle.bp_source.specs.Places.{place_text, position_text}
-use Rattle.bp_source.specs.SourceStatements.{IsStatementAt}
-use Rattle.bp_source.specs.Statements.{IsStatement}
+use Rattle.std.proofs.Common.{◌∙◌, Some, ap, subst, sym, option_map}
+use Rattle.bp_text.specs.Lines.{position_at}
+use Rattle.bp_source.specs.SourceStatements.{place_text, position_text, IsStatementAt, IsStatement}
 use Rattle.bp_source.proofs.source_statements.begun_statement.Goals as goal
 
 pub returns : goal.returns

@@ -1,10 +1,7 @@
-use Rattle.std.proofs.Common.{◌∙◌, ◌++◌, [], ◌∷◌, ap, map, refl, codes, subst, sym, false}
-use Rattle.std.specs.Prelude.{option_map}
-use Rattle.bp_text.specs.OneLine.{on_one_line}
-use Rattle.bp_text.specs.Positions.{position_at}
-use Rattle.bp_text.proofs.TextsOnOneLine.{one_line_after}
-use Rattle.bp_source.specs.Places.{place_text}
-use Rattle.bp_source.specs.SourceStatements.{IsEnd, IsStatementAt}
+use Rattle.std.proofs.Common.{◌∙◌, ◌++◌, [], ◌∷◌, ap, map, refl, codes, subst, sym, false, option_map}
+use Rattle.bp_text.specs.Lines.{on_one_line, position_at}
+use Rattle.bp_text.proofs.LinesOfTexts.{one_line_after}
+use Rattle.bp_source.specs.SourceStatements.{place_text, IsEnd, IsStatementAt}
 use Rattle.bp_source.proofs.source_statements.procedure_end.Goals as goal
 
 pub returns : goal.returns

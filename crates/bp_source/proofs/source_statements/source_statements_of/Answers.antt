@@ -1,13 +1,12 @@
 use Rattle.std.proofs.Common.{◌≡◌, ◌∙◌, ◌+◌, ◌≤◌, ℕ, List, IfOk, Ok, Result, ap, subst, sym, arith, take, length, slice_get}
 use Rattle.std.proofs.lemmas.List.{length-map, take_all}
-use Rattle.bp_tree.specs.Ast.{Procedure}
-use Rattle.bp_flat.specs.StandsFor.{places_of, Place}
-use Rattle.bp_flat.specs.Starts.{start_of_block}
+use Rattle.bp_language.specs.Ast.{Procedure}
+use Rattle.bp_flat.specs.StandsFor.{places_of, Place, start_of_block}
 use Rattle.bp_source.specs.declared.source_statements.SourceStatement.{SourceStatement}
 use Rattle.bp_source.specs.SourceStatements.{IsSourceStatement}
 use Rattle.bp_source.proofs.SourceStatementLists.{more_statements, place_at}
 use Rattle.bp_flat.proofs.ProceduresOfPlaces.{ends, ends_more, few_ends, procedure_of, starts}
-use Rattle.bp_text.specs.Positions.{position_at}
+use Rattle.bp_text.specs.Lines.{position_at}
 use Rattle.bp_source.proofs.source_statements.source_statements_of.Goals.{in-Some, in_default}
 use Rattle.bp_source.proofs.source_statements.source_statements_of.Goals as goal
 

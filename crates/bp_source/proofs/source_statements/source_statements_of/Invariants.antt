@@ -1,5 +1,5 @@
 use Rattle.std.proofs.Common.{◌≡◌, take}
-use Rattle.bp_text.specs.Positions.{position_at}
+use Rattle.bp_text.specs.Lines.{position_at}
 use Rattle.bp_flat.specs.StandsFor.{places_of}
 use Rattle.bp_source.specs.SourceStatements.{AreSourceStatementsAt}
 use Rattle.bp_flat.proofs.ProceduresOfPlaces.{ends}

@@ -1,7 +1,6 @@
-use Rattle.std.proofs.Common.{◌∙◌, map, ap}
-use Rattle.std.proofs.lemmas.List.{take_all}
+use Rattle.std.proofs.Common.{◌∙◌, map, ap, take_all}
 use Rattle.bp_flat.specs.StandsFor.{places_of}
-use Rattle.bp_source.proofs.PositionsOfStatements.{positions_are}
+use Rattle.bp_source.proofs.SourceStatementLists.{positions_are}
 use Rattle.bp_source.proofs.statements.statement_positions.Goals as goal
 
 pub returns : goal.returns

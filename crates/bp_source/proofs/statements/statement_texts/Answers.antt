@@ -2,7 +2,7 @@ use Rattle.std.proofs.Common.{subst, sym}
 use Rattle.std.proofs.lemmas.Result.{IfOk-weaker}
 use Rattle.bp_flat.specs.StandsFor.{places_of}
 use Rattle.bp_source.specs.SourceStatements.{AreStatements}
-use Rattle.bp_source.proofs.TextsOfStatements.{texts_are}
+use Rattle.bp_source.proofs.SourceStatementLists.{texts_are}
 use Rattle.bp_source.proofs.statements.statement_texts.Goals as goal
 
 pub returns : goal.returns

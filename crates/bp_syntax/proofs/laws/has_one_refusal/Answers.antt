@@ -1,5 +1,4 @@
-use Rattle.bp_syntax.proofs.OneAnswer.{only_memory}
-use Rattle.bp_syntax.proofs.OneRefusal.{one_refusal}
+use Rattle.bp_syntax.proofs.OneAnswer.{only_memory, one_refusal}
 use Rattle.bp_syntax.proofs.laws.has_one_refusal.Goals as goal
 
 pub returns-clause-one : goal.returns-clause-one

@@ -1,5 +1,5 @@
 use Rattle.std.proofs.Common.{sym}
-use Rattle.bp_syntax.proofs.TokensAreAscii.{token_is_text}
+use Rattle.bp_syntax.proofs.OneCut.{token_is_text}
 use Rattle.bp_syntax.proofs.lexer.push_token.Goals as goal
 
 pub unreachable-requires : goal.unreachable-requires

@@ -1,9 +1,7 @@
-use Rattle.std.proofs.Common.{[], ◌++◌, ◌∙◌, ap, arith, false-eqb, length, sym, ◌<◌, ◌≡◌}
-use Rattle.std.proofs.lemmas.Bool.{eqb-true}
-use Rattle.bp_language.specs.Cut.{with_token}
-use Rattle.bp_language.specs.Tokens.{kind_of}
-use Rattle.bp_syntax.specs.Views.{token_list}
-use Rattle.bp_syntax.proofs.ScanContinues.{lexeme_taken, brace_taken, all_scanned, open_there, bad_here}
+use Rattle.std.proofs.Common.{[], ◌++◌, ◌∙◌, ap, arith, false-eqb, length, sym, ◌<◌, ◌≡◌, eqb-true}
+use Rattle.bp_language.specs.Tokens.{with_token, kind_of}
+use Rattle.bp_syntax.specs.Lexer.{token_list}
+use Rattle.bp_syntax.proofs.OneCut.{lexeme_taken, brace_taken, all_scanned, open_there, bad_here}
 use Rattle.bp_syntax.proofs.lexer.scan.Goals as goal
 use Rattle.bp_syntax.proofs.lexer.scan.Goals.{in-Fits+in_ok-push_token-in-Fits, in-OpenBrace}
 

@@ -1,6 +1,6 @@
 use Rattle.std.proofs.Common.{length}
-use Rattle.bp_syntax.specs.Views.{token_list}
-use Rattle.bp_syntax.proofs.ScanContinues.{Known}
+use Rattle.bp_syntax.specs.Lexer.{token_list}
+use Rattle.bp_syntax.proofs.OneCut.{Known}
 use Rattle.bp_syntax.proofs.lexer.scan.Given as goal
 
 abbrev pub invariant-loop-rest : goal.invariant-loop-rest

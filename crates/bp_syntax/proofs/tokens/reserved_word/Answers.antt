@@ -3,7 +3,7 @@ use Rattle.std.proofs.lemmas.List.{drop_all}
 use Rattle.bp_syntax.specs.declared.tokens.TheConstants.{RESERVED}
 use Rattle.bp_language.specs.declared.tokens.TokenKind.TheVariants as kind
 use Rattle.bp_syntax.specs.Spellings.{spelling}
-use Rattle.bp_syntax.proofs.SpelledWords.{first_spelled, go_on, is_next}
+use Rattle.bp_syntax.proofs.WantedPhrases.{first_spelled, go_on, is_next}
 use Rattle.bp_syntax.proofs.tokens.reserved_word.Goals as goal
 
 pub loop-kind-preserved : goal.loop-kind-preserved

@@ -1,7 +1,7 @@
 use Rattle.std.proofs.Common.{◌≡◌, drop}
 use Rattle.bp_syntax.specs.declared.tokens.TheConstants.{RESERVED}
 use Rattle.bp_language.specs.Tokens.{reserved_word}
-use Rattle.bp_syntax.proofs.SpelledWords.{first_spelled}
+use Rattle.bp_syntax.proofs.WantedPhrases.{first_spelled}
 use Rattle.bp_syntax.proofs.tokens.reserved_word.Given as goal
 
 abbrev pub invariant-loop-kind : goal.invariant-loop-kind

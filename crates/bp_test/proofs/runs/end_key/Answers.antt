@@ -1,7 +1,7 @@
 use Rattle.std.proofs.Common.{ap, subst, arith}
 use Rattle.bp_machine.specs.Histories.{configuration_after}
 use Rattle.bp_machine.specs.Setups.{threads}
-use Rattle.bp_test.specs.Keys.{IsEndKey, no_thread, one_thread}
+use Rattle.bp_test.specs.Reached.{IsEndKey, no_thread, one_thread}
 use Rattle.bp_test.proofs.runs.end_key.Goals as goal
 
 pub loop-thread-init : goal.loop-thread-init

@@ -1,14 +1,11 @@
 use Rattle.std.proofs.Common.{◌≡◌, [], rules, refl, ap, ◌∙◌, sym, subst, inr}
-use Rattle.bp_flat.specs.Programs.{IsOfProgram}
-use Rattle.bp_flat.specs.StandsFor.{StandsFor}
+use Rattle.bp_flat.specs.StandsFor.{IsOfProgram, StandsFor}
 use Rattle.bp_machine.specs.Sessions.{Stands}
-use Rattle.bp_test.specs.declared.keys.TheConstants.{FIRST_KEY}
-use Rattle.bp_test.specs.Keys.{no_call, IsKey}
-use Rattle.bp_test.specs.Reached.{has_refusal, place_of, IsReachedByCall, MarksGrow}
-use Rattle.bp_test.proofs.KeysOfRuns.{key_of_call}
-use Rattle.bp_test.proofs.Playing.{smaller}
+use Rattle.bp_test.specs.declared.runs.TheConstants.{FIRST_KEY}
+use Rattle.bp_test.specs.Reached.{no_call, IsKey, has_refusal, place_of, IsReachedByCall, MarksGrow}
+use Rattle.bp_test.proofs.TallyLemmas.{key_of_call}
+use Rattle.bp_test.proofs.Playing.{smaller, refusal_of_call}
 use Rattle.bp_test.proofs.ReachedPlaces.{marks_of_call, none_by_call}
-use Rattle.bp_test.proofs.RefusedCalls.{refusal_of_call}
 use Rattle.bp_test.proofs.runs.follow.Goals as goal
 
 pub loop-thread-init : goal.loop-thread-init

@@ -1,5 +1,5 @@
 use Rattle.std.proofs.Common.{rules, ◌≡◌, ◌++◌, ◌∷◌, [], sym, subst, true}
-use Rattle.bp_machine.specs.Reports.{outcome_of, is_failure}
+use Rattle.bp_machine.specs.Histories.{outcome_of, is_failure}
 use Rattle.bp_test.proofs.Playing.{failure_of}
 use Rattle.bp_test.proofs.runs.play.Goals as goal
 

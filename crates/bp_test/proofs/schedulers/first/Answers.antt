@@ -1,5 +1,5 @@
 use Rattle.std.proofs.Common.{rules, below_more}
-use Rattle.bp_test.specs.Resting.{RestsIn}
+use Rattle.bp_test.specs.Tests.{RestsIn}
 use Rattle.bp_test.proofs.schedulers.first.Goals as goal
 
 pub loop-thread-preserved : goal.loop-thread-preserved

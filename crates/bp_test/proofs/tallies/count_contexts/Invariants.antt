@@ -1,5 +1,4 @@
-use Rattle.std.proofs.Common.{◌≡◌, ◌+◌, ◌-◌, ℕ, vec_len}
-use Rattle.std.specs.Prelude.{slice_index_or}
+use Rattle.std.proofs.Common.{◌≡◌, ◌+◌, ◌-◌, ℕ, vec_len, slice_index_or}
 use Rattle.bp_test.proofs.tallies.count_contexts.Given as goal
 
 abbrev pub invariant-loop-counts : goal.invariant-loop-counts

@@ -1,5 +1,4 @@
-use Rattle.std.proofs.Common.{◌≡◌, ◌<◌, ℕ, true, length, Some, sym, ◌∙◌, subst}
-use Rattle.std.proofs.lemmas.List.{take_all}
+use Rattle.std.proofs.Common.{◌≡◌, ◌<◌, ℕ, true, length, Some, sym, ◌∙◌, subst, take_all}
 use Rattle.bp_test.specs.Reached.{is_marked, HasStep, MarksGrow}
 use Rattle.bp_test.proofs.MarkLemmas.{all_marked, no_steps, step_at, no_step_at}
 use Rattle.bp_test.proofs.tallies.note_steps.Goals.{then-is_step, else-is_step}

@@ -1,8 +1,7 @@
 use Rattle.std.proofs.Common.{arith, below_more, ◌≡◌, ◌∙◌, [], refl, sym, ap}
-use Rattle.bp_machine.specs.Answers.{stack_of}
-use Rattle.bp_machine.specs.Histories.{configuration_after}
+use Rattle.bp_machine.specs.Histories.{stack_of, configuration_after}
 use Rattle.bp_machine.specs.Setups.{threads}
-use Rattle.bp_test.proofs.WaitingThreads.{no_frames, some_frames}
+use Rattle.bp_test.proofs.Playing.{no_frames, some_frames}
 use Rattle.bp_test.proofs.waiting.have_returned.Goals as goal
 
 pub loop-thread-init : goal.loop-thread-init

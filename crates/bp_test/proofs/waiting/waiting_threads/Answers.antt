@@ -1,8 +1,8 @@
 use Rattle.std.proofs.Common.{rules, ◌≡◌, ◌++◌, ◌∷◌, [], ◌∙◌, ap, subst, arith}
 use Rattle.bp_machine.specs.Histories.{configuration_after}
 use Rattle.bp_machine.specs.Setups.{threads}
-use Rattle.bp_test.specs.Waits.{AreWaiting}
-use Rattle.bp_test.proofs.WaitingThreads.{none_waiting, waits_not, waits_more}
+use Rattle.bp_test.specs.Reached.{AreWaiting}
+use Rattle.bp_test.proofs.Playing.{none_waiting, waits_not, waits_more}
 use Rattle.bp_test.proofs.waiting.waiting_threads.Goals.{in-Some+in_ok-push, in_default}
 use Rattle.bp_test.proofs.waiting.waiting_threads.Goals as goal
 

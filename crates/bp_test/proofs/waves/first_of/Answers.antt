@@ -1,5 +1,5 @@
 use Rattle.std.proofs.Common.{rules, sym, ap, ◌∙◌, length, arith}
-use Rattle.bp_test.proofs.BlocksInOrder.{before_all, before_rest, ends_cut, ends_found, found_any, after_made, ends_all}
+use Rattle.bp_test.proofs.FirstFound.{before_all, before_rest, ends_cut, ends_found, found_any, after_made, ends_all}
 use Rattle.bp_test.proofs.waves.first_of.Goals as goal
 
 pub loop-block-init : goal.loop-block-init

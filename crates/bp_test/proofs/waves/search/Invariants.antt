@@ -1,5 +1,5 @@
 use Rattle.std.proofs.Common.{◌<◌, ◌≤◌, ◌-◌, None}
-use Rattle.bp_tree.specs.Ast.{Program}
+use Rattle.bp_language.specs.Ast.{Program}
 use Rattle.bp_flat.specs.StandsFor.{StandsFor}
 use Rattle.bp_test.specs.declared.limits.TheConstants.{LONGEST_BLOCK}
 use Rattle.bp_test.specs.Tests.{IsTallied}

@@ -1,8 +1,7 @@
-use Rattle.std.proofs.Common.{◌≡◌, take, sym, ap, subst, ◌∙◌, arith}
+use Rattle.std.proofs.Common.{◌≡◌, take, sym, ap, subst, ◌∙◌, arith, take_all}
 use Rattle.std.specs.Str.Parse.{AllDigits, digits_value}
-use Rattle.std.proofs.lemmas.List.{take_all}
 use Rattle.bp_text.proofs.NumberOfDigits.{no_digits, zero_before, no_digit_at, too_large, one_more_digit, one_more_value, is_number}
-use Rattle.bp_text.proofs.Lengths.{none_left, some_left}
+use Rattle.bp_text.proofs.PartsOfTexts.{none_left, some_left}
 use Rattle.bp_text.proofs.decimals.number_of.Goals as goal
 
 pub returns-then-is_empty : goal.returns-then-is_empty

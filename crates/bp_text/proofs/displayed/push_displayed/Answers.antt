@@ -1,7 +1,7 @@
 use Rattle.std.proofs.Common.{◌∙◌, ◌++◌, ◌∷◌, [], ap, get_or, sym}
-use Rattle.bp_text.specs.Displayed.{control_bytes, displayed_byte}
+use Rattle.bp_text.specs.Pieces.{control_bytes, displayed_byte}
 use Rattle.bp_text.proofs.DisplayedTexts.{all_displayed, displayed_next}
-use Rattle.bp_text.proofs.GrownLists.{both_added}
+use Rattle.bp_text.proofs.PartsOfTexts.{both_added}
 use Rattle.bp_text.proofs.displayed.push_displayed.Goals as goal
 
 pub loop-at-preserved : goal.loop-at-preserved

@@ -1,5 +1,5 @@
 use Rattle.std.proofs.Common.{◌∙◌, ap, get_or}
-use Rattle.bp_text.specs.Displayed.{control_bytes, displayed_byte}
+use Rattle.bp_text.specs.Pieces.{control_bytes, displayed_byte}
 use Rattle.bp_text.proofs.DisplayedTexts.{displayed_at}
 use Rattle.bp_text.proofs.Givings.{left_after}
 use Rattle.bp_text.proofs.displayed.put_displayed.Goals as goal

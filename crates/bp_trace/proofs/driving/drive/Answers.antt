@@ -1,8 +1,7 @@
 use Rattle.std.proofs.Common.{rules, ◌∙◌, sym, subst}
 use Rattle.std.proofs.lemmas.Result.{err_from_is_err_and}
-use Rattle.bp_flat.specs.Programs.{IsOfProgram}
-use Rattle.bp_flat.specs.StandsFor.{StandsFor}
-use Rattle.bp_machine.proofs.ForEveryProgram.{same_open}
+use Rattle.bp_flat.specs.StandsFor.{IsOfProgram, StandsFor}
+use Rattle.bp_machine.proofs.SetupInRange.{same_open}
 use Rattle.bp_trace.proofs.driving.drive.Goals as goal
 
 pub play-requires-clause-program : goal.play-requires-clause-program

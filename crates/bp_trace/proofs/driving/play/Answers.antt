@@ -1,9 +1,8 @@
 use Rattle.std.proofs.lemmas.Grind.{common_steps}
 use Rattle.std.proofs.Common.{◌∙◌, sym, subst, arith, drop}
 use Rattle.std.proofs.lemmas.Result.{err_from_is_err_and}
-use Rattle.bp_flat.specs.Programs.{IsOfProgram}
-use Rattle.bp_flat.specs.StandsFor.{StandsFor}
-use Rattle.bp_trace.proofs.PlayedLines.{next_within, next_front, next_few, line_refused}
+use Rattle.bp_flat.specs.StandsFor.{IsOfProgram, StandsFor}
+use Rattle.bp_trace.proofs.LinesDriveAgain.{next_within, next_front, next_few, line_refused}
 use Rattle.bp_trace.proofs.driving.play.Goals as goal
 
 pub play_line-requires-clause-program : goal.play_line-requires-clause-program

@@ -1,5 +1,5 @@
 use Rattle.std.proofs.Common.{◌≡◌, ◌≤◌, ◌-◌, ◌++◌, length, drop}
-use Rattle.bp_trace.specs.Schedules.{schedule_text, lines_of_history}
+use Rattle.bp_trace.specs.TraceText.{schedule_text, lines_of_history}
 use Rattle.bp_machine.specs.Sessions.{StandsForAll}
 use Rattle.bp_trace.proofs.driving.play.Given as goal
 

@@ -1,6 +1,5 @@
 use Rattle.std.proofs.lemmas.Grind.{common_steps}
-use Rattle.std.proofs.Common.{arith}
-use Rattle.std.proofs.Common.{◌≡◌, ◌++◌, drop, codes}
+use Rattle.std.proofs.Common.{arith, ◌≡◌, ◌++◌, drop, codes}
 use Rattle.std.proofs.lemmas.Bool.Decides.{Decides-eqb}
 use Rattle.std.proofs.lemmas.Slice.Eq.{starts_is}
 use Rattle.bp_trace.proofs.EndLineAt.{no_second, has_end}

@@ -1,6 +1,6 @@
 use Rattle.std.proofs.lemmas.Grind.{common_steps}
 use Rattle.std.proofs.Common.{arith}
-use Rattle.bp_trace.proofs.InitBits.{no_bit_at}
+use Rattle.bp_trace.proofs.HeadStopsAt.{no_bit_at}
 use Rattle.bp_trace.proofs.heads.bits_of.Goals as goal
 
 pub returns-in_default : goal.returns-in_default

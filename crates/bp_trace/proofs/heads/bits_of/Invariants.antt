@@ -1,5 +1,5 @@
 use Rattle.std.proofs.Common.{◌≡◌, take, map}
-use Rattle.bp_trace.specs.Schedules.{bit_digit}
+use Rattle.bp_trace.specs.TraceText.{bit_digit}
 use Rattle.bp_trace.proofs.heads.bits_of.Given as goal
 
 abbrev pub invariant-loop-digit : goal.invariant-loop-digit

@@ -1,7 +1,7 @@
 use Rattle.std.proofs.Common.{◌∷◌, [], length, map, sym, ap, subst, ◌∙◌, arith, length-append}
 use Rattle.std.proofs.lemmas.List.{map_push}
-use Rattle.bp_trace.specs.HeadReading.{AreEntriesAt}
-use Rattle.bp_trace.proofs.OneMoreEntry.{entries_more, rest_shorter}
+use Rattle.bp_trace.specs.Reading.{AreEntriesAt}
+use Rattle.bp_trace.proofs.OneHead.{entries_more, rest_shorter}
 use Rattle.bp_trace.proofs.heads.entries_at.Goals as goal
 
 pub loop-name-preserved : goal.loop-name-preserved

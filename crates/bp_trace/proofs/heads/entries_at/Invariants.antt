@@ -1,5 +1,5 @@
 use Rattle.std.proofs.Common.{◌+◌, ◌≤◌, length, map}
-use Rattle.bp_trace.specs.HeadReading.{AreEntriesAt}
+use Rattle.bp_trace.specs.Reading.{AreEntriesAt}
 use Rattle.bp_trace.proofs.heads.entries_at.Given as goal
 
 abbrev pub invariant-loop-name : goal.invariant-loop-name

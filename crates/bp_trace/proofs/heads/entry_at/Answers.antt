@@ -1,6 +1,6 @@
 use Rattle.std.proofs.Common.{sym, ◌∙◌}
-use Rattle.bp_text.proofs.Lengths.{none_left}
-use Rattle.bp_trace.proofs.OneField.{no_name}
+use Rattle.bp_text.proofs.PartsOfTexts.{none_left}
+use Rattle.bp_trace.proofs.OneHead.{no_name}
 use Rattle.bp_trace.proofs.heads.entry_at.Goals as goal
 
 pub returns-then-is_empty : goal.returns-then-is_empty

@@ -1,4 +1,4 @@
-use Rattle.bp_trace.proofs.OneField.{no_word, no_line, has_field}
+use Rattle.bp_trace.proofs.OneHead.{no_word, no_line, has_field}
 use Rattle.bp_trace.proofs.heads.field_at.Goals as goal
 
 pub returns-in_default : goal.returns-in_default

@@ -1,4 +1,4 @@
-use Rattle.bp_trace.proofs.OneField.{no_init, no_bits}
+use Rattle.bp_trace.proofs.OneHead.{no_init, no_bits}
 use Rattle.bp_trace.proofs.heads.init_at.Goals as goal
 
 pub returns-in_default : goal.returns-in_default

@@ -1,8 +1,8 @@
 use Rattle.std.proofs.Common.{sym, ◌∙◌}
 use Rattle.std.proofs.lemmas.Bool.Decides.{Decides-eqb}
 use Rattle.std.proofs.lemmas.Slice.Eq.{slice_eq-Decides}
-use Rattle.bp_trace.proofs.InitBits.{init_ok}
-use Rattle.bp_text.proofs.Lengths.{some_left}
+use Rattle.bp_trace.proofs.HeadStopsAt.{init_ok}
+use Rattle.bp_text.proofs.PartsOfTexts.{some_left}
 use Rattle.bp_trace.proofs.heads.init_of.Goals as goal
 
 pub returns : goal.returns

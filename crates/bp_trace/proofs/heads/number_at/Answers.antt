@@ -1,4 +1,4 @@
-use Rattle.bp_trace.proofs.OneField.{no_field_no_number, no_number}
+use Rattle.bp_trace.proofs.OneHead.{no_field_no_number, no_number}
 use Rattle.bp_trace.proofs.heads.number_at.Goals as goal
 
 pub returns-in_default : goal.returns-in_default

@@ -2,10 +2,8 @@ use Rattle.std.proofs.lemmas.Grind.{common_steps}
 use Rattle.std.proofs.Common.{◌+◌, [], ◌∷◌, map, codes, arith}
 use Rattle.std.proofs.lemmas.List.{length-map}
 use Rattle.bp_machine.specs.Setups.{SetupOf, setup_of}
-use Rattle.bp_trace.specs.TraceText.{field_line}
-use Rattle.bp_trace.specs.TraceText.{init_line, seed_word}
-use Rattle.bp_trace.proofs.HeadStopsAt.{contexts_line, calls_line, at_settings, one_more, stops_at_version, stops_at_init, stops_at_contexts, stops_at_calls, stops_at_seed}
-use Rattle.bp_trace.proofs.WholeHead.{whole_text, whole_size, line_total}
+use Rattle.bp_trace.specs.TraceText.{field_line, init_line, seed_word}
+use Rattle.bp_trace.proofs.HeadStopsAt.{contexts_line, calls_line, at_settings, one_more, stops_at_version, stops_at_init, stops_at_contexts, stops_at_calls, stops_at_seed, whole_text, whole_size, line_total}
 use Rattle.bp_trace.proofs.heads.read_head.Goals as goal
 
 pub returns-in_default : goal.returns-in_default

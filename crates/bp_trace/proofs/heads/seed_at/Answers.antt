@@ -1,7 +1,7 @@
 use Rattle.std.proofs.Common.{sym, ◌∙◌}
 use Rattle.std.proofs.lemmas.Bool.Decides.{Decides-eqb}
 use Rattle.std.proofs.lemmas.Slice.Eq.{slice_eq-Decides}
-use Rattle.bp_trace.proofs.OneField.{no_seed, no_seed_word}
+use Rattle.bp_trace.proofs.OneHead.{no_seed, no_seed_word}
 use Rattle.bp_trace.proofs.heads.seed_at.Goals as goal
 
 pub returns-in_default : goal.returns-in_default

@@ -1,7 +1,7 @@
 use Rattle.std.proofs.Common.{◌≡◌, ◌∙◌, length, vec_len, rules, sym, ap, subst}
 use Rattle.std.proofs.lemmas.Result.{err_from_is_err_and}
 use Rattle.bp_trace.specs.Judging.{IsMismatch}
-use Rattle.bp_trace.proofs.OtherCalls.{other_call_refused}
+use Rattle.bp_trace.proofs.PlayableFronts.{other_call_refused}
 use Rattle.bp_trace.proofs.judging.judge.Goals as goal
 
 pub returns-in_err-matched-clause-refused : goal.returns-in_err-matched-clause-refused

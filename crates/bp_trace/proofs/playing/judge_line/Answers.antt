@@ -1,9 +1,8 @@
 use Rattle.std.proofs.lemmas.Grind.{common_steps}
-use Rattle.std.proofs.Common.{arith}
-use Rattle.std.proofs.Common.{◌∙◌, refl, sym, subst}
+use Rattle.std.proofs.Common.{arith, ◌∙◌, refl, sym, subst}
 use Rattle.std.proofs.lemmas.Result.{err_from_is_err_and}
 use Rattle.bp_flat.specs.StandsFor.{StandsFor}
-use Rattle.bp_trace.proofs.PlayedCalls.{line_refused, playable_of, played_more, history_more}
+use Rattle.bp_trace.proofs.LongestAccepted.{line_refused, playable_of, played_more, history_more}
 use Rattle.bp_trace.proofs.playing.judge_line.Goals as goal
 
 pub returns-in_err-judge-clause-refused : goal.returns-in_err-judge-clause-refused

@@ -1,5 +1,5 @@
 use Rattle.std.proofs.Common.{sym}
-use Rattle.bp_trace.proofs.PlayedCalls.{last_is}
+use Rattle.bp_trace.proofs.LongestAccepted.{last_is}
 use Rattle.bp_trace.proofs.playing.last_thread.Goals as goal
 
 pub returns-in-Some : goal.returns-in-Some

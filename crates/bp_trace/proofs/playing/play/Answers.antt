@@ -1,9 +1,8 @@
 use Rattle.std.proofs.lemmas.Grind.{common_steps}
-use Rattle.std.proofs.Common.{arith}
-use Rattle.std.proofs.Common.{◌∙◌, sym, subst, refl}
+use Rattle.std.proofs.Common.{arith, ◌∙◌, sym, subst, refl}
 use Rattle.bp_flat.specs.StandsFor.{StandsFor}
-use Rattle.bp_trace.proofs.LineThread.{line_below}
-use Rattle.bp_trace.proofs.PlayedCalls.{playable_of, next_within, next_parts, next_number, next_few, body_refused}
+use Rattle.bp_trace.proofs.PiecesAreFewest.{line_below}
+use Rattle.bp_trace.proofs.LongestAccepted.{playable_of, next_within, next_parts, next_number, next_few, body_refused}
 use Rattle.bp_trace.proofs.playing.play.Goals as goal
 
 pub returns-in_default-clause-body : goal.returns-in_default-clause-body

@@ -1,7 +1,7 @@
 use Rattle.std.proofs.Common.{◌+◌, ap, inr, subst, sym}
 use Rattle.std.proofs.lemmas.Result.{err_from_is_err_and}
 use Rattle.bp_flat.specs.StandsFor.{StandsFor}
-use Rattle.bp_trace.proofs.PlayedCalls.{playable_of}
+use Rattle.bp_trace.proofs.LongestAccepted.{playable_of}
 use Rattle.bp_trace.proofs.ReplayedTexts.{body_keeps, body_refuses, end_keeps, end_refuses, is_trace}
 use Rattle.bp_trace.proofs.replaying.play_opened.Goals as goal
 

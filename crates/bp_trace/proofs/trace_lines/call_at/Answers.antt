@@ -1,5 +1,5 @@
 use Rattle.std.proofs.Common.{arith}
-use Rattle.bp_trace.proofs.ThreadAt.{no_thread_no_call, within_text, no_tail_no_call, tail_is_call}
+use Rattle.bp_trace.proofs.EndLineAt.{no_thread_no_call, within_text, no_tail_no_call, tail_is_call}
 use Rattle.bp_trace.proofs.trace_lines.call_at.Goals as goal
 
 pub returns-in_default : goal.returns-in_default

@@ -1,6 +1,6 @@
 use Rattle.std.proofs.Common.{arith, sym}
 use Rattle.bp_trace.proofs.ScheduleLineAt.{digits_within}
-use Rattle.bp_trace.proofs.ThreadAt.{no_number, past_threads, no_space, has_thread}
+use Rattle.bp_trace.proofs.EndLineAt.{no_number, past_threads, no_space, has_thread}
 use Rattle.bp_trace.proofs.trace_lines.thread_at.Goals as goal
 
 pub returns-in_default : goal.returns-in_default

@@ -1,5 +1,5 @@
 use Rattle.std.proofs.Common.{flat_map, take}
-use Rattle.bp_text.specs.Sinks.{Given}
+use Rattle.bp_text.specs.Writing.{Given}
 use Rattle.bp_trace.specs.TraceText.{call_line}
 use Rattle.bp_trace.proofs.traces.put_calls.Given as goal
 

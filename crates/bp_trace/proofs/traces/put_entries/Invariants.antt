@@ -1,5 +1,5 @@
 use Rattle.std.proofs.Common.{flat_map, map, string_bytes, take}
-use Rattle.bp_text.specs.Sinks.{Given}
+use Rattle.bp_text.specs.Writing.{Given}
 use Rattle.bp_trace.specs.TraceText.{entry_line}
 use Rattle.bp_trace.proofs.traces.put_entries.Given as goal
 

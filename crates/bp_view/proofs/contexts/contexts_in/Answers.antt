@@ -1,8 +1,8 @@
 use Rattle.std.proofs.Common.{◌≡◌, ◌∙◌, ◌++◌, ap, length, rules, subst, sym, vec_len}
 use Rattle.bp_trace.specs.Replays.{IsPlayable}
-use Rattle.bp_facts.specs.Spans.{AreSpans}
+use Rattle.bp_view.specs.ContextFacts.{AreSpans}
 use Rattle.bp_view.specs.ContextLines.{AreContextLines}
-use Rattle.bp_view.proofs.AllContexts.{all_contexts}
+use Rattle.bp_view.proofs.ViewableContexts.{all_contexts}
 use Rattle.bp_view.proofs.contexts.contexts_in.Goals as goal
 
 pub spans_of-requires-clause-playable : goal.spans_of-requires-clause-playable

@@ -1,10 +1,10 @@
 use Rattle.std.proofs.Common.{◌∙◌, ◌++◌, List, map, ap, refl, sym}
 use Rattle.std.proofs.lemmas.Result.{on_ok_weaker}
-use Rattle.bp_facts.specs.declared.change_facts.Change.{Change}
-use Rattle.bp_facts.specs.ChangeFacts.{entry_of}
-use Rattle.bp_facts.specs.ContextFacts.{context_in}
+use Rattle.bp_view.specs.declared.change_facts.Change.{Change}
+use Rattle.bp_view.specs.CallFacts.{entry_of}
+use Rattle.bp_view.specs.ContextFacts.{context_in}
 use Rattle.bp_view.specs.ContextLines.{context_text}
-use Rattle.bp_view.specs.Variables.{entries_text}
+use Rattle.bp_view.specs.Lines.{entries_text}
 use Rattle.bp_view.proofs.contexts.push_context.Goals as goal
 
 pub returns : goal.returns

@@ -1,13 +1,12 @@
 use Rattle.std.proofs.Common.{◌≡◌, ◌∙◌, ◌++◌, ◌-◌, [], ◌∷◌, ap, codes, decimal, length, arith}
 use Rattle.std.specs.List.{concat}
-use Rattle.bp_text.specs.Columns.{at_left, at_right, spaces}
-use Rattle.bp_text.proofs.PiecesInTurn.{pair_joined, two_joined}
-use Rattle.bp_facts.specs.ContextFacts.{context_in}
-use Rattle.bp_tasks.specs.declared.view_options.ViewFormat.TheVariants.{Columns}
-use Rattle.bp_view.specs.Lines.{after_room}
-use Rattle.bp_view.specs.Variables.{entries_text}
+use Rattle.bp_text.specs.Pieces.{at_left, at_right, spaces}
+use Rattle.bp_text.proofs.PartsOfTexts.{pair_joined, two_joined}
+use Rattle.bp_view.specs.ContextFacts.{context_in}
+use Rattle.bp_tasks.specs.declared.options.ViewFormat.TheVariants.{Columns}
+use Rattle.bp_view.specs.Lines.{after_room, entries_text}
 use Rattle.bp_view.proofs.contexts.push_context_line.Goals as goal
-use Rattle.bp_source.proofs.JoinedPieces.{when_ok}
+use Rattle.bp_source.proofs.DecidersOfPlaces.{when_ok}
 
 pub returns : goal.returns
 returns c = λ noted.

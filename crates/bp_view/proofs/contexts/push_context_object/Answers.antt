@@ -1,12 +1,12 @@
 use Rattle.std.proofs.Common.{[], ◌∷◌, codes, decimal}
 use Rattle.bp_text.specs.Pieces.{key_text, list_text}
-use Rattle.bp_text.proofs.PiecesInTurn.{all_joined}
-use Rattle.bp_facts.specs.ContextFacts.{context_in}
-use Rattle.bp_tasks.specs.declared.view_options.ViewFormat.TheVariants.{Json}
+use Rattle.bp_text.proofs.PartsOfTexts.{all_joined}
+use Rattle.bp_view.specs.ContextFacts.{context_in}
+use Rattle.bp_tasks.specs.declared.options.ViewFormat.TheVariants.{Json}
 use Rattle.bp_view.specs.ContextLines.{position_or_null}
-use Rattle.bp_view.specs.Variables.{entries_text}
+use Rattle.bp_view.specs.Lines.{entries_text}
 use Rattle.bp_view.proofs.contexts.push_context_object.Goals as goal
-use Rattle.bp_source.proofs.JoinedPieces.{when_ok}
+use Rattle.bp_source.proofs.DecidersOfPlaces.{when_ok}
 
 pub returns : goal.returns
 returns c = λ noted.

@@ -1,6 +1,6 @@
 use Rattle.std.proofs.Common.{◌≡◌, length, add-one, arith}
 use Rattle.bp_text.proofs.PartsOfTexts.{none_added, one_added}
-use Rattle.bp_facts.proofs.SpansOfHistories.{span_of}
+use Rattle.bp_view.proofs.SpansOfHistories.{span_of}
 use Rattle.bp_view.proofs.contexts.push_contexts.Goals as goal
 
 pub loop-n-init : goal.loop-n-init

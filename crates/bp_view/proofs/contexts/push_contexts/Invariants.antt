@@ -1,11 +1,11 @@
 use Rattle.std.proofs.Common.{List, ℕ, suc}
-use Rattle.bp_tree.specs.Ast.{Program}
+use Rattle.bp_language.specs.Ast.{Program}
 use Rattle.bp_machine.specs.declared.calls.Call.{Call}
 use Rattle.bp_machine.specs.Setups.{SetupOf}
-use Rattle.bp_text.specs.Parts.{Adds, IsInParts}
-use Rattle.bp_facts.specs.Spans.{AreSpans}
+use Rattle.bp_text.specs.Lines.{Adds, IsInParts}
+use Rattle.bp_view.specs.ContextFacts.{AreSpans}
 use Rattle.bp_view.specs.ContextLines.{IsContextLine}
-use Rattle.bp_view.specs.ViewContexts.{IsViewContextOf}
+use Rattle.bp_view.specs.Views.{IsViewContextOf}
 use Rattle.bp_view.proofs.contexts.push_contexts.Given as goal
 
 abbrev pub invariant-loop-n : goal.invariant-loop-n

@@ -1,8 +1,8 @@
 use Rattle.std.proofs.Common.{◌++◌, ap, map}
-use Rattle.bp_view.specs.Frames.{lead}
-use Rattle.bp_view.proofs.JoinedTexts.{frame_joined}
+use Rattle.bp_view.specs.States.{lead}
+use Rattle.bp_view.proofs.ShownLines.{frame_joined}
 use Rattle.bp_view.proofs.frames.push_frame_lines.Goals as goal
-use Rattle.bp_source.proofs.JoinedPieces.{when_ok}
+use Rattle.bp_source.proofs.DecidersOfPlaces.{when_ok}
 
 pub returns : goal.returns
 returns c =

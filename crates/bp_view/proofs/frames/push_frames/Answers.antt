@@ -1,7 +1,7 @@
 use Rattle.std.proofs.Common.{◌∙◌, ◌++◌, ap, arith}
-use Rattle.bp_facts.specs.StateFacts.{frame_in}
-use Rattle.bp_facts.proofs.MappedValues.{all_mapped}
-use Rattle.bp_view.specs.Frames.{frame_text}
+use Rattle.bp_view.specs.StateFacts.{frame_in}
+use Rattle.bp_view.proofs.SingleFacts.{all_mapped}
+use Rattle.bp_view.specs.States.{frame_text}
 use Rattle.bp_view.proofs.frames.push_frames.Goals as goal
 
 pub returns : goal.returns

@@ -1,6 +1,6 @@
 use Rattle.std.proofs.Common.{◌≡◌, ◌++◌, flat_map, take}
-use Rattle.bp_facts.specs.StateFacts.{frame_in}
-use Rattle.bp_view.specs.Frames.{frame_text}
+use Rattle.bp_view.specs.StateFacts.{frame_in}
+use Rattle.bp_view.specs.States.{frame_text}
 use Rattle.bp_view.proofs.frames.push_frames.Given as goal
 
 abbrev pub invariant-loop-frame : goal.invariant-loop-frame

@@ -1,15 +1,14 @@
 use Rattle.std.proofs.Common.{◌∙◌, ◌++◌, ◌+◌, ℕ, List, Some, ap, sym, length}
 use Rattle.std.proofs.lemmas.Grind.{flat_map-append}
 use Rattle.std.proofs.lemmas.Result.{on_ok_weaker}
-use Rattle.bp_tree.specs.Ast.{Name}
-use Rattle.bp_flat.specs.Bits.{bits_of}
+use Rattle.bp_language.specs.Ast.{Name}
+use Rattle.bp_flat.specs.InstrEffects.{bits_of}
 use Rattle.bp_flat.specs.Steps.{Bits}
 use Rattle.bp_flat.specs.StandsFor.{valuation_of}
-use Rattle.bp_text.proofs.GrownLists.{both_added}
-use Rattle.bp_facts.specs.ChangeFacts.{owned, Entry}
-use Rattle.bp_facts.proofs.ChangedVariables.{from_first}
-use Rattle.bp_facts.proofs.OwnedEntries.{values_both}
-use Rattle.bp_view.specs.Variables.{entries_text, entry_text, variables_text}
+use Rattle.bp_text.proofs.PartsOfTexts.{both_added}
+use Rattle.bp_view.specs.CallFacts.{owned, Entry}
+use Rattle.bp_view.proofs.ChangedEntries.{from_first, values_both}
+use Rattle.bp_view.specs.Lines.{entries_text, entry_text, variables_text}
 use Rattle.bp_view.proofs.frames.push_locals.Goals as goal
 
 pub returns : goal.returns

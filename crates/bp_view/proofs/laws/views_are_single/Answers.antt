@@ -1,6 +1,4 @@
-use Rattle.bp_view.proofs.OneContextList.{one_list}
-use Rattle.bp_view.proofs.OneStateText.{one_state}
-use Rattle.bp_view.proofs.OneView.{one_view}
+use Rattle.bp_view.proofs.OneView.{one_list, one_state, one_view}
 use Rattle.bp_view.proofs.laws.views_are_single.Goals as goal
 
 pub returns-clause-view : goal.returns-clause-view

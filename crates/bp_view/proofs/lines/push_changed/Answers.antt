@@ -1,7 +1,7 @@
 use Rattle.std.proofs.Common.{◌∙◌, ◌++◌, ap, arith}
-use Rattle.bp_facts.specs.ChangeFacts.{entry_of}
-use Rattle.bp_facts.proofs.MappedValues.{all_mapped}
-use Rattle.bp_view.specs.Variables.{entry_text}
+use Rattle.bp_view.specs.CallFacts.{entry_of}
+use Rattle.bp_view.proofs.SingleFacts.{all_mapped}
+use Rattle.bp_view.specs.Lines.{entry_text}
 use Rattle.bp_view.proofs.lines.push_changed.Goals as goal
 
 pub returns : goal.returns

@@ -1,7 +1,7 @@
 use Rattle.std.proofs.Common.{◌∙◌, ◌+◌, ◌%◌, ◌^◌, ◌<◌, ◌++◌, ap, refl, rules}
-use Rattle.bp_facts.specs.CallFacts.{facts_in}
-use Rattle.bp_source.proofs.JoinedPieces.{when_ok}
-use Rattle.bp_view.proofs.KeptFronts.{fields_are}
+use Rattle.bp_view.specs.CallFacts.{facts_in}
+use Rattle.bp_source.proofs.DecidersOfPlaces.{when_ok}
+use Rattle.bp_view.proofs.ShownLines.{fields_are}
 use Rattle.bp_view.proofs.lines.push_fields.Goals as goal
 
 pub returns : goal.returns

@@ -1,9 +1,9 @@
 use Rattle.std.proofs.Common.{◌≡◌, ◌∙◌, ◌++◌, if◌then◌else◌, true, length, length-append, nat_lt, take, ap, ap₂, sym, arith}
 use Rattle.std.proofs.lemmas.Bool.Decides.{nat_tests}
-use Rattle.bp_source.proofs.JoinedPieces.{when_ok}
-use Rattle.bp_facts.specs.CallFacts.{facts_in}
+use Rattle.bp_source.proofs.DecidersOfPlaces.{when_ok}
+use Rattle.bp_view.specs.CallFacts.{facts_in}
 use Rattle.bp_view.specs.Lines.{call_text, fitted_text, narrow_text}
-use Rattle.bp_view.proofs.CutLines.{taken}
+use Rattle.bp_view.proofs.ShownLines.{taken}
 use Rattle.bp_view.proofs.lines.push_fitted_call.Goals as goal
 
 pub returns : goal.returns

@@ -1,9 +1,8 @@
 use Rattle.std.proofs.Common.{◌∙◌, ◌++◌, [], ◌∷◌, codes, sym}
-use Rattle.bp_text.proofs.PiecesInTurn.{all_added}
-use Rattle.bp_source.proofs.JoinedPieces.{when_ok}
-use Rattle.bp_facts.specs.CallFacts.{facts_in}
-use Rattle.bp_view.specs.Colours.{closing, colour_of, opening}
-use Rattle.bp_view.specs.Lines.{fitted_text}
+use Rattle.bp_text.proofs.PartsOfTexts.{all_added}
+use Rattle.bp_source.proofs.DecidersOfPlaces.{when_ok}
+use Rattle.bp_view.specs.CallFacts.{facts_in}
+use Rattle.bp_view.specs.Lines.{closing, colour_of, opening, fitted_text}
 use Rattle.bp_view.proofs.lines.push_line.Goals as goal
 
 pub returns : goal.returns

@@ -1,13 +1,11 @@
 use Rattle.std.proofs.Common.{◌≡◌, ◌∙◌, ◌-◌, ◌++◌, [], ◌∷◌, length, length-append, ap, arith}
 use Rattle.std.specs.List.{concat}
-use Rattle.bp_text.specs.Columns.{at_left}
-use Rattle.bp_text.proofs.GrownLists.{regrouped}
-use Rattle.bp_text.proofs.PiecesInTurn.{all_added}
-use Rattle.bp_source.proofs.JoinedPieces.{when_ok}
-use Rattle.bp_facts.specs.CallFacts.{facts_in}
-use Rattle.bp_view.specs.Lines.{field_texts, indented, note_text, standing_text}
-use Rattle.bp_view.specs.StatementColumns.{shortened}
-use Rattle.bp_view.proofs.CutLines.{added_cut}
+use Rattle.bp_text.specs.Pieces.{at_left}
+use Rattle.bp_text.proofs.PartsOfTexts.{regrouped, all_added}
+use Rattle.bp_source.proofs.DecidersOfPlaces.{when_ok}
+use Rattle.bp_view.specs.CallFacts.{facts_in}
+use Rattle.bp_view.specs.Lines.{field_texts, indented, note_text, standing_text, shortened}
+use Rattle.bp_view.proofs.ShownLines.{added_cut}
 use Rattle.bp_view.proofs.lines.push_narrow_call.Goals as goal
 
 pub returns : goal.returns

@@ -1,11 +1,10 @@
 use Rattle.std.proofs.Common.{[], ◌∷◌}
-use Rattle.bp_text.proofs.PiecesInTurn.{all_added}
-use Rattle.bp_facts.specs.CallFacts.{choice_of, facts_in}
-use Rattle.bp_tasks.specs.declared.view_options.ViewFormat.TheVariants.{Columns}
-use Rattle.bp_view.specs.Lines.{choice_text, reply_note, times_text}
-use Rattle.bp_view.specs.Variables.{entries_text}
+use Rattle.bp_text.proofs.PartsOfTexts.{all_added}
+use Rattle.bp_view.specs.CallFacts.{choice_of, facts_in}
+use Rattle.bp_tasks.specs.declared.options.ViewFormat.TheVariants.{Columns}
+use Rattle.bp_view.specs.Lines.{choice_text, reply_note, times_text, entries_text}
 use Rattle.bp_view.proofs.lines.push_note.Goals as goal
-use Rattle.bp_source.proofs.JoinedPieces.{when_ok}
+use Rattle.bp_source.proofs.DecidersOfPlaces.{when_ok}
 
 pub returns : goal.returns
 returns c =

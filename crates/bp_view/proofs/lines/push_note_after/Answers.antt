@@ -1,7 +1,7 @@
 use Rattle.std.proofs.Common.{◌≡◌, ◌∙◌, ◌<◌, ◌≤◌, length, arith}
-use Rattle.bp_facts.specs.CallFacts.{facts_in}
+use Rattle.bp_view.specs.CallFacts.{facts_in}
 use Rattle.bp_view.specs.Lines.{note_text}
-use Rattle.bp_view.proofs.NotesAfterRoom.{no_note, some_note}
+use Rattle.bp_view.proofs.ShownLines.{no_note, some_note}
 use Rattle.bp_view.proofs.lines.push_note_after.Goals as goal
 
 pub returns-then-len-start : goal.returns-then-len-start

@@ -2,10 +2,10 @@ use Rattle.std.proofs.Common.{◌≡◌, ◌∙◌, ◌+◌, ◌-◌, ◌*◌, �
 use Rattle.std.proofs.lemmas.List.{nil_from_length}
 use Rattle.std.proofs.lemmas.Bool.Decides.{nat_tests}
 use Rattle.bp_view.specs.declared.view_contexts.TheConstants.{MAX_INDENTS}
-use Rattle.bp_view.specs.StatementColumns.{shortened}
-use Rattle.bp_view.proofs.PlacesAndStatements.{statement_added}
+use Rattle.bp_view.specs.Lines.{shortened}
+use Rattle.bp_view.proofs.ShownLines.{statement_added}
 use Rattle.bp_view.proofs.lines.push_statement.Goals as goal
-use Rattle.bp_source.proofs.JoinedPieces.{when_ok}
+use Rattle.bp_source.proofs.DecidersOfPlaces.{when_ok}
 
 pub returns-then-is_empty : goal.returns-then-is_empty
 returns-then-is_empty c =

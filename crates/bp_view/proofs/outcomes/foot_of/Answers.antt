@@ -1,8 +1,7 @@
-use Rattle.std.proofs.Common.{◌∙◌, ap}
-use Rattle.std.specs.Prelude.{option_map}
+use Rattle.std.proofs.Common.{◌∙◌, ap, option_map}
 use Rattle.std.proofs.lemmas.Result.{IfOk-weaker}
-use Rattle.bp_facts.specs.FootFacts.{condition_in, foot_in}
-use Rattle.bp_view.proofs.CopiedOptions.{copied}
+use Rattle.bp_view.specs.FootFacts.{condition_in, foot_in}
+use Rattle.bp_view.proofs.BegunViews.{copied}
 use Rattle.bp_view.proofs.outcomes.foot_of.Goals as goal
 
 pub returns : goal.returns

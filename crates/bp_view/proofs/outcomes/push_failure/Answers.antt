@@ -1,11 +1,11 @@
 use Rattle.std.proofs.Common.{◌≡◌, ◌∙◌, ◌++◌, ◌∷◌, [], ap, codes, decimal, sym}
 use Rattle.std.specs.List.{concat}
-use Rattle.bp_text.proofs.PiecesInTurn.{all_added}
-use Rattle.bp_source.proofs.JoinedPieces.{when_ok}
-use Rattle.bp_facts.specs.FootFacts.{condition_in}
-use Rattle.bp_tasks.specs.declared.view_options.ViewFormat.TheVariants.{Columns}
-use Rattle.bp_view.specs.Conditions.{condition_text}
-use Rattle.bp_view.specs.Outcomes.{failure_text}
+use Rattle.bp_text.proofs.PartsOfTexts.{all_added}
+use Rattle.bp_source.proofs.DecidersOfPlaces.{when_ok}
+use Rattle.bp_view.specs.FootFacts.{condition_in}
+use Rattle.bp_tasks.specs.declared.options.ViewFormat.TheVariants.{Columns}
+use Rattle.bp_view.specs.States.{condition_text}
+use Rattle.bp_view.specs.Views.{failure_text}
 use Rattle.bp_view.proofs.outcomes.push_failure.Goals as goal
 
 pub returns-in_ok-push_three-in-Columns : goal.returns-in_ok-push_three-in-Columns

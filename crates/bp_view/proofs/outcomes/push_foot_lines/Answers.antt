@@ -1,6 +1,6 @@
 use Rattle.std.proofs.Common.{◌++◌, ap, codes, decimal}
-use Rattle.bp_source.proofs.JoinedPieces.{when_ok}
-use Rattle.bp_view.proofs.JoinedTexts.{foot_joined}
+use Rattle.bp_source.proofs.DecidersOfPlaces.{when_ok}
+use Rattle.bp_view.proofs.ShownLines.{foot_joined}
 use Rattle.bp_view.proofs.outcomes.push_foot_lines.Goals as goal
 
 pub returns : goal.returns

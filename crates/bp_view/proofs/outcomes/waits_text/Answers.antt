@@ -1,7 +1,7 @@
 use Rattle.std.proofs.Common.{◌∙◌, arith}
-use Rattle.bp_facts.specs.FootFacts.{condition_in}
-use Rattle.bp_facts.proofs.MappedValues.{all_mapped}
-use Rattle.bp_view.specs.Outcomes.{wait_text}
+use Rattle.bp_view.specs.FootFacts.{condition_in}
+use Rattle.bp_view.proofs.SingleFacts.{all_mapped}
+use Rattle.bp_view.specs.Views.{wait_text}
 use Rattle.bp_view.proofs.outcomes.waits_text.Goals as goal
 
 pub returns : goal.returns

@@ -1,6 +1,6 @@
 use Rattle.std.proofs.Common.{◌≡◌, flat_map, take}
-use Rattle.bp_facts.specs.FootFacts.{condition_in}
-use Rattle.bp_view.specs.Outcomes.{wait_text}
+use Rattle.bp_view.specs.FootFacts.{condition_in}
+use Rattle.bp_view.specs.Views.{wait_text}
 use Rattle.bp_view.proofs.outcomes.waits_text.Given as goal
 
 abbrev pub invariant-loop-wait : goal.invariant-loop-wait

@@ -1,7 +1,7 @@
 use Rattle.std.proofs.Common.{◌∙◌, ◌++◌, ◌<◌, [], length, ap, arith}
 use Rattle.std.proofs.lemmas.Option.{unwrap_or-slice_get}
-use Rattle.bp_text.proofs.PiecesInTurn.{one_more}
-use Rattle.bp_source.specs.Programs.{string_item}
+use Rattle.bp_text.proofs.PartsOfTexts.{one_more}
+use Rattle.bp_source.specs.Listings.{string_item}
 use Rattle.bp_view.proofs.setup_lines.push_entries.Goals as goal
 
 pub loop-thread-preserved : goal.loop-thread-preserved

@@ -1,5 +1,5 @@
 use Rattle.std.proofs.Common.{◌≡◌, ◌++◌, flat_map, take}
-use Rattle.bp_source.specs.Programs.{string_item}
+use Rattle.bp_source.specs.Listings.{string_item}
 use Rattle.bp_view.proofs.setup_lines.push_entries.Given as goal
 
 abbrev pub invariant-loop-thread : goal.invariant-loop-thread

@@ -1,10 +1,10 @@
 use Rattle.std.proofs.Common.{◌++◌, ◌<◌, None, length, codes, refl, sym, arith}
 use Rattle.std.proofs.lemmas.Result.{on_ok_weaker}
-use Rattle.bp_flat.specs.Values.{binding}
-use Rattle.bp_text.proofs.GrownLists.{both_added}
-use Rattle.bp_tasks.specs.declared.view_options.ViewFormat.TheVariants.{Columns}
-use Rattle.bp_view.specs.Variables.{variables_text}
-use Rattle.bp_view.proofs.PartsOfHeads.{line_of_some}
+use Rattle.bp_flat.specs.Moves.{binding}
+use Rattle.bp_text.proofs.PartsOfTexts.{both_added}
+use Rattle.bp_tasks.specs.declared.options.ViewFormat.TheVariants.{Columns}
+use Rattle.bp_view.specs.Lines.{variables_text}
+use Rattle.bp_view.proofs.BegunViews.{line_of_some}
 use Rattle.bp_view.proofs.setup_lines.push_globals.Goals as goal
 
 pub returns : goal.returns

@@ -1,12 +1,12 @@
 use Rattle.std.proofs.Common.{[], ◌∷◌, None, codes, decimal, flat_map}
-use Rattle.bp_flat.specs.Values.{binding}
+use Rattle.bp_flat.specs.Moves.{binding}
 use Rattle.bp_text.specs.Pieces.{key_text, list_text, number_or_null}
-use Rattle.bp_text.proofs.PiecesInTurn.{three_joined}
-use Rattle.bp_source.specs.Programs.{string_item}
-use Rattle.bp_tasks.specs.declared.view_options.ViewFormat.TheVariants.{Json}
-use Rattle.bp_view.specs.Variables.{variables_text}
+use Rattle.bp_text.proofs.PartsOfTexts.{three_joined}
+use Rattle.bp_source.specs.Listings.{string_item}
+use Rattle.bp_tasks.specs.declared.options.ViewFormat.TheVariants.{Json}
+use Rattle.bp_view.specs.Lines.{variables_text}
 use Rattle.bp_view.proofs.setup_lines.push_head_object.Goals as goal
-use Rattle.bp_source.proofs.JoinedPieces.{when_ok}
+use Rattle.bp_source.proofs.DecidersOfPlaces.{when_ok}
 
 pub returns : goal.returns
 returns c =

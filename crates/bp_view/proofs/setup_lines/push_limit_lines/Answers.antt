@@ -1,6 +1,6 @@
 use Rattle.std.proofs.Common.{codes, decimal}
-use Rattle.bp_source.proofs.JoinedPieces.{when_ok}
-use Rattle.bp_view.proofs.JoinedTexts.{limits_joined}
+use Rattle.bp_source.proofs.DecidersOfPlaces.{when_ok}
+use Rattle.bp_view.proofs.ShownLines.{limits_joined}
 use Rattle.bp_view.proofs.setup_lines.push_limit_lines.Goals as goal
 
 pub returns : goal.returns

@@ -1,7 +1,7 @@
 use Rattle.std.proofs.Common.{◌∙◌, ◌++◌, ◌<◌, [], length, take, slice_get, unwrap_or, ap, sym, add-one, arith}
-use Rattle.bp_text.proofs.GrownLists.{both_added}
+use Rattle.bp_text.proofs.PartsOfTexts.{both_added}
 use Rattle.bp_view.specs.SetupLines.{thread_line, thread_lines}
-use Rattle.bp_view.proofs.PartsOfHeads.{line_of_pieces, thread_more}
+use Rattle.bp_view.proofs.BegunViews.{line_of_pieces, thread_more}
 use Rattle.bp_view.proofs.setup_lines.push_threads.Goals as goal
 
 pub loop-thread-preserved : goal.loop-thread-preserved

@@ -1,9 +1,9 @@
 use Rattle.std.proofs.Common.{◌≡◌, ◌∙◌, ◌++◌, ◌<◌, ℕ, Bool, List, None, false, length, take, get_or, slice_get, unwrap_or, ap, ap₂, sym, add-one, arith}
 use Rattle.std.proofs.lemmas.List.{flat_map_more}
-use Rattle.bp_flat.specs.Values.{binding}
-use Rattle.bp_facts.specs.ChangeFacts.{owned, Entry}
-use Rattle.bp_facts.proofs.OwnedEntries.{bound_more}
-use Rattle.bp_view.specs.Variables.{entries_text, entry_text, variables_text}
+use Rattle.bp_flat.specs.Moves.{binding}
+use Rattle.bp_view.specs.CallFacts.{owned, Entry}
+use Rattle.bp_view.proofs.ChangedEntries.{bound_more}
+use Rattle.bp_view.specs.Lines.{entries_text, entry_text, variables_text}
 use Rattle.bp_view.proofs.setup_lines.push_values.Goals as goal
 
 pub loop-n-preserved : goal.loop-n-preserved

@@ -1,6 +1,6 @@
 use Rattle.std.proofs.Common.{◌≡◌, ◌++◌, None, take}
-use Rattle.bp_flat.specs.Values.{binding}
-use Rattle.bp_view.specs.Variables.{variables_text}
+use Rattle.bp_flat.specs.Moves.{binding}
+use Rattle.bp_view.specs.Lines.{variables_text}
 use Rattle.bp_view.proofs.setup_lines.push_values.Given as goal
 
 abbrev pub invariant-loop-n : goal.invariant-loop-n

@@ -1,6 +1,6 @@
 use Rattle.std.proofs.Common.{◌∙◌, ◌++◌, ◌-◌, ◌<◌, ◌+◌, codes, length, take, ap, arith}
-use Rattle.bp_source.proofs.JoinedPieces.{when_ok}
-use Rattle.bp_view.proofs.CutLines.{cut}
+use Rattle.bp_source.proofs.DecidersOfPlaces.{when_ok}
+use Rattle.bp_view.proofs.ShownLines.{cut}
 use Rattle.bp_view.proofs.statement_columns.cut_after.Goals as goal
 
 pub returns : goal.returns

@@ -1,14 +1,14 @@
 use Rattle.std.proofs.Common.{◌≡◌, ◌∙◌, ◌++◌, ◌<◌, List, [], ◌∷◌, None, length, codes, ap, sym, refl, arith}
 use Rattle.std.proofs.lemmas.Result.{on_ok_weaker}
-use Rattle.bp_tree.specs.Ast.{Name}
-use Rattle.bp_flat.specs.Bits.{bits_of}
+use Rattle.bp_language.specs.Ast.{Name}
+use Rattle.bp_flat.specs.InstrEffects.{bits_of}
 use Rattle.bp_flat.specs.Steps.{Bits}
 use Rattle.bp_flat.specs.StandsFor.{valuation_of}
-use Rattle.bp_text.proofs.GrownLists.{both_added}
-use Rattle.bp_facts.proofs.ChangedVariables.{from_first}
-use Rattle.bp_tasks.specs.declared.view_options.ViewFormat.TheVariants.{Columns}
+use Rattle.bp_text.proofs.PartsOfTexts.{both_added}
+use Rattle.bp_view.proofs.ChangedEntries.{from_first}
+use Rattle.bp_tasks.specs.declared.options.ViewFormat.TheVariants.{Columns}
 use Rattle.bp_view.specs.SetupLines.{globals_line}
-use Rattle.bp_view.specs.Variables.{variables_text}
+use Rattle.bp_view.specs.Lines.{variables_text}
 use Rattle.bp_view.proofs.states.push_globals_line.Goals as goal
 
 line_of_some : (xs : List Name) (bits : Bits) → 0 < length xs

@@ -1,12 +1,12 @@
 use Rattle.std.proofs.Common.{[], ◌∷◌, codes, decimal}
 use Rattle.std.specs.List.{concat}
-use Rattle.bp_flat.specs.Bits.{bits_of}
+use Rattle.bp_flat.specs.InstrEffects.{bits_of}
 use Rattle.bp_flat.specs.StandsFor.{valuation_of}
-use Rattle.bp_text.proofs.PiecesInTurn.{all_added}
+use Rattle.bp_text.proofs.PartsOfTexts.{all_added}
 use Rattle.bp_view.specs.SetupLines.{globals_line}
 use Rattle.bp_view.specs.States.{failed_line}
 use Rattle.bp_view.proofs.states.push_state_lines.Goals as goal
-use Rattle.bp_source.proofs.JoinedPieces.{when_ok}
+use Rattle.bp_source.proofs.DecidersOfPlaces.{when_ok}
 
 pub returns : goal.returns
 returns c =

@@ -1,15 +1,15 @@
 use Rattle.std.proofs.Common.{[], ◌∷◌, ◌∙◌, ◌+◌, ◌++◌, None, ap, codes}
-use Rattle.bp_flat.specs.Bits.{bits_of}
+use Rattle.bp_flat.specs.InstrEffects.{bits_of}
 use Rattle.bp_flat.specs.StandsFor.{valuation_of}
-use Rattle.bp_text.proofs.PiecesInTurn.{all_added}
+use Rattle.bp_text.proofs.PartsOfTexts.{all_added}
 use Rattle.bp_text.specs.Pieces.{key_text, list_text}
-use Rattle.bp_facts.specs.StateFacts.{state_in}
-use Rattle.bp_facts.proofs.ChangedVariables.{from_first}
-use Rattle.bp_tasks.specs.declared.view_options.ViewFormat.TheVariants.{Json}
+use Rattle.bp_view.specs.StateFacts.{state_in}
+use Rattle.bp_view.proofs.ChangedEntries.{from_first}
+use Rattle.bp_tasks.specs.declared.options.ViewFormat.TheVariants.{Json}
 use Rattle.bp_view.specs.States.{state_members}
-use Rattle.bp_view.specs.Variables.{variables_text}
+use Rattle.bp_view.specs.Lines.{variables_text}
 use Rattle.bp_view.proofs.states.push_state_object.Goals as goal
-use Rattle.bp_source.proofs.JoinedPieces.{when_ok}
+use Rattle.bp_source.proofs.DecidersOfPlaces.{when_ok}
 
 pub returns : goal.returns
 returns c =

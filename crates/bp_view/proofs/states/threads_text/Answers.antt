@@ -1,6 +1,6 @@
 use Rattle.std.proofs.Common.{◌∙◌, arith}
-use Rattle.bp_facts.specs.StateFacts.{thread_in}
-use Rattle.bp_facts.proofs.MappedValues.{all_mapped}
+use Rattle.bp_view.specs.StateFacts.{thread_in}
+use Rattle.bp_view.proofs.SingleFacts.{all_mapped}
 use Rattle.bp_view.specs.States.{thread_text}
 use Rattle.bp_view.proofs.states.threads_text.Goals as goal
 

@@ -1,5 +1,5 @@
 use Rattle.std.proofs.Common.{◌≡◌, flat_map, take}
-use Rattle.bp_facts.specs.StateFacts.{thread_in}
+use Rattle.bp_view.specs.StateFacts.{thread_in}
 use Rattle.bp_view.specs.States.{thread_text}
 use Rattle.bp_view.proofs.states.threads_text.Given as goal
 

@@ -1,10 +1,9 @@
-use Rattle.std.proofs.Common.{◌≡◌, ◌++◌, Bool, true, false, List, ℕ, [], ◌∷◌, codes, map}
-use Rattle.std.specs.Prelude.{option_map}
+use Rattle.std.proofs.Common.{◌≡◌, ◌++◌, Bool, true, false, List, ℕ, [], ◌∷◌, codes, map, option_map}
 use Rattle.std.specs.List.{concat}
-use Rattle.bp_text.proofs.PiecesInTurn.{all_added}
+use Rattle.bp_text.proofs.PartsOfTexts.{all_added}
 use Rattle.bp_text.specs.Pieces.{bit_text}
-use Rattle.bp_source.proofs.JoinedPieces.{when_ok}
-use Rattle.bp_view.specs.Variables.{owner_text}
+use Rattle.bp_source.proofs.DecidersOfPlaces.{when_ok}
+use Rattle.bp_view.specs.Lines.{owner_text}
 use Rattle.bp_view.proofs.variables.push_assignment.Goals as goal
 
 assigned : (old owner name : List ℕ) (value : Bool)

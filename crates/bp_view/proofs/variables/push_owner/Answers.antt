@@ -1,6 +1,6 @@
 use Rattle.std.proofs.Common.{◌∙◌, [], ◌∷◌, codes, map, ap}
-use Rattle.bp_text.proofs.PiecesInTurn.{all_added}
-use Rattle.bp_source.proofs.JoinedPieces.{when_ok}
+use Rattle.bp_text.proofs.PartsOfTexts.{all_added}
+use Rattle.bp_source.proofs.DecidersOfPlaces.{when_ok}
 use Rattle.bp_view.proofs.variables.push_owner.Goals as goal
 
 pub returns-in-Some : goal.returns-in-Some

@@ -1,12 +1,11 @@
-use Rattle.std.proofs.Common.{◌≡◌, ◌∙◌, ◌++◌, ◌+◌, ◌<◌, ℕ, Bool, List, length, take, get_or, ap, ap₂, sym, add-one, arith}
-use Rattle.std.specs.Prelude.{option_map}
+use Rattle.std.proofs.Common.{◌≡◌, ◌∙◌, ◌++◌, ◌+◌, ◌<◌, ℕ, Bool, List, length, take, get_or, ap, ap₂, sym, add-one, arith, option_map}
 use Rattle.std.proofs.lemmas.List.{flat_map_more}
-use Rattle.bp_flat.specs.Bits.{bits_of}
+use Rattle.bp_flat.specs.InstrEffects.{bits_of}
 use Rattle.bp_flat.specs.StandsFor.{valuation_of}
 use Rattle.bp_flat.specs.Steps.{Bits}
-use Rattle.bp_facts.specs.ChangeFacts.{owned, Entry}
-use Rattle.bp_facts.proofs.OwnedEntries.{values_more}
-use Rattle.bp_view.specs.Variables.{entries_text, entry_text, variables_text}
+use Rattle.bp_view.specs.CallFacts.{owned, Entry}
+use Rattle.bp_view.proofs.ChangedEntries.{values_more}
+use Rattle.bp_view.specs.Lines.{entries_text, entry_text, variables_text}
 use Rattle.bp_view.proofs.variables.push_values.Goals as goal
 
 pub loop-n-preserved : goal.loop-n-preserved

@@ -1,8 +1,7 @@
-use Rattle.std.proofs.Common.{◌≡◌, ◌+◌, ◌++◌, take}
-use Rattle.std.specs.Prelude.{option_map}
-use Rattle.bp_flat.specs.Bits.{bits_of}
+use Rattle.std.proofs.Common.{◌≡◌, ◌+◌, ◌++◌, take, option_map}
+use Rattle.bp_flat.specs.InstrEffects.{bits_of}
 use Rattle.bp_flat.specs.StandsFor.{valuation_of}
-use Rattle.bp_view.specs.Variables.{variables_text}
+use Rattle.bp_view.specs.Lines.{variables_text}
 use Rattle.bp_view.proofs.variables.push_values.Given as goal
 
 abbrev pub invariant-loop-n : goal.invariant-loop-n

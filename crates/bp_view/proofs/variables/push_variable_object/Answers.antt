@@ -1,9 +1,7 @@
-use Rattle.std.proofs.Common.{[], ◌∷◌, codes}
-use Rattle.std.specs.Prelude.{option_map}
-use Rattle.bp_text.proofs.PiecesInTurn.{all_added}
-use Rattle.bp_text.specs.Pieces.{bit_text, key_text, string_or_null}
-use Rattle.bp_text.specs.JsonStrings.{string_text}
-use Rattle.bp_source.proofs.JoinedPieces.{when_ok}
+use Rattle.std.proofs.Common.{[], ◌∷◌, codes, option_map}
+use Rattle.bp_text.proofs.PartsOfTexts.{all_added}
+use Rattle.bp_text.specs.Pieces.{bit_text, key_text, string_or_null, string_text}
+use Rattle.bp_source.proofs.DecidersOfPlaces.{when_ok}
 use Rattle.bp_view.proofs.variables.push_variable_object.Goals as goal
 
 pub returns : goal.returns

@@ -1,6 +1,6 @@
 use Rattle.std.proofs.Common.{◌≡◌, take, max}
-use Rattle.bp_view.specs.Widths.{longest}
-use Rattle.bp_view.proofs.LongestPlaces.{place_items}
+use Rattle.bp_view.specs.Lines.{longest}
+use Rattle.bp_view.proofs.BegunViews.{place_items}
 use Rattle.bp_view.proofs.view_contexts.longest_place.Given as goal
 
 abbrev pub invariant-loop-statement : goal.invariant-loop-statement

@@ -1,8 +1,7 @@
 use Rattle.std.proofs.Common.{◌≡◌, ◌+◌, ◌<◌, map, take, length, ap, add-one, arith}
-use Rattle.bp_source.proofs.TextsOfStatements.{shown_texts}
-use Rattle.bp_view.specs.StatementColumns.{shortened}
-use Rattle.bp_view.specs.Widths.{longest}
-use Rattle.bp_view.proofs.LongestPlaces.{longest_statement_more, shortened_length}
+use Rattle.bp_source.proofs.SourceStatementLists.{shown_texts}
+use Rattle.bp_view.specs.Lines.{shortened, longest}
+use Rattle.bp_view.proofs.BegunViews.{longest_statement_more, shortened_length}
 use Rattle.bp_view.proofs.view_contexts.longest_statement.Goals as goal
 
 pub loop-statement-preserved : goal.loop-statement-preserved

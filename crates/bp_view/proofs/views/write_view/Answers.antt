@@ -1,14 +1,11 @@
-use Rattle.std.proofs.Common.{◌∙◌, ◌≤◌, ap, length, refl, subst, sym, take}
-use Rattle.std.proofs.lemmas.List.{length-take-le}
+use Rattle.std.proofs.Common.{◌∙◌, ◌≤◌, ap, length, refl, subst, sym, take, length-take-le}
 use Rattle.std.proofs.lemmas.Result.{err_from_is_err_and, MatchResult-weaker}
-use Rattle.bp_machine.specs.ContextCounts.{last_thread}
+use Rattle.bp_machine.specs.Sessions.{last_thread, Stands}
 use Rattle.bp_machine.specs.Histories.{granted_threads}
-use Rattle.bp_machine.specs.Sessions.{Stands}
-use Rattle.bp_text.proofs.WrittenParts.{none_begun}
-use Rattle.bp_facts.specs.Filters.{skipped}
-use Rattle.bp_facts.specs.declared.faults.ViewFault.TheVariants.{Memory}
-use Rattle.bp_view.specs.Options.{filter_of}
-use Rattle.bp_view.specs.Views.{IsViewable}
+use Rattle.bp_text.proofs.Givings.{none_begun}
+use Rattle.bp_view.specs.Filters.{skipped}
+use Rattle.bp_view.specs.declared.faults.ViewFault.TheVariants.{Memory}
+use Rattle.bp_view.specs.Views.{filter_of, IsViewable}
 use Rattle.bp_view.proofs.BegunViews.{kind}
 use Rattle.bp_view.proofs.ViewableContexts.{missing, stopped, unnamed, viewable, viewed}
 use Rattle.bp_view.proofs.views.write_view.Goals as goal

@@ -2,14 +2,14 @@
 
 ghost use Rattle.std.specs.Prelude.{◌≡◌, true, is_some};
 ghost use Rattle.bp_machine.specs.Setups.{threads, FitsCode};
-ghost use Rattle.bp_board.specs.Kits.{IsNamed};
+ghost use Rattle.bp_run.specs.Desks.{IsNamed};
 
 use super::{LOOP, WAIT, kit_of, setup_of};
 use crate::common::code_of;
-use bp_board::limits::MAX_TURN;
-use bp_board::{Calls, Desk, Kit, Seat, Tap};
 use bp_code::Code;
 use bp_machine::{AskFault, Call, Reply, Setup};
+use bp_run::limits::MAX_TURN;
+use bp_run::{Calls, Desk, Kit, Seat, Tap};
 use std::alloc::Global;
 use std::marker::Brand;
 use std::sync::ledger::Ledger;

@@ -2,13 +2,13 @@
 
 ghost use Rattle.std.specs.Prelude.{◌≡◌, true, is_some};
 ghost use Rattle.bp_machine.specs.Setups.{threads, FitsCode};
-ghost use Rattle.bp_board.specs.Kits.{IsNamed};
+ghost use Rattle.bp_run.specs.Desks.{IsNamed};
 
 use super::{LOOP, kit_of, setup_of};
 use crate::common::code_of;
-use bp_board::{Board, Calls, Kit, gather};
 use bp_code::Code;
 use bp_machine::Setup;
+use bp_run::{Board, Calls, Kit, gather};
 use std::alloc::Global;
 use std::marker::Brand;
 use std::sync::ledger::Ledger;

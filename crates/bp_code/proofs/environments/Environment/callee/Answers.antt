@@ -1,5 +1,5 @@
 use Rattle.std.proofs.Common.{sym, ◌∙◌, ap, arith}
-use Rattle.bp_code.proofs.FirstNames.{name_found, heading_within, entry_of_first}
+use Rattle.bp_code.proofs.SlotsAreVariables.{name_found, heading_within, entry_of_first}
 use Rattle.bp_code.proofs.environments.Environment.callee.Goals as goal
 
 pub unwrap-index-requires : goal.unwrap-index-requires

@@ -1,5 +1,5 @@
 use Rattle.std.proofs.Common.{sym, ◌∙◌, arith, rules}
-use Rattle.bp_code.proofs.FirstNames.{first_within}
+use Rattle.bp_code.proofs.SlotsAreVariables.{first_within}
 use Rattle.bp_code.proofs.environments.Environment.slot.Goals as goal
 
 pub overflow_cast-index : goal.overflow_cast-index

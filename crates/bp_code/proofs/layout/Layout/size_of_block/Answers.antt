@@ -1,9 +1,8 @@
 use Rattle.std.proofs.Common.{◌≡◌, ◌+◌, ap, subst, arith, drop, add-zero}
-use Rattle.bp_tree.specs.Blocks.{block_of, statement_of}
+use Rattle.bp_language.specs.Blocks.{block_of, statement_of}
 use Rattle.bp_code.specs.Compiled.{block_size, size}
-use Rattle.bp_code.specs.Layouts.{block_sizes, AreSizesOf}
-use Rattle.bp_code.proofs.BlockItems.{block_item}
-use Rattle.bp_code.proofs.SizesInLayout.{behind}
+use Rattle.bp_code.specs.Compilable.{block_sizes, AreSizesOf}
+use Rattle.bp_code.proofs.BlockItems.{block_item, behind}
 use Rattle.bp_code.proofs.layout.Layout.size_of_block.Goals as goal
 
 pub loop-stmt-init : goal.loop-stmt-init

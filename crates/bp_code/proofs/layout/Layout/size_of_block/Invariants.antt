@@ -1,7 +1,7 @@
 use Rattle.std.proofs.Common.{◌≡◌, ◌+◌, drop}
-use Rattle.bp_tree.specs.Blocks.{block_of}
+use Rattle.bp_language.specs.Blocks.{block_of}
 use Rattle.bp_code.specs.Compiled.{block_size}
-use Rattle.bp_code.specs.Layouts.{block_sizes, AreSizesOf}
+use Rattle.bp_code.specs.Compilable.{block_sizes, AreSizesOf}
 use Rattle.bp_code.proofs.layout.Layout.size_of_block.Given as goal
 
 abbrev pub invariant-loop-stmt : goal.invariant-loop-stmt

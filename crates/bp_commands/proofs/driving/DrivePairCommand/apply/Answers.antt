@@ -1,7 +1,7 @@
 use Rattle.std.proofs.lemmas.Result.{err_from_is_err_and}
-use Rattle.bp_commands.specs.Given.{Pair}
-use Rattle.bp_commands.specs.Drives.{drives}
-use Rattle.bp_commands.proofs.AnswersByNames.{answers_found, answers_start, names_refused}
+use Rattle.bp_commands.specs.Commands.{Pair}
+use Rattle.bp_commands.specs.Traces.{drives}
+use Rattle.bp_commands.proofs.Answered.{answers_found, answers_start, names_refused}
 use Rattle.bp_commands.proofs.driving.DrivePairCommand.apply.Goals as goal
 
 pub returns-in_err-found : goal.returns-in_err-found

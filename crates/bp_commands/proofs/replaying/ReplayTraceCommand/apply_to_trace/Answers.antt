@@ -1,6 +1,6 @@
 use Rattle.std.proofs.Common.{refl, inr, map}
 use Rattle.std.proofs.lemmas.Result.{err_from_is_err_and}
-use Rattle.bp_trace.specs.Replayed.{row_of}
+use Rattle.bp_trace.specs.Replays.{row_of}
 use Rattle.bp_messages.specs.ReplayLines.{shown_text}
 use Rattle.bp_commands.specs.Traces.{replays}
 use Rattle.bp_commands.proofs.Answered.{refused_with}

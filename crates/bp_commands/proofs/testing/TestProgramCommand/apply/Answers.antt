@@ -1,6 +1,6 @@
 use Rattle.std.proofs.lemmas.Result.{err_from_is_err_and}
 use Rattle.bp_commands.specs.Tests.{tests}
-use Rattle.bp_commands.proofs.AnswersByNames.{answers_found, answers_start, names_refused}
+use Rattle.bp_commands.proofs.Answered.{answers_found, answers_start, names_refused}
 use Rattle.bp_commands.proofs.testing.TestProgramCommand.apply.Goals as goal
 
 pub returns-in_err-found : goal.returns-in_err-found

@@ -1,14 +1,12 @@
-use Rattle.std.proofs.Common.{◌≡◌, ◌∙◌, ◌<◌, [], length, ap, sym, subst, false, arith}
-use Rattle.std.specs.Prelude.{MatchOption}
+use Rattle.std.proofs.Common.{◌≡◌, ◌∙◌, ◌<◌, [], length, ap, sym, subst, false, arith, MatchOption, eq-eqb}
 use Rattle.std.specs.Option.{option_map_or}
-use Rattle.std.proofs.lemmas.Bool.{eq-eqb}
-use Rattle.bp_machine.specs.Answers.{stack_of}
-use Rattle.bp_machine.specs.Tops.{IsTop}
-use Rattle.bp_explore.specs.SeenSteps.{ShowsStep}
-use Rattle.bp_confirm.specs.ListedLines.{is_step, sees_values, AreShown}
-use Rattle.bp_confirm.specs.SourcePoints.{is_there, source_points_of}
-use Rattle.bp_confirm.specs.StepLines.{StepLineOf, step_of}
-use Rattle.bp_confirm.proofs.ListedValues.{elsewhere, if_it_sees, step_listed}
+use Rattle.bp_machine.specs.Histories.{stack_of}
+use Rattle.bp_machine.specs.Runs.{IsTop}
+use Rattle.bp_explore.specs.Searches.{ShowsStep}
+use Rattle.bp_confirm.specs.OwnSteps.{is_step, sees_values, AreShown}
+use Rattle.bp_confirm.specs.FollowedSteps.{is_there, source_points_of}
+use Rattle.bp_confirm.specs.Steps.{StepLineOf, step_of}
+use Rattle.bp_confirm.proofs.LinesKept.{elsewhere, if_it_sees, step_listed}
 use Rattle.bp_confirm.proofs.ValuesSeen.{stands_where}
 use Rattle.bp_confirm.proofs.listed_lines.ListedLinesObserver.is_listed.Goals as goal
 

@@ -1,10 +1,8 @@
 use Rattle.std.proofs.Common.{◌≡◌, ◌∙◌, ◌++◌, ◌∷◌, [], ap, sym, option_map, refl}
-use Rattle.bp_text.specs.Positions.{position_at}
-use Rattle.bp_machine.specs.Answers.{stack_of}
-use Rattle.bp_machine.specs.Histories.{configuration_after}
+use Rattle.bp_text.specs.Lines.{position_at}
+use Rattle.bp_machine.specs.Histories.{stack_of, configuration_after}
 use Rattle.bp_confirm.specs.declared.noted_steps.OwnStep.{OwnStep}
-use Rattle.bp_confirm.specs.OwnLines.{next_start}
-use Rattle.bp_confirm.specs.OwnSteps.{own_step}
+use Rattle.bp_confirm.specs.OwnSteps.{next_start, own_step}
 use Rattle.bp_confirm.proofs.OwnStepsMade.{noted, not_noted}
 use Rattle.bp_confirm.proofs.noted_steps.StepWatcherWatcher.make.Goals as goal
 

@@ -1,5 +1,5 @@
 use Rattle.std.proofs.Common.{◌≡◌, ◌≤◌, ◌+◌, ◌++◌, ◌∷◌, [], All, length, ap, sym, ◌∙◌, subst, length-append, arith}
-use Rattle.bp_explore.specs.Packing.{NodesOf, node_of, nodes_from, end_of}
+use Rattle.bp_explore.specs.States.{NodesOf, node_of, nodes_from, end_of}
 use Rattle.bp_explore.proofs.PackedNodes.{bounded_added, end_of_added, nodes_added}
 use Rattle.bp_explore.proofs.nodes.Nodes.add.Goals as goal
 

@@ -1,6 +1,5 @@
 use Rattle.std.proofs.Common.{ap, subst}
-use Rattle.bp_explore.specs.Live.{IsLive}
-use Rattle.bp_explore.specs.Packing.{NodesOf}
+use Rattle.bp_explore.specs.States.{IsLive, NodesOf}
 use Rattle.bp_explore.proofs.nodes.Nodes.is_live.Goals as goal
 
 pub returns : goal.returns

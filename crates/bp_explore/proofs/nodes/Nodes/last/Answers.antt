@@ -1,7 +1,5 @@
-use Rattle.std.proofs.Common.{◌<◌, ◌%◌, ◌^◌, length, ap, sym, ◌∙◌, arith}
-use Rattle.std.specs.Prelude.{slice_get}
-use Rattle.bp_explore.specs.Cells.{take_number}
-use Rattle.bp_explore.specs.Packing.{NodeOf, NodesOf, last_of, record_at}
+use Rattle.std.proofs.Common.{◌<◌, ◌%◌, ◌^◌, length, ap, sym, ◌∙◌, arith, slice_get}
+use Rattle.bp_explore.specs.States.{take_number, NodeOf, NodesOf, last_of, record_at}
 use Rattle.bp_explore.proofs.PackedNodes.{node_is, last_there}
 use Rattle.bp_explore.proofs.nodes.Nodes.last.Goals as goal
 

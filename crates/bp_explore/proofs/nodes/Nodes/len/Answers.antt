@@ -1,5 +1,5 @@
 use Rattle.std.proofs.Common.{◌≡◌, length, ap, sym, ◌∙◌, arith}
-use Rattle.bp_explore.specs.Packing.{NodesOf}
+use Rattle.bp_explore.specs.States.{NodesOf}
 use Rattle.bp_explore.proofs.PackedNodes.{nodes_length}
 use Rattle.bp_explore.proofs.nodes.Nodes.len.Goals as goal
 

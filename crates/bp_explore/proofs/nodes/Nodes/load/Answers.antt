@@ -1,7 +1,5 @@
-use Rattle.std.proofs.Common.{◌/◌, ◌%◌, ◌^◌, length, ap, ◌∙◌}
-use Rattle.std.specs.Prelude.{slice_get}
-use Rattle.bp_explore.specs.Cells.{take_number}
-use Rattle.bp_explore.specs.Packing.{NodeOf, NodesOf, take_state, record_at}
+use Rattle.std.proofs.Common.{◌/◌, ◌%◌, ◌^◌, length, ap, ◌∙◌, slice_get}
+use Rattle.bp_explore.specs.States.{take_number, NodeOf, NodesOf, take_state, record_at}
 use Rattle.bp_explore.proofs.PackedNodes.{node_is}
 use Rattle.bp_explore.proofs.nodes.Nodes.load.Goals as goal
 

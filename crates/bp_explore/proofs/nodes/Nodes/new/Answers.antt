@@ -1,8 +1,6 @@
 use Rattle.std.proofs.Common.{◌++◌, ◌∷◌, [], length, ap, ◌∙◌, subst}
-use Rattle.bp_explore.specs.Cells.{IsPacked, take_number}
-use Rattle.bp_explore.specs.Packing.{NodeOf, node_of, nodes_from}
-use Rattle.bp_explore.specs.States.{StateOf}
-use Rattle.bp_explore.proofs.PackedRecords.{packed_node}
+use Rattle.bp_explore.specs.States.{IsPacked, take_number, NodeOf, node_of, nodes_from, StateOf}
+use Rattle.bp_explore.proofs.PackedNodes.{packed_node}
 use Rattle.bp_explore.proofs.nodes.Nodes.new.Goals as goal
 
 pub returns : goal.returns

@@ -1,6 +1,5 @@
 use Rattle.std.proofs.Common.{ap, sym, subst}
-use Rattle.bp_explore.specs.Packing.{NodesOf}
-use Rattle.bp_explore.specs.States.{StateOf, Shows}
+use Rattle.bp_explore.specs.States.{NodesOf, StateOf, Shows}
 use Rattle.bp_explore.proofs.nodes.Nodes.seen.Goals as goal
 
 pub returns-clause-shows : goal.returns-clause-shows

@@ -1,5 +1,5 @@
 use Rattle.std.proofs.Common.{◌++◌, ◌∷◌, [], length, ap, ◌∙◌}
-use Rattle.bp_explore.specs.Packing.{NodesOf, node_of}
+use Rattle.bp_explore.specs.States.{NodesOf, node_of}
 use Rattle.bp_explore.proofs.spaces.Space.add.Goals as goal
 
 pub returns : goal.returns

@@ -1,7 +1,5 @@
-use Rattle.std.proofs.Common.{◌≡◌, ◌<◌, ◌≤◌, ℕ, Some}
-use Rattle.std.specs.Prelude.{slice_get}
-use Rattle.bp_explore.specs.Packing.{NodeOf}
-use Rattle.bp_explore.specs.Live.{IsLive}
+use Rattle.std.proofs.Common.{◌≡◌, ◌<◌, ◌≤◌, ℕ, Some, slice_get}
+use Rattle.bp_explore.specs.States.{NodeOf, IsLive}
 use Rattle.bp_explore.proofs.spaces.Space.first_dead.Given as goal
 
 abbrev pub invariant-loop-at : goal.invariant-loop-at

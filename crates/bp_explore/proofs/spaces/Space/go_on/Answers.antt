@@ -1,5 +1,5 @@
 use Rattle.std.proofs.Common.{◌≡◌, Some, sym, ◌∙◌, subst, arith}
-use Rattle.bp_explore.specs.Spaces.{IsExpanded}
+use Rattle.bp_explore.specs.Searches.{IsExpanded}
 use Rattle.bp_explore.proofs.Growth.{opened_own}
 use Rattle.bp_explore.proofs.spaces.Space.go_on.Goals as goal
 

@@ -1,8 +1,7 @@
-use Rattle.std.proofs.Common.{◌≡◌, ◌+◌, ◌<◌, ◌≤◌, ℕ, Some, inl, inr, sym, ◌∙◌, subst, arith}
-use Rattle.std.specs.Prelude.{slice_get}
+use Rattle.std.proofs.Common.{◌≡◌, ◌+◌, ◌<◌, ◌≤◌, ℕ, Some, inl, inr, sym, ◌∙◌, subst, arith, slice_get}
 use Rattle.std.proofs.lemmas.Bool.{cases_lt}
 use Rattle.std.proofs.lemmas.Option.{slice_get_within}
-use Rattle.bp_explore.specs.Packing.{NodeOf}
+use Rattle.bp_explore.specs.States.{NodeOf}
 use Rattle.bp_explore.proofs.Growth.{item_at}
 use Rattle.bp_explore.proofs.spaces.Space.most_made.Goals as goal
 use Rattle.bp_explore.proofs.spaces.Space.most_made.Goals.{then-made-most, else-made-most}

@@ -1,6 +1,5 @@
-use Rattle.std.proofs.Common.{◌≡◌, ◌⊎◌, ◌<◌, ◌≤◌, ℕ, Some}
-use Rattle.std.specs.Prelude.{slice_get}
-use Rattle.bp_explore.specs.Packing.{NodeOf}
+use Rattle.std.proofs.Common.{◌≡◌, ◌⊎◌, ◌<◌, ◌≤◌, ℕ, Some, slice_get}
+use Rattle.bp_explore.specs.States.{NodeOf}
 use Rattle.bp_explore.specs.Searches.{HasOneMade}
 use Rattle.bp_explore.proofs.spaces.Space.most_made.Given as goal
 

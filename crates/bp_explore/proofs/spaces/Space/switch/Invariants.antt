@@ -1,8 +1,6 @@
-use Rattle.std.proofs.Common.{◌≡◌, ◌≢◌, ◌<◌, ℕ, Some}
-use Rattle.std.specs.Prelude.{slice_get}
-use Rattle.bp_explore.specs.Packing.{NodeOf as Node}
-use Rattle.bp_explore.specs.Reached.{StayReached}
-use Rattle.bp_explore.specs.Spaces.{IsExpanded, AreAtMost, IsGrown}
+use Rattle.std.proofs.Common.{◌≡◌, ◌≢◌, ◌<◌, ℕ, Some, slice_get}
+use Rattle.bp_explore.specs.States.{NodeOf as Node}
+use Rattle.bp_explore.specs.Searches.{StayReached, IsExpanded, AreAtMost, IsGrown}
 use Rattle.bp_explore.proofs.spaces.Space.switch.Given as goal
 
 abbrev pub invariant-loop-thread : goal.invariant-loop-thread

@@ -1,10 +1,8 @@
-use Rattle.std.proofs.Common.{◌≡◌, ◌-◌, ◌++◌, ◌∷◌, [], ℕ, List, length, take, drop, ap, sym, ◌∙◌, subst, inr, arith}
-use Rattle.std.proofs.lemmas.List.{length-drop, take_all}
-use Rattle.bp_explore.specs.Packing.{HasKey, NodeOf, NodesOf, node_of}
-use Rattle.bp_explore.specs.Spaces.{Has}
-use Rattle.bp_explore.specs.States.{StateOf}
+use Rattle.std.proofs.Common.{◌≡◌, ◌-◌, ◌++◌, ◌∷◌, [], ℕ, List, length, take, drop, ap, sym, ◌∙◌, subst, inr, arith, length-drop, take_all}
+use Rattle.bp_explore.specs.States.{HasKey, NodeOf, NodesOf, node_of, StateOf}
+use Rattle.bp_explore.specs.Searches.{Has}
 use Rattle.bp_explore.proofs.Growth.{has_one, has_held}
-use Rattle.bp_explore.proofs.KeptKeys.{key_held}
+use Rattle.bp_explore.proofs.PackedNodes.{key_held}
 use Rattle.bp_explore.proofs.spaces.Space.take.Goals as goal
 
 pub returns-then-holds-clause-held : goal.returns-then-holds-clause-held

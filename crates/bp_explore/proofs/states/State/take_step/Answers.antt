@@ -1,8 +1,7 @@
-use Rattle.std.proofs.Common.{◌≡◌, ◌<◌, Some, length, refl, ap, sym, ◌∙◌, arith}
-use Rattle.std.specs.Prelude.{slice_get, slice_set, option_map}
+use Rattle.std.proofs.Common.{◌≡◌, ◌<◌, Some, length, refl, ap, sym, ◌∙◌, arith, slice_get, slice_set, option_map}
 use Rattle.std.proofs.lemmas.List.{map-set}
 use Rattle.std.proofs.lemmas.Option.{slice_get_read, slice_get-map}
-use Rattle.bp_machine.specs.Stacks.{StackOf}
+use Rattle.bp_machine.specs.Sessions.{StackOf}
 use Rattle.bp_machine.specs.Transitions.{globals_after, stack_after}
 use Rattle.bp_machine.specs.declared.threads.Transition.TheVariants.{Steps}
 use Rattle.bp_explore.specs.States.{StateOf, frames_of}

@@ -1,17 +1,16 @@
-use Rattle.std.proofs.Common.{◌≡◌, ◌<◌, ◌-◌, Some, [], length, reverse, refl, ap, sym, ◌∙◌, subst, arith}
-use Rattle.std.specs.Prelude.{slice_get, option_map}
+use Rattle.std.proofs.Common.{◌≡◌, ◌<◌, ◌-◌, Some, [], length, reverse, refl, ap, sym, ◌∙◌, subst, arith, slice_get, option_map}
 use Rattle.std.proofs.lemmas.List.{length-reverse}
 use Rattle.std.proofs.lemmas.Option.{slice_get_read, slice_get-map}
 use Rattle.bp_machine.specs.declared.stacks.ActivationRecord.{ActivationRecord}
-use Rattle.bp_machine.specs.Answers.{stack_of}
-use Rattle.bp_machine.specs.Stacks.{StackOf, top_of}
-use Rattle.bp_machine.specs.Tops.{IsTop}
-use Rattle.bp_machine.proofs.ShownTops.{none_shown}
-use Rattle.bp_machine.proofs.StackTops.{top_is}
+use Rattle.bp_machine.specs.Histories.{stack_of}
+use Rattle.bp_machine.specs.Sessions.{StackOf, top_of}
+use Rattle.bp_machine.specs.Runs.{IsTop}
+use Rattle.bp_machine.proofs.Deadlocks.{none_shown}
+use Rattle.bp_machine.proofs.SessionsInOrder.{top_is}
 use Rattle.bp_explore.specs.States.{StateOf, frames_of}
 use Rattle.bp_explore.proofs.Growth.{item_at}
 use Rattle.bp_explore.proofs.LiveStates.{no_frames}
-use Rattle.bp_explore.proofs.TopsOfStates.{index_is, state_top}
+use Rattle.bp_explore.proofs.MadeSteps.{index_is, state_top}
 use Rattle.bp_explore.proofs.states.State.top.Goals as goal
 
 pub returns-then-depth-eq0 : goal.returns-then-depth-eq0

@@ -1,9 +1,9 @@
 use Rattle.std.proofs.Common.{refl, ◌∙◌, map}
 use Rattle.std.proofs.lemmas.Option.{slice_get_read}
 use Rattle.bp_flat.specs.Steps.{formula_values}
-use Rattle.bp_flat.specs.Bits.{store_of}
+use Rattle.bp_flat.specs.InstrEffects.{store_of}
 use Rattle.bp_flat.specs.Views.{formula_of}
-use Rattle.bp_flat.proofs.WithSlots.{with_slots_at, value_at}
+use Rattle.bp_flat.proofs.SlotsOfNames.{with_slots_at, value_at}
 use Rattle.bp_flat.proofs.actions.Assignment.store_after.Goals as goal
 
 pub loop-i-preserved : goal.loop-i-preserved

@@ -1,6 +1,6 @@
 use Rattle.std.proofs.Common.{◌≡◌, map, drop}
 use Rattle.bp_flat.specs.Steps.{with_slots, formula_values}
-use Rattle.bp_flat.specs.Bits.{store_of}
+use Rattle.bp_flat.specs.InstrEffects.{store_of}
 use Rattle.bp_flat.specs.Views.{formula_of}
 use Rattle.bp_flat.proofs.actions.Assignment.store_after.Given as goal
 

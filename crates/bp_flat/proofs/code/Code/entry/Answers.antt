@@ -1,6 +1,6 @@
 use Rattle.std.proofs.Common.{rules, ◌≡◌, option_map, Some, None}
-use Rattle.bp_flat.specs.Headings.{heading_named}
-use Rattle.bp_flat.proofs.HeadingsOfProcedures.{entry_found, entry_missing}
+use Rattle.bp_flat.specs.Flat.{heading_named}
+use Rattle.bp_flat.proofs.SlotsOfNames.{entry_found, entry_missing}
 use Rattle.bp_flat.proofs.code.Code.entry.Goals as goal
 
 pub returns-in-Some-clause-program : goal.returns-in-Some-clause-program

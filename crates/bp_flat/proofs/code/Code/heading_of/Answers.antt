@@ -1,9 +1,9 @@
 use Rattle.std.proofs.Common.{rules, ◌≡◌, ◌∙◌, ap, refl, option_map, Option, Some, None, Bor}
 use Rattle.std.specs.Option.{option_copied}
 use Rattle.bp_flat.specs.Flat as flat
-use Rattle.bp_flat.specs.Headings.{heading_named}
+use Rattle.bp_flat.specs.Flat.{heading_named}
 use Rattle.bp_flat.specs.declared.headings.Heading.{Heading}
-use Rattle.bp_flat.proofs.HeadingsOfProcedures.{formals_of_procedure}
+use Rattle.bp_flat.proofs.SlotsOfNames.{formals_of_procedure}
 use Rattle.bp_flat.proofs.code.Code.heading_of.Goals as goal
 
 formals_shown : (o : Option (Bor Heading)) → option_map (λ h. h.now.formals) o ≡ option_map (λ (k : flat.Heading). k.formals) (option_copied o)

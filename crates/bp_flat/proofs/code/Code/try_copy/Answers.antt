@@ -1,7 +1,6 @@
 use Rattle.std.proofs.lemmas.Grind.{common_steps}
-use Rattle.std.proofs.Common.{arith}
-use Rattle.std.proofs.Common.{◌∙◌}
-use Rattle.bp_flat.proofs.ListItems.{taken_all}
+use Rattle.std.proofs.Common.{arith, ◌∙◌}
+use Rattle.bp_flat.proofs.ProceduresOfPlaces.{taken_all}
 use Rattle.bp_flat.proofs.code.Code.try_copy.Goals as goal
 
 pub invariant_of-result : goal.invariant_of-result

@@ -1,6 +1,6 @@
 use Rattle.bp_flat.specs.Codes.{coded_flat}
 use Rattle.bp_flat.specs.Same.{same, same-Decides}
-use Rattle.bp_flat.proofs.SameAnswer.{same_answer}
+use Rattle.bp_flat.proofs.ProceduresOfPlaces.{same_answer}
 use Rattle.bp_flat.proofs.code.CodePartialEq.eq.Goals as goal
 
 pub returns-clause-gives : goal.returns-clause-gives

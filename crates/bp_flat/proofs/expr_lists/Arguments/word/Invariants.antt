@@ -1,6 +1,6 @@
 use Rattle.std.proofs.Common.{◌≡◌, map, take}
 use Rattle.bp_flat.specs.Steps.{formula_values, bits_from}
-use Rattle.bp_flat.specs.Bits.{bits_of, store_of}
+use Rattle.bp_flat.specs.InstrEffects.{bits_of, store_of}
 use Rattle.bp_flat.specs.Views.{formula_of}
 use Rattle.bp_flat.proofs.expr_lists.Arguments.word.Given as goal
 

@@ -1,6 +1,6 @@
 use Rattle.std.proofs.Common.{◌≡◌, sym, ap, ◌∙◌, length, map, arith}
 use Rattle.bp_flat.specs.Views.{formula_of}
-use Rattle.bp_flat.proofs.ListItems.{differ_at}
+use Rattle.bp_flat.proofs.ProceduresOfPlaces.{differ_at}
 use Rattle.bp_flat.proofs.expr_lists.SlotExprs.is_same.Goals as goal
 
 pub returns-then-not-is_same : goal.returns-then-not-is_same

@@ -1,6 +1,6 @@
 use Rattle.std.proofs.Common.{◌≡◌, map, take}
 use Rattle.bp_flat.specs.Steps.{formula_values}
-use Rattle.bp_flat.specs.Bits.{store_of}
+use Rattle.bp_flat.specs.InstrEffects.{store_of}
 use Rattle.bp_flat.specs.Views.{formula_of}
 use Rattle.bp_flat.proofs.expr_lists.SlotExprs.values.Given as goal
 

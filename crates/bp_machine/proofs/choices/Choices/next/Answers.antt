@@ -1,6 +1,6 @@
 use Rattle.std.proofs.Common.{subst, sym}
-use Rattle.bp_machine.specs.ChoiceBits.{IsAt}
-use Rattle.bp_machine.proofs.WordsOfChoices.{at_next_word}
+use Rattle.bp_machine.specs.Histories.{IsAt}
+use Rattle.bp_machine.proofs.StandsAfterTransition.{at_next_word}
 use Rattle.bp_machine.proofs.choices.Choices.next.Goals as goal
 
 pub returns-then-self-eq-LAST_PLACE-clause-after :

@@ -1,10 +1,9 @@
-use Rattle.std.proofs.Common.{◌≡◌, ◌+◌, ◌∙◌, ap, sym, arith, length}
-use Rattle.std.specs.Prelude.{slice_get}
+use Rattle.std.proofs.Common.{◌≡◌, ◌+◌, ◌∙◌, ap, sym, arith, length, slice_get}
 use Rattle.std.proofs.lemmas.List.{length-map}
-use Rattle.bp_machine.specs.GuestThreads.{guests}
+use Rattle.bp_machine.specs.Sessions.{guests}
 use Rattle.bp_machine.specs.Histories.{calls_of_thread}
-use Rattle.bp_machine.proofs.LegalLength.{total, total_zero, total_next, all_calls}
-use Rattle.bp_machine.proofs.StateAfterTransition.{guest_here}
+use Rattle.bp_machine.proofs.HistoriesAreRuns.{total, total_zero, total_next, all_calls}
+use Rattle.bp_machine.proofs.TransitionIsAnswer.{guest_here}
 use Rattle.bp_machine.proofs.machine.Machine.calls.Goals as goal
 
 pub loop-thread-init : goal.loop-thread-init

@@ -1,6 +1,5 @@
-use Rattle.std.proofs.Common.{◌<◌, ◌∙◌, ap, sym, arith, length}
-use Rattle.std.specs.Prelude.{slice_get}
-use Rattle.bp_machine.proofs.StateAfterTransition.{counted, guest_here, room_here, stays_after, fails_after, steps_after}
+use Rattle.std.proofs.Common.{◌<◌, ◌∙◌, ap, sym, arith, length, slice_get}
+use Rattle.bp_machine.proofs.TransitionIsAnswer.{counted, guest_here, room_here, stays_after, fails_after, steps_after}
 use Rattle.bp_machine.proofs.machine.Machine.make.Goals as goal
 
 within : (c : goal.After-index_mut) → c.args.thread < length c.self.inside.threads.items

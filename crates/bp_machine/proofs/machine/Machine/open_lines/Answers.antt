@@ -1,9 +1,8 @@
 use Rattle.std.proofs.lemmas.Grind.{common_steps}
-use Rattle.std.proofs.Common.{◌∙◌, ap, sym, arith, ◌||◌, nat_le}
-use Rattle.std.specs.Prelude.{slice_get}
-use Rattle.bp_machine.specs.GuestThreads.{guests}
+use Rattle.std.proofs.Common.{◌∙◌, ap, sym, arith, ◌||◌, nat_le, slice_get}
+use Rattle.bp_machine.specs.Sessions.{guests}
 use Rattle.bp_machine.proofs.SessionAnswers.{count_more}
-use Rattle.bp_machine.proofs.StateAfterTransition.{guest_here}
+use Rattle.bp_machine.proofs.TransitionIsAnswer.{guest_here}
 use Rattle.bp_machine.proofs.machine.Machine.open_lines.Goals as goal
 use Rattle.bp_machine.proofs.machine.Machine.open_lines.Goals.{then-not-is_finished, else-not-is_finished}
 

@@ -1,5 +1,5 @@
 use Rattle.std.proofs.Common.{◌<◌, ◌∙◌, ap, arith, length}
-use Rattle.bp_machine.proofs.StateAfterTransition.{counted, same_guests, has_room, state}
+use Rattle.bp_machine.proofs.TransitionIsAnswer.{counted, same_guests, has_room, state}
 use Rattle.bp_machine.proofs.machine.Machine.reserve.Goals as goal
 
 pub returns-clause-state : goal.returns-clause-state

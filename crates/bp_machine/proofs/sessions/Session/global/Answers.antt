@@ -1,5 +1,5 @@
 use Rattle.std.proofs.Common.{arith, ap, ◌∙◌, Some}
-use Rattle.bp_flat.specs.Bits.{bits_of}
+use Rattle.bp_flat.specs.InstrEffects.{bits_of}
 use Rattle.bp_machine.proofs.SessionAnswers.{global_here, no_global}
 use Rattle.bp_machine.proofs.SetupInRange.{few_globals}
 use Rattle.bp_machine.proofs.sessions.Session.global.Goals as goal

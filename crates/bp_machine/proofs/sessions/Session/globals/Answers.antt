@@ -1,5 +1,5 @@
 use Rattle.std.proofs.Common.{◌∙◌, ap, sym}
-use Rattle.bp_flat.specs.Bits.{bits_of}
+use Rattle.bp_flat.specs.InstrEffects.{bits_of}
 use Rattle.bp_flat.specs.StandsFor.{valuation_of}
 use Rattle.bp_machine.proofs.sessions.Session.globals.Goals as goal
 

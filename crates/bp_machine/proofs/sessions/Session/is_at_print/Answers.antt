@@ -1,10 +1,9 @@
-use Rattle.std.proofs.Common.{ap, sym, ◌∙◌, is_some}
-use Rattle.std.specs.Prelude.{slice_get}
-use Rattle.bp_machine.specs.Stacks.{top_of}
+use Rattle.std.proofs.Common.{ap, sym, ◌∙◌, is_some, slice_get}
+use Rattle.bp_machine.specs.Sessions.{top_of}
 use Rattle.bp_machine.specs.Histories.{configuration_after}
-use Rattle.bp_machine.specs.PrintedRows.{values_printed}
+use Rattle.bp_machine.specs.Runs.{values_printed}
 use Rattle.bp_machine.proofs.PrintsAlike.{nothing_printed, none_printed, instruction_printed, print_prints, other_prints_nothing}
-use Rattle.bp_machine.proofs.ShownTops.{no_stack}
+use Rattle.bp_machine.proofs.Deadlocks.{no_stack}
 use Rattle.bp_machine.proofs.sessions.Session.is_at_print.Goals.{In-Some-get}
 use Rattle.bp_machine.proofs.sessions.Session.is_at_print.Goals as goal
 

@@ -1,5 +1,4 @@
-use Rattle.std.proofs.Common.{◌∙◌, sym, ap}
-use Rattle.std.specs.Prelude.{slice_get}
+use Rattle.std.proofs.Common.{◌∙◌, sym, ap, slice_get}
 use Rattle.bp_machine.proofs.SessionAnswers.{over_is}
 use Rattle.bp_machine.proofs.sessions.Session.is_finished.Goals as goal
 

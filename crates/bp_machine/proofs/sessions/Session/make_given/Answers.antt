@@ -1,13 +1,11 @@
 use Rattle.std.proofs.Common.{subst}
-use Rattle.bp_tree.specs.Ast.{Program}
-use Rattle.bp_flat.specs.StandsFor.{StandsFor}
-use Rattle.bp_flat.specs.Alike.{StepsAlike}
+use Rattle.bp_language.specs.Ast.{Program}
+use Rattle.bp_flat.specs.StandsFor.{StandsFor, StepsAlike}
 use Rattle.std.proofs.lemmas.Option.{slice_get_within}
 use Rattle.std.proofs.lemmas.Result.{err_from_is_err_and}
 use Rattle.bp_machine.specs.Sessions.{SessionOf, IsInOrder}
-use Rattle.bp_machine.specs.KeptSessions.{session_of, IsJudged}
-use Rattle.bp_machine.proofs.SessionAnswers.{given_bit, judged_next, refused_after, refused_for_memory}
-use Rattle.bp_machine.proofs.CallsAtOnce.{within, few, grows, made_stands, made_in_order}
+use Rattle.bp_machine.specs.Transitions.{session_of, IsJudged}
+use Rattle.bp_machine.proofs.SessionAnswers.{given_bit, judged_next, refused_after, refused_for_memory, within, few, grows, made_stands, made_in_order}
 use Rattle.bp_machine.proofs.sessions.Session.make_given.Goals.{In_ok-made}
 use Rattle.bp_machine.proofs.sessions.Session.make_given.Goals as goal
 

@@ -1,9 +1,8 @@
-use Rattle.std.proofs.Common.{ap, sym, ◌∙◌, is_some}
-use Rattle.std.specs.Prelude.{slice_get}
+use Rattle.std.proofs.Common.{ap, sym, ◌∙◌, is_some, slice_get}
 use Rattle.std.proofs.lemmas.Result.{err_from_is_err_and}
-use Rattle.bp_flat.specs.Bits.{bits_of}
-use Rattle.bp_flat.specs.Prints.{printed_values}
-use Rattle.bp_machine.specs.Stacks.{top_of}
+use Rattle.bp_flat.specs.InstrEffects.{bits_of}
+use Rattle.bp_flat.specs.Steps.{printed_values}
+use Rattle.bp_machine.specs.Sessions.{top_of}
 use Rattle.bp_machine.proofs.SessionAnswers.{within_threads}
 use Rattle.bp_machine.proofs.PrintsAlike.{nothing_printed, none_printed, instruction_printed}
 use Rattle.bp_machine.proofs.sessions.Session.next_print.Goals as goal

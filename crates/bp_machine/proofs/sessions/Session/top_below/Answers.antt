@@ -1,11 +1,9 @@
-use Rattle.std.proofs.Common.{◌-◌, ap, sym, ◌∙◌, [], arith, drop, drop_of_length-le, length, length-drop}
-use Rattle.std.specs.Prelude.{slice_get}
-use Rattle.bp_flat.specs.Bits.{bits_of}
+use Rattle.std.proofs.Common.{◌-◌, ap, sym, ◌∙◌, [], arith, drop, drop_of_length-le, length, length-drop, slice_get}
+use Rattle.bp_flat.specs.InstrEffects.{bits_of}
 use Rattle.bp_flat.specs.StandsFor.{valuation_of}
-use Rattle.bp_machine.specs.Stacks.{top_of}
-use Rattle.bp_machine.specs.Answers.{stack_of}
-use Rattle.bp_machine.specs.Histories.{configuration_after}
-use Rattle.bp_machine.proofs.ShownTops.{none_shown, top_shown, shown_below, no_stack}
+use Rattle.bp_machine.specs.Sessions.{top_of}
+use Rattle.bp_machine.specs.Histories.{stack_of, configuration_after}
+use Rattle.bp_machine.proofs.Deadlocks.{none_shown, top_shown, shown_below, no_stack}
 use Rattle.bp_machine.proofs.sessions.Session.top_below.Goals as goal
 
 pub returns-in_default : goal.returns-in_default

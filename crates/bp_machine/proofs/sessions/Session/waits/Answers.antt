@@ -1,10 +1,7 @@
-use Rattle.std.proofs.Common.{◌∙◌, ◌&&◌, ap, sym, true, false}
-use Rattle.std.specs.Prelude.{slice_get}
-use Rattle.bp_machine.specs.Answers.{reply_on_stack, stack_of}
-use Rattle.bp_machine.specs.Histories.{configuration_after}
-use Rattle.bp_machine.specs.Waiting.{is_blocked}
-use Rattle.bp_machine.proofs.BlockedWithEitherBit.{with_either_bit}
-use Rattle.bp_machine.proofs.ShownTops.{no_stack}
+use Rattle.std.proofs.Common.{◌∙◌, ◌&&◌, ap, sym, true, false, slice_get}
+use Rattle.bp_machine.specs.Histories.{reply_on_stack, stack_of, configuration_after}
+use Rattle.bp_machine.specs.Runs.{is_blocked}
+use Rattle.bp_machine.proofs.Deadlocks.{with_either_bit, no_stack}
 use Rattle.bp_machine.proofs.sessions.Session.waits.Goals as goal
 
 pub returns-in_default : goal.returns-in_default

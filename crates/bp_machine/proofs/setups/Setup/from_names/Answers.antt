@@ -1,8 +1,6 @@
 use Rattle.std.proofs.Common.{sym, ◌∙◌, map, arith}
 use Rattle.bp_machine.specs.Setups.{setup_of}
-use Rattle.bp_machine.proofs.OwnNames.{names_found}
-use Rattle.bp_machine.proofs.SetupInRange.{fits, in_range}
-use Rattle.bp_machine.proofs.SetupRefusals.{fault_refuses}
+use Rattle.bp_machine.proofs.SetupInRange.{names_found, fits, in_range, fault_refuses}
 use Rattle.bp_machine.proofs.setups.Setup.from_names.Goals as goal
 
 pub returns-in-Some-clause-answer : goal.returns-in-Some-clause-answer

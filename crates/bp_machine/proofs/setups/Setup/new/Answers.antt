@@ -1,7 +1,6 @@
 use Rattle.std.proofs.Common.{sym, ◌∙◌, map, string_bytes}
 use Rattle.bp_machine.specs.Setups.{setup_of}
-use Rattle.bp_machine.proofs.SetupInRange.{in_range}
-use Rattle.bp_machine.proofs.SetupRefusals.{fault_refuses}
+use Rattle.bp_machine.proofs.SetupInRange.{in_range, fault_refuses}
 use Rattle.bp_machine.proofs.setups.Setup.new.Goals as goal
 
 pub kept-requires : goal.kept-requires

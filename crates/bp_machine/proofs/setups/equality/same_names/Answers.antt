@@ -1,7 +1,7 @@
 use Rattle.std.proofs.Common.{◌≡◌, ◌<◌, ◌++◌, sym, ◌∙◌, ap, length, map, take, get_or, [], ◌∷◌, arith, string_bytes}
 use Rattle.std.proofs.lemmas.List.{take_more, map-append}
 use Rattle.std.proofs.lemmas.Slice.Eq.{bytes_eq-Decides}
-use Rattle.bp_flat.proofs.ListItems.{differ_at}
+use Rattle.bp_flat.proofs.ProceduresOfPlaces.{differ_at}
 use Rattle.bp_machine.proofs.setups.equality.same_names.Goals as goal
 
 pub returns-then-ne : goal.returns-then-ne

@@ -1,8 +1,7 @@
-use Rattle.std.proofs.Common.{◌≡◌, ◌∙◌, ◌-◌, ◌<◌, ap, arith, drop, length, refl, sym}
-use Rattle.std.specs.Prelude.{slice_get}
+use Rattle.std.proofs.Common.{◌≡◌, ◌∙◌, ◌-◌, ◌<◌, ap, arith, drop, length, refl, sym, slice_get}
 use Rattle.std.proofs.lemmas.Option.{slice_get_read}
-use Rattle.bp_machine.specs.Stacks.{top_of}
-use Rattle.bp_machine.proofs.StackTops.{below_is}
+use Rattle.bp_machine.specs.Sessions.{top_of}
+use Rattle.bp_machine.proofs.SessionsInOrder.{below_is}
 use Rattle.bp_machine.proofs.stacks.Stack.below.Goals as goal
 
 pub returns-then-returned-count : goal.returns-then-returned-count

@@ -1,9 +1,8 @@
 use Rattle.std.proofs.Common.{◌≡◌, ◌∙◌, ap, ap₂, subst, length, map, string_bytes, None, MatchResult}
-use Rattle.bp_tree.specs.Ast.{Program}
+use Rattle.bp_language.specs.Ast.{Program}
 use Rattle.bp_flat.specs.StandsFor.{StandsFor}
-use Rattle.bp_machine.specs.Setups.{initial_bits, setup_of, setup_fault, IsSetupRefusal}
-use Rattle.bp_machine.specs.Starts.{setup_from}
-use Rattle.bp_machine.proofs.ZerosNotGiven.{bits_given, bits_not_given}
+use Rattle.bp_machine.specs.Setups.{initial_bits, setup_of, setup_fault, IsSetupRefusal, setup_from}
+use Rattle.bp_machine.proofs.SetupInRange.{bits_given, bits_not_given}
 use Rattle.bp_machine.proofs.starts.Start.setup.Goals as goal
 use Rattle.bp_machine.proofs.starts.Start.setup.Goals.{in-Some, in-None}
 

@@ -1,12 +1,11 @@
 use Rattle.std.proofs.Common.{◌≡◌, ◌∙◌, Some, refl, sym, ap, subst}
-use Rattle.bp_tree.specs.Ast.{Variable, Operation}
-use Rattle.bp_tree.specs.declared.exprs.Op.TheVariants as op
-use Rattle.bp_tree.specs.Views.{expression_of}
+use Rattle.bp_language.specs.Ast.{Variable, Operation}
+use Rattle.bp_language.specs.declared.exprs.Op.TheVariants as op
+use Rattle.bp_language.specs.Views.{expression_of}
 use Rattle.bp_syntax.specs.ParserState.{ExprThen, OperandThen, UnThen, MoreImplied, MoreOperands, MoreTighter, ReadsBy, kind_ahead, parse_result, wanted_after_un}
 use Rattle.bp_syntax.specs.declared.parser.operators.Precedence.TheVariants.{Conjunction, Exclusion, Disjunction}
 use Rattle.bp_language.specs.declared.tokens.TokenKind.TheVariants as kind
-use Rattle.bp_syntax.proofs.ResultByNextToken.{at_exit, passed_on, ahead_name, implies_ahead}
-use Rattle.bp_syntax.proofs.ResultAfterToken.{no_implies}
+use Rattle.bp_syntax.proofs.ResultAfterToken.{at_exit, passed_on, ahead_name, implies_ahead, no_implies}
 use Rattle.bp_syntax.proofs.parser.Parser.+expr.Goals as goal
 
 pub expr-returns-in_err-first-clause-reads : goal.expr-returns-in_err-first-clause-reads

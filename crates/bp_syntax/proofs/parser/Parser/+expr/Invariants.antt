@@ -1,6 +1,6 @@
 use Rattle.std.proofs.Common.{◌≡◌, ◌≤◌, length, ◌+◌, ◌*◌}
-use Rattle.bp_tree.specs.Ast as tree
-use Rattle.bp_tree.specs.Views.{expression_of}
+use Rattle.bp_language.specs.Ast as tree
+use Rattle.bp_language.specs.Views.{expression_of}
 use Rattle.bp_syntax.specs.ParserState.{Wanted, MoreOperands, parse_result}
 use Rattle.bp_syntax.proofs.parser.Parser.+expr.Given as goal
 

@@ -1,12 +1,11 @@
 use Rattle.std.proofs.Common.{◌≡◌, ◌∙◌, ap, sym, refl, Some, arith, rules}
-use Rattle.bp_tree.specs.Ast.{Decision, Block, Then, Skips, Returns, Branches, Loops}
-use Rattle.bp_tree.specs.Ast as tree
-use Rattle.bp_tree.specs.Blocks.{statement_of}
-use Rattle.bp_tree.specs.Views.{decision_of}
+use Rattle.bp_language.specs.Ast.{Decision, Block, Then, Skips, Returns, Branches, Loops}
+use Rattle.bp_language.specs.Ast as tree
+use Rattle.bp_language.specs.Blocks.{statement_of}
+use Rattle.bp_language.specs.Views.{decision_of}
 use Rattle.bp_syntax.specs.ParserState.{Wanted, WordThen, KeywordThen, StmtsTo, FormThen, GotoThen, IfThen, WhileThen, AssertThen, AssumeThen, PrintThen, StmtsThen, MoreStmts, parse_result, kind_ahead, place_ahead}
 use Rattle.bp_language.specs.declared.tokens.TokenKind.TheVariants as kind
-use Rattle.bp_syntax.proofs.ResultByNextToken.{at_exit, passed_on, word_comes, before_block, block_is, one_more_form}
-use Rattle.bp_syntax.proofs.ResultAfterToken.{more_stmts_ahead, no_stmt}
+use Rattle.bp_syntax.proofs.ResultAfterToken.{at_exit, passed_on, word_comes, before_block, block_is, one_more_form, more_stmts_ahead, no_stmt}
 use Rattle.bp_syntax.proofs.parser.Parser.+stmt.Goals as goal
 
 pub form-returns-in-Some-Skip-clause-reads : goal.form-returns-in-Some-Skip-clause-reads

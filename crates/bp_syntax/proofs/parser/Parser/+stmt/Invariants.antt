@@ -1,7 +1,7 @@
 use Rattle.std.proofs.Common.{◌≡◌, ◌<◌, length, ◌+◌, ◌*◌}
-use Rattle.bp_tree.specs.Ast.{Block}
+use Rattle.bp_language.specs.Ast.{Block}
 use Rattle.bp_syntax.specs.ParserState.{Wanted, StmtsThen, MoreStmts, parse_result}
-use Rattle.bp_syntax.proofs.ResultByNextToken.{before_block}
+use Rattle.bp_syntax.proofs.ResultAfterToken.{before_block}
 use Rattle.bp_syntax.proofs.parser.Parser.+stmt.Given as goal
 
 abbrev pub decreases-branch : goal.decreases-branch

@@ -1,7 +1,6 @@
 use Rattle.std.proofs.Common.{[], sym}
 use Rattle.bp_syntax.specs.ParserState.{AnyExprsThen, ExprsThen}
-use Rattle.bp_syntax.proofs.ResultByNextToken.{passed_on}
-use Rattle.bp_syntax.proofs.ResultAfterToken.{some_expr}
+use Rattle.bp_syntax.proofs.ResultAfterToken.{passed_on, some_expr}
 use Rattle.bp_syntax.proofs.parser.Parser.any_exprs.Goals as goal
 
 pub returns-then-at_expr-clause-reads : goal.returns-then-at_expr-clause-reads

@@ -1,7 +1,6 @@
 use Rattle.std.proofs.Common.{[], sym}
 use Rattle.bp_syntax.specs.ParserState.{AnyNamesThen, NamesThen}
-use Rattle.bp_syntax.proofs.ResultByNextToken.{passed_on}
-use Rattle.bp_syntax.proofs.ResultAfterToken.{some_name}
+use Rattle.bp_syntax.proofs.ResultAfterToken.{passed_on, some_name}
 use Rattle.bp_syntax.proofs.parser.Parser.any_names.Goals as goal
 
 pub returns-then-at-clause-reads : goal.returns-then-at-clause-reads

@@ -1,8 +1,8 @@
 use Rattle.std.proofs.Common.{refl}
-use Rattle.bp_tree.specs.Ast.{Assumes}
+use Rattle.bp_language.specs.Ast.{Assumes}
 use Rattle.bp_syntax.specs.ParserState.{KeywordThen, AssumeThen}
 use Rattle.bp_language.specs.declared.tokens.TokenKind.TheVariants as kind
-use Rattle.bp_syntax.proofs.ResultByNextToken.{at_exit}
+use Rattle.bp_syntax.proofs.ResultAfterToken.{at_exit}
 use Rattle.bp_syntax.proofs.parser.Parser.assumption.Goals as goal
 
 pub returns-in_err-decider-clause-reads : goal.returns-in_err-decider-clause-reads

@@ -1,7 +1,7 @@
 use Rattle.std.proofs.Common.{◌∙◌}
-use Rattle.bp_tree.specs.Ast.{Calls}
+use Rattle.bp_language.specs.Ast.{Calls}
 use Rattle.bp_syntax.specs.ParserState.{ListedThen, CallThen}
-use Rattle.bp_syntax.proofs.ResultByNextToken.{at_exit}
+use Rattle.bp_syntax.proofs.ResultAfterToken.{at_exit}
 use Rattle.bp_syntax.proofs.parser.Parser.call.Goals as goal
 
 pub returns-in_err-arguments-clause-reads : goal.returns-in_err-arguments-clause-reads

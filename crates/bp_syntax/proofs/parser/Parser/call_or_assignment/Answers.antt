@@ -1,7 +1,7 @@
 use Rattle.std.proofs.Common.{sym}
-use Rattle.bp_tree.specs.Blocks.{statement_of}
+use Rattle.bp_language.specs.Blocks.{statement_of}
 use Rattle.bp_syntax.specs.ParserState.{FormThen, CallThen, AssignThen, place_ahead}
-use Rattle.bp_syntax.proofs.ResultByNextToken.{passed_on, call_comes, assign_comes}
+use Rattle.bp_syntax.proofs.ResultAfterToken.{passed_on, call_comes, assign_comes}
 use Rattle.bp_syntax.proofs.parser.Parser.call_or_assignment.Goals as goal
 
 pub returns-then-at_second-clause-reads : goal.returns-then-at_second-clause-reads

@@ -1,8 +1,7 @@
 use Rattle.std.proofs.Common.{◌∙◌, sym, ap}
-use Rattle.bp_tree.specs.Ast.{Decide}
+use Rattle.bp_language.specs.Ast.{Decide}
 use Rattle.bp_syntax.specs.ParserState.{DeciderThen, ExprThen, parse_result}
-use Rattle.bp_syntax.proofs.ResultByNextToken.{at_exit}
-use Rattle.bp_syntax.proofs.ResultAfterToken.{no_question}
+use Rattle.bp_syntax.proofs.ResultAfterToken.{at_exit, no_question}
 use Rattle.bp_syntax.proofs.parser.Parser.decider.Goals as goal
 
 pub returns-in_err-expr-clause-reads : goal.returns-in_err-expr-clause-reads

@@ -1,5 +1,5 @@
 use Rattle.std.proofs.Common.{◌≡◌, ◌≤◌, [], length, List}
-use Rattle.bp_tree.specs.Ast.{Name}
+use Rattle.bp_language.specs.Ast.{Name}
 use Rattle.bp_syntax.specs.ParserState.{Wanted, MoreDecls, parse_result}
 use Rattle.bp_syntax.proofs.parser.Parser.decls.Given as goal
 

@@ -1,7 +1,7 @@
 use Rattle.std.proofs.Common.{[], sym, ap, map}
-use Rattle.bp_tree.specs.Views.{expression_of}
+use Rattle.bp_language.specs.Views.{expression_of}
 use Rattle.bp_syntax.specs.ParserState.{ExprsThen, parse_result}
-use Rattle.bp_syntax.proofs.ResultByNextToken.{at_exit}
+use Rattle.bp_syntax.proofs.ResultAfterToken.{at_exit}
 use Rattle.bp_syntax.proofs.parser.Parser.expr_list.Goals as goal
 
 pub returns-in_err-exprs-clause-reads : goal.returns-in_err-exprs-clause-reads

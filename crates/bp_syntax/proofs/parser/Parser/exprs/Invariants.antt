@@ -1,6 +1,6 @@
 use Rattle.std.proofs.Common.{◌≡◌, ◌<◌, List, length, map}
-use Rattle.bp_tree.specs.Ast.{Expression}
-use Rattle.bp_tree.specs.Views.{expression_of}
+use Rattle.bp_language.specs.Ast.{Expression}
+use Rattle.bp_language.specs.Views.{expression_of}
 use Rattle.bp_syntax.specs.ParserState.{Wanted, ExprsThen, MoreExprs, parse_result}
 use Rattle.bp_syntax.proofs.parser.Parser.exprs.Given as goal
 

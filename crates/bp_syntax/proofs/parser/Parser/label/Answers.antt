@@ -1,8 +1,8 @@
 use Rattle.std.proofs.Common.{◌∙◌, sym, Some}
-use Rattle.bp_tree.specs.Ast as tree
+use Rattle.bp_language.specs.Ast as tree
 use Rattle.bp_syntax.specs.ParserState.{WordThen, FormThen, StmtThen}
 use Rattle.bp_language.specs.declared.tokens.TokenKind.TheVariants as kind
-use Rattle.bp_syntax.proofs.ResultByNextToken.{at_exit, label_ahead}
+use Rattle.bp_syntax.proofs.ResultAfterToken.{at_exit, label_ahead}
 use Rattle.bp_syntax.proofs.parser.Parser.label.Goals as goal
 
 pub returns-in_err-name-clause-reads : goal.returns-in_err-name-clause-reads

@@ -1,7 +1,7 @@
 use Rattle.std.proofs.Common.{◌∙◌, [], ap, sym}
 use Rattle.bp_syntax.specs.ParserState.{FormalsThen, MoreDecls, ProcThen, StmtsTo, parse_result, procedure_of}
 use Rattle.bp_language.specs.declared.tokens.TokenKind.TheVariants as kind
-use Rattle.bp_syntax.proofs.ResultByNextToken.{at_exit}
+use Rattle.bp_syntax.proofs.ResultAfterToken.{at_exit}
 use Rattle.bp_syntax.proofs.parser.Parser.procedure.Goals as goal
 
 pub returns-in_err-formals-clause-reads : goal.returns-in_err-formals-clause-reads

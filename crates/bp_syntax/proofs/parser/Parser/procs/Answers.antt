@@ -1,8 +1,7 @@
 use Rattle.std.proofs.Common.{List, [], ◌∷◌, ◌++◌, ◌∙◌, ap, sym}
-use Rattle.bp_tree.specs.Ast.{Procedure}
+use Rattle.bp_language.specs.Ast.{Procedure}
 use Rattle.bp_syntax.specs.ParserState.{MoreProcs, parse_result}
-use Rattle.bp_syntax.proofs.ResultByNextToken.{at_exit}
-use Rattle.bp_syntax.proofs.ResultAfterToken.{more_procs_ahead}
+use Rattle.bp_syntax.proofs.ResultAfterToken.{at_exit, more_procs_ahead}
 use Rattle.bp_syntax.proofs.parser.Parser.procs.Goals as goal
 
 pub returns-in_err-procedure : goal.returns-in_err-procedure

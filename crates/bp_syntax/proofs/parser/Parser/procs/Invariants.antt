@@ -1,5 +1,5 @@
 use Rattle.std.proofs.Common.{◌≡◌, [], length, List}
-use Rattle.bp_tree.specs.Ast.{Procedure}
+use Rattle.bp_language.specs.Ast.{Procedure}
 use Rattle.bp_syntax.specs.ParserState.{Wanted, MoreProcs, parse_result}
 use Rattle.bp_syntax.proofs.parser.Parser.procs.Given as goal
 

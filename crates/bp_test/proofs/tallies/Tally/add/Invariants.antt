@@ -1,5 +1,4 @@
-use Rattle.std.proofs.Common.{◌≡◌, ◌+◌, ◌-◌, ◌^◌, ◌<◌, ◌≤◌, ℕ, min, max, true, take, ◌++◌, Some}
-use Rattle.std.specs.Prelude.{slice_index_or}
+use Rattle.std.proofs.Common.{◌≡◌, ◌+◌, ◌-◌, ◌^◌, ◌<◌, ◌≤◌, ℕ, min, max, true, take, ◌++◌, Some, slice_index_or}
 use Rattle.bp_test.specs.declared.limits.TheConstants.{MAX_KEYS}
 use Rattle.bp_test.specs.Reached.{is_marked, MarksGrow}
 use Rattle.bp_test.specs.Tallies.{capped, ends_sum}

@@ -1,6 +1,6 @@
 use Rattle.std.proofs.Common.{flat_map, take}
 use Rattle.bp_text.specs.Pieces.{bit_text}
-use Rattle.bp_text.specs.Sinks.{Given}
+use Rattle.bp_text.specs.Writing.{Given}
 use Rattle.bp_text.proofs.sinks.Sink.put_bits.Given as goal
 
 abbrev pub invariant-loop-bit : goal.invariant-loop-bit

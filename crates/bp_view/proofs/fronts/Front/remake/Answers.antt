@@ -1,6 +1,6 @@
 use Rattle.std.proofs.Common.{[], ◌∷◌}
-use Rattle.bp_text.proofs.PiecesInTurn.{all_added}
-use Rattle.bp_view.specs.Fronts.{tens_text, turn_texts}
+use Rattle.bp_text.proofs.PartsOfTexts.{all_added}
+use Rattle.bp_view.specs.Lines.{tens_text, turn_texts}
 use Rattle.bp_view.proofs.fronts.Front.remake.Goals as goal
 
 pub returns : goal.returns

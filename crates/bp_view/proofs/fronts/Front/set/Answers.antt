@@ -1,4 +1,4 @@
-use Rattle.bp_view.proofs.KeptFronts.{parts_put}
+use Rattle.bp_view.proofs.ShownLines.{parts_put}
 use Rattle.bp_view.proofs.fronts.Front.set.Goals as goal
 
 pub invariant_of-self : goal.invariant_of-self

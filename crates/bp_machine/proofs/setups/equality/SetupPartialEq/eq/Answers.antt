@@ -1,5 +1,5 @@
 use Rattle.bp_flat.specs.Same.{same, same-Decides}
-use Rattle.bp_flat.proofs.SameAnswer.{same_answer}
+use Rattle.bp_flat.proofs.ProceduresOfPlaces.{same_answer}
 use Rattle.bp_machine.specs.SessionCodes.{coded_setup}
 use Rattle.bp_machine.proofs.setups.equality.SetupPartialEq.eq.Goals as goal
 

@@ -1,6 +1,0 @@
-use Rattle.std.proofs.Common.{◌≡◌, take, map}
-use Rattle.bp_advice.specs.Explanations.{shown}
-use Rattle.bp_advice.proofs.printed.shown_bytes.Given as goal
-
-abbrev pub invariant-loop-byte : goal.invariant-loop-byte
-invariant-loop-byte l = l.out.items ≡ map shown (take l.byte-index l.bytes)

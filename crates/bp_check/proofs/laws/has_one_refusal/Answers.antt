@@ -1,8 +1,0 @@
-use Rattle.bp_check.proofs.OneRefusal.{one_refusal, none_of_lawful}
-use Rattle.bp_check.proofs.laws.has_one_refusal.Goals as goal
-
-pub returns-clause-one : goal.returns-clause-one
-returns-clause-one c = one_refusal
-
-pub returns-clause-none : goal.returns-clause-none
-returns-clause-none c = none_of_lawful

@@ -1,7 +1,0 @@
-use Rattle.std.proofs.Common.{take}
-use Rattle.bp_check.specs.Sets.{IsFaultOfProcedures}
-use Rattle.bp_check.specs.LeastFound.{Finds}
-use Rattle.bp_check.proofs.programs.fault_of_procedures.Given as goal
-
-abbrev pub invariant-loop-proc : goal.invariant-loop-proc
-invariant-loop-proc l = Finds (IsFaultOfProcedures l.globals l.callees (take l.proc-index l.procs)) l.best

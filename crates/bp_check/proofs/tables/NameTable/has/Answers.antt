@@ -1,6 +1,0 @@
-use Rattle.std.proofs.Common.{◌∙◌, ap, is_some}
-use Rattle.bp_check.proofs.FirstIndex.{first_has}
-use Rattle.bp_check.proofs.tables.NameTable.has.Goals as goal
-
-pub returns : goal.returns
-returns c = c.is_some.ensures ∙ ap is_some c.first.ensures ∙ first_has c.args.text.now 0 c.args.self.now

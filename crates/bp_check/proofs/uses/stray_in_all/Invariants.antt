@@ -1,9 +1,0 @@
-use Rattle.std.proofs.Common.{map, take}
-use Rattle.bp_tree.specs.Views.{expression_of}
-use Rattle.bp_language.specs.Scopes.{SomeUses}
-use Rattle.bp_check.specs.LeastFound.{Finds}
-use Rattle.bp_check.specs.Sets.{IsStray}
-use Rattle.bp_check.proofs.uses.stray_in_all.Given as goal
-
-abbrev pub invariant-loop-expr : goal.invariant-loop-expr
-invariant-loop-expr l = Finds (IsStray l.declared (SomeUses (map expression_of (take l.expr-index l.exprs)))) l.best

@@ -1,6 +1,0 @@
-pub mod Laws
-pub mod Least
-pub mod LeastFound
-pub mod Refusals
-pub mod Sets
-pub mod Tables

@@ -1,8 +1,0 @@
-//! Laws of refusals.
-ghost use Rattle.bp_check.specs.Laws.{OneRefusal, NoRefusalOfLawful};
-
-/// Law: a program has at most one refusal, `Memory` aside, and a lawful one has none.
-pub fn has_one_refusal()
-    ensures one { OneRefusal }
-    ensures none { NoRefusalOfLawful }
-{}

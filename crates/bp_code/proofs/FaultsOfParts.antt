@@ -1,0 +1,297 @@
+-- The faults of a program are those of its parts.
+use Rattle.std.proofs.Common.{◌≡◌, ◌⊎◌, ℕ, ◌<◌, ◌≤◌, ◌||◌, ◌&&◌, Bool, true, false, nat_lt, nat_eq, nat_le, cond, Option, None, Some, refl, inl, inr, arith, List, [], ◌∷◌, ◌++◌, sym, subst, map, Result, Ok, Err, IfOk, zero, suc, ◌+◌, length, get_or, take, ap, ◌∙◌}
+use Rattle.std.proofs.lemmas.Bool.Decides.{nat_tests}
+use Rattle.std.specs.Option.{option_to_list}
+use Rattle.std.specs.Borrow.{Bor}
+use Rattle.std.proofs.lemmas.List.{take_more, map-append, append-nil}
+use Rattle.bp_language.specs.Ast.{Procedure, Program, variables, Name, Expression, Statement, Assigns, Calls, GoesTo}
+use Rattle.bp_language.specs.declared.stmts.Stmt.{Stmt}
+use Rattle.bp_language.specs.Blocks.{block_of, statement_of}
+use Rattle.bp_language.specs.Depth.{depth, statement_depth}
+use Rattle.bp_language.proofs.GrownLists.{regrouped}
+use Rattle.bp_language.specs.declared.faults.CheckFault.{CheckFault}
+use Rattle.bp_language.specs.Faults.{Among, Labelled, labels, statements, IsFault, IsUndeclared, IsUneven, HasTargetTwice, statements_inside, labels_of}
+use Rattle.bp_language.specs.declared.faults.CheckFault.TheVariants.{TwiceGlobal, TwiceProcedure, TwiceLocal, TwiceLabel, UnknownVariable, UnknownProcedure, UnknownLabel, Arity, Lengths, TwiceTarget, Limit, Memory}
+use Rattle.bp_language.specs.declared.limits.TheConstants.{MAX_GLOBALS, MAX_PROCEDURES}
+use Rattle.bp_language.proofs.LawsOfLawfulPrograms.{Among-front, Among-back, Among-split}
+use Rattle.bp_code.specs.declared.checks.Found.{Found}
+use Rattle.bp_code.specs.Refusals.{IsNotAfter, IsLeast, IsRefusal}
+use Rattle.bp_code.specs.Sets.{Finds, is_not_after, least_of, IsStatementFault, IsFaultOfNames, IsProcedureFault, IsFaultOfProcedures, Only, IsMisuse, names_of, labelled_of, all_labelled}
+
+-- The least fault of two sets together is the lesser of their least faults.
+
+first_is : (a b m n : ℕ) → (nat_lt a b || (nat_eq a b && nat_le m n)) ≡ true → (a < b) ⊎ ((a ≡ b) × (m ≤ n))
+first_is a b m n h = grind (arith, nat_tests)
+
+second_is : (a b m n : ℕ) → (nat_lt a b || (nat_eq a b && nat_le m n)) ≡ false → (b < a) ⊎ ((b ≡ a) × (n ≤ m))
+second_is a b m n h = grind (arith, nat_tests)
+
+then : (f h : Found) (g : CheckFault) (at : ℕ) → IsNotAfter f.fault f.at h.fault h.at → IsNotAfter h.fault h.at g at → IsNotAfter f.fault f.at g at
+then f h g at (inl x) (inl y) = inl (omega arith)
+then f h g at (inl x) (inr y) = inl (omega arith)
+then f h g at (inr x) (inl y) = inl (omega arith)
+then f h g at (inr x) (inr y) = inr (omega arith, omega arith)
+
+module _ (S T : CheckFault → ℕ → Type 0) where
+  chosen : (f h : Found) (b : Bool) → is_not_after f h ≡ b → IsLeast S f.fault f.at → IsLeast T h.fault h.at
+      → Finds (λ g at. S g at ⊎ T g at) (cond b (Some f) (Some h))
+  chosen f h true e s t = record {
+    within = inl s.within;
+    first = λ g at x. elim x [ inl y ↦ s.first g at y | inr y ↦ then f h g at (first_is _ _ _ _ e) (t.first g at y) ];
+  }
+  chosen f h false e s t = record {
+    within = inr t.within;
+    first = λ g at x. elim x [ inl y ↦ then h f g at (second_is _ _ _ _ e) (s.first g at y) | inr y ↦ t.first g at y ];
+  }
+
+  pub finds_both : (a b : Option Found) → Finds S a → Finds T b → Finds (λ g at. S g at ⊎ T g at) (least_of a b)
+  finds_both None None s t = λ g at x. elim x [ inl y ↦ s g at y | inr y ↦ t g at y ]
+  finds_both None (Some h) s t =
+      record { within = inr t.within; first = λ g at x. elim x [ inl y ↦ absurd (s g at y) | inr y ↦ t.first g at y ] }
+  finds_both (Some f) None s t =
+      record { within = inl s.within; first = λ g at x. elim x [ inl y ↦ s.first g at y | inr y ↦ absurd (t g at y) ] }
+  finds_both (Some f) (Some h) s t = chosen f h (is_not_after f h) refl s t
+
+  -- two sets of the same faults
+  pub finds_same : (a : Option Found) → ((g : CheckFault) (at : ℕ) → S g at → T g at) → ((g : CheckFault) (at : ℕ) → T g at → S g at) → Finds S a → Finds T a
+  finds_same None to from s = λ g at x. s g at (from g at x)
+  finds_same (Some f) to from s = record { within = to _ _ s.within; first = λ g at x. s.first g at (from g at x) }
+
+-- The faults of a list of things are those of each of them.
+
+module _ {X : Type 0} (Is : X → CheckFault → ℕ → Type 0) where
+  abbrev pub OfSome : List X → CheckFault → ℕ → Type 0
+  OfSome xs g at = (x : X) × Among xs x × Is x g at
+
+  pub one_of_more : (xs : List X) (x : X) (a b : Option Found) → Finds (OfSome xs) a → Finds (Is x) b → Finds (OfSome (xs ++ x ∷ [])) (least_of a b)
+  one_of_more xs x a b h k =
+      finds_same (λ g at. OfSome xs g at ⊎ Is x g at) (OfSome (xs ++ x ∷ [])) (least_of a b) to from (finds_both (OfSome xs) (Is x) a b h k)
+    where
+      to : (g : CheckFault) (at : ℕ) → OfSome xs g at ⊎ Is x g at → OfSome (xs ++ x ∷ []) g at
+      to g at (inl (y, m, u)) = (y, Among-front xs (x ∷ []) y m, u)
+      to g at (inr u) = (x, Among-back xs (x ∷ []) x (inl refl), u)
+
+      last : (y : X) → Among (x ∷ []) y → x ≡ y
+      last y (inl e) = e
+      last y (inr m) = absurd m
+
+      from : (g : CheckFault) (at : ℕ) → OfSome (xs ++ x ∷ []) g at → OfSome xs g at ⊎ Is x g at
+      from g at (y, m, u) =
+          elim (Among-split xs (x ∷ []) y m) [ inl f ↦ inl (y, f, u) | inr l ↦ inr (subst (λ z. Is z g at) (sym (last y l)) u) ]
+
+module _ (p : Program) where
+  IsPart : CheckFault → ℕ → Type 0
+  IsPart g at =
+      IsFaultOfNames TwiceGlobal MAX_GLOBALS p.globals g at
+      ⊎ (IsFaultOfNames TwiceProcedure MAX_PROCEDURES (map (λ q. q.name) p.procedures) g at ⊎ IsFaultOfProcedures p.globals p.procedures p.procedures g at)
+
+  moved : (g h : CheckFault) (at : ℕ) → g ≡ h → IsFault p h at → IsFault p g at
+  moved g h at e x = subst (λ (f : CheckFault). IsFault p f at) (sym e) x
+
+  statement_to : (q : Procedure) (s : Labelled) → Among p.procedures q → Among (statements q.body) s → (g : CheckFault) (at : ℕ)
+      → IsStatementFault (variables q ++ p.globals) p.procedures (labels q.body) s.statement g at → IsFault p g at
+  statement_to q s mq ms UnknownVariable at x = (q, s, mq, ms, x)
+  statement_to q s mq ms UnknownProcedure at x = (q, s, mq, ms, x)
+  statement_to q s mq ms UnknownLabel at x = (q, s, mq, ms, x)
+  statement_to q s mq ms Arity at x = (q, s, mq, ms, x)
+  statement_to q s mq ms Lengths at x = (q, s, mq, ms, x)
+  statement_to q s mq ms TwiceTarget at x = (q, s, mq, ms, x)
+  statement_to q s mq ms _ at x = absurd x
+
+  procedure_to : (q : Procedure) → Among p.procedures q → (g : CheckFault) (at : ℕ) → IsProcedureFault p.globals p.procedures q g at → IsFault p g at
+  procedure_to q mq g at (inl (inl x)) = moved g TwiceLocal at x.0 (q, mq, x.1)
+  procedure_to q mq g at (inl (inr x)) = moved g Limit at x.0 (inr (inr (q, mq, x.1)))
+  procedure_to q mq g at (inr (inl x)) = statement_to q x.0 mq x.1 g at x.2
+  procedure_to q mq g at (inr (inr x)) = moved g TwiceLabel at x.0 (q, mq, x.1)
+
+  to : (g : CheckFault) (at : ℕ) → IsPart g at → IsFault p g at
+  unfolding IsPart
+  to g at (inl (inl x)) = moved g TwiceGlobal at x.0 x.1
+  to g at (inl (inr x)) = moved g Limit at x.0 (inr (inl x.1))
+  to g at (inr (inl (inl x))) = moved g TwiceProcedure at x.0 x.1
+  to g at (inr (inl (inr x))) = moved g Limit at x.0 (inl x.1)
+  to g at (inr (inr x)) = procedure_to x.0 x.1 g at x.2
+
+  from : (g : CheckFault) (at : ℕ) → IsFault p g at → IsPart g at
+  unfolding IsPart
+  from TwiceGlobal at x = inl (inl (refl, x))
+  from TwiceProcedure at x = inr (inl (inl (refl, x)))
+  from TwiceLocal at x = inr (inr (x.0, x.1, inl (inl (refl, x.2))))
+  from TwiceLabel at x = inr (inr (x.0, x.1, inr (inr (refl, x.2))))
+  from UnknownVariable at x = inr (inr (x.0, x.2, inr (inl (x.1, x.3, x.4))))
+  from UnknownProcedure at x = inr (inr (x.0, x.2, inr (inl (x.1, x.3, x.4))))
+  from UnknownLabel at x = inr (inr (x.0, x.2, inr (inl (x.1, x.3, x.4))))
+  from Arity at x = inr (inr (x.0, x.2, inr (inl (x.1, x.3, x.4))))
+  from Lengths at x = inr (inr (x.0, x.2, inr (inl (x.1, x.3, x.4))))
+  from TwiceTarget at x = inr (inr (x.0, x.2, inr (inl (x.1, x.3, x.4))))
+  from Limit at (inl x) = inr (inl (inr (refl, x)))
+  from Limit at (inr (inl x)) = inl (inr (refl, x))
+  from Limit at (inr (inr x)) = inr (inr (x.0, x.1, inl (inr (refl, x.2))))
+  from Memory at x = absurd x
+
+  pub all_parts : (a b c : Option Found) → Finds (IsFaultOfNames TwiceGlobal MAX_GLOBALS p.globals) a
+      → Finds (IsFaultOfNames TwiceProcedure MAX_PROCEDURES (map (λ q. q.name) p.procedures)) b
+      → Finds (IsFaultOfProcedures p.globals p.procedures p.procedures) c
+      → Finds (IsFault p) (least_of a (least_of b c))
+  unfolding IsPart
+  all_parts a b c h k m =
+      finds_same IsPart (IsFault p) (least_of a (least_of b c)) to from
+      (finds_both (IsFaultOfNames TwiceGlobal MAX_GLOBALS p.globals)
+      (λ g at. IsFaultOfNames TwiceProcedure MAX_PROCEDURES (map (λ q. q.name) p.procedures) g at
+      ⊎ IsFaultOfProcedures p.globals p.procedures p.procedures g at) a (least_of b c) h
+      (finds_both (IsFaultOfNames TwiceProcedure MAX_PROCEDURES (map (λ q. q.name) p.procedures))
+      (IsFaultOfProcedures p.globals p.procedures p.procedures) b c k m))
+
+-- The faults of one statement.
+
+-- An assignment's faults are those of its two sides.
+
+pub both_sides : (ts : List Name) (vs : List Expression) (a b : Option Found) → Finds (Only Lengths (IsUneven (Assigns ts vs))) a
+    → Finds (Only TwiceTarget (HasTargetTwice (Assigns ts vs))) b → Finds (IsMisuse [] [] (Assigns ts vs)) (least_of a b)
+both_sides ts vs a b h k =
+    finds_same
+    (λ g at. Only Lengths (IsUneven (Assigns ts vs)) g at ⊎ Only TwiceTarget (HasTargetTwice (Assigns ts vs)) g at)
+    (IsMisuse [] [] (Assigns ts vs)) (least_of a b) to from
+    (finds_both (Only Lengths (IsUneven (Assigns ts vs))) (Only TwiceTarget (HasTargetTwice (Assigns ts vs))) a b h k)
+  where
+    to : (g : CheckFault) (at : ℕ)
+        → Only Lengths (IsUneven (Assigns ts vs)) g at ⊎ Only TwiceTarget (HasTargetTwice (Assigns ts vs)) g at
+        → IsMisuse [] [] (Assigns ts vs) g at
+    to g at (inl x) = subst (λ (f : CheckFault). IsMisuse [] [] (Assigns ts vs) f at) (sym x.0) x.1
+    to g at (inr x) = subst (λ (f : CheckFault). IsMisuse [] [] (Assigns ts vs) f at) (sym x.0) x.1
+
+    from : (g : CheckFault) (at : ℕ) → IsMisuse [] [] (Assigns ts vs) g at
+        → Only Lengths (IsUneven (Assigns ts vs)) g at ⊎ Only TwiceTarget (HasTargetTwice (Assigns ts vs)) g at
+    from Lengths at x = inl (refl, x)
+    from TwiceTarget at x = inr (refl, x)
+    from _ at x = absurd x
+
+module _ (qs : List Procedure) (ls : List Name) where
+  pub sides_anywhere : (ts : List Name) (vs : List Expression) (o : Option Found)
+      → Finds (IsMisuse [] [] (Assigns ts vs)) o → Finds (IsMisuse qs ls (Assigns ts vs)) o
+  sides_anywhere ts vs o = finds_same (IsMisuse [] [] (Assigns ts vs)) (IsMisuse qs ls (Assigns ts vs)) o to from
+    where
+      to : (g : CheckFault) (at : ℕ) → IsMisuse [] [] (Assigns ts vs) g at → IsMisuse qs ls (Assigns ts vs) g at
+      to Lengths at x = x
+      to _ at x = x
+
+      from : (g : CheckFault) (at : ℕ) → IsMisuse qs ls (Assigns ts vs) g at → IsMisuse [] [] (Assigns ts vs) g at
+      from Lengths at x = x
+      from _ at x = x
+
+  pub call_anywhere : (n : Name) (es : List Expression) (o : Option Found) → Finds (IsMisuse qs [] (Calls n es)) o → Finds (IsMisuse qs ls (Calls n es)) o
+  call_anywhere n es o = finds_same (IsMisuse qs [] (Calls n es)) (IsMisuse qs ls (Calls n es)) o to from
+    where
+      to : (g : CheckFault) (at : ℕ) → IsMisuse qs [] (Calls n es) g at → IsMisuse qs ls (Calls n es) g at
+      to Lengths at x = x
+      to _ at x = x
+
+      from : (g : CheckFault) (at : ℕ) → IsMisuse qs ls (Calls n es) g at → IsMisuse qs [] (Calls n es) g at
+      from Lengths at x = x
+      from _ at x = x
+
+  pub jump_anywhere : (n : Name) (o : Option Found) → Finds (IsMisuse [] ls (GoesTo n)) o → Finds (IsMisuse qs ls (GoesTo n)) o
+  jump_anywhere n o = finds_same (IsMisuse [] ls (GoesTo n)) (IsMisuse qs ls (GoesTo n)) o to from
+    where
+      to : (g : CheckFault) (at : ℕ) → IsMisuse [] ls (GoesTo n) g at → IsMisuse qs ls (GoesTo n) g at
+      to UnknownLabel at x = x
+      to _ at x = x
+
+      from : (g : CheckFault) (at : ℕ) → IsMisuse qs ls (GoesTo n) g at → IsMisuse [] ls (GoesTo n) g at
+      from UnknownLabel at x = x
+      from _ at x = x
+
+  pub with_stray : (declared : List Name) (s : Statement) (a b : Option Found) → Finds (IsMisuse qs ls s) a
+      → Finds (Only UnknownVariable (IsUndeclared declared s)) b → Finds (IsStatementFault declared qs ls s) (least_of a b)
+  with_stray declared s a b h k =
+      finds_same (λ g at. IsMisuse qs ls s g at ⊎ Only UnknownVariable (IsUndeclared declared s) g at)
+      (IsStatementFault declared qs ls s) (least_of a b) to from
+      (finds_both (IsMisuse qs ls s) (Only UnknownVariable (IsUndeclared declared s)) a b h k)
+    where
+      plain : (g : CheckFault) (at : ℕ) → IsMisuse qs ls s g at → IsStatementFault declared qs ls s g at
+      plain UnknownVariable at x = absurd x
+      plain _ at x = x
+
+      to : (g : CheckFault) (at : ℕ) → IsMisuse qs ls s g at ⊎ Only UnknownVariable (IsUndeclared declared s) g at → IsStatementFault declared qs ls s g at
+      to g at (inl x) = plain g at x
+      to g at (inr x) = subst (λ (f : CheckFault). IsStatementFault declared qs ls s f at) (sym x.0) x.1
+
+      from : (g : CheckFault) (at : ℕ) → IsStatementFault declared qs ls s g at → IsMisuse qs ls s g at ⊎ Only UnknownVariable (IsUndeclared declared s) g at
+      from UnknownVariable at x = inr (refl, x)
+      from _ at x = inl x
+
+-- what follows of the fault in an `Ok`
+pub ok_then : {E : Type 0} {P Q : Option Found → Type 0} (r : Result (Option Found) E) → ((o : Option Found) → P o → Q o) → IfOk r P → IfOk r Q
+ok_then (Ok o) f h = f o h
+ok_then (Err e) f h = h
+
+-- Walks over the statements of a block.
+
+statements_more : (xs : List Stmt) (s : Stmt)
+    → statements (block_of (xs ++ s ∷ [])) ≡ statements (block_of xs) ++ (labelled_of s ∷ statements_inside (statement_of s.form))
+statements_more [] s = ap (λ ys. labelled_of s ∷ ys) (append-nil (statements_inside (statement_of s.form)))
+statements_more (x ∷ xs) s =
+    ap (λ ys. labelled_of x ∷ (statements_inside (statement_of x.form) ++ ys)) (statements_more xs s)
+    ∙ simp regrouped
+
+-- one more statement with those inside it
+pub collect_more : (first : List Labelled) (old pushed grown : List (Bor Stmt)) (r : Bor Stmt) (stmts : List Stmt) (i : ℕ)
+    → i < length stmts → r.now ≡ get_or stmts i r.now
+    → all_labelled old ≡ first ++ statements (block_of (take i stmts)) → pushed ≡ old ++ r ∷ []
+    → all_labelled grown ≡ all_labelled pushed ++ statements_inside (statement_of r.now.form)
+    → all_labelled grown ≡ first ++ statements (block_of (take (i + 1) stmts))
+collect_more first old pushed grown r stmts i within is so_far push inside =
+    let front = take_more stmts i r.now within ∙ ap (λ x. take i stmts ++ x ∷ []) (sym is) in
+    let more = ap (λ xs. statements (block_of xs)) front ∙ statements_more (take i stmts) r.now in
+    let pushed_is = ap all_labelled push ∙ map-append (λ (s : Bor Stmt). labelled_of s.now) old (r ∷ []) in
+    inside
+    ∙ ap (λ xs. xs ++ statements_inside (statement_of r.now.form)) (pushed_is ∙ ap (λ xs. xs ++ labelled_of r.now ∷ []) so_far)
+    ∙ rw more (simp regrouped)
+
+pub inside_depth : (stmts : List Stmt) (i : ℕ) (s : Stmt) → i < length stmts → s ≡ get_or stmts i s
+    → statement_depth (statement_of s.form) ≤ depth (block_of stmts)
+inside_depth [] i s within is = absurd (omega arith)
+inside_depth (x ∷ xs) zero s within is = omega (arith, ap (λ (y : Stmt). statement_depth (statement_of y.form)) is)
+inside_depth (x ∷ xs) (suc i) s within is = omega (arith, inside_depth xs i s (omega arith) is)
+
+labels_of-append : (xs ys : List Labelled) → labels_of (xs ++ ys) ≡ labels_of xs ++ labels_of ys
+labels_of-append [] ys = refl
+labels_of-append (x ∷ xs) ys =
+    ap (λ zs. option_to_list x.label ++ zs) (labels_of-append xs ys) ∙ simp regrouped
+
+-- one more statement of a list, labelled
+pub labelled_more : (stmts : List (Bor Stmt)) (i : ℕ) (r : Bor Stmt) → i < length stmts → r ≡ get_or stmts i r
+    → all_labelled (take (i + 1) stmts) ≡ all_labelled (take i stmts) ++ labelled_of r.now ∷ []
+labelled_more stmts i r within is =
+    ap all_labelled (take_more stmts i r within ∙ ap (λ x. take i stmts ++ x ∷ []) (sym is))
+    ∙ map-append (λ (s : Bor Stmt). labelled_of s.now) (take i stmts) (r ∷ [])
+
+-- one more statement whose label may have been appended
+pub labels_more : (first : List Name) (old new : List (Bor Name)) (stmts : List (Bor Stmt)) (i : ℕ) (r : Bor Stmt) → i < length stmts → r ≡ get_or stmts i r
+    → names_of old ≡ first ++ labels_of (all_labelled (take i stmts)) → names_of new ≡ names_of old ++ option_to_list r.now.label
+    → names_of new ≡ first ++ labels_of (all_labelled (take (i + 1) stmts))
+labels_more first old new stmts i r within is so_far grown =
+    let more = ap labels_of (labelled_more stmts i r within is) ∙ labels_of-append (all_labelled (take i stmts)) (labelled_of r.now ∷ [])
+    ∙ ap (λ xs. labels_of (all_labelled (take i stmts)) ++ xs) (append-nil (option_to_list r.now.label)) in
+    grown
+    ∙ ap (λ xs. xs ++ option_to_list r.now.label) so_far
+    ∙ rw more (simp regrouped)
+
+pub pushed_label : (old new : List (Bor Name)) (l : Bor Name) (label : Option Name) → Some l.now ≡ label
+    → new ≡ old ++ l ∷ [] → names_of new ≡ names_of old ++ option_to_list label
+pushed_label old new l label is push =
+    ap names_of push ∙ map-append (λ (n : Bor Name). n.now) old (l ∷ []) ∙ ap (λ o. names_of old ++ option_to_list o) is
+
+pub no_label : (old new : List (Bor Name)) (label : Option Name) → None ≡ label → new ≡ old → names_of new ≡ names_of old ++ option_to_list label
+no_label old new label is same = ap names_of same ∙ sym (append-nil (names_of old)) ∙ ap (λ o. names_of old ++ option_to_list o) is
+
+-- The least fault that was found is the refusal.
+
+module _ (p : Program) where
+  go : (f : CheckFault) (at : ℕ) → IsFault p f at → IsLeast (IsFault p) f at → IsRefusal p f at
+  go Memory at within least = absurd within
+  go Limit at within least = least
+  go _ at within least = least
+
+  pub refusal_of : (f : Found) → IsLeast (IsFault p) f.fault f.at → IsRefusal p f.fault f.at
+  refusal_of f least = go f.fault f.at least.within least

@@ -1,0 +1,6 @@
+use Rattle.std.proofs.Common.{take}
+use Rattle.bp_code.specs.Sets.{IsFaultOfProcedures, Finds}
+use Rattle.bp_code.proofs.checks.fault_of_procedures.Given as goal
+
+abbrev pub invariant-loop-proc : goal.invariant-loop-proc
+invariant-loop-proc l = Finds (IsFaultOfProcedures l.globals l.callees (take l.proc-index l.procs)) l.best

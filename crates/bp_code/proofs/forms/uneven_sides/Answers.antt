@@ -1,0 +1,7 @@
+use Rattle.std.proofs.Common.{sym, ◌∙◌}
+use Rattle.std.proofs.lemmas.List.{length-map}
+use Rattle.bp_language.specs.Views.{expression_of}
+use Rattle.bp_code.proofs.forms.uneven_sides.Goals as goal
+
+pub returns-then-targets-values : goal.returns-then-targets-values
+returns-then-targets-values c = λ g at x. x.1.0 (c.if-targets-values.true ∙ sym (length-map c.args.values.now expression_of))

@@ -1,0 +1,18 @@
+use Rattle.std.proofs.Common.{ap, ◌∙◌}
+use Rattle.bp_language.specs.declared.faults.CheckFault.TheVariants.{TwiceLabel}
+use Rattle.bp_language.specs.Faults.{labels, labels_of, statements, IsTwice}
+use Rattle.bp_code.specs.Sets.{all_labelled, Only, IsFaultOfStatements}
+use Rattle.bp_code.proofs.FaultsOfParts.{finds_both}
+use Rattle.bp_code.proofs.procedures.fault_of_body.Goals as goal
+
+pub returns : goal.returns
+returns c =
+    let q = c.args.proc.now in
+    let found_labels =
+    c.in_ok-labels.ensures ∙ c.in_ok-labels_in.ensures ∙ ap (λ xs. labels_of (all_labelled xs)) c.deref.ensures.value
+    ∙ ap labels_of c.in_ok-stmts.ensures in
+    let stmts = ap all_labelled c.deref-2.ensures.value ∙ c.in_ok-stmts.ensures in
+    rw c.least.ensures
+    (finds_both (IsFaultOfStatements c.args.declared.now c.args.callees.now (labels q.body) (statements q.body))
+    (Only TwiceLabel (IsTwice (labels q.body))) _ _ (rw (found_labels, stmts) at c.in_ok-found.ensures)
+    (rw found_labels at c.least_repeat.ensures))

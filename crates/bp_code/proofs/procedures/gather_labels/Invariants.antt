@@ -1,0 +1,7 @@
+use Rattle.std.proofs.Common.{◌≡◌, ◌++◌, take}
+use Rattle.bp_language.specs.Faults.{labels_of}
+use Rattle.bp_code.specs.Sets.{names_of, all_labelled}
+use Rattle.bp_code.proofs.procedures.gather_labels.Given as goal
+
+abbrev pub invariant-loop-stmt : goal.invariant-loop-stmt
+invariant-loop-stmt l = names_of l.out.items ≡ names_of l.initial.out.items ++ labels_of (all_labelled (take l.stmt-index l.stmts))

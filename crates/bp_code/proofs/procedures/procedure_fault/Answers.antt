@@ -1,0 +1,17 @@
+use Rattle.std.proofs.Common.{◌++◌, ◌∙◌, ap}
+use Rattle.bp_language.specs.declared.faults.CheckFault.TheVariants.{TwiceLocal}
+use Rattle.bp_language.specs.declared.limits.TheConstants.{MAX_OWN_NAMES}
+use Rattle.bp_language.specs.Ast.{variables}
+use Rattle.bp_code.specs.Sets.{IsFaultOfNames, IsFaultOfBody}
+use Rattle.bp_code.proofs.FaultsOfParts.{finds_both}
+use Rattle.bp_code.proofs.procedures.procedure_fault.Goals as goal
+
+pub returns : goal.returns
+returns c =
+    let q = c.args.proc.now in
+    let own = c.in_ok-own.ensures in
+    let declared = c.new-declared.ensures ∙ ap (λ ns. ns ++ c.args.globals.now) own in
+    rw c.least.ensures
+    (finds_both (IsFaultOfNames TwiceLocal MAX_OWN_NAMES (variables q))
+    (IsFaultOfBody (variables q ++ c.args.globals.now) c.args.callees.now q) _ _
+    (rw own at c.fault_of_names-found.ensures) (rw declared at c.in_ok-inside.ensures))

@@ -1,0 +1,7 @@
+use Rattle.std.proofs.Common.{◌≡◌, List, ℕ, drop}
+use Rattle.bp_code.specs.Sets.{names_of, index_in}
+use Rattle.bp_language.specs.Faults.{first_index_from}
+use Rattle.bp_code.proofs.tables.first_indices.Given as goal
+
+abbrev pub invariant-loop-i : goal.invariant-loop-i
+invariant-loop-i l = (text : List ℕ) → index_in l.first text ≡ first_index_from l.i (drop l.i (names_of l.names)) text

@@ -1,0 +1,6 @@
+use Rattle.bp_code.specs.Sets.{Only, Finds}
+use Rattle.bp_code.proofs.RepeatedNames.{Below}
+use Rattle.bp_code.proofs.tables.least_repeat.Given as goal
+
+abbrev pub invariant-loop-i : goal.invariant-loop-i
+invariant-loop-i l = Finds (Only l.fault (Below l.names l.fault l.i)) l.best

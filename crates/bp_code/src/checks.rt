@@ -1,0 +1,182 @@
+//! Lawful trees.
+//! The least fault of a program.
+//! The least fault: by place, and at one place by number.
+//! A fault that was found, with its place.
+ghost use Rattle.std.specs.Prelude.{◌≡◌, ◌≤◌, MatchResult, IfOk};
+ghost use Rattle.bp_language.specs.Ast.{procedures_size};
+ghost use Rattle.bp_language.specs.Faults.{IsLawful, check_fault_number, check_fault_place, HasFewNames, HasDistinctNames, HasSoundStatements, IsFault};
+ghost use Rattle.bp_language.specs.declared.limits.TheConstants.{TEXT_LIMIT};
+ghost use Rattle.bp_code.specs.Refusals.{IsRefusal};
+ghost use Rattle.bp_code.specs.Sets.{IsFaultOfProcedures, Finds, least_of};
+
+use crate::procedures::procedure_fault;
+use crate::tables::{NameTable, fault_of_names};
+use crate::uses::Callees;
+use bp_language::limits::{MAX_GLOBALS, MAX_PROCEDURES};
+use bp_language::{CheckFault, Name, Proc};
+use bp_syntax::Tree;
+use std::alloc::{AllocError, Global};
+use std::marker::Model;
+
+/// A tree without faults.
+#[derive(Drop)]
+pub struct Checked {
+    tree: Tree,
+}
+
+impl Model for Checked {
+    ghost use Rattle.bp_language.specs.Ast.{Program};
+    ghost use Rattle.bp_language.specs.Codes.{coded_program};
+    ghost use Rattle.bp_language.specs.Faults.{IsLawful};
+
+    ghost Value = { Program };
+
+    ghost coded = { coded_program };
+
+    ghost view = { λ c. c.tree };
+
+    ghost invariant = { λ c. IsLawful c.tree };
+}
+
+impl Checked {
+    /// The tree, which has no fault.
+    pub fn tree(&self) -> &Tree
+        ensures value { result.now ≡ self.now }
+        ensures lawful { IsLawful self.now }
+    {
+        &self.tree
+    }
+
+    /// Law: procedures, globals, and the formals and locals of each procedure keep to their limits.
+    pub fn has_few_names(&self)
+        ensures { HasFewNames self.now }
+    {
+        let _ = &self.tree;
+    }
+
+    /// Law: no two globals, no two procedures, and in a procedure no two labels and no two formals
+    /// or locals are spelled alike.
+    pub fn has_distinct_names(&self)
+        ensures { HasDistinctNames self.now }
+    {
+        let _ = &self.tree;
+    }
+
+    /// Law: each variable, label and procedure that a statement names is declared, an assignment
+    /// has targets, and an assignment and a call have as many values as they need.
+    pub fn has_sound_statements(&self)
+        ensures { HasSoundStatements self.now }
+    {
+        self.tree.is_of_a_text();
+    }
+
+    /// Law: there are no more statements and procedures together than a text has bytes.
+    pub fn has_few_statements(&self)
+        ensures { procedures_size self.now.procedures ≤ TEXT_LIMIT }
+    {
+        self.tree.has_few_statements();
+    }
+}
+
+/// Why a tree is refused, with the tree.
+#[derive(Drop)]
+pub struct CheckRefusal {
+    /// The fault with the least place, and at one place with the least number.
+    pub fault: CheckFault,
+    /// The offset in the text where its name begins; 0 for `Memory`.
+    pub at: u32,
+    /// The tree, given back so that the caller can still use it.
+    pub tree: Tree,
+}
+
+impl CheckRefusal {
+    /// The number that users know the fault by.
+    pub fn number(&self) -> u32
+        ensures { result ≡ check_fault_number self.now.fault }
+    {
+        self.fault.number()
+    }
+
+    /// The offset in the text where the fault's name begins; none for `Memory`.
+    pub fn place(&self) -> Option<u32>
+        ensures { result ≡ check_fault_place self.now.fault self.now.at }
+    {
+        match self.fault {
+            CheckFault::Memory => None,
+            _ => Some(self.at),
+        }
+    }
+}
+
+/// Takes the trees without faults, and no others. Where memory is short the answer is `Memory`.
+pub fn check(alloc: Global, tree: Tree) -> Result<Checked, CheckRefusal>
+    ensures lawful { MatchResult result
+        (λ c. (c ≡ tree) × IsLawful tree)
+        (λ r. (r.tree ≡ tree) × IsRefusal tree r.fault r.at) }
+{
+    match program_fault(alloc, tree.globals(), tree.procs()) {
+        Ok(None) => Ok(Checked { tree }),
+        Ok(Some(Found { fault, at })) => Err(CheckRefusal { fault, at, tree }),
+        Err(_) => Err(CheckRefusal {
+            fault: CheckFault::Memory,
+            at: 0,
+            tree,
+        }),
+    }
+}
+
+/// The least fault inside procedures.
+fn fault_of_procedures<'a>(
+    alloc: Global,
+    globals: &NameTable<'a>,
+    callees: &Callees<'_>,
+    procs: &'a [Proc],
+) -> Result<Option<Found>, AllocError>
+    ensures { IfOk result (Finds (IsFaultOfProcedures globals.now callees.now procs.now)) }
+{
+    let mut best = None;
+    for proc in procs {
+        let found = procedure_fault(alloc, globals, callees, proc)?;
+        best = least(best, found);
+    }
+    Ok(best)
+}
+
+/// The least fault of the program with these globals and procedures.
+pub(crate) fn program_fault<'a>(
+    alloc: Global,
+    globals: &'a [Name],
+    procs: &'a [Proc],
+) -> Result<Option<Found>, AllocError>
+    ensures { IfOk result
+        (Finds (IsFault (record { globals = globals.now; procedures = procs.now }))) }
+{
+    let known = NameTable::of(alloc, globals)?;
+    let callees = Callees::new(alloc, procs)?;
+    let first = fault_of_names(&known, CheckFault::TwiceGlobal, MAX_GLOBALS);
+    let second = fault_of_names(callees.names(), CheckFault::TwiceProcedure, MAX_PROCEDURES);
+    let third = fault_of_procedures(alloc, &known, &callees, procs)?;
+    Ok(least(first, least(second, third)))
+}
+
+/// The least of two faults, where there are two.
+pub(crate) fn least(a: Option<Found>, b: Option<Found>) -> Option<Found>
+    ensures { result ≡ least_of a b }
+{
+    match (a, b) {
+        (Some(f), Some(g)) => {
+            let before = f.at < g.at || (f.at == g.at && f.fault.number() <= g.fault.number());
+            if before { Some(f) } else { Some(g) }
+        }
+        (None, b) => b,
+        (a, None) => a,
+    }
+}
+
+/// A fault at a place of the text.
+#[derive(Clone, Copy, Debug, PartialEq, Eq)]
+pub struct Found {
+    pub fault: CheckFault,
+    /// The offset of the byte where the name begins.
+    pub at: u32,
+}

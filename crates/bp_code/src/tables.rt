@@ -1,0 +1,184 @@
+//! Names that are found by their texts.
+//! Names that appear twice in a list, or past its limit.
+ghost use Rattle.std.specs.Prelude.{◌≡◌, ◌++◌, OnOk, IfOk, map, take};
+ghost use Rattle.bp_language.specs.Ast.{variables};
+ghost use Rattle.bp_language.specs.Faults.{has, first_index, IsTwice, IsPast};
+ghost use Rattle.bp_code.specs.Sets.{names_of, HasFirstIndices, Only, IsFaultOfNames, Finds};
+
+use crate::checks::{Found, least};
+use bp_language::{CheckFault, Name, Proc};
+use std::alloc::{AllocError, Global};
+use std::collections::BTreeMap;
+use std::marker::Model;
+
+/// Names in order, each of which is found by its text without a walk over the others.
+#[derive(Drop)]
+pub struct NameTable<'a> {
+    names: Vec<&'a Name>,
+    /// For each text the index of the first name that is spelled so.
+    first: BTreeMap<&'a str, usize>,
+}
+
+impl<'a> Model for NameTable<'a> {
+    ghost use Rattle.std.specs.Prelude.{List};
+    ghost use Rattle.std.specs.Coded.{coded_list};
+    ghost use Rattle.bp_language.specs.Ast as ast;
+    ghost use Rattle.bp_language.specs.Codes.{coded_name};
+    ghost use Rattle.bp_code.specs.Sets.{names_of, HasFirstIndices};
+
+    ghost Value = { List ast.Name };
+
+    ghost coded = { coded_list coded_name };
+
+    ghost view = { λ t. names_of t.names.items };
+
+    ghost invariant = { λ t. HasFirstIndices t.first (names_of t.names.items) };
+}
+
+impl<'a> NameTable<'a> {
+    pub(crate) fn new(alloc: Global, names: Vec<&'a Name>) -> Result<NameTable<'a>, AllocError>
+        ensures { IfOk result (λ t. t ≡ names_of names.entry.items) }
+    {
+        let first = first_indices(alloc, &names)?;
+        Ok(NameTable { names, first })
+    }
+
+    /// The table of a list of names. Its only error is refused memory.
+    pub fn of(alloc: Global, names: &'a [Name]) -> Result<NameTable<'a>, AllocError>
+        ensures { IfOk result (λ t. t ≡ names.now) }
+    {
+        let mut all = Vec::new(alloc);
+        gather(&mut all, names)?;
+        NameTable::new(alloc, all)
+    }
+
+    /// The table of a procedure's formals and then its declared locals. Its only error is refused
+    /// memory.
+    pub fn of_variables(alloc: Global, proc: &'a Proc) -> Result<NameTable<'a>, AllocError>
+        ensures { IfOk result (λ t. t ≡ variables proc.now) }
+    {
+        let mut all = Vec::new(alloc);
+        gather(&mut all, proc.formals())?;
+        gather(&mut all, proc.locals())?;
+        NameTable::new(alloc, all)
+    }
+
+    /// The table of the names of procedures. Its only error is refused memory.
+    pub fn of_procedures(alloc: Global, procs: &'a [Proc]) -> Result<NameTable<'a>, AllocError>
+        ensures { IfOk result (λ t. t ≡ map (λ q. q.name) procs.now) }
+    {
+        let mut all = Vec::new(alloc);
+        gather_procedures(&mut all, procs)?;
+        NameTable::new(alloc, all)
+    }
+
+    pub(crate) fn names(&self) -> &[&'a Name]
+        ensures { names_of result.now ≡ self.now }
+    {
+        &self.names
+    }
+
+    /// The index of the first name that is spelled so.
+    pub fn first(&self, text: &str) -> Option<usize>
+        ensures { result ≡ first_index self.now text.now }
+    {
+        self.first.get(text).copied()
+    }
+
+    /// Whether a name is spelled so.
+    pub(crate) fn has(&self, text: &str) -> bool
+        ensures { result ≡ has self.now text.now }
+    {
+        self.first(text).is_some()
+    }
+
+    /// Whether one of the first `count` names is spelled so.
+    pub(crate) fn has_before(&self, count: usize, text: &str) -> bool
+        ensures { result ≡ has (take count self.now) text.now }
+    {
+        match self.first(text) {
+            Some(first) => first < count,
+            None => false,
+        }
+    }
+}
+
+fn gather<'a>(out: &mut Vec<&'a Name>, names: &'a [Name]) -> Result<(), AllocError>
+    ensures { OnOk result (names_of out.new.items ≡ names_of out.old.items ++ names.now) }
+{
+    for name in names {
+        out.push(name)?;
+    }
+    Ok(())
+}
+
+fn gather_procedures<'a>(out: &mut Vec<&'a Name>, procs: &'a [Proc]) -> Result<(), AllocError>
+    ensures { OnOk result (names_of out.new.items
+        ≡ names_of out.old.items ++ map (λ q. q.name) procs.now) }
+{
+    for proc in procs {
+        out.push(proc.name())?;
+    }
+    Ok(())
+}
+
+/// The index of the first name of each spelling. Names are put in from the last on, so that the
+/// earlier of two takes the place of the later.
+fn first_indices<'a>(
+    alloc: Global,
+    names: &[&'a Name],
+) -> Result<BTreeMap<&'a str, usize>, AllocError>
+    ensures { IfOk result (λ m. HasFirstIndices m (names_of names.now)) }
+{
+    let mut first = BTreeMap::new(alloc);
+    for i in (0..names.len()).rev() {
+        let name: &'a Name = names[i];
+        first.insert(name.text(), i)?;
+    }
+    Ok(first)
+}
+
+/// The least place of a name that is spelled like an earlier one, as this fault.
+pub(crate) fn least_repeat(names: &NameTable<'_>, fault: CheckFault) -> Option<Found>
+    ensures { Finds (Only fault (IsTwice names.now)) result }
+{
+    let mut best = None;
+    for (i, name) in names.names().iter().enumerate() {
+        if names.has_before(i, name.text()) {
+            best = least(
+                best,
+                Some(Found {
+                    fault,
+                    at: name.at(),
+                }),
+            );
+        }
+    }
+    best
+}
+
+fn first_past(names: &NameTable<'_>, limit: usize) -> Option<Found>
+    ensures { Finds (Only CheckFault.Limit (IsPast limit names.now)) result }
+{
+    let names = names.names();
+    if limit >= names.len() {
+        return None;
+    }
+    let name = names[limit];
+    Some(Found {
+        fault: CheckFault::Limit,
+        at: name.at(),
+    })
+}
+
+/// The least fault of names of one kind: one that appears twice, or the first past their limit.
+pub(crate) fn fault_of_names(
+    names: &NameTable<'_>,
+    fault: CheckFault,
+    limit: usize,
+) -> Option<Found>
+    ensures { Finds (IsFaultOfNames fault limit names.now) result }
+{
+    let found = least_repeat(names, fault);
+    least(found, first_past(names, limit))
+}

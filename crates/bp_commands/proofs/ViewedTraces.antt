@@ -1,0 +1,171 @@
+-- What a view of a trace says of the command `show`.
+use Rattle.std.proofs.Common.{◌++◌, ℕ, List, Option, refl, sym, inl, inr, subst, ◌≡◌, [], None, Some, Result, Ok, Err, append-nil}
+use Rattle.std.specs.Io.KnownBytes.{Keeps}
+use Rattle.std.proofs.KnownBytes.{Keeps-refl}
+use Rattle.bp_text.specs.Writing.{AppendsAll, AppendsPart}
+use Rattle.bp_text.proofs.Givings.{all_then, part_first, part_then}
+use Rattle.bp_language.specs.Ast.{Program}
+use Rattle.bp_machine.specs.declared.calls.Report.{Report}
+use Rattle.bp_machine.specs.Histories.{IsReport}
+use Rattle.bp_trace.specs.Replays.{IsAcceptedTrace, IsSomeTrace}
+use Rattle.bp_trace.specs.declared.replaying.AcceptedTrace.{AcceptedTrace}
+use Rattle.bp_code.specs.LawfulTexts.{IsLawfulText}
+use Rattle.bp_tasks.specs.declared.options.ViewOptions.{ViewOptions}
+use Rattle.bp_tasks.specs.declared.options.ViewFormat.{ViewFormat}
+use Rattle.bp_view.specs.declared.faults.ViewFault.{ViewFault}
+use Rattle.bp_view.specs.declared.faults.ViewFault.TheVariants as view
+use Rattle.bp_view.specs.Views.{IsViewed, IsViewOfTrace, IsViewRefusal}
+use Rattle.bp_messages.specs.FaultTable.{fault_of_view, fault_of_trace}
+use Rattle.bp_messages.specs.declared.faults.Fault.{Fault}
+use Rattle.bp_messages.specs.declared.faults.Fault.TheVariants.{Write}
+use Rattle.bp_commands.specs.Commands.{IsDoneWith, IsRefusedWith, Pair, Command, AnswersOf}
+use Rattle.bp_commands.specs.Traces.{IsOfTrace, IsTraceReport}
+use Rattle.bp_commands.specs.Shows.{shows, IsViewText, last_line, on_valid_calls, refusal_text, IsPart, IsShownWithLine, OfPart, Refusal}
+
+module _ (o : ViewOptions) (file : List ℕ) (given : Pair) (t : Program) (of : IsLawfulText given.text t) where
+  -- a view of a trace is what the command writes and reports
+  module _ (written : List ℕ) (r : Report) (is : IsViewOfTrace t given.text given.input o file written r) where
+    reported_of : IsReport is.replayed.setup is.replayed.history.items r
+    reported_of = subst (IsReport is.replayed.setup is.replayed.history.items) (sym is.report_is) is.is.report
+
+    shown : IsOfTrace (IsViewText o file) given written
+    shown = record {
+      program = t;
+      setup = is.replayed.setup;
+      history = is.replayed.history.items;
+      legal = record { of = of; version = is.is.version; is = is.is.trace };
+      is = record { report = r; reported = reported_of; there = is.there; declared = is.declared; is = is.view_is };
+    }
+
+    reported : IsTraceReport (IsViewText o file) given written r
+    unfolding shown
+    reported = record { trace = shown; reported = reported_of }
+
+  module _ (old new : Option (List ℕ)) where
+    pub viewed : (r : Report) → IsViewed t given.text given.input o file old new r → IsDoneWith (shows o file) old new given r
+    viewed r done = record { text = done.text; reports = reported done.text r done.is; written = done.written }
+
+    pub not_viewed : (f : ViewFault) → IsViewRefusal t given.text given.input o file old new f → IsRefusedWith (shows o file) old new given (fault_of_view f)
+    not_viewed (view.Replay f) found = inl (
+      subst (Keeps old) (sym found.0) (Keeps-refl old),
+      inr (inl (record { program = t; lawful = of; cause = f; why = found.1; is = refl })),
+    )
+    not_viewed (view.NoThread i) found = inl (
+      subst (Keeps old) (sym found.0) (Keeps-refl old),
+      inr (inr (inl (record {
+        program = t;
+        setup = found.1.replayed.setup;
+        history = found.1.replayed.history.items;
+        legal = record { of = of; version = found.1.is.version; is = found.1.is.trace };
+        thread = i;
+        asked = found.1.asked;
+        past = found.1.past;
+        is = refl;
+      }))),
+    )
+    not_viewed (view.NoVariable n) found = inl (
+      subst (Keeps old) (sym found.0) (Keeps-refl old),
+      inr (inr (inr (record {
+        program = t;
+        setup = found.1.replayed.setup;
+        history = found.1.replayed.history.items;
+        legal = record { of = of; version = found.1.is.version; is = found.1.is.trace };
+        there = found.1.there;
+        number = n;
+        undeclared = found.1.undeclared;
+        is = refl;
+      }))),
+    )
+    not_viewed view.Memory found = inr (inr (record {
+      text = found.begun;
+      spoils = record { rest = found.rest; whole = shown (found.begun ++ found.rest) found.is.0 found.is.1; is = refl };
+      written = found.written;
+    }))
+    not_viewed view.Write found = inr (inl (
+      refl,
+      record { text = found.text; writes = shown found.text found.is.0 found.is.1; written = found.written },
+    ))
+
+-- What a command on a part of a trace says of it on the accepted calls of the trace.
+
+module _ (format : ViewFormat) (command : Command Pair Report) (given : Pair) where
+  abbrev whole : Command Pair Report
+  whole = on_valid_calls format command
+
+  module _ (part : Pair) (refusal : Refusal) (is : IsPart given part refusal) where
+    of_part : (Holds : Pair → Refusal → Type 0) → Holds part refusal → OfPart given Holds
+    of_part Holds holds = record { part = part; refusal = refusal; is = is; holds = holds }
+
+    -- a refusal of the command on the part is one of the whole
+    refused_part : (old new : Option (List ℕ)) (f : Fault) → IsRefusedWith command old new part f → IsRefusedWith whole old new given f
+    refused_part old new f (inl (keeps, why)) = inl (keeps, inr (inr (of_part _ why)))
+    refused_part old new f (inr (inl (write, cut))) = inr (inl (
+      write,
+      record {
+        text = cut.text ++ last_line format refusal;
+        writes = of_part (IsShownWithLine format command (cut.text ++ last_line format refusal)) (cut.text, inl cut.writes, refl);
+        written = part_first old new cut.text (last_line format refusal) cut.written;
+      },
+    ))
+    refused_part old new f (inr (inr spoilt)) = inr (inr (record {
+      text = spoilt.text;
+      spoils = of_part _ (inl spoilt.spoils);
+      written = spoilt.written;
+    }))
+
+  -- the trace is accepted
+  module _ (p : Program) (lawful : IsLawfulText given.text p) (trace : IsSomeTrace p given.input) where
+    is_whole : IsPart given given None
+    is_whole = (refl, record { program = p; lawful = lawful; trace = trace })
+
+    pub of_whole : (old new : Option (List ℕ)) (r : Result Report Fault) → AnswersOf command given old new r → AnswersOf whole given old new r
+    of_whole old new (Ok report) done = record {
+      text = done.text;
+      reports = of_part given None is_whole _ (refl, done.reports);
+      written = done.written;
+    }
+    of_whole old new (Err f) refused = refused_part given None is_whole old new f refused
+
+  -- the trace is refused after some calls
+  module _ (p : Program) (lawful : IsLawfulText given.text p) (x : AcceptedTrace) (accepted : IsAcceptedTrace p given.input x) where
+    abbrev before : Pair
+    before = record { text = given.text; input = x.trace.items }
+
+    abbrev refusal : Refusal
+    refusal = Some (x.calls, fault_of_trace x.fault)
+
+    is_before : IsPart given before refusal
+    is_before = record {
+      program = p;
+      lawful = lawful;
+      accepted = x;
+      is = accepted;
+      part_is = refl;
+      calls_are = refl;
+      refused = refl;
+    }
+
+    -- the command refuses the trace of these calls, or is cut short
+    pub part_refused : (old new : Option (List ℕ)) (f : Fault) → IsRefusedWith command old new before f → IsRefusedWith whole old new given f
+    part_refused old new f is = refused_part before refusal is_before old new f is
+
+    -- the calls were shown, but not the last line
+    pub line_cut : (old mid new : Option (List ℕ)) (r : Report) → IsDoneWith command old mid before r → AppendsPart mid new (refusal_text format x.calls)
+        → IsRefusedWith whole old new given Write
+    line_cut old mid new r done part = inr (inl (
+      refl,
+      record {
+        text = done.text ++ refusal_text format x.calls;
+        writes = of_part before refusal is_before (IsShownWithLine format command (done.text ++ refusal_text format x.calls)) (done.text, inr (r, done.reports), refl);
+        written = part_then old mid new done.text (refusal_text format x.calls) done.written part;
+      },
+    ))
+
+    -- the calls were shown, and the last line
+    pub line_shown : (old mid new : Option (List ℕ)) (r : Report) → IsDoneWith command old mid before r → AppendsAll mid new (refusal_text format x.calls)
+        → IsRefusedWith whole old new given (fault_of_trace x.fault)
+    line_shown old mid new r done all = inr (inr (record {
+      text = done.text ++ refusal_text format x.calls;
+      spoils = of_part before refusal is_before _ (inr ((done.text, inr (r, done.reports), refl), refl));
+      written = all_then old mid new done.text (refusal_text format x.calls) done.written all;
+    }))

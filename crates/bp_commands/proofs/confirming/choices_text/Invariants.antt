@@ -1,0 +1,6 @@
+use Rattle.std.proofs.Common.{◌≡◌, flat_map, take}
+use Rattle.bp_commands.specs.Confirms.{choice_text}
+use Rattle.bp_commands.proofs.confirming.choices_text.Given as goal
+
+abbrev pub invariant-loop-choice : goal.invariant-loop-choice
+invariant-loop-choice l = l.text.items ≡ flat_map (choice_text l.json) (take l.choice-index l.choices)

@@ -1,0 +1,33 @@
+use Rattle.std.proofs.Common.{◌∙◌, ap, refl, [], map, option_map}
+use Rattle.bp_view.specs.FootFacts.{condition_in, foot_in}
+use Rattle.bp_view.specs.CallFacts.{AreProgramFacts}
+use Rattle.bp_tasks.specs.declared.options.ViewFormat.TheVariants.{Json}
+use Rattle.bp_view.specs.Views.{outcome_text, waits_text}
+use Rattle.bp_view.proofs.BegunViews.{copied}
+use Rattle.bp_commands.specs.Confirms.{choices_text}
+use Rattle.bp_commands.proofs.confirming.confirmation_of.Goals as goal
+
+pub returns : goal.returns
+returns c = λ stands.
+    let t = c.args.checked.now in
+    let text = c.args.text.now in
+    let h = c.args.confirmed.now.history.items in
+    let reported = c.report-report.ensures t h stands in
+    let slice = c.facts_of_program-program.ensures.statements ∙ c.as_slice.ensures.value in
+    let are : AreProgramFacts t text c.facts_of_program-program.result = record {
+      statements = rw slice c.in_ok-statements.ensures;
+      globals = c.facts_of_program-program.ensures.globals;
+      procedures = c.facts_of_program-program.ensures.procedures;
+    } in
+    let foot = c.in_ok-foot.foot in
+    let failed = copied condition_in c.as_ref.result ∙ ap (option_map condition_in) c.as_ref.ensures.value in
+    record {
+      reported = reported;
+      facts = foot_in foot;
+      facts_are = c.in_ok-foot.ensures t text h are c.requires stands reported.outcome;
+      verdict = c.verdict_of.ensures;
+      failure = c.in_ok-failure.ensures ∙ ap (outcome_text Json [] foot.deadlocked) failed;
+      waits = c.in_ok-waits.ensures ∙ ap (λ x. waits_text Json [] (map condition_in x)) c.as_slice-2.ensures.value;
+      choices_are = c.in_ok-choices.ensures ∙ ap (choices_text c.args.form.json) c.as_slice-3.ensures.value;
+      form_is = refl;
+    }

@@ -1,0 +1,37 @@
+use Rattle.std.proofs.Common.{◌∙◌, ap, map, option_map}
+use Rattle.bp_view.specs.FootFacts.{condition_in, foot_in}
+use Rattle.bp_view.specs.CallFacts.{AreProgramFacts}
+use Rattle.bp_view.specs.Views.{outcome_text, waits_text}
+use Rattle.bp_view.proofs.BegunViews.{copied}
+use Rattle.bp_commands.proofs.exploring.texts_of_run.Goals as goal
+
+pub returns : goal.returns
+returns c = λ h stands.
+    let t = c.args.checked.now in
+    let text = c.args.text.now in
+    let reported = c.report-report.ensures t h stands in
+    let slice = c.facts_of_program-program.ensures.statements ∙ c.as_slice.ensures.value in
+    let are : AreProgramFacts t text c.facts_of_program-program.result = record {
+      statements = rw slice c.in_ok-statements.ensures;
+      globals = c.facts_of_program-program.ensures.globals;
+      procedures = c.facts_of_program-program.ensures.procedures;
+    } in
+    let foot = c.in_ok-foot.foot in
+    let failed = copied condition_in c.as_ref.result ∙ ap (option_map condition_in) c.as_ref.ensures.value in
+    let format = c.format_of-format.ensures in
+    let file = c.args.form.file.now in
+    record {
+      report = c.report-report.result;
+      reported = reported;
+      failed_is = c.has_failed.ensures;
+      facts = foot_in foot;
+      facts_are = c.in_ok-foot.ensures t text h are c.requires stands reported.outcome;
+      outcome_is =
+          c.in_ok-outcome.ensures
+          ∙ ap (outcome_text c.format_of-format.result file foot.deadlocked) failed
+          ∙ ap (λ f. outcome_text f file foot.deadlocked (option_map condition_in foot.failure)) format;
+      waits_are =
+          c.in_ok-waits.ensures
+          ∙ ap (λ x. waits_text c.format_of-format.result file (map condition_in x)) c.as_slice-2.ensures.value
+          ∙ ap (λ f. waits_text f file (map condition_in foot.waits.items)) format;
+    }

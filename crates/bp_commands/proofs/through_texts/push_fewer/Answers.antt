@@ -1,0 +1,13 @@
+use Rattle.std.proofs.Common.{◌≡◌, arith, false, nat_le, ◌-◌, ◌∷◌, [], codes}
+use Rattle.bp_text.proofs.PartsOfTexts.{all_added}
+use Rattle.bp_commands.specs.ExplorationTexts.{contexts_text}
+use Rattle.bp_commands.proofs.through_texts.push_fewer.Goals as goal
+
+pub returns : goal.returns
+returns c =
+    let added = codes "no run within "
+    ∷ contexts_text (c.args.contexts - 1)
+    ∷ codes " makes them\n"
+    ∷ [] in
+    let above : nat_le c.args.contexts 1 ≡ false = grind arith in
+    rw (above, c.in_ok-push_piece-2.ensures, c.in_ok-push_count.ensures, c.in_ok-push_piece.ensures) (all_added c.args.text.now.items added)

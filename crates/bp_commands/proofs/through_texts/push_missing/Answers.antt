@@ -1,0 +1,17 @@
+use Rattle.std.proofs.Common.{◌∷◌, [], codes, decimal}
+use Rattle.bp_text.proofs.PartsOfTexts.{all_added}
+use Rattle.bp_commands.specs.ExplorationTexts.{states_text}
+use Rattle.bp_commands.specs.ThroughTexts.{first_text}
+use Rattle.bp_commands.proofs.through_texts.push_missing.Goals as goal
+
+pub returns : goal.returns
+returns c =
+    let added = codes "no run, within any number of contexts, makes "
+    ∷ first_text c.args.made
+    ∷ codes ": "
+    ∷ states_text c.args.states
+    ∷ codes ", the last new one within "
+    ∷ decimal c.args.last
+    ∷ codes "\n"
+    ∷ [] in
+    rw (c.in_ok-push_piece-5.ensures, c.in_ok-push_piece-4.ensures, c.in_ok-push_piece-3.ensures, c.in_ok-push_count.ensures, c.in_ok-push_piece-2.ensures, c.in_ok-push_first.ensures, c.in_ok-push_piece.ensures) (all_added c.args.text.now.items added)

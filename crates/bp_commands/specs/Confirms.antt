@@ -1,0 +1,174 @@
+-- The command `confirm`.
+use Rattle.std.specs.Prelude.{if◌then◌else◌, ◌≡◌, ◌⊎◌, ◌∷◌, ℕ, Bool, true, false, List, [], Option, None, Some, codes, decimal, drop, flat_map, is_some}
+use Rattle.std.specs.List.{concat}
+use Rattle.bp_text.specs.Pieces.{bit_text}
+use Rattle.bp_language.specs.Ast.{Program}
+use Rattle.bp_code.specs.LawfulTexts.{IsLawfulText}
+use Rattle.bp_machine.specs.declared.calls.Call.{Call}
+use Rattle.bp_machine.specs.Histories.{IsReport}
+use Rattle.bp_machine.specs.Setups.{SetupOf, setup_fault, StartOf, setup_from}
+use Rattle.bp_trace.specs.TraceText.{trace_text}
+use Rattle.bp_confirm.specs.declared.confirming.ConfirmFault.{ConfirmFault}
+use Rattle.bp_confirm.specs.declared.choices.LastChoice.{LastChoice}
+use Rattle.bp_confirm.specs.ConfirmedTexts.{IsConfirmedText, IsStepsRefusal}
+use Rattle.bp_view.specs.FootFacts.{AreFootFacts, ShownFoot}
+use Rattle.bp_tasks.specs.NamedBits.{NamedBitOf}
+use Rattle.bp_tasks.specs.declared.tasks.ContextBound.{ContextBound}
+use Rattle.bp_tasks.specs.declared.tasks.Verdict.{Verdict}
+use Rattle.bp_tasks.specs.declared.tasks.Verdict.TheVariants.{Failure, Deadlock, Run}
+use Rattle.bp_tasks.specs.declared.options.ViewFormat.TheVariants.{Json}
+use Rattle.bp_view.specs.Views.{outcome_text, waits_text}
+use Rattle.bp_messages.specs.declared.faults.Fault.{Fault}
+use Rattle.bp_messages.specs.FaultTable.{exit_status, fault_of_steps}
+use Rattle.bp_messages.specs.FaultObjects.{verdict_object, ShownVerdict}
+use Rattle.bp_commands.specs.Commands.{Command, Pair}
+use Rattle.bp_commands.specs.Programs.{HasNoCode, by_names, IsSetupRefused}
+use Rattle.bp_commands.specs.FaultReports.{AnswerRule}
+use Rattle.bp_commands.specs.declared.confirming.Confirmation.{Confirmation}
+use Rattle.bp_commands.specs.declared.confirming.VerdictForm.{VerdictForm}
+
+-- how a run ends, by the facts of its end
+abbrev pub verdict_of : ShownFoot → Verdict
+verdict_of x = if is_some x.failure then Failure else if x.deadlocked then Deadlock else Run
+
+abbrev pub verdict_word : Verdict → List ℕ
+verdict_word Failure = codes "failure"
+verdict_word Deadlock = codes "deadlock"
+verdict_word Run = codes "run"
+
+abbrev pub is_verdict : Verdict → Verdict → Bool
+is_verdict Failure Failure = true
+is_verdict Deadlock Deadlock = true
+is_verdict Run Run = true
+is_verdict v w = false
+
+-- the exit status: 1 for a failure; if a verdict is expected, 0 for this one and 4 for another
+abbrev pub status_of_verdict : (expected : Option Verdict) → Verdict → ℕ
+status_of_verdict None v = exit_status (is_verdict v Failure) None
+status_of_verdict (Some w) v = if is_verdict w v then 0 else 4
+
+-- a last bit on which a deadlock depends, after a comma as an object, else after a word
+abbrev pub choice_text : (json : Bool) → LastChoice → List ℕ
+choice_text true c =
+    concat (
+    codes ",{\"thread\":" ∷ decimal c.thread
+    ∷ codes ",\"bit\":" ∷ bit_text c.bit ∷ codes "}" ∷ [])
+choice_text false c =
+    concat (
+    codes " and ?=" ∷ bit_text c.bit
+    ∷ codes " at the last step of thread " ∷ decimal c.thread ∷ [])
+
+abbrev pub choices_text : (json : Bool) → List LastChoice → List ℕ
+choices_text json choices = flat_map (choice_text json) choices
+
+-- what is said of a deadlock before the last bits on which it depends
+abbrev pub deadlock_lead : (choices : List ℕ) → List ℕ
+deadlock_lead [] = codes "the steps are a run of the program; they end in a deadlock"
+deadlock_lead choices = codes "the steps are a run of the program; they may end in a deadlock, by"
+
+-- the line of a deadlock; no word stands before the first of these bits
+abbrev pub deadlock_line : (choices : List ℕ) → List ℕ
+deadlock_line choices =
+    concat (deadlock_lead choices ∷ drop 4 choices ∷ codes "\n" ∷ [])
+
+-- what a user reads of a verdict
+abbrev pub verdict_line : (choices : List ℕ) → Verdict → List ℕ
+verdict_line choices Failure =
+    codes "the steps are a run of the program; an assertion fails at the last one\n"
+verdict_line choices Deadlock = deadlock_line choices
+verdict_line choices Run =
+    codes "the steps are a run of the program; no assertion fails at the last one\n"
+
+-- a failure has a line only if a verdict is expected
+abbrev pub line_as : (expected : Option Verdict) → (choices : List ℕ) → Verdict → List ℕ
+line_as None choices Failure = []
+line_as expected choices v = verdict_line choices v
+
+-- what is said of it to programs
+abbrev pub confirmation_shown : Confirmation → ShownVerdict
+confirmation_shown x = record {
+  word = verdict_word x.verdict;
+  steps = x.report.calls;
+  contexts = Some x.report.contexts;
+  failure = x.failure.items;
+  waits = x.waits.items;
+  choices = x.choices.items;
+}
+
+abbrev pub confirm_summary : Confirmation → List ℕ
+confirm_summary x =
+    if x.form.json then verdict_object (confirmation_shown x)
+    else line_as x.form.expected x.choices.items x.verdict
+
+abbrev pub of_confirm : AnswerRule Confirmation
+of_confirm = record {
+  status = λ x. status_of_verdict x.form.expected x.verdict;
+  summary = confirm_summary;
+}
+
+-- this is the verdict on the steps of a program, which the history takes, in this form; its
+-- deadlock depends on these last bits
+pub record IsConfirmation
+    (text : List ℕ) (t : Program) (s : SetupOf) (h : List Call) (choices : List LastChoice)
+    (form : VerdictForm) (x : Confirmation)
+    : Type 0 where
+  pub reported : IsReport s h x.report
+  pub facts : ShownFoot
+  pub facts_are : AreFootFacts t text s h x.report facts
+  pub verdict : x.verdict ≡ verdict_of facts
+  pub failure : x.failure.items ≡ outcome_text Json [] facts.deadlocked facts.failure
+  pub waits : x.waits.items ≡ waits_text Json [] facts.waits
+  pub choices_are : x.choices.items ≡ choices_text form.json choices
+  pub form_is : x.form ≡ form
+
+-- Reported steps of the program of a text are confirmed from this start, within this bound of
+-- contexts, and the verdict has this form.
+module _ (start : StartOf) (bound : ContextBound) (form : VerdictForm) (given : Pair) where
+  -- a history takes the steps, and its trace is written
+  pub record IsOfSteps (written : List ℕ) : Type 0 where
+    pub program : Program
+    pub lawful : IsLawfulText given.text program
+    pub fine : setup_fault program (setup_from start None program) ≡ None
+    pub setup : SetupOf
+    pub history : List Call
+    pub choices : List LastChoice
+    pub confirmed :
+        IsConfirmedText program (setup_from start None program) given.input given.text bound setup
+        history choices
+    pub is : written ≡ trace_text setup history
+
+  -- and this is the verdict
+  pub record IsStepsReport (written : List ℕ) (answer : Confirmation) : Type 0 where
+    pub trace : IsOfSteps written
+    pub verdict :
+        IsConfirmation given.text trace.program trace.setup trace.history trace.choices form answer
+
+  -- the program takes the setup, and no history is written that takes the steps
+  pub record AreStepsRefused (f : Fault) : Type 0 where
+    pub program : Program
+    pub lawful : IsLawfulText given.text program
+    pub fine : setup_fault program (setup_from start None program) ≡ None
+    pub cause : ConfirmFault
+    pub why :
+        IsStepsRefusal program (setup_from start None program) given.input given.text bound cause
+    pub is : f ≡ fault_of_steps cause
+
+  abbrev pub IsConfirmRefused : Fault → Type 0
+  IsConfirmRefused f =
+      HasNoCode given.text f
+      ⊎ (IsSetupRefused start given.text f ⊎ AreStepsRefused f)
+
+-- it writes the trace of the history that takes the steps
+abbrev pub confirms : StartOf → ContextBound → VerdictForm → Command Pair Confirmation
+confirms start bound form = record {
+  Writes = IsOfSteps start bound form;
+  Reports = IsStepsReport start bound form;
+  Refuses = IsConfirmRefused start bound form;
+  Spoils = λ _ _ _. ⊥;
+}
+
+-- the same from a start in which these globals have their bits by name
+abbrev pub confirms_by_names
+    : StartOf → List NamedBitOf → ContextBound → VerdictForm → Command Pair Confirmation
+confirms_by_names start named bound form =
+    by_names (λ given. given.text) start named (λ s. confirms s bound form)

@@ -1,0 +1,149 @@
+-- The commands `check` and `code`, and starts whose globals have bits by name.
+use Rattle.std.specs.Prelude.{if◌then◌else◌, ◌≡◌, ℕ, Bool, List, [], ◌∷◌, length, codes, decimal, ◌≢◌, ◌⊎◌, Option, None, Some}
+use Rattle.std.specs.List.{concat}
+use Rattle.bp_language.specs.Ast.{Program}
+use Rattle.bp_machine.specs.declared.setup_faults.SetupFault.{SetupFault}
+use Rattle.bp_machine.specs.Setups.{IsSetupRefusal, StartOf, setup_from}
+use Rattle.bp_code.specs.LawfulTexts.{IsLawfulText, IsProgramRefusal, IsCodeRefusal}
+use Rattle.bp_code.specs.declared.texts.ProgramFault.{ProgramFault}
+use Rattle.bp_code.specs.Compiled.{flat_of}
+use Rattle.bp_code.specs.Listing.{listing_text}
+use Rattle.bp_code.specs.declared.texts.CodeFault.{CodeFault}
+use Rattle.bp_source.specs.Listings.{program_object, IsCodeInJson, IsSourcedListing}
+use Rattle.bp_tasks.specs.NamedBits.{NamedBitOf, start_by_names, AreGlobals, IsUnknown}
+use Rattle.bp_tasks.specs.declared.tasks.ListingForm.{ListingForm}
+use Rattle.bp_tasks.specs.declared.tasks.ListingForm.TheVariants.{Lines, Sourced, Json}
+use Rattle.bp_messages.specs.declared.faults.Fault.{Fault}
+use Rattle.bp_messages.specs.FaultTable.{fault_of_program, fault_of_code, fault_of_setup}
+use Rattle.bp_messages.specs.declared.faults.Fault.TheVariants.{Memory, NoVariable}
+use Rattle.bp_commands.specs.Commands.{Command}
+
+-- The command `check`.
+
+-- `ok`, the number of procedures, and the number of globals
+abbrev pub check_line : Program → List ℕ
+check_line p = concat (
+    codes "ok " ∷ decimal (length p.procedures)
+    ∷ codes " " ∷ decimal (length p.globals)
+    ∷ codes "\n" ∷ [])
+
+-- the text is that of a lawful program, and this is written of it
+pub record IsOfProgram (text_of : Program → List ℕ) (text written : List ℕ) : Type 0 where
+  pub program : Program
+  pub lawful : IsLawfulText text program
+  pub is : written ≡ text_of program
+
+-- the text is not that of a lawful program
+pub record IsUnlawful (text : List ℕ) (f : Fault) : Type 0 where
+  pub cause : ProgramFault
+  pub why : IsProgramRefusal text cause
+  pub is : f ≡ fault_of_program cause
+
+-- what is written of a program, as JSON or not
+abbrev pub check_text : (json : Bool) → Program → List ℕ
+check_text json t = if json then program_object t else check_line t
+
+-- it writes the numbers of procedures and globals, or their names as JSON
+abbrev pub checks : (json : Bool) → Command (List ℕ) (Unit {0})
+checks json = record {
+  Writes = IsOfProgram (check_text json);
+  Reports = λ text written _. IsOfProgram (check_text json) text written;
+  Refuses = IsUnlawful;
+  Spoils = λ _ _ _. ⊥;
+}
+
+-- The command `code`.
+
+-- the listing of the code of a program
+abbrev pub listing_of : Program → List ℕ
+listing_of p = listing_text (flat_of p)
+
+-- this is the listing of a program's code, that with the source of each instruction, or the same
+-- in JSON
+abbrev pub IsListingText : ListingForm → (text : List ℕ) → Program → List ℕ → Type 0
+IsListingText Lines text t written = written ≡ listing_of t
+IsListingText Sourced text t written = IsSourcedListing text t (listing_of t) written
+IsListingText Json text t written = IsCodeInJson text t (flat_of t) written
+
+-- the text is that of a lawful program, and this is its listing
+pub record IsListed (form : ListingForm) (text written : List ℕ) : Type 0 where
+  pub program : Program
+  pub lawful : IsLawfulText text program
+  pub is : IsListingText form text program written
+
+-- the text has no code
+pub record HasNoCode (text : List ℕ) (f : Fault) : Type 0 where
+  pub cause : CodeFault
+  pub why : IsCodeRefusal text cause
+  pub is : f ≡ fault_of_code cause
+
+-- it writes the listing of the program's code in this form
+abbrev pub lists : ListingForm → Command (List ℕ) (Unit {0})
+lists form = record {
+  Writes = IsListed form;
+  Reports = λ text written _. IsListed form text written;
+  Refuses = HasNoCode;
+  Spoils = λ _ _ _. ⊥;
+}
+
+-- Commands from a start whose globals may have their initial bits by name.
+
+-- the text is that of a lawful program, which does not take the setup of this start
+pub record IsSetupRefused (start : StartOf) (text : List ℕ) (f : Fault) : Type 0 where
+  pub program : Program
+  pub lawful : IsLawfulText text program
+  pub cause : SetupFault
+  pub why : IsSetupRefusal program (setup_from start None program) cause
+  pub is : f ≡ fault_of_setup cause
+
+-- the program of a text is run from this start, in which these globals have their bits by name
+module _ (start : StartOf) (named : List NamedBitOf) (text : List ℕ) where
+  -- the text is that of a lawful program that has these globals, and this holds of the start with
+  -- their bits
+  pub record OfNames (Holds : StartOf → Type 0) : Type 0 where
+    pub program : Program
+    pub lawful : IsLawfulText text program
+    pub known : AreGlobals program named
+    pub holds : Holds (start_by_names start named program)
+
+  -- the text is that of a lawful program, and the name of this number is the first of no global
+  pub record HasNoGlobal (f : Fault) : Type 0 where
+    pub program : Program
+    pub lawful : IsLawfulText text program
+    pub number : ℕ
+    pub unknown : IsUnknown program named number
+    pub is : f ≡ NoVariable number
+
+  -- the text is that of a lawful program, and memory was refused
+  pub record LacksMemory (f : Fault) : Type 0 where
+    pub program : Program
+    pub lawful : IsLawfulText text program
+    pub is : f ≡ Memory
+
+  -- why there is no start with these bits
+  abbrev pub AreNamesRefused : Fault → Type 0
+  AreNamesRefused f = IsUnlawful text f ⊎ (HasNoGlobal f ⊎ LacksMemory f)
+
+  -- A device: what comes of looking the names up is this start, and none where there are none.
+  abbrev pub IsStartFound : Option StartOf → Type 0
+  IsStartFound None = named ≡ []
+  IsStartFound (Some s) = (named ≢ []) × OfNames (λ found. s ≡ found)
+
+-- a command from the start, or else, where globals are named, from that with their bits
+abbrev pub by_names
+    : {X R : Type 0}
+    → (text_of : X → List ℕ) → StartOf → List NamedBitOf → (StartOf → Command X R) → Command X R
+by_names text_of start [] command = command start
+by_names text_of start (n ∷ ns) command =
+    let named = n ∷ ns in
+    record {
+      Writes = λ x written.
+          OfNames start named (text_of x) (λ s. (command s).Writes x written);
+      Reports = λ x written r.
+          OfNames start named (text_of x) (λ s. (command s).Reports x written r);
+      Refuses = λ x f.
+          AreNamesRefused start named (text_of x) f
+          ⊎ OfNames start named (text_of x) (λ s. (command s).Refuses x f);
+      Spoils = λ x written f.
+          OfNames start named (text_of x) (λ s. (command s).Spoils x written f);
+    }

@@ -1,0 +1,303 @@
+//! The command `confirm`.
+ghost use Rattle.std.specs.Prelude.{◌≡◌, ◌++◌, IfOk, OnOk};
+ghost use Rattle.bp_commands.specs.Commands.{AnswersOf, Pair};
+ghost use Rattle.bp_view.specs.FootFacts.{foot_in};
+ghost use Rattle.bp_flat.specs.StandsFor.{StandsFor};
+ghost use Rattle.bp_machine.specs.Sessions.{Stands};
+ghost use Rattle.bp_commands.specs.Confirms.{choice_text, choices_text, confirms, deadlock_lead, deadlock_line, of_confirm, status_of_verdict, verdict_line, verdict_of, verdict_word, IsConfirmation};
+ghost use Rattle.bp_text.specs.Writing.{Writes};
+
+use crate::commands::PairCommand;
+use crate::explanations::SecondInput;
+use crate::programs::{program_of, start_by_names};
+use crate::run_ends::CommandAnswer;
+use bp_code::Checked;
+use bp_confirm::{Confirmed, LastChoice, confirm};
+use bp_machine::{Report, Start};
+use bp_messages::{Fault, VerdictFacts, exit_status, put_verdict};
+use bp_source::source_statements_of;
+use bp_tasks::{ContextBound, NamedStart, Verdict, ViewFormat};
+use bp_text::Piece::{Bit, Bytes, Number};
+use bp_text::{WriteFault, part_from, push_pieces, put, put_pieces};
+use bp_trace::limits::MAX_SCHEDULE;
+use bp_trace::{Version, write_with_open_lines};
+use bp_view::{FootFacts, facts_of_foot, facts_of_program, outcome_text, waits_text};
+use std::alloc::{AllocError, Global};
+use std::io::Write;
+
+/// The exit status if the run of the steps does not end as expected, which is also that of refuted
+/// steps.
+const UNEXPECTED: u8 = 4;
+
+/// `confirm`: takes the steps that a model checker reports, and writes the trace.
+#[derive(Clone, Copy)]
+pub struct Confirm<'a> {
+    /// What the steps start from.
+    pub start: NamedStart<'a>,
+    /// How many contexts are allowed to them.
+    pub bound: ContextBound,
+    /// How the verdict is told.
+    pub form: VerdictForm,
+}
+
+/// How the verdict on reported steps is told.
+#[derive(Clone, Copy)]
+pub struct VerdictForm {
+    /// The verdict that is expected, if the exit status says whether it is this one.
+    pub expected: Option<Verdict>,
+    /// Whether it is a JSON object.
+    pub json: bool,
+}
+
+/// The verdict on steps that are a run, and how it is told.
+#[derive(Drop)]
+pub struct Confirmation {
+    pub verdict: Verdict,
+    pub report: Report,
+    /// The object of the assertion that failed, or `null`.
+    pub failure: Vec<u8>,
+    /// The objects of the threads that wait in a deadlock, each after a comma.
+    pub waits: Vec<u8>,
+    /// The last bits on which the deadlock depends, each as an object after a comma or in words.
+    pub choices: Vec<u8>,
+    pub form: VerdictForm,
+}
+
+/// The verdict on steps whose run ends with these facts.
+fn verdict_of(foot: &FootFacts<'_>) -> Verdict
+    ensures { result ≡ verdict_of (foot_in foot.now) }
+{
+    if foot.failure.is_some() {
+        return Verdict::Failure;
+    }
+    if foot.deadlocked {
+        Verdict::Deadlock
+    } else {
+        Verdict::Run
+    }
+}
+
+/// The word for a verdict.
+fn verdict_word(verdict: Verdict) -> &'static [u8]
+    ensures { result.now ≡ verdict_word verdict }
+{
+    match verdict {
+        Verdict::Failure => b"failure",
+        Verdict::Deadlock => b"deadlock",
+        Verdict::Run => b"run",
+    }
+}
+
+/// What is said of a deadlock before the last bits on which it depends.
+fn deadlock_lead(choices: &[u8]) -> &'static [u8]
+    ensures { result.now ≡ deadlock_lead choices.now }
+{
+    if choices.is_empty() {
+        b"the steps are a run of the program; they end in a deadlock"
+    } else {
+        b"the steps are a run of the program; they may end in a deadlock, by"
+    }
+}
+
+/// Writes what a user reads of a deadlock, which depends on these last bits.
+fn put_deadlock<W: Write>(choices: &[u8], out: &mut W) -> Result<(), WriteFault>
+    ensures { let line = deadlock_line choices.now in
+        Writes (W.contents out.old) (W.contents out.new) line result }
+{
+    let lead = Bytes(deadlock_lead(choices));
+    put_pieces(out, &[lead, Bytes(part_from(choices, 4)), Bytes(b"\n")])
+}
+
+/// Writes what a user reads of a verdict.
+fn put_line<W: Write>(choices: &[u8], verdict: Verdict, out: &mut W) -> Result<(), WriteFault>
+    ensures { let line = verdict_line choices.now verdict in
+        Writes (W.contents out.old) (W.contents out.new) line result }
+{
+    match verdict {
+        Verdict::Deadlock => put_deadlock(choices, out),
+        Verdict::Failure => put(
+            out,
+            b"the steps are a run of the program; an assertion fails at the last one\n",
+        ),
+        Verdict::Run => put(
+            out,
+            b"the steps are a run of the program; no assertion fails at the last one\n",
+        ),
+    }
+}
+
+/// Adds a last bit on which a deadlock depends.
+fn push_choice(text: &mut Vec<u8>, json: bool, choice: LastChoice) -> Result<(), AllocError>
+    ensures { let more = choice_text json choice in
+        OnOk result (text.new.items ≡ text.old.items ++ more) }
+{
+    let thread = Number(u64::from(choice.thread));
+    let bit = Bit(choice.bit);
+    if json {
+        return push_pieces(
+            text,
+            &[
+                Bytes(b",{\"thread\":"),
+                thread,
+                Bytes(b",\"bit\":"),
+                bit,
+                Bytes(b"}"),
+            ],
+        );
+    }
+    push_pieces(
+        text,
+        &[
+            Bytes(b" and ?="),
+            bit,
+            Bytes(b" at the last step of thread "),
+            thread,
+        ],
+    )
+}
+
+/// The last bits on which a deadlock depends.
+fn choices_text(alloc: Global, json: bool, choices: &[LastChoice]) -> Result<Vec<u8>, AllocError>
+    ensures { IfOk result (λ v. v.items ≡ choices_text json choices.now) }
+{
+    let mut text = Vec::new(alloc);
+    for choice in choices {
+        push_choice(&mut text, json, *choice)?;
+    }
+    Ok(text)
+}
+
+/// The exit status of a verdict: whether an assertion failed, or 0 or 4 if a verdict is expected.
+fn status_of_verdict(expected: Option<Verdict>, verdict: Verdict) -> u8
+    ensures { result ≡ status_of_verdict expected verdict }
+{
+    match expected {
+        None => exit_status(matches!(verdict, Verdict::Failure), None),
+        Some(wanted) if wanted == verdict => exit_status(false, None),
+        Some(_) => UNEXPECTED,
+    }
+}
+
+impl CommandAnswer for Confirmation {
+    ghost rule = { of_confirm };
+
+    fn status(&self) -> u8 {
+        status_of_verdict(self.form.expected, self.verdict)
+    }
+
+    fn summarize<E: Write>(&self, errors: &mut E) -> Result<(), WriteFault> {
+        if self.form.json {
+            return put_verdict(
+                VerdictFacts {
+                    verdict: verdict_word(self.verdict),
+                    steps: self.report.calls,
+                    contexts: Some(u64::from(self.report.contexts)),
+                    failure: &self.failure,
+                    waits: &self.waits,
+                    choices: &self.choices,
+                },
+                errors,
+            );
+        }
+        // A failure needs no line: its trace and the status say it.
+        if self.form.expected.is_none() && matches!(self.verdict, Verdict::Failure) {
+            return Ok(());
+        }
+        put_line(&self.choices, self.verdict, errors)
+    }
+}
+
+/// The verdict on steps of the program of a text, which this history takes.
+fn confirmation_of(
+    alloc: Global,
+    text: &[u8],
+    checked: &Checked,
+    confirmed: &Confirmed,
+    form: VerdictForm,
+) -> Result<Confirmation, AllocError>
+    requires { StandsFor confirmed.now.session.code checked.now }
+    ensures { Stands checked.now confirmed.now.session confirmed.now.history.items
+        → let setup = confirmed.now.session.setup in
+        let history = confirmed.now.history.items in
+        let choices = confirmed.now.choices.items in
+        IfOk result (IsConfirmation text.now checked.now setup history choices form) }
+{
+    let statements = source_statements_of(alloc, text, checked)?;
+    let program = facts_of_program(statements.as_slice(), checked);
+    let report = confirmed.session.report();
+    let foot = facts_of_foot(alloc, &program, &confirmed.session, report)?;
+    let format = ViewFormat::Json;
+    let failure = outcome_text(alloc, format, "", foot.deadlocked, foot.failure.as_ref())?;
+    let waits = waits_text(alloc, format, "", foot.waits.as_slice())?;
+    let choices = choices_text(alloc, form.json, confirmed.choices.as_slice())?;
+    Ok(Confirmation {
+        verdict: verdict_of(&foot),
+        report,
+        failure,
+        waits,
+        choices,
+        form,
+    })
+}
+
+/// Takes the steps that a model checker reports from a start, and writes the trace.
+fn confirm_from<W: Write>(
+    alloc: Global,
+    start: &Start,
+    asked: Confirm<'_>,
+    text: &[u8],
+    steps: &[u8],
+    out: &mut W,
+) -> Result<Confirmation, Fault>
+    ensures { let given : Pair = record { text = text.now; input = steps.now } in
+        AnswersOf (confirms start.now asked.entry.bound asked.entry.form) given
+        (W.contents out.old) (W.contents out.new) result }
+{
+    let (checked, code) = program_of(alloc, text)?;
+    let setup = start.setup(alloc, &code, None)?;
+    let confirmed = confirm(alloc, text, &checked, &code, &setup, asked.bound, steps)?;
+    let answer = confirmation_of(alloc, text, &checked, &confirmed, asked.form)?;
+    let (setup, left_open) = (confirmed.session.setup(), answer.report.left_open);
+    write_with_open_lines(Version::One, setup, &confirmed.history, left_open, out)?;
+    Ok(answer)
+}
+
+impl PairCommand for Confirm<'_> {
+    ghost use Rattle.bp_commands.specs.declared.explanations.SecondInput.{SecondInput};
+    ghost use Rattle.bp_trace.specs.declared.limits.TheConstants.{MAX_SCHEDULE};
+    ghost use Rattle.bp_commands.specs.Confirms.{confirms_by_names};
+
+    type Answer = Confirmation;
+
+    ghost command = { λ c. confirms_by_names c.start.start.now c.start.named.now c.bound c.form };
+
+    ghost limit = { λ _. MAX_SCHEDULE };
+
+    ghost second_input = { λ _. SecondInput.Steps };
+
+    fn limit(&self) -> usize {
+        MAX_SCHEDULE
+    }
+
+    fn apply<W: Write>(
+        &self,
+        alloc: Global,
+        text: &[u8],
+        steps: &[u8],
+        out: &mut W,
+    ) -> Result<Confirmation, Fault> {
+        let found = start_by_names(alloc, text, self.start)?;
+        match found {
+            Some(start) => confirm_from(alloc, &start, *self, text, steps, out),
+            None => confirm_from(alloc, self.start.start, *self, text, steps, out),
+        }
+    }
+
+    fn second_input(&self) -> SecondInput {
+        SecondInput::Steps
+    }
+
+    fn start(&self) -> Option<NamedStart<'_>> {
+        Some(self.start)
+    }
+}

@@ -1,0 +1,13 @@
+use Rattle.std.proofs.Common.{◌≡◌, ◌≤◌, ◌+◌, ◌-◌, None, drop, length, map}
+use Rattle.bp_machine.proofs.ContextCounts.{opened}
+use Rattle.bp_confirm.specs.ConfirmedTexts.{thread_of}
+use Rattle.bp_confirm.proofs.declared.contexts_used.Given as goal
+
+abbrev pub invariant-loop-n : goal.invariant-loop-n
+invariant-loop-n l = record {
+  few : l.used ≤ l.n;
+  used : l.used + opened l.last (map thread_of (drop l.n l.lines)) ≡ opened None (map thread_of l.lines);
+}
+
+abbrev pub decreases-loop-n : goal.decreases-loop-n
+decreases-loop-n l = length l.lines - l.n

@@ -1,0 +1,51 @@
+use Rattle.std.proofs.Common.{◌≡◌, ◌∙◌, ◌+◌, [], take, refl, sym, subst, arith}
+use Rattle.bp_flat.specs.StandsFor.{StandsFor}
+use Rattle.bp_machine.specs.Sessions.{Stands}
+use Rattle.bp_confirm.specs.Confirms.{seen_by, seen_after}
+use Rattle.bp_confirm.proofs.StepsFollowed.{front_again}
+use Rattle.bp_confirm.proofs.values.sight_of.Goals as goal
+
+pub loop-n-init : goal.loop-n-init
+loop-n-init c =
+    let t = c.args.checked.now in
+    let fresh = c.in_ok-again.ensures in
+    let stands = fresh.stands t (subst (λ k. StandsFor k t) (sym c.code.ensures) c.requires.code) in
+    let code = fresh.kept.0 ∙ c.code.ensures in
+    let setup = fresh.kept.1 ∙ c.setup.ensures in
+    record {
+      stands = stands;
+      code = code;
+      setup = setup;
+      sight = λ text are. (
+        subst (λ z. c.value_seen.result ≡ seen_by t z c.args.thread c.args.name.now []) setup
+            (c.value_seen.ensures text [] (subst (λ k. StandsFor k t) (sym code) c.requires.code) are stands),
+        λ k after within. absurd (omega (arith, after, within)),
+      );
+    }
+
+pub loop-n-preserved : goal.loop-n-preserved
+loop-n-preserved c =
+    let t = c.args.checked.now in
+    let s = c.args.session.now.setup in
+    let h = c.args.history.now in
+    let n = c.loop-n.n in
+    let before = c.loop-n.invariant in
+    let asked = c.ask_as_recorded.ensures in
+    let own = c.in-Ok.ensures in
+    let is_code = subst (λ k. StandsFor k t) (sym before.code) c.requires.code in
+    let answer = rw before.setup at (own.answer t (take n h) is_code before.stands) in
+    let front = front_again t s h c.requires.playable n _ c.loop-n-test.true c.in-Ok._made answer in
+    let stands = subst (Stands t c.ask_as_recorded.new.self) front (own.stands t (take n h) is_code before.stands) in
+    let code = asked.kept.0 ∙ before.code in
+    let setup = asked.kept.1 ∙ before.setup in
+    record {
+      stands = stands;
+      code = code;
+      setup = setup;
+      sight = λ text are.
+          let there = c.value_seen-seen.ensures text (take (n + 1) h) (subst (λ k. StandsFor k t) (sym code) c.requires.code) are stands in
+          let seen = subst (λ z. c.value_seen-seen.result ≡ seen_by t z c.args.thread c.args.name.now (take (n + 1) h)) setup there in
+          let old = before.sight text are in
+          let next = c.sight_after-sight.ensures in
+          (next.seen ∙ seen, next.changed (seen_after t s h c.args.thread c.args.name.now) n refl old.0 old.1 seen);
+    }

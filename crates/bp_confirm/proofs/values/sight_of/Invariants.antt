@@ -1,0 +1,16 @@
+use Rattle.std.proofs.Common.{◌≡◌, ℕ, List, take}
+use Rattle.bp_machine.specs.Sessions.{Stands}
+use Rattle.bp_confirm.specs.Confirms.{seen_after, IsLastChange}
+use Rattle.bp_confirm.specs.FollowedSteps.{source_points_of}
+use Rattle.bp_confirm.proofs.values.sight_of.Given as goal
+
+abbrev pub invariant-loop-n : goal.invariant-loop-n
+invariant-loop-n l = record {
+  stands : Stands l.checked l.again (take l.n l.history);
+  code : l.again.code ≡ l.session.code;
+  setup : l.again.setup ≡ l.session.setup;
+  sight : (text : List ℕ)
+      → l.points ≡ source_points_of text l.checked
+      → let sees = seen_after l.checked l.session.setup l.history l.thread l.name in
+      (l.sight.seen ≡ sees l.n) × IsLastChange sees l.n l.sight.changed;
+}

@@ -1,0 +1,172 @@
+-- Devices: how steps are followed, call by call.
+use Rattle.std.specs.Prelude.{if◌then◌else◌, ℕ, Bool, true, false, not, ◌&&◌, ◌==◌, List, [], ◌∷◌, Option, None, Some, is_none, ◌+◌, slice_get, ◌≡◌, MatchBool, get_or, option_map}
+use Rattle.bp_text.specs.Lines.{position_at}
+use Rattle.bp_language.specs.Ast.{Block, Then, Branches, Loops, Choose, Program}
+use Rattle.bp_flat.specs.Moves.{Frame}
+use Rattle.bp_flat.specs.declared.effects.Effect.{Effect}
+use Rattle.bp_flat.specs.declared.effects.Effect.TheVariants.{Continues, Fails, Blocks}
+use Rattle.bp_flat.specs.Flat.{Instruction, If, While, Assert, Assume}
+use Rattle.bp_flat.specs.StandsFor.{starts_of}
+use Rattle.bp_machine.specs.declared.calls.Call.{Call}
+use Rattle.bp_machine.specs.Histories.{configuration_after, is_finished}
+use Rattle.bp_machine.specs.Setups.{SetupOf}
+use Rattle.bp_confirm.specs.declared.step_lines.Location.{Location}
+use Rattle.bp_confirm.specs.declared.source_points.SourcePoint.{SourcePoint}
+use Rattle.bp_confirm.specs.Steps.{is_at, Place, StepOf, place_of, next_place, StepLineOf, location_in, step_of}
+use Rattle.bp_confirm.specs.declared.choices.Inferred.{Inferred}
+use Rattle.bp_confirm.specs.Inferred.{LastBits, bit_of_block, bit_of_stack, IsAmbiguous, IsAmbiguousOnStack, IsClear, IsClearOnStack, waiting_bits, some_follow}
+use Rattle.bp_confirm.specs.declared.choices.LastBits as given
+use Rattle.bp_confirm.specs.declared.choices.LastBits.TheVariants.{Each, Waiting}
+use Rattle.bp_confirm.specs.declared.confirming.StepFault.{StepFault}
+use Rattle.bp_confirm.specs.declared.confirming.StepFault.TheVariants as fault
+use Rattle.bp_confirm.specs.declared.confirming.StepReason.{StepReason}
+use Rattle.bp_confirm.specs.declared.confirming.StepRefusal.{StepRefusal}
+use Rattle.bp_confirm.specs.declared.following.Next.{Next}
+use Rattle.bp_confirm.specs.declared.following.NotCalled.{NotCalled}
+use Rattle.bp_confirm.specs.declared.following.NotCalled.TheVariants as call
+use Rattle.bp_confirm.specs.Confirms.{stand_in, stand_of, GoesOnAt, IsStuck, IsReason, ForStuck}
+
+-- A device: the inferred bit by the two effects of an instruction.
+
+-- a test decides what the instruction does
+abbrev pub has_test : Instruction → Bool
+has_test (If test m e) = true
+has_test (While test m e) = true
+has_test (Assert test m) = true
+has_test (Assume test m) = true
+has_test i = false
+
+-- a `?` decides which way it goes
+abbrev pub is_fork : Instruction → Bool
+is_fork (If None m e) = true
+is_fork (While None m e) = true
+is_fork i = false
+
+-- so it is with the next statement of a thread with this stack
+abbrev pub is_fork_block : Block → Bool
+is_fork_block (Then label at (Branches Choose a b) r) = true
+is_fork_block (Then label at (Loops Choose a) r) = true
+is_fork_block b = false
+
+abbrev pub is_fork_on : List Frame → Bool
+is_fork_on [] = false
+is_fork_on (f ∷ fs) = is_fork_block f.left
+
+-- the instructions of these numbers are at the place of the thread's next step, if it takes one
+abbrev pub NextNumbers : Type 0
+NextNumbers = Option (ℕ → Bool)
+
+abbrev pub bit_towards_number : NextNumbers → (taken other : ℕ) → Bool
+bit_towards_number None taken other = false
+bit_towards_number (Some there) taken other = there taken && not (there other)
+
+-- with the bit 0, and with the bit 1
+abbrev pub bit_of_effects : NextNumbers → Bool → Effect → Effect → Bool
+bit_of_effects next follow Blocks (Continues n w) = true
+bit_of_effects next follow Fails (Continues n w) = follow
+bit_of_effects next follow (Continues m v) (Continues n w) = bit_towards_number next n m
+bit_of_effects next follow d e = false
+
+-- the last bit decides at a fork without a next step
+abbrev pub bit_of_instruction
+    : NextNumbers → (last follow : Bool) → Instruction → Effect → Effect → Bool
+bit_of_instruction next last follow i d e =
+    if is_none next && is_fork i then last else bit_of_effects next follow d e
+
+-- two ways to the place
+abbrev pub are_both_there : NextNumbers → (taken other : ℕ) → Bool
+are_both_there None taken other = false
+are_both_there (Some there) taken other = not (taken == other) && (there taken && there other)
+
+abbrev pub splits : NextNumbers → Effect → Effect → Bool
+splits next (Continues m v) (Continues n w) = are_both_there next n m
+splits next d e = false
+
+-- A device: where the statement of each instruction begins, and in which procedure.
+
+-- procedures have numbers from k on; each ends where no statement begins
+abbrev pub points_from : List ℕ → ℕ → List (Option ℕ) → List SourcePoint
+points_from text k [] = []
+points_from text k (None ∷ starts) =
+    record { position = None; procedure = k } ∷ points_from text (k + 1) starts
+points_from text k (Some at ∷ starts) =
+    record { position = Some (position_at text at); procedure = k } ∷ points_from text k starts
+
+-- those of the instructions of a program of this text
+abbrev pub source_points_of : List ℕ → Program → List SourcePoint
+source_points_of text t = points_from text 0 (starts_of t)
+
+abbrev pub is_point_at : Location → Option SourcePoint → Bool
+is_point_at x None = false
+is_point_at x (Some point) = is_at x point.position
+
+-- the instruction of this number is at the location
+abbrev pub is_there : List SourcePoint → Location → ℕ → Bool
+is_there points x n = is_point_at x (slice_get points n)
+
+-- A device: what later steps tell of the choice bit of a step.
+
+-- of the next statement
+abbrev pub IsInferred : Program → Block → Option Place → (last follow : Bool) → Inferred → Type 0
+IsInferred t left next last follow x =
+    (x.bit ≡ bit_of_block left next last follow)
+    × MatchBool x.is_clear (IsClear left next) (IsAmbiguous t left next)
+
+-- of the next statement of a thread with this stack
+abbrev pub IsInferredOn : Program → LastBits → ℕ → List StepOf → List Frame → Inferred → Type 0
+IsInferredOn t last i later stack x =
+    (x.bit ≡ bit_of_stack last i later stack)
+    × MatchBool x.is_clear (IsClearOnStack i later stack) (IsAmbiguousOnStack t i later stack)
+
+-- A device: the last bits that are handed on.
+
+abbrev pub last_bits : given.LastBits → LastBits
+last_bits (Each bit) = λ i. bit
+last_bits (Waiting waits) = waiting_bits (λ i. get_or waits.now i false)
+
+-- A device: the refusal of one step after a history.
+
+-- the step of line n is refused after the history h
+pub record IsRefusedHere
+    (text : List ℕ) (t : Program) (s : SetupOf) (h : List Call) (x : StepLineOf)
+    (later : List StepOf) (n : ℕ) (r : StepRefusal)
+    : Type 0 where
+  pub line : r.line ≡ n
+  pub thread : r.thread ≡ x.thread
+  pub location : r.location ≡ x.location
+  pub number : GoesOnAt t (configuration_after t s h) r.thread r.number
+  pub stand : r.stand ≡ stand_of text t r.number
+  pub reason : IsReason t s h (step_of text x) later r.reason
+  pub stuck : ForStuck r.reason (IsStuck t s h (step_of text x))
+
+-- or memory is refused
+abbrev pub IsNotTaken
+    : List ℕ → Program → SetupOf → List Call → StepLineOf → List StepOf → ℕ → StepFault → Type 0
+IsNotTaken text t s h x later n (fault.Refusal r) = IsRefusedHere text t s h x later n r
+IsNotTaken text t s h x later n fault.Memory = Unit {0}
+
+-- the session does not call thread i: it has made its last call, or memory is refused
+abbrev pub IsNotCalled : SetupOf → List Call → ℕ → NotCalled → Type 0
+IsNotCalled s h i call.Finished = is_finished s h i ≡ true
+IsNotCalled s h i call.Memory = Unit {0}
+
+-- the refusal of the step of this line, the n-th
+abbrev pub refusal_of : List SourcePoint → StepLineOf → ℕ → Option ℕ → StepReason → StepFault
+refusal_of points x n number reason = fault.Refusal (record {
+  line = n;
+  thread = x.thread;
+  location = x.location;
+  number = number;
+  stand = stand_in points number;
+  reason = reason;
+})
+
+-- what these later steps, which are among these lines, tell of the step x in a text, and the last
+-- bit of its thread
+pub record TellsNext
+    (text : List ℕ) (last : LastBits) (x : StepOf) (later : List StepOf) (lines : List StepLineOf)
+    (next : Next)
+    : Type 0 where
+  pub place : next_place x.thread later ≡ option_map (place_of text) (location_in lines next.number)
+  pub follows : some_follow later ≡ next.follows
+  pub last_is : last x.thread ≡ next.last

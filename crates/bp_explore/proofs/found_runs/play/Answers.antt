@@ -1,0 +1,73 @@
+use Rattle.std.proofs.Common.{◌≡◌, ◌<◌, ◌++◌, ◌+◌, ◌∷◌, [], true, false, get_or, take, refl, ap, sym, ◌∙◌, subst, arith}
+use Rattle.std.proofs.lemmas.List.{take_more}
+use Rattle.bp_flat.specs.InstrEffects.{bits_of}
+use Rattle.bp_flat.specs.StandsFor.{StandsFor, valuation_of}
+use Rattle.bp_machine.specs.declared.calls.Call.{Call}
+use Rattle.bp_machine.specs.declared.calls.Reply.TheVariants.{Stopped}
+use Rattle.bp_machine.specs.Histories.{configuration_after, granted_calls, IsAllowed, is_granted}
+use Rattle.bp_machine.specs.Sessions.{Stands}
+use Rattle.bp_machine.specs.Setups.{SetupOf}
+use Rattle.bp_explore.specs.declared.observers.SeenStep.{SeenStep}
+use Rattle.bp_explore.specs.Searches.{IsPlayedTo, IsTopOrNone, ShowsStep}
+use Rattle.bp_explore.proofs.PlayedRuns.{granted_more}
+use Rattle.bp_explore.proofs.MadeSteps.{played_none, played_more}
+use Rattle.bp_explore.proofs.found_runs.play.Goals as goal
+
+pub loop-call-init : goal.loop-call-init
+loop-call-init g c = record {
+  stands = c.requires.stands;
+  made = λ t is own. played_none t c.args.session.now.setup (g.O.Observer.listed c.args.observer.now) own c.requires.some;
+  granted = refl;
+  code = refl;
+  setup = refl;
+}
+
+pub loop-call-preserved : goal.loop-call-preserved
+loop-call-preserved g c =
+    let o = g.O.Observer.listed c.args.observer.now in
+    let xs = c.args.calls.now in
+    let i = c.loop-call.call-index in
+    let h = take i xs in
+    let x = c.in-Ok.answer in
+    let s = c.loop-call.session.setup in
+    let new = c.ask_with.new.self in
+    let kept = c.ask_with.ensures.kept in
+    let none : Call = record { thread = 0; bit = false; reply = Stopped } in
+    let asked = c.in-Ok.ensures.asked in
+    let step = c.is_same_step.ensures c.if-not-is_same_step.false in
+    let same : x ≡ get_or xs i none = λ j. record { thread = asked.0 j; bit = asked.1 j; reply = step.0 j } in
+    let more : take (i + 1) xs ≡ h ++ x ∷ [] = take_more xs i none c.loop-call-test.true ∙ ap (λ y. h ++ y ∷ []) (sym same) in
+    let granted : is_granted x.reply ≡ true = ap is_granted step.0 ∙ step.1 in
+    let thread = (get_or xs i none).thread in
+    let seen : SeenStep = record {
+      thread = thread;
+      before = c.top-before.result;
+      after = c.top.result;
+      globals = c.globals.result;
+      failed = c.is_failed.result;
+    } in
+    let few : c.loop-call.made < o.count = omega (arith, c.if-made-count.false, c.count.ensures) in
+    record {
+      stands = λ t is. subst (Stands t new) (sym more)
+          (c.in-Ok.ensures.stands t h (subst (λ z. StandsFor z t) kept.0 is) (c.loop-call.invariant.stands t (subst (λ z. StandsFor z t) kept.0 is)));
+      made = λ t is own.
+          let was = subst (λ z. StandsFor z t) kept.0 is in
+          let stood = c.loop-call.invariant.stands t was in
+          let stands = c.in-Ok.ensures.stands t h was stood in
+          let allowed : IsAllowed t s h x = (c.in-Ok.ensures.answer t h was stood).allowed in
+          let shows : ShowsStep t seen (configuration_after t s h) (configuration_after t s (h ++ x ∷ [])) = record {
+            before = c.top-before.ensures t h was stood;
+            after = subst (λ (z : SetupOf). IsTopOrNone t (configuration_after t z (h ++ x ∷ [])) thread c.top.result) kept.1 (c.top.ensures t (h ++ x ∷ []) is stands);
+            globals = subst (λ (z : SetupOf). (configuration_after t z (h ++ x ∷ [])).globals ≡ valuation_of t.globals (bits_of c.globals.result)) kept.1
+                (c.globals.ensures t (h ++ x ∷ []) stands);
+            failed = subst (λ (z : SetupOf). (configuration_after t z (h ++ x ∷ [])).failed ≡ c.is_failed.result) kept.1
+                (sym (c.is_failed.ensures t (h ++ x ∷ []) stands));
+          } in
+          subst (λ l. IsPlayedTo t new.setup o l c.made_with-made.result) (sym more)
+          (subst (λ (z : SetupOf). IsPlayedTo t z o (h ++ x ∷ []) c.made_with-made.result) (sym kept.1)
+          (played_more t s o own h x allowed granted c.loop-call.made c.made_with-made.result few (c.loop-call.invariant.made t was own) seen (sym asked.0) shows
+          (c.made_with-made.ensures.counted few)));
+      granted = subst (λ l. granted_calls l ≡ l) (sym more) (granted_more h x c.loop-call.invariant.granted granted);
+      code = kept.0 ∙ c.loop-call.invariant.code;
+      setup = kept.1 ∙ c.loop-call.invariant.setup;
+    }

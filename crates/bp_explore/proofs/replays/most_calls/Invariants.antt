@@ -1,6 +1,0 @@
-use Rattle.std.proofs.Common.{◌≡◌}
-use Rattle.bp_explore.specs.FoundRuns.{most_calls}
-use Rattle.bp_explore.proofs.replays.most_calls.Given as goal
-
-abbrev pub invariant-loop-thread : goal.invariant-loop-thread
-invariant-loop-thread l = l.most ≡ most_calls l.thread l.calls

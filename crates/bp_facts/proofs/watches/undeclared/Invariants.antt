@@ -1,6 +1,0 @@
-use Rattle.std.proofs.Common.{take, map}
-use Rattle.bp_facts.specs.Watches.{AreDeclared}
-use Rattle.bp_facts.proofs.watches.undeclared.Given as goal
-
-abbrev pub invariant-loop-n : goal.invariant-loop-n
-invariant-loop-n l = AreDeclared l.checked (take l.n (map (λ n. n.now) l.names))

@@ -1,2 +1,0 @@
-mod NamedValues
-pub mod PiecesLeft

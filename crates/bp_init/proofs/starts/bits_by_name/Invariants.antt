@@ -1,7 +1,0 @@
-use Rattle.std.proofs.Common.{◌≡◌, take}
-use Rattle.bp_init.specs.NamedBits.{values_of}
-use Rattle.bp_init.specs.Starts.{bits_by_name}
-use Rattle.bp_init.proofs.starts.bits_by_name.Given as goal
-
-abbrev pub invariant-loop-global : goal.invariant-loop-global
-invariant-loop-global l = l.bits.items ≡ bits_by_name (values_of l.named) (take l.global-index l.globals)

@@ -1,5 +1,0 @@
-use Rattle.std.proofs.Common.{◌≡◌, take, map, string_bytes}
-use Rattle.bp_init.proofs.starts.copies.Given as goal
-
-abbrev pub invariant-loop-name : goal.invariant-loop-name
-invariant-loop-name l = map string_bytes l.items.items ≡ map string_bytes (take l.name-index l.names)

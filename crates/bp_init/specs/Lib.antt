@@ -1,3 +1,0 @@
-pub mod NamedBits
-pub mod Starts
-pub mod Texts

@@ -1,4 +1,0 @@
-use Rattle.bp_messages.proofs.verdicts.put_refuted.Goals as goal
-
-pub returns : goal.returns
-returns g c = rw c.verdict_pieces.ensures at c.put_pieces.ensures

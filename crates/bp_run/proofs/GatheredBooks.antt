@@ -1,0 +1,124 @@
+-- What a desk's books come to once its seats and its tap are joined with it.
+use Rattle.std.proofs.Common.{◌≡◌, Bool, true, false, not, sym, ◌∙◌, ap, refl, ℕ, ◌+◌, ◌*◌, ◌<◌, ◌≤◌, ◌^◌, cond, List, [], ◌∷◌, ◌++◌, None, is_some, subst, arith, length-append, ◌↔◌, IsTrue, length, Option, Some}
+use Rattle.std.proofs.lemmas.Bool.{false≢true}
+use Rattle.std.specs.Coded.{Coded, le_prop}
+use Rattle.std.proofs.Math.Logic.{∥∥₁_elim}
+use Rattle.std.proofs.Math.Nat.{mul-le-mul_left, mul-le-mul_right}
+use Rattle.bp_language.specs.Ast.{Program}
+use Rattle.bp_flat.specs.Same.{same, same-Decides}
+use Rattle.bp_flat.specs.StandsFor.{IsOfProgram, StandsFor}
+use Rattle.bp_flat.specs.Flat.{Flat}
+use Rattle.bp_machine.specs.declared.calls.Call.{Call}
+use Rattle.bp_machine.specs.declared.limits.TheConstants.{MAX_THREADS, MAX_CALLS}
+use Rattle.bp_machine.specs.Histories.{is_finished, finished_by, open_lines, IsLegal, IsReport, HasSeededBits}
+use Rattle.bp_machine.specs.Sessions.{SessionOf, Stands, StandsForAll, IsNextCall}
+use Rattle.bp_machine.specs.Setups.{threads, FitsCode, IsInRange, SetupOf}
+use Rattle.bp_machine.specs.declared.calls.Report.{Report}
+use Rattle.bp_machine.proofs.SetupInRange.{same_number, for_one}
+use Rattle.bp_machine.proofs.HistoryWithCall.{open_at_start, open_lines-append}
+use Rattle.bp_machine.proofs.HistoriesAreRuns.{legal_length}
+use Rattle.bp_run.specs.Desks.{IsInBooks, SeatOf, TapOf}
+use Rattle.bp_run.specs.Gatherings.{calls_of_seats, open_seats, AreOwn, AreSeatsOf, IsGathered, TellsEarly}
+
+-- What a test of equality says, by its law.
+
+pub differ : {A : Type 0} (c : Coded A) (x y : A) (b : Bool) → b ≡ not (same c x y) → b ≡ true → x ≡ y → ⊥
+differ c x y b e t same_values = false≢true (sym (ap not ((same-Decides c x y).1 same_values)) ∙ sym e ∙ t)
+
+by_not : (b : Bool) → not b ≡ false → b ≡ true
+by_not true e = refl
+by_not false e = absurd (false≢true (sym e))
+
+pub alike : {A : Type 0} (c : Coded A) (x y : A) (b : Bool) → b ≡ not (same c x y) → b ≡ false → x ≡ y
+alike c x y b e f = (same-Decides c x y).0 (by_not (same c x y) (sym e ∙ f))
+
+-- The books of a desk at the start, and after one more call.
+
+-- a session that stands after no call
+pub books_at_start : (x : SessionOf) (made lines : ℕ) → FitsCode x.code x.setup → is_some x.setup.seed ≡ true → StandsForAll x [] → 0 < x.setup.calls
+    → made ≡ 0 → lines ≡ threads x.setup → IsInBooks x [] made lines
+books_at_start x made lines fits has_seed stands some made_is lines_are = record {
+  fits = fits;
+  has_seed = has_seed;
+  stands = stands;
+  made_is = made_is;
+  lines_are = lines_are ∙ sym (open_at_start (threads x.setup) x.setup some);
+}
+
+module _ (x new : SessionOf) (h : List Call) (made lines i : ℕ) (call : Call) (books : IsInBooks x h made lines) (of_some : IsOfProgram x.code)
+    (next : (t : Program) → StandsFor x.code t → IsNextCall t x.setup h i None call)
+    (stands : (t : Program) → StandsFor x.code t → Stands t new (h ++ call ∷ []))
+    (code : new.code ≡ x.code) (setup : new.setup ≡ x.setup)
+  where
+    open_with : open_lines x.setup (h ++ call ∷ []) + finished_by x.setup h call ≡ open_lines x.setup h
+    open_with =
+        same_number x.code (open_lines x.setup (h ++ call ∷ []) + finished_by x.setup h call) (open_lines x.setup h) of_some
+        (λ t is. open_lines-append t x.setup h call (next t is).allowed)
+
+    books_with : (more less : ℕ) → more ≡ made + 1 → less + finished_by x.setup h call ≡ lines → IsInBooks new (h ++ call ∷ []) more less
+    books_with more less one_more closed = record {
+      fits = rw (code, setup) books.fits;
+      has_seed = rw setup books.has_seed;
+      stands = λ t is. stands t (subst (λ c. StandsFor c t) code is);
+      made_is = let long = length-append h (call ∷ []) in let was = books.made_is in omega (arith, long, was, one_more);
+      lines_are = rw setup (let was = books.lines_are in omega (arith, open_with, was, closed));
+    }
+
+    -- a line that the call finishes
+    pub books_when_finished : (more less : ℕ) → more ≡ made + 1 → less + 1 ≡ lines
+        → is_finished x.setup (h ++ call ∷ []) call.thread ≡ true → IsInBooks new (h ++ call ∷ []) more less
+    books_when_finished more less one_more closed finished =
+        books_with more less one_more (ap (λ b. less + cond b 1 0) finished ∙ closed)
+
+    -- a line that goes on
+    pub books_when_open : (more : ℕ) → more ≡ made + 1 → is_finished x.setup (h ++ call ∷ []) call.thread ≡ false → IsInBooks new (h ++ call ∷ []) more lines
+    books_when_open more one_more unfinished =
+        books_with more lines one_more (ap (λ b. lines + cond b 1 0) unfinished ∙ omega arith)
+
+-- the books count few calls
+pub few_made : (x : SessionOf) (h : List Call) (made lines : ℕ) → IsInBooks x h made lines → IsOfProgram x.code → IsInRange x.setup → made < 2 ^ 32
+few_made x h made lines books of_some range = ∥∥₁_elim (for_one x.code (made ≤ MAX_THREADS * MAX_CALLS) of_some each) le_prop few
+  where
+    each : (t : Program) → StandsFor x.code t → made ≤ MAX_THREADS * MAX_CALLS
+    each t is =
+        let long = legal_length t x.setup h (books.stands t is).state.legal in
+        let one = mul-le-mul_right x.setup.calls range.few in
+        let other = mul-le-mul_left MAX_THREADS range.calls in
+        let was = books.made_is in
+        omega (arith, long, one, other, was)
+
+    few : made ≤ MAX_THREADS * MAX_CALLS → made < 2 ^ 32
+    few most = omega (arith, most)
+
+module _ (t : Program) (x : SessionOf) (h : List Call) (made lines : ℕ) (books : IsInBooks x h made lines) (code : Flat)
+    (s : SetupOf) (seats : List SeatOf) (own : AreOwn x.code x.setup seats code s)
+    (is : StandsFor code t) (r : Report) (early : Option ℕ) (agree : Bool)
+    (report : (t : Program) (g : List Call) → Stands t x g → IsReport x.setup g r) (calls : calls_of_seats seats ≡ made)
+    (open_are : open_seats seats ≡ lines)
+    (stops : (t : Program) (g : List Call) → StandsFor x.code t → Stands t x g → TellsEarly t x.setup g early)
+    (agreement : (t : Program) (g : List Call) → Stands t x g → (IsTrue agree ↔ AreSeatsOf x.setup g seats)) where
+  stands : Stands t x h
+  stands = books.stands t (subst (λ c. StandsFor c t) (sym own.code_is) is)
+
+  reported : IsReport x.setup h r
+  reported = report t h stands
+
+  pub gathered : (taken left : List Call) (tap : TapOf) → taken ++ left ≡ h → tap.taken ≡ taken → tap.rest ≡ Some left
+      → IsGathered t s taken seats tap r early agree
+  gathered taken left tap all same rest = record {
+    left = left;
+    rest = rest;
+    same = same;
+    legal = subst (IsLegal t s) (sym all) (subst (λ u. IsLegal t u h) own.setup_is stands.state.legal);
+    seeded = subst (HasSeededBits s) (sym all) (subst (λ u. HasSeededBits u h) own.setup_is stands.seeded);
+    report = subst (λ g. IsReport s g r) (sym all) (subst (λ u. IsReport u h r) own.setup_is reported);
+    one_each = own.one_each;
+    calls = calls ∙ books.made_is ∙ ap length (sym all);
+    stops =
+        subst (λ g. TellsEarly t s g early) (sym all)
+        (subst (λ u. TellsEarly t u h early) own.setup_is (stops t h (subst (λ c. StandsFor c t) (sym own.code_is) is) stands));
+    agreement =
+        subst (λ g. IsTrue agree ↔ AreSeatsOf s g seats) (sym all)
+        (subst (λ u. IsTrue agree ↔ AreSeatsOf u h seats) own.setup_is (agreement t h stands));
+    open_are = open_are ∙ books.lines_are ∙ sym reported.left_open;
+  }

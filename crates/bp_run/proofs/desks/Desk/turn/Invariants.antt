@@ -1,0 +1,22 @@
+use Rattle.std.proofs.Common.{◌≡◌, ◌+◌, ◌≤◌, ◌++◌, ◌∷◌, [], List, length, not}
+use Rattle.bp_machine.specs.declared.calls.Call.{Call}
+use Rattle.bp_machine.specs.Histories.{is_finished}
+use Rattle.bp_run.specs.Turns.{AreSteps}
+use Rattle.bp_run.proofs.desks.Desk.turn.Given as goal
+
+abbrev pub invariant-loop-made : goal.invariant-loop-made
+invariant-loop-made g l = record {
+  steps : List Call;
+  last : Call;
+  sent : l.self.history ≡ l.fn.self.history ++ (steps ++ last ∷ []);
+  room : l.fn.self.free ≤ l.self.free + l._made;
+  stepped : AreSteps l.fn.seat.thread steps;
+  thread : last.thread ≡ l.fn.seat.thread;
+  answered : last.reply ≡ l.last;
+  many : length steps + 1 ≡ l._made;
+  counted : l.seat.calls ≡ l.fn.seat.calls + l._made;
+  line : l.seat.is_open ≡ not (is_finished l.self.setup l.self.history l.fn.seat.thread);
+  code : l.self.code ≡ l.fn.self.code;
+  setup : l.self.setup ≡ l.fn.self.setup;
+  own : l.seat.thread ≡ l.fn.seat.thread;
+}

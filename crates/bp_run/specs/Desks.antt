@@ -1,0 +1,195 @@
+-- Desks, seats and taps as contracts see them, and what a board is made of.
+use denote.RawPtr.{Ptr, null_ptr}
+use Rattle.std.specs.Prelude.{[], None, ◌≡◌, ◌<◌, ◌≤◌, ℕ, List, true, length, is_some, refl, if◌then◌else◌, Bool, map, ◌∷◌, Option, Some, MatchOption}
+use Rattle.rtrb.specs.Shared.{Names}
+use Rattle.std.specs.declared.alloc.Global.{Global}
+use Rattle.rtrb.specs.declared.AnyItems.{AnyItems}
+use Rattle.rtrb.specs.declared.producer.Producer.{Producer}
+use Rattle.rtrb.specs.declared.consumer.Consumer.{Consumer}
+use Rattle.rtrb.specs.declared.end.End.{End}
+use Rattle.rtrb.specs.Ring.{sent, known_free, received}
+use Rattle.std.specs.Coded.{Coded, code_by, coded×, coded_ℕ, coded_list}
+use Rattle.std.specs.List.{range_with_len}
+use Rattle.std.specs.Option.{option_map}
+use Rattle.bp_language.specs.Ast.{Program}
+use Rattle.bp_flat.specs.Flat.{Flat, flat}
+use Rattle.bp_flat.specs.Codes.{coded_flat}
+use Rattle.bp_machine.specs.Setups.{SetupOf, setup_of, FitsCode}
+use Rattle.bp_machine.specs.declared.calls.Call.{Call}
+use Rattle.bp_machine.specs.declared.limits.TheConstants.{MAX_THREADS}
+use Rattle.bp_machine.specs.Histories.{open_lines, IsLegal, HasSeededBits}
+use Rattle.bp_machine.specs.Sessions.{SessionOf, StandsForAll}
+use Rattle.bp_machine.specs.SessionCodes.{coded_setup, coded_call}
+
+-- Which ring an end is of.
+
+-- what the two ends of one ring have in common
+pub record RingOf : Type 0 where
+  pub words : Ptr
+  pub slots : Ptr
+  pub names : Names
+  pub heap : Global
+
+abbrev pub ring_of_end : End Call Global AnyItems → RingOf
+ring_of_end e = record { words = e.words; slots = e.slots; names = e.names; heap = e.heap }
+
+abbrev pub producer_ring : Producer Call Global AnyItems → RingOf
+producer_ring p = ring_of_end p.end
+
+abbrev pub consumer_ring : Consumer Call Global AnyItems → RingOf
+consumer_ring c = ring_of_end c.end
+
+abbrev pub no_ring : RingOf
+no_ring = record {
+  words = null_ptr;
+  slots = null_ptr;
+  names = (0, (0, 0));
+  heap = record { memory = record { seal = tt } };
+}
+
+abbrev pub no_code : Flat
+no_code = flat [] 0 []
+
+abbrev pub no_setup : SetupOf
+no_setup = setup_of [] [] 0 0 None
+
+-- What a board is made of.
+
+-- for how many threads, the names of the two ledgers, the ring, and how many of its places are free
+pub record KitOf : Type 0 where
+  pub threads : ℕ
+  pub calls : ℕ
+  pub lines : ℕ
+  pub ring : RingOf
+  pub free : ℕ
+
+abbrev pub kit_of : ℕ → ℕ → ℕ → Producer Call Global AnyItems → KitOf
+kit_of threads calls lines to = record {
+  threads = threads;
+  calls = calls;
+  lines = lines;
+  ring = producer_ring to;
+  free = known_free to;
+}
+
+-- the ledgers have a part for each thread, and nothing was sent through the ring
+pub record IsNewKit
+    (threads call_parts line_parts : ℕ)
+    (to : Producer Call Global AnyItems) (from : Consumer Call Global AnyItems)
+    : Type 0 where
+  pub some : 0 < threads
+  pub few : threads ≤ MAX_THREADS
+  pub calls : call_parts ≡ threads
+  pub lines : line_parts ≡ threads
+  pub unsent : sent to ≡ []
+  pub untaken : received from ≡ []
+  pub one_ring : consumer_ring from ≡ producer_ring to
+
+-- the kit is the one that these names and parts of ledgers, and this ring, are of
+pub record IsNamed
+    (kit : KitOf) (calls call_parts lines line_parts : ℕ) (ring : RingOf) : Type 0 where
+  pub calls_are : kit.calls ≡ calls
+  pub call_parts_are : kit.threads ≡ call_parts
+  pub lines_are : kit.lines ≡ lines
+  pub line_parts_are : kit.threads ≡ line_parts
+  pub ring_is : kit.ring ≡ ring
+
+-- Desks as contracts see them: a program's code, a setup, the history that was sent, and how many
+-- places of the ring the desk knows to be free.
+
+pub record DeskOf : Type 0 where
+  pub code : Flat
+  pub setup : SetupOf
+  pub history : List Call
+  pub free : ℕ
+
+abbrev pub desk_of : SessionOf → List Call → ℕ → DeskOf
+desk_of x h free = record { code = x.code; setup = x.setup; history = h; free = free }
+
+-- What a desk of the program t is whenever nobody is at work on it: its setup fits the code and has
+-- a seed, and its history is legal and has the bits of that seed.
+pub record IsLegalDesk (t : Program) (d : DeskOf) : Type 0 where
+  pub fits : FitsCode d.code d.setup
+  pub has_seed : is_some d.setup.seed ≡ true
+  pub legal : IsLegal t d.setup d.history
+  pub seeded : HasSeededBits d.setup d.history
+
+-- The session stands after the history for each program of its code, and the books count the calls
+-- of the history and the lines that are open after it.
+pub record IsInBooks (x : SessionOf) (h : List Call) (made lines : ℕ) : Type 0 where
+  pub fits : FitsCode x.code x.setup
+  pub has_seed : is_some x.setup.seed ≡ true
+  pub stands : StandsForAll x h
+  pub made_is : made ≡ length h
+  pub lines_are : lines ≡ open_lines x.setup h
+
+-- a desk of this code and setup that has sent nothing, and knows this many places to be free
+pub record IsNewDesk (code : Flat) (setup : SetupOf) (free : ℕ) (d : DeskOf) : Type 0 where
+  pub code_is : d.code ≡ code
+  pub setup_is : d.setup ≡ setup
+  pub unsent : d.history ≡ []
+  pub free_is : d.free ≡ free
+
+-- Encodings of the values of desks. No public clause names one.
+
+abbrev pub coded_desk : Coded DeskOf
+coded_desk =
+    code_by ((Flat × SetupOf) × (List Call × ℕ))
+    (coded× (coded× coded_flat coded_setup) (coded× (coded_list coded_call) coded_ℕ))
+    (λ d. ((d.code, d.setup), (d.history, d.free)))
+    (λ p. record { code = p.0.0; setup = p.0.1; history = p.1.0; free = p.1.1 })
+    (λ _. refl)
+
+-- Seats as contracts see them.
+
+-- a thread, how many calls were made from its seat, and whether it may continue
+pub record SeatOf : Type 0 where
+  pub thread : ℕ
+  pub calls : ℕ
+  pub is_open : Bool
+
+abbrev pub seat_of : ℕ → ℕ → Bool → SeatOf
+seat_of thread calls is_open = record { thread = thread; calls = calls; is_open = is_open }
+
+-- how many open lines a seat counts as
+abbrev pub open_amount : Bool → ℕ
+open_amount is_open = if is_open then 1 else 0
+
+-- a seat has one part of each ledger: of the first as much as it made calls, of the second one
+-- where its line is open
+pub record HasShares (call_parts made line_parts line : ℕ) (seat : SeatOf) : Type 0 where
+  pub one_of_calls : call_parts ≡ 1
+  pub made_is : made ≡ seat.calls
+  pub one_of_lines : line_parts ≡ 1
+  pub line_is : line ≡ open_amount seat.is_open
+
+abbrev pub new_seat : ℕ → SeatOf
+new_seat thread = seat_of thread 0 true
+
+-- an open seat for each of n threads, in order
+abbrev pub AreNewSeats : ℕ → List SeatOf → Type 0
+AreNewSeats n seats = seats ≡ map new_seat (range_with_len 0 n)
+
+-- Taps as contracts see them.
+
+-- the calls that were taken, and once the board is gathered those that are left
+pub record TapOf : Type 0 where
+  pub taken : List Call
+  pub rest : Option (List Call)
+
+abbrev pub tap_of : List Call → List Call → Option ℕ → TapOf
+tap_of taken known left = record { taken = taken; rest = option_map (λ _. known) left }
+
+-- the next of the calls that are left
+pub record IsNextOf (cs : List Call) (c : Call) (new : Option (List Call)) : Type 0 where
+  pub others : List Call
+  pub are : new ≡ Some others
+  pub first : cs ≡ c ∷ others
+
+-- what is left after a look at the tap: nothing is said before the board is gathered; then the
+-- calls that are left are given one by one
+abbrev pub IsTakenOf : Option (List Call) → Option Call → Option (List Call) → Type 0
+IsTakenOf old result new =
+    MatchOption old
+    (new ≡ None)
+    (λ cs. MatchOption result ((cs ≡ []) × (new ≡ old)) (λ c. IsNextOf cs c new))

@@ -1,0 +1,106 @@
+-- When a run has stopped, and what a board is gathered to.
+use Rattle.std.specs.Prelude.{⊤, ◌≡◌, ◌<◌, ℕ, Bool, true, false, List, [], ◌∷◌, Option, None, Some, ◌==◌, ◌↔◌, IsTrue, ◌++◌, length, not}
+use Rattle.std.specs.List.{sum_by, count_by, All}
+use Rattle.bp_language.specs.Ast.{Program}
+use Rattle.bp_flat.specs.Moves.{Frame, is_call}
+use Rattle.bp_flat.specs.Flat.{Flat}
+use Rattle.bp_machine.specs.declared.calls.AskFault.{AskFault}
+use Rattle.bp_machine.specs.declared.calls.AskFault.TheVariants as fault
+use Rattle.bp_machine.specs.declared.calls.Call.{Call}
+use Rattle.bp_machine.specs.Histories.{stack_of, configuration_after, is_finished, IsLegal, HasSeededBits, calls_of_thread, IsReport}
+use Rattle.bp_machine.specs.Setups.{SetupOf, threads}
+use Rattle.bp_machine.specs.declared.calls.Report.{Report}
+use Rattle.bp_run.specs.Desks.{SeatOf, open_amount, TapOf}
+
+-- When a run has stopped: the lines that are open stand before calls.
+
+-- the next step of a thread with this stack is a call
+abbrev pub goes_on_with_call : List Frame → Bool
+goes_on_with_call [] = false
+goes_on_with_call (f ∷ fs) = is_call f.left
+
+-- after the history h the next step of thread i is a call
+abbrev pub is_at_call : Program → SetupOf → List Call → ℕ → Bool
+is_at_call t s h i = goes_on_with_call (stack_of (configuration_after t s h) i)
+
+-- each thread whose line is open has a call as its next step: only there is memory refused
+abbrev pub HaveStopped : Program → SetupOf → List Call → Type 0
+HaveStopped t s h =
+    (i : ℕ) → i < threads s → is_finished s h i ≡ false → is_at_call t s h i ≡ true
+
+-- the line of thread i is open, although its next step is no call
+pub record StoppedEarly (t : Program) (s : SetupOf) (h : List Call) (i : ℕ) : Type 0 where
+  pub own : i < threads s
+  pub line : is_finished s h i ≡ false
+  pub next : is_at_call t s h i ≡ false
+
+-- no thread stopped early, or this one did
+abbrev pub TellsEarly : Program → SetupOf → List Call → Option ℕ → Type 0
+TellsEarly t s h None = HaveStopped t s h
+TellsEarly t s h (Some i) = StoppedEarly t s h i
+
+-- This holds of a legal history with the bits of the seed. It need not be that of a board.
+pub record HasBeen (t : Program) (s : SetupOf) (Holds : List Call → Type 0) : Type 0 where
+  pub history : List Call
+  pub legal : IsLegal t s history
+  pub seeded : HasSeededBits s history
+  pub held : Holds history
+
+-- in which histories a refused call of thread i has its reason: memory is refused if the line is
+-- open and the next step is a call, and else the line is finished already
+abbrev pub TellsOfRefusal : Program → SetupOf → ℕ → AskFault → Type 0
+TellsOfRefusal t s i fault.Memory =
+    HasBeen t s (λ h. (is_finished s h i ≡ false) × (is_at_call t s h i ≡ true))
+TellsOfRefusal t s i fault.Finished = HasBeen t s (λ h. is_finished s h i ≡ true)
+TellsOfRefusal t s i f = ⊤
+
+-- What a board is gathered to.
+
+abbrev pub calls_of_seats : List SeatOf → ℕ
+calls_of_seats seats = sum_by (λ s. s.calls) seats
+
+abbrev pub open_seats : List SeatOf → ℕ
+open_seats seats = sum_by (λ s. open_amount s.is_open) seats
+
+-- as many seats as threads, and one of each thread
+pub record AreOnePerThread (n : ℕ) (seats : List SeatOf) : Type 0 where
+  pub many : length seats ≡ n
+  pub each : (i : ℕ) → i < n → count_by (λ s. s.thread == i) seats ≡ 1
+
+-- the seat has counted the calls of its thread in the history, and is open exactly where the line
+-- of its thread is not finished
+pub record IsSeatOf (s : SetupOf) (h : List Call) (seat : SeatOf) : Type 0 where
+  pub calls : seat.calls ≡ length (calls_of_thread seat.thread h)
+  pub line : seat.is_open ≡ not (is_finished s h seat.thread)
+
+-- each of the seats agrees with the history
+abbrev pub AreSeatsOf : SetupOf → List Call → List SeatOf → Type 0
+AreSeatsOf s h seats = All (IsSeatOf s h) seats
+
+-- a board of this code and setup, and the seats of its threads
+pub record AreOwn
+    (its_code : Flat) (its_setup : SetupOf) (seats : List SeatOf) (code : Flat) (s : SetupOf)
+    : Type 0 where
+  pub code_is : its_code ≡ code
+  pub setup_is : its_setup ≡ s
+  pub one_each : AreOnePerThread (threads s) seats
+
+-- What was taken and what is left are one legal history, with the bits of the seed, which the
+-- report is of; the tap gives what is left. The seats are one for each thread, and together they
+-- have its calls and its open lines. It is said which thread stopped early, if one did, and whether
+-- each seat agrees with the history.
+pub record IsGathered
+    (t : Program) (s : SetupOf) (taken : List Call) (seats : List SeatOf) (tap : TapOf) (r : Report)
+    (early : Option ℕ) (agree : Bool)
+    : Type 0 where
+  pub left : List Call
+  pub rest : tap.rest ≡ Some left
+  pub same : tap.taken ≡ taken
+  pub legal : IsLegal t s (taken ++ left)
+  pub seeded : HasSeededBits s (taken ++ left)
+  pub report : IsReport s (taken ++ left) r
+  pub one_each : AreOnePerThread (threads s) seats
+  pub calls : calls_of_seats seats ≡ length (taken ++ left)
+  pub open_are : open_seats seats ≡ r.left_open
+  pub stops : TellsEarly t s (taken ++ left) early
+  pub agreement : IsTrue agree ↔ AreSeatsOf s (taken ++ left) seats

@@ -1,0 +1,139 @@
+//! The board: a desk under one lock.
+//! What a board is made of.
+//! What names the ledgers and the ring of a board.
+ghost use Rattle.std.specs.Prelude.{◌≡◌, ◌≤◌, ◌<◌, [], true, false, None, is_some, IfOk, IfErr, MatchResult};
+ghost use Rattle.bp_language.specs.Ast.{Program};
+ghost use Rattle.bp_flat.specs.StandsFor.{StandsFor};
+ghost use Rattle.bp_machine.specs.Setups.{threads, FitsCode};
+ghost use Rattle.bp_machine.specs.declared.limits.TheConstants.{MAX_THREADS};
+ghost use Rattle.bp_run.specs.declared.limits.TheConstants.{MAX_TURN, MAX_RING};
+ghost use Rattle.bp_run.specs.Desks.{IsNamed, AreNewSeats};
+ghost use Rattle.bp_run.specs.Turns.{IsSeatTurn, IsCutSeatTurn};
+ghost use Rattle.bp_run.specs.Gatherings.{TellsOfRefusal};
+
+use crate::desks::Desk;
+use crate::seats::{Seat, Tap};
+use bp_flat::Code;
+use bp_machine::{AskFault, Call, Reply, Setup};
+use rtrb::{Consumer, Producer, RingBuffer};
+use std::alloc::{AllocError, Global};
+use std::marker::{Brand, Model};
+use std::sync::ledger::{Blank, Ledger};
+use std::sync::{Mutex, Wait};
+
+/// A monitor: a desk under one mutex, which the workers share.
+#[derive(Drop)]
+pub struct Board<C: Calls, O: Ledger> {
+    pub(crate) desk: Mutex<Desk<C, O>>,
+}
+
+impl<C: Calls, O: Ledger> Board<C, O> {
+    /// A board whose desk has sent nothing, an open seat for each thread of the setup, in order,
+    /// and the tap.
+    pub fn open(
+        alloc: Global,
+        kit: Kit,
+        code: &Code,
+        setup: &Setup,
+    ) -> Result<(Board<C, O>, Vec<Seat<C, O>>, Tap<C>), AllocError>
+        requires named { IsNamed kit C.name C.parts O.name O.parts C.ring }
+        requires code { code.now ≡ C.code }
+        requires setup { setup.now ≡ C.setup }
+        requires threads { kit.threads ≡ threads setup.now }
+        requires fits { FitsCode code.now setup.now }
+        requires seeded { is_some setup.now.seed ≡ true }
+        ensures seats { IfOk result (λ r. AreNewSeats (threads setup.now) r.1.items) }
+        ensures tap { IfOk result (λ r. (r.2.taken ≡ []) × (r.2.rest ≡ None)) }
+    {
+        let (desk, seats, tap) = Desk::open(alloc, kit, code, setup)?;
+        let desk = Mutex::new(desk);
+        Ok((Board { desk }, seats, tap))
+    }
+
+    /// Takes the lock once, for one turn of the seat's thread at the desk, and may wait for it. A
+    /// refusal has a reason in a legal history of the setup.
+    pub fn turn<R: Wait>(&self, rt: &R, seat: &mut Seat<C, O>, n: u32) -> Result<Reply, AskFault>
+        requires some { 0 < n }
+        requires few { n ≤ MAX_TURN }
+        ensures shut { seat.old.is_open ≡ false
+            → (result ≡ Err AskFault.Finished) × (seat.new ≡ seat.old) }
+        ensures answer { MatchResult result
+            (IsSeatTurn seat.old seat.new n)
+            (IsCutSeatTurn seat.old seat.new n) }
+        ensures refused { (t : Program)
+            → StandsFor C.code t
+            → seat.old.is_open ≡ true
+            → IfErr result (TellsOfRefusal t C.setup seat.old.thread) }
+    {
+        let mut desk = self.desk.lock(rt);
+        let answer = desk.turn(seat, n);
+        desk.is_legal();
+        answer
+    }
+}
+
+/// The parts from which a board is opened: the two ends of a new ring, and the blanks of two
+/// ledgers, one of the calls that are made and one of the lines that are open.
+#[derive(Drop)]
+pub struct Kit {
+    pub(crate) threads: u32,
+    pub(crate) calls: Blank,
+    pub(crate) lines: Blank,
+    pub(crate) to: Producer<Call>,
+    pub(crate) from: Consumer<Call>,
+}
+
+impl Model for Kit {
+    ghost use Rattle.bp_run.specs.Desks.{KitOf, kit_of, IsNewKit};
+
+    ghost Value = { KitOf };
+
+    ghost view = { λ k. kit_of k.threads k.calls.name k.lines.name k.to };
+
+    ghost invariant = { λ k. IsNewKit k.threads k.calls.parts k.lines.parts k.to k.from };
+}
+
+impl Kit {
+    /// A kit for `threads` guest threads, with a ring that holds `ring` calls.
+    pub fn new(alloc: Global, threads: u32, ring: u32) -> Result<Kit, AllocError>
+        requires some { 0 < threads }
+        requires few { threads ≤ MAX_THREADS }
+        requires room { 0 < ring }
+        requires within { ring ≤ MAX_RING }
+        ensures threads { IfOk result (λ k. k.threads ≡ threads) }
+        ensures free { IfOk result (λ k. k.free ≡ ring) }
+    {
+        let (to, from) = RingBuffer::new(alloc, ring as usize)?;
+        Ok(Kit {
+            threads,
+            calls: Blank::new(u64::from(threads)),
+            lines: Blank::new(u64::from(threads)),
+            to,
+            from,
+        })
+    }
+}
+
+/// The ledger of the calls that were made, and with it the ring through which they leave, and the
+/// code and the setup of the board.
+pub trait Calls: Ledger {
+    ghost use Rattle.bp_run.specs.Desks.{RingOf};
+    ghost use Rattle.bp_flat.specs.Flat.{Flat};
+    ghost use Rattle.bp_machine.specs.Setups.{SetupOf};
+
+    ghost ring: { RingOf };
+
+    ghost code: { Flat };
+
+    ghost setup: { SetupOf };
+}
+
+impl Calls for Brand {
+    ghost use Rattle.bp_run.specs.Desks.{no_ring, no_code, no_setup};
+
+    ghost ring = { no_ring };
+
+    ghost code = { no_code };
+
+    ghost setup = { no_setup };
+}

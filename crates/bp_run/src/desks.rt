@@ -1,0 +1,237 @@
+//! The desk: the machine, and the end of the ring to which its history is sent.
+//! A call is made and sent, or neither.
+//! Whether a session has stopped: its open lines stand before calls.
+ghost use Rattle.std.specs.Prelude.{◌≡◌, ◌≤◌, ◌<◌, ◌↔◌, [], true, None, is_some, IfOk, OnErr, MatchResult, ◌+◌, ◌∷◌, ◌++◌, List};
+ghost use Rattle.rtrb.specs.Ring.{sent, known_free, SameProducer};
+ghost use Rattle.bp_language.specs.Ast.{Program};
+ghost use Rattle.bp_flat.specs.StandsFor.{StandsFor};
+ghost use Rattle.bp_machine.specs.Setups.{threads, FitsCode};
+ghost use Rattle.bp_machine.specs.Sessions.{Stands, IsNextCall};
+ghost use Rattle.bp_machine.specs.declared.calls.Call.{Call as Answered};
+ghost use Rattle.bp_run.specs.declared.limits.TheConstants.{MAX_TURN};
+ghost use Rattle.bp_run.specs.Turns.{IsAsked, IsShut, IsDeskRefusal, IsUnchanged, IsTurn, IsCutTurn, IsSendRefusal};
+ghost use Rattle.bp_run.specs.Desks.{IsLegalDesk, IsNewDesk, IsNamed, AreNewSeats};
+ghost use Rattle.bp_run.specs.Gatherings.{is_at_call, TellsEarly};
+
+use crate::boards::{Calls, Kit};
+use crate::seats::{Seat, Tap, new_seats};
+use bp_flat::{Code, Kind};
+use bp_machine::{AskFault, Call, Reply, Session, Setup};
+use rtrb::Producer;
+use std::alloc::{AllocError, Global};
+use std::marker::Model;
+use std::sync::ledger::{Book, Ledger};
+
+/// The state that the lock of a board protects: a session, and the sending end of the ring, to
+/// which each call goes in the order in which the calls are made. Whenever nobody is at work on it,
+/// what was sent is a legal history of its program and setup, with the bits of the setup's seed,
+/// and its session stands after it.
+#[derive(Drop)]
+pub struct Desk<C: Calls, O: Ledger> {
+    pub(crate) session: Session,
+    pub(crate) to: Producer<Call>,
+    pub(crate) made: Book<C>,
+    pub(crate) lines: Book<O>,
+}
+
+impl<C: Calls, O: Ledger> Model for Desk<C, O> {
+    ghost use Rattle.std.specs.Prelude.{◌≡◌};
+    ghost use Rattle.rtrb.specs.Ring.{sent, known_free};
+    ghost use Rattle.bp_machine.specs.Setups.{threads};
+    ghost use Rattle.bp_run.specs.Desks.{DeskOf, desk_of, IsInBooks, producer_ring, coded_desk};
+
+    ghost Value = { DeskOf };
+
+    ghost coded = { coded_desk };
+
+    ghost view = { λ d. desk_of d.session (sent d.to) (known_free d.to) };
+
+    ghost invariant = { λ d.
+        IsInBooks d.session (sent d.to) d.made.total d.lines.total
+        × (producer_ring d.to ≡ C.ring)
+        × (threads d.session.setup ≡ C.parts)
+        × (threads d.session.setup ≡ O.parts)
+        × (d.session.code ≡ C.code)
+        × (d.session.setup ≡ C.setup) };
+}
+
+impl<C: Calls, O: Ledger> Desk<C, O> {
+    /// A desk that has sent nothing, an open seat for each thread of the setup, in order, and the
+    /// tap.
+    pub fn open(
+        alloc: Global,
+        kit: Kit,
+        code: &Code,
+        setup: &Setup,
+    ) -> Result<(Desk<C, O>, Vec<Seat<C, O>>, Tap<C>), AllocError>
+        requires named { IsNamed kit C.name C.parts O.name O.parts C.ring }
+        requires code { code.now ≡ C.code }
+        requires setup { setup.now ≡ C.setup }
+        requires threads { kit.threads ≡ threads setup.now }
+        requires fits { FitsCode code.now setup.now }
+        requires seeded { is_some setup.now.seed ≡ true }
+        ensures desk { IfOk result (λ r. IsNewDesk code.now setup.now kit.free r.0) }
+        ensures seats { IfOk result (λ r. AreNewSeats (threads setup.now) r.1.items) }
+        ensures tap { IfOk result (λ r. (r.2.taken ≡ []) × (r.2.rest ≡ None)) }
+    {
+        setup.is_in_range();
+        let session = Session::new(alloc, code, setup)?;
+        let Kit {
+            threads,
+            calls,
+            lines,
+            to,
+            from,
+        } = kit;
+        let (made, all_made) = calls.open::<C>();
+        let (mut lines, mut all_lines) = lines.open::<O>();
+        lines.add(&mut all_lines, u64::from(threads));
+        let seats = new_seats(alloc, threads, all_made, all_lines)?;
+        let desk = Desk {
+            session,
+            to,
+            made,
+            lines,
+        };
+        Ok((desk, seats, Tap::new(from)))
+    }
+
+    /// States what a desk is at each moment: its history is a legal one of its board's code and
+    /// setup, with the seed's bits.
+    pub fn is_legal(&self)
+        ensures legal { (t : Program)
+            → StandsFor self.now.code t
+            → IsLegalDesk t self.now }
+        ensures own { (self.now.code ≡ C.code) × (self.now.setup ≡ C.setup) }
+    {
+        let _ = &self.session;
+    }
+
+    /// Makes one call of the seat's thread, and sends it. At a refusal nothing is changed, and no
+    /// choice bit is used: if the thread's line is finished, if the ring is full, which it is not
+    /// while a place is known to be free, or if memory is refused.
+    pub fn ask(&mut self, seat: &mut Seat<C, O>) -> Result<Reply, AskFault>
+        ensures answer { MatchResult result
+            (IsAsked self.old self.new seat.old seat.new)
+            (IsDeskRefusal self.new seat.new) }
+        ensures finished { (result ≡ Err AskFault.Finished) ↔ IsShut self.old seat.old }
+        ensures same { OnErr result (IsUnchanged self.old self.new × (seat.new ≡ seat.old)) }
+        ensures kept { (self.new.code ≡ self.old.code) × (self.new.setup ≡ self.old.setup) }
+    {
+        self.session.code().is_of_a_program();
+        self.session.setup().is_in_range();
+        if !seat.is_open {
+            return Err(AskFault::Finished);
+        }
+        let call = send(&mut self.session, &mut self.to, seat.thread)?;
+        self.made.add(&mut seat.made, 1);
+        self.made.audit(&mut seat.made);
+        seat.calls += 1;
+        if self.session.is_finished(seat.thread) {
+            self.lines.sub(&mut seat.line, 1);
+            seat.is_open = false;
+        }
+        Ok(call.reply)
+    }
+
+    /// Makes calls of the seat's thread until there were `n`, one had another reply than Stepped,
+    /// its line is finished, or one is refused. It answers the last reply, or the refusal; the
+    /// calls before a refusal stand.
+    pub fn turn(&mut self, seat: &mut Seat<C, O>, n: u32) -> Result<Reply, AskFault>
+        requires some { 0 < n }
+        requires few { n ≤ MAX_TURN }
+        ensures answer { MatchResult result
+            (IsTurn self.old self.new seat.old seat.new n)
+            (IsCutTurn self.old self.new seat.old seat.new n) }
+        ensures finished { (result ≡ Err AskFault.Finished) ↔ IsShut self.old seat.old }
+        ensures kept { (self.new.code ≡ self.old.code) × (self.new.setup ≡ self.old.setup) }
+    {
+        let mut last = self.ask(seat)?;
+        for _made in 1..n {
+            if last != Reply::Stepped || !seat.is_open() {
+                return Ok(last);
+            }
+            last = self.ask(seat)?;
+        }
+        Ok(last)
+    }
+}
+
+/// Makes the next call of a thread with the seed's bit, and sends it. At a refusal neither is done:
+/// where the machine refuses the call, or where the ring is full, which it is not while a place is
+/// known to be free.
+pub(crate) fn send(
+    session: &mut Session,
+    to: &mut Producer<Call>,
+    thread: u32,
+) -> Result<Call, AskFault>
+    requires { thread < threads session.old.setup }
+    ensures answer { (t : Program)
+        → StandsFor session.old.code t
+        → Stands t session.old (sent to.old)
+        → MatchResult result
+        (IsNextCall t session.old.setup (sent to.old) thread None)
+        (IsSendRefusal t session.old.setup (sent to.old) thread) }
+    ensures asked { IfOk result (λ c. c.thread ≡ thread) }
+    ensures stands { (t : Program)
+        → StandsFor session.old.code t
+        → Stands t session.old (sent to.old)
+        → IfOk result (λ c. Stands t session.new (sent to.old ++ c ∷ [])) }
+    ensures kept { (session.new.code ≡ session.old.code) × (session.new.setup ≡ session.old.setup) }
+    ensures same { OnErr result (session.new ≡ session.old) }
+    ensures ring { SameProducer to.old to.new }
+    ensures sent { IfOk result (λ c.
+        (sent to.new ≡ sent to.old ++ c ∷ []) × (known_free to.old ≤ known_free to.new + 1)) }
+    ensures unsent { OnErr result
+        ((sent to.new ≡ sent to.old) × (known_free to.old ≤ known_free to.new)) }
+    ensures full { (t : Program)
+        → StandsFor session.old.code t
+        → Stands t session.old (sent to.old)
+        → result ≡ Err AskFault.Busy
+        → known_free to.new ≡ 0 }
+{
+    if to.is_full() {
+        return Err(if session.is_finished(thread) {
+            AskFault::Finished
+        } else {
+            AskFault::Busy
+        });
+    }
+    let call = session.ask(thread)?;
+    to.push_reserved(call);
+    Ok(call)
+}
+
+/// Whether the next step of a thread is a call.
+fn is_at_call(session: &Session, thread: u32) -> bool
+    ensures { (t : Program) (h : List Answered)
+        → StandsFor session.now.code t
+        → Stands t session.now h
+        → result ≡ is_at_call t session.now.setup h thread }
+{
+    let Some(top) = session.top(thread) else {
+        return false;
+    };
+    let Some(instr) = session.code().get(top.number) else {
+        return false;
+    };
+    match instr.kind() {
+        Kind::Call => true,
+        _ => false,
+    }
+}
+
+/// The first thread whose line is open although its next step is no call, if there is one.
+pub(crate) fn stopped_early(session: &Session) -> Option<u32>
+    ensures { (t : Program) (h : List Answered)
+        → StandsFor session.now.code t
+        → Stands t session.now h
+        → TellsEarly t session.now.setup h result }
+{
+    for thread in 0..session.setup().threads() {
+        if !session.is_finished(thread) && !is_at_call(session, thread) {
+            return Some(thread);
+        }
+    }
+    None
+}

@@ -1,0 +1,279 @@
+//! Gathering a board: the desk, the seats and the tap are joined once all work is done.
+//! Whether the seats of a board agree with its machine.
+ghost use Rattle.std.specs.Prelude.{◌≡◌, ◌+◌, ◌↔◌, ◌==◌, IsTrue, IfOk, OnOk, OnErr, vec_len, vec_capacity, List};
+ghost use Rattle.std.specs.List.{count_by};
+ghost use Rattle.bp_language.specs.Ast.{Program};
+ghost use Rattle.bp_flat.specs.StandsFor.{StandsFor};
+ghost use Rattle.bp_machine.specs.declared.limits.TheConstants.{MAX_THREADS};
+ghost use Rattle.bp_machine.specs.declared.calls.Call.{Call as Answered};
+ghost use Rattle.bp_machine.specs.Sessions.{Stands};
+ghost use Rattle.bp_machine.specs.Setups.{threads};
+ghost use Rattle.bp_run.specs.Gatherings.{AreOnePerThread, AreOwn, IsGathered, calls_of_seats, open_seats, IsSeatOf, AreSeatsOf};
+
+use crate::boards::{Board, Calls};
+use crate::desks::{Desk, stopped_early};
+use crate::seats::{Seat, Tap};
+use bp_flat::Code;
+use bp_machine::{Report, Session, Setup};
+use std::sync::ledger::{Book, Ledger, Share};
+use thiserror::Error;
+
+/// The desk has another code or setup, or the seats are not one for each thread.
+#[derive(Clone, Copy, Debug, PartialEq, Eq, Error)]
+#[error("the board is of another code or setup, or the seats are not its own")]
+pub struct Foreign;
+
+/// A gathered board: the seats, the tap, which gives what was not taken yet, the report of the
+/// history, the first thread whose line is open although its next step is no call, and whether each
+/// seat agrees with the machine on the calls of its thread, and on whether its line is finished.
+#[derive(Drop)]
+pub struct Gathered<C: Calls, O: Ledger> {
+    pub seats: Vec<Seat<C, O>>,
+    pub tap: Tap<C>,
+    pub report: Report,
+    pub early: Option<u32>,
+    pub agree: bool,
+}
+
+/// Some seats, and the shares of others.
+#[derive(Drop)]
+struct Sums<C: Calls, O: Ledger> {
+    seats: Vec<Seat<C, O>>,
+    made: Share<C>,
+    lines: Share<O>,
+}
+
+/// How many of the seats are of this thread.
+fn seats_of<C: Calls, O: Ledger>(seats: &[Seat<C, O>], thread: u32) -> usize
+    ensures { result ≡ count_by (λ s. s.thread == thread) seats.now }
+{
+    seats.iter().filter(|seat| seat.thread() == thread).count()
+}
+
+fn are_one_per_thread<C: Calls, O: Ledger>(seats: &[Seat<C, O>], threads: u32) -> bool
+    ensures { IsTrue result ↔ AreOnePerThread threads seats.now }
+{
+    if seats.len() != threads as usize {
+        return false;
+    }
+    for thread in 0..threads {
+        if seats_of(seats, thread) != 1 {
+            return false;
+        }
+    }
+    true
+}
+
+/// Whether a session of this history is of the code and the setup, and the seats are those of its
+/// threads.
+fn are_own<C: Calls, O: Ledger>(
+    session: &Session,
+    seats: &[Seat<C, O>],
+    code: &Code,
+    setup: &Setup,
+) -> bool
+    ensures { IsTrue result
+        ↔ AreOwn session.now.code session.now.setup seats.now code.now setup.now }
+{
+    if session.code() != code {
+        return false;
+    }
+    if session.setup() != setup {
+        return false;
+    }
+    are_one_per_thread(seats, setup.threads())
+}
+
+/// Adds the shares of the seats to those beside them, looks what the books say of all, and gives
+/// each seat its own again.
+fn audited<C: Calls, O: Ledger>(
+    sums: Sums<C, O>,
+    made: &mut Book<C>,
+    lines: &mut Book<O>,
+) -> Sums<C, O>
+    requires made { sums.made.parts ≡ 0 → sums.made.amount ≡ 0 }
+    requires lines { sums.lines.parts ≡ 0 → sums.lines.amount ≡ 0 }
+    ensures seats { result.seats.items ≡ sums.seats.items }
+    ensures room { vec_capacity result.seats ≡ vec_capacity sums.seats }
+    ensures made { (result.made.parts ≡ sums.made.parts)
+        × (result.made.amount ≡ sums.made.amount) }
+    ensures lines { (result.lines.parts ≡ sums.lines.parts)
+        × (result.lines.amount ≡ sums.lines.amount) }
+    ensures books { (made.new.total ≡ made.old.total) × (lines.new.total ≡ lines.old.total) }
+    ensures calls { sums.made.parts + vec_len sums.seats ≡ C.parts
+        → sums.made.amount + calls_of_seats sums.seats.items ≡ made.old.total }
+    ensures left { sums.lines.parts + vec_len sums.seats ≡ O.parts
+        → sums.lines.amount + open_seats sums.seats.items ≡ lines.old.total }
+{
+    let Sums {
+        mut seats,
+        made: mut all_made,
+        lines: mut all_lines,
+    } = sums;
+    let Some(seat) = seats.pop() else {
+        made.audit(&mut all_made);
+        lines.audit(&mut all_lines);
+        return Sums {
+            seats,
+            made: all_made,
+            lines: all_lines,
+        };
+    };
+    let Seat {
+        thread,
+        calls,
+        is_open,
+        made: own_made,
+        line,
+    } = seat;
+    all_made.merge(own_made);
+    all_lines.merge(line);
+    let others = Sums {
+        seats,
+        made: all_made,
+        lines: all_lines,
+    };
+    let Sums {
+        mut seats,
+        made: mut all_made,
+        lines: mut all_lines,
+    } = audited(others, made, lines);
+    seats.push_reserved(Seat {
+        thread,
+        calls,
+        is_open,
+        made: all_made.split_off(1, calls),
+        line: all_lines.split_off(1, u64::from(is_open)),
+    });
+    Sums {
+        seats,
+        made: all_made,
+        lines: all_lines,
+    }
+}
+
+/// Joins a desk, the seats and the tap.
+fn joined<C: Calls, O: Ledger>(
+    desk: Desk<C, O>,
+    mut seats: Vec<Seat<C, O>>,
+    tap: Tap<C>,
+    code: &Code,
+    setup: &Setup,
+) -> Result<Gathered<C, O>, Foreign>
+    ensures own { OnOk result (AreOwn C.code C.setup seats.items code.now setup.now) }
+    ensures foreign { OnErr result (AreOwn C.code C.setup seats.items code.now setup.now → ⊥) }
+    ensures seats { IfOk result (λ g. g.seats.items ≡ seats.items) }
+    ensures gathered { (t : Program)
+        → StandsFor code.now t
+        → IfOk result (λ g.
+        IsGathered t setup.now tap.taken seats.items g.tap g.report g.early g.agree) }
+{
+    let Desk {
+        session,
+        mut to,
+        mut made,
+        mut lines,
+    } = desk;
+    session.code().is_of_a_program();
+    setup.is_in_range();
+    if !are_own(&session, seats.as_slice(), code, setup) {
+        return Err(Foreign);
+    }
+    let Some(seat) = seats.pop() else {
+        return Err(Foreign);
+    };
+    let Seat {
+        thread,
+        calls,
+        is_open,
+        made: own_made,
+        line,
+    } = seat;
+    let others = Sums {
+        seats,
+        made: own_made,
+        lines: line,
+    };
+    let Sums {
+        mut seats,
+        made: own_made,
+        lines: line,
+    } = audited(others, &mut made, &mut lines);
+    seats.push_reserved(Seat {
+        thread,
+        calls,
+        is_open,
+        made: own_made,
+        line,
+    });
+    let agree = agree(&session, seats.as_slice());
+    let early = stopped_early(&session);
+    let report = session.report();
+    let Tap {
+        mut from,
+        left: _,
+        of,
+    } = tap;
+    let left = Some(from.slots_beside(&mut to));
+    let tap = Tap { from, left, of };
+    Ok(Gathered {
+        seats,
+        tap,
+        report,
+        early,
+        agree,
+    })
+}
+
+/// Gathers a board once its workers are done: what was taken from the tap is a front of the
+/// history, and the tap that is given back has the rest. The seats come back as they were. It takes
+/// no memory and waits for nobody.
+/// Where the desk has another code or setup, or the seats are not one for each thread, all is
+/// dropped.
+pub fn gather<C: Calls, O: Ledger>(
+    board: Board<C, O>,
+    seats: Vec<Seat<C, O>>,
+    tap: Tap<C>,
+    code: &Code,
+    setup: &Setup,
+) -> Result<Gathered<C, O>, Foreign>
+    ensures own { OnOk result (AreOwn C.code C.setup seats.items code.now setup.now) }
+    ensures foreign { OnErr result (AreOwn C.code C.setup seats.items code.now setup.now → ⊥) }
+    ensures seats { IfOk result (λ g. g.seats.items ≡ seats.items) }
+    ensures gathered { (t : Program)
+        → StandsFor code.now t
+        → IfOk result (λ g.
+        IsGathered t setup.now tap.taken seats.items g.tap g.report g.early g.agree) }
+{
+    let Board { desk } = board;
+    let desk = desk.into_inner();
+    joined(desk, seats, tap, code, setup)
+}
+
+/// Whether a seat has counted the calls of its thread, and is open where its line is not finished.
+fn agrees<C: Calls, O: Ledger>(session: &Session, seat: &Seat<C, O>) -> bool
+    requires { threads session.now.setup ≡ C.parts }
+    ensures { (t : Program) (h : List Answered)
+        → Stands t session.now h
+        → (IsTrue result ↔ IsSeatOf session.now.setup h seat.now) }
+{
+    seat.calls == u64::from(session.calls_of(seat.thread))
+        && seat.is_open != session.is_finished(seat.thread)
+}
+
+/// Whether each of the seats does so. The ledgers tie only the sums over all seats to the machine,
+/// so this is checked at run time for each seat. Of seats whose calls were all made at the board of
+/// the session none should differ.
+pub(crate) fn agree<C: Calls, O: Ledger>(session: &Session, seats: &[Seat<C, O>]) -> bool
+    requires { threads session.now.setup ≡ C.parts }
+    ensures { (t : Program) (h : List Answered)
+        → Stands t session.now h
+        → (IsTrue result ↔ AreSeatsOf session.now.setup h seats.now) }
+{
+    for seat in seats {
+        if !agrees(session, seat) {
+            return false;
+        }
+    }
+    true
+}

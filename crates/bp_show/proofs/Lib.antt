@@ -1,5 +1,0 @@
-mod ConfirmedSteps
-mod ExploredPrograms
-mod ThroughPrograms
-mod ValidParts
-mod ViewedTraces

@@ -1,6 +1,0 @@
-use Rattle.std.proofs.Common.{sym, subst, ◌∙◌}
-use Rattle.bp_flat.specs.Programs.{IsOfProgram}
-use Rattle.bp_shrink.proofs.driving.drive_again.Goals as goal
-
-pub make_again-requires-clause-program : goal.make_again-requires-clause-program
-make_again-requires-clause-program c = subst IsOfProgram (c.code.ensures ∙ sym c.loop-line.invariant.code) c.is_of_a_program.ensures

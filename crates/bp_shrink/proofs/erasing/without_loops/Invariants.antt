@@ -1,8 +1,0 @@
-use Rattle.std.proofs.Common.{◌≡◌}
-use Rattle.bp_shrink.proofs.erasing.without_loops.Given as goal
-
-abbrev pub invariant-loop-call : goal.invariant-loop-call
-invariant-loop-call l = record {
-  code : l.session.code ≡ l.initial.session.code;
-  setup : l.session.setup ≡ l.initial.session.setup;
-}

@@ -1,5 +1,0 @@
-use Rattle.bp_shrink.specs.Shrinks.{GoesOn}
-use Rattle.bp_shrink.proofs.searches.improve.Given as goal
-
-abbrev pub invariant-loop : goal.invariant-loop
-invariant-loop l = GoesOn l.initial.search l.search

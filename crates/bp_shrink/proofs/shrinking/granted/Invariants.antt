@@ -1,6 +1,0 @@
-use Rattle.std.proofs.Common.{◌≡◌, take}
-use Rattle.bp_machine.specs.Histories.{granted_calls}
-use Rattle.bp_shrink.proofs.shrinking.granted.Given as goal
-
-abbrev pub invariant-loop-call : goal.invariant-loop-call
-invariant-loop-call l = l.calls.items ≡ granted_calls (take l.call-index l.history)

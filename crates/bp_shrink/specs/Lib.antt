@@ -1,2 +1,0 @@
-pub mod HistoryEnds
-pub mod Shrinks

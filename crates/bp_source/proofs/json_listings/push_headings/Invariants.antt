@@ -1,6 +1,0 @@
-use Rattle.std.proofs.Common.{◌≡◌, ◌++◌, flat_map, take}
-use Rattle.bp_source.specs.JsonListings.{heading_item}
-use Rattle.bp_source.proofs.json_listings.push_headings.Given as goal
-
-abbrev pub invariant-loop-heading : goal.invariant-loop-heading
-invariant-loop-heading l = l.items.items ≡ l.initial.items.items ++ flat_map heading_item (take l.heading-index l.headings)

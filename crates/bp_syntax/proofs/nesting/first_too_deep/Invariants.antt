@@ -1,9 +1,0 @@
-use Rattle.std.proofs.Common.{◌≡◌, ◌≤◌, drop}
-use Rattle.bp_language.specs.declared.limits.TheConstants.{NESTING_LIMIT}
-use Rattle.bp_syntax.specs.DepthCount.{first_too_deep}
-use Rattle.bp_syntax.specs.Views.{token_list}
-use Rattle.bp_syntax.proofs.nesting.first_too_deep.Given as goal
-
-abbrev pub invariant-loop-token : goal.invariant-loop-token
-invariant-loop-token l =
-    (first_too_deep l.depth (token_list (drop l.token-index l.tokens)) ≡ first_too_deep 0 (token_list l.tokens)) × (l.depth ≤ NESTING_LIMIT)

@@ -1,7 +1,0 @@
-use Rattle.std.proofs.Common.{◌≡◌, drop}
-use Rattle.bp_syntax.specs.SuccessionCount.{first_too_many}
-use Rattle.bp_syntax.specs.Views.{token_list}
-use Rattle.bp_syntax.proofs.successions.first_too_many.Given as goal
-
-abbrev pub invariant-loop-token : goal.invariant-loop-token
-invariant-loop-token l = first_too_many l.count (token_list (drop l.token-index l.tokens)) ≡ first_too_many 0 (token_list l.tokens)

@@ -1,0 +1,6 @@
+use Rattle.std.proofs.Common.{◌≡◌, take}
+use Rattle.bp_tasks.specs.NamedBits.{values_of, bits_by_name}
+use Rattle.bp_tasks.proofs.names.bits_by_name.Given as goal
+
+abbrev pub invariant-loop-global : goal.invariant-loop-global
+invariant-loop-global l = l.bits.items ≡ bits_by_name (values_of l.named) (take l.global-index l.globals)

@@ -1,9 +1,0 @@
-use Rattle.std.proofs.Common.{◌≡◌, ◌≤◌}
-use Rattle.bp_test.specs.Distinct.{alone_before}
-use Rattle.bp_test.proofs.distinct.count_alone.Given as goal
-
-abbrev pub invariant-loop-place : goal.invariant-loop-place
-invariant-loop-place l = record {
-  few : l.count ≤ l.place;
-  count : l.count ≡ alone_before l.keys l.place;
-}

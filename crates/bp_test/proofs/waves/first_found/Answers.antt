@@ -1,0 +1,149 @@
+use Rattle.std.proofs.Common.{◌++◌, ◌∷◌, [], ◌∙◌, Some, refl, ap, sym, subst, arith}
+use Rattle.std.proofs.lemmas.List.{length_push}
+use Rattle.bp_machine.specs.Setups.{SetupOf}
+use Rattle.bp_test.specs.Tallies.{made}
+use Rattle.bp_test.specs.Tests.{setup_of_run, IsCleanRun}
+use Rattle.bp_test.proofs.FirstFound.{some_of, clean_one}
+use Rattle.bp_test.proofs.RunsOfTests.{fits_again, reseeded, clean_run, reaches_is, key_is, sought_run, waits_there, fails_there}
+use Rattle.bp_test.proofs.TallyLemmas.{same_counts, tally_run}
+use Rattle.bp_test.proofs.waves.first_found.Goals as goal
+
+pub run_once-requires : goal.run_once-requires
+run_once-requires g c =
+    fits_again c.args.code.now c.loop-run.session.code c.loop-run.session.setup c.args.setup.now
+    c.loop-run.invariant.code c.loop-run.invariant.setup c.requires
+
+pub loop-run-init : goal.loop-run-init
+loop-run-init g c = record {
+  code = c.in_ok-session.ensures.kept.0;
+  setup = λ n. ap {A = SetupOf} (λ y. record y { seed = Some n }) c.in_ok-session.ensures.kept.1;
+  earlier = [];
+  count = omega arith;
+  ahead = omega arith;
+  clean = λ t is. tt;
+  tallied = c.in_ok-tally.ensures;
+}
+
+pub returns-then-is_over-clause-end : goal.returns-then-is_over-clause-end
+returns-then-is_over-clause-end g c =
+    let low = c.loop-run.auto.run in
+    let high = c.loop-run.invariant.ahead in
+    (omega (arith, low), high, (λ untimed none. absurd (let over = sym (c.is_over.ensures untimed) ∙ c.if-is_over.true in cc)), tt)
+
+pub returns-then-is_over-clause-tallied : goal.returns-then-is_over-clause-tallied
+returns-then-is_over-clause-tallied g c = λ t is.
+    let before = c.loop-run.invariant in
+    record { runs = before.earlier; first = (before.count, before.clean t is); tallied = before.tallied t is }
+
+pub returns-then-is_sought-clause-end : goal.returns-then-is_sought-clause-end
+returns-then-is_sought-clause-end g c =
+    let low = c.loop-run.auto.run in
+    let high = c.loop-run-test.true in
+    (omega (arith, low), omega (arith, high), (λ untimed none. absurd (some_of (Some _) refl none)), omega arith)
+
+pub returns-then-is_sought-clause-tallied : goal.returns-then-is_sought-clause-tallied
+returns-then-is_sought-clause-tallied g c = λ t is.
+    let before = c.loop-run.invariant in
+    let now = c.in_ok-followed in
+    let run = made c.run_once.new.history.items c.report-report.result c.is_deadlocked-is_deadlocked.result c.have_returned-has_returned.result in
+    record {
+      runs = before.earlier ++ run ∷ [];
+      first = record {
+        others = before.earlier;
+        deadlocked = c.is_deadlocked-is_deadlocked.result;
+        returned = c.have_returned-has_returned.result;
+        whole = refl;
+        number = let count = before.count in let after = c.loop-run.auto.run in omega (arith, count, after);
+        below = omega arith;
+        clean = before.clean t is;
+        found =
+            sought_run c.args.code.now c.args.setup.now c.args.plan.now.with_deadlock c.args.plan.now.seed
+            c.loop-run.run c.loop-run.session c.run_once.new.session c.run_once.new.history.items _ refl before.code before.setup
+            now.ensures.code now.ensures.setup
+            now.ensures.stands now.ensures.over c.report-report.result c.report-report.ensures
+            c.is_deadlocked-is_deadlocked.result c.is_deadlocked-is_deadlocked.ensures
+            c.have_returned-has_returned.result c.have_returned-has_returned.ensures
+            (sym c.is_sought.ensures ∙ c.if-is_sought.true) t is;
+        at =
+            fails_there c.args.code.now c.args.setup.now c.args.plan.now.with_deadlock c.args.plan.now.seed
+            c.loop-run.run c.loop-run.session c.run_once.new.session c.run_once.new.history.items _ refl before.code before.setup
+            now.ensures.code now.ensures.setup
+            now.ensures.stands t is c.failed_instruction-number.result c.failed_instruction-number.ensures.at c.failed_instruction-number.ensures.none;
+        waiting =
+            waits_there c.args.code.now c.args.setup.now c.args.plan.now.with_deadlock c.args.plan.now.seed
+            c.loop-run.run c.loop-run.session c.run_once.new.session c.run_once.new.history.items _ refl before.code before.setup
+            now.ensures.code now.ensures.setup
+            now.ensures.stands t is c.in_ok-waiting.waiting.items c.in_ok-waiting.ensures;
+      };
+      tallied = tally_run t c.args.setup.now before.earlier run c.loop-run.tally c.add_run.new.self c.run_once.new.reached.items _ (before.tallied t is)
+          (key_is c.args.code.now c.args.setup.now c.args.plan.now.with_deadlock c.args.plan.now.seed c.loop-run.run
+          c.loop-run.session c.run_once.new.session c.run_once.new.history.items _ refl before.code before.setup now.ensures.code
+          now.ensures.setup
+          t is _ now.ensures.key)
+          c.in_ok-add_run.ensures.keys
+          (reaches_is c.args.code.now c.args.setup.now c.args.plan.now.with_deadlock c.args.plan.now.seed c.loop-run.run
+          c.loop-run.session c.run_once.new.session c.run_once.new.history.items _ refl before.code before.setup now.ensures.code
+          now.ensures.setup
+          t is c.loop-run.tally.reached.items c.run_once.new.reached.items now.ensures.marks)
+          c.in_ok-add_run.ensures.reached
+          (rw c.as_slice.ensures.value at (c.in_ok-add_run.ensures.counted c.args.setup.now before.earlier
+          (same_counts c.args.setup.now before.earlier c.loop-run.tally _ refl refl refl refl refl refl
+          (before.tallied t is).counted)));
+    }
+
+pub loop-run-preserved : goal.loop-run-preserved
+loop-run-preserved g c =
+    let before = c.loop-run.invariant in
+    let now = c.in_ok-followed in
+    let run = made c.run_once.new.history.items c.report-report.result c.is_deadlocked-is_deadlocked.result c.have_returned-has_returned.result in
+    let count = before.count in
+    let after = c.loop-run.auto.run in
+    record {
+      code = now.ensures.code ∙ before.code;
+      setup = reseeded c.args.setup.now c.loop-run.session c.run_once.new.session _ before.setup now.ensures.setup;
+      earlier = before.earlier ++ run ∷ [];
+      count = rw length_push (omega (arith, count, after));
+      ahead = let within = c.loop-run-test.true in omega (arith, within);
+      clean = λ t is. clean_one t c.args.setup.now c.args.plan.now.with_deadlock c.args.plan.now.seed c.args.from before.earlier run (before.clean t is)
+          (subst (λ n. IsCleanRun t (setup_of_run c.args.setup.now c.args.plan.now.seed n) c.args.plan.now.with_deadlock run) (omega (arith, count, after))
+          (clean_run c.args.code.now c.args.setup.now c.args.plan.now.with_deadlock c.args.plan.now.seed c.loop-run.run
+          c.loop-run.session c.run_once.new.session c.run_once.new.history.items _ refl before.code before.setup now.ensures.code
+          now.ensures.setup
+          now.ensures.stands now.ensures.over c.report-report.result c.report-report.ensures
+          c.is_deadlocked-is_deadlocked.result c.is_deadlocked-is_deadlocked.ensures
+          c.have_returned-has_returned.result c.have_returned-has_returned.ensures
+          (sym c.is_sought.ensures ∙ c.if-is_sought.false) t is));
+      tallied = λ t is. tally_run t c.args.setup.now before.earlier run c.loop-run.tally c.add_run.new.self c.run_once.new.reached.items _ (before.tallied t is)
+          (key_is c.args.code.now c.args.setup.now c.args.plan.now.with_deadlock c.args.plan.now.seed c.loop-run.run
+          c.loop-run.session c.run_once.new.session c.run_once.new.history.items _ refl before.code before.setup now.ensures.code
+          now.ensures.setup
+          t is _ now.ensures.key)
+          c.in_ok-add_run.ensures.keys
+          (reaches_is c.args.code.now c.args.setup.now c.args.plan.now.with_deadlock c.args.plan.now.seed c.loop-run.run
+          c.loop-run.session c.run_once.new.session c.run_once.new.history.items _ refl before.code before.setup now.ensures.code
+          now.ensures.setup
+          t is c.loop-run.tally.reached.items c.run_once.new.reached.items now.ensures.marks)
+          c.in_ok-add_run.ensures.reached
+          (rw c.as_slice.ensures.value at (c.in_ok-add_run.ensures.counted c.args.setup.now before.earlier
+          (same_counts c.args.setup.now before.earlier c.loop-run.tally _ refl refl refl refl refl refl
+          (before.tallied t is).counted)));
+    }
+
+pub returns-clause-end : goal.returns-clause-end
+returns-clause-end g c = let most = c.max.ensures in (omega (arith, most), omega (arith, most), (λ untimed none. most), tt)
+
+pub returns-clause-tallied : goal.returns-clause-tallied
+returns-clause-tallied g c = λ t is.
+    let before = c.loop-run.invariant in
+    record {
+      runs = before.earlier;
+      first = (
+        (let count = before.count in
+            let ahead = before.ahead in
+            let past = c.loop-run-test.false in
+            let after = c.loop-run.auto.run in
+            let most = c.max.ensures in omega (arith, count, ahead, past, after, most)),
+        before.clean t is,
+      );
+      tallied = before.tallied t is;
+    }

@@ -1,0 +1,18 @@
+use Rattle.std.proofs.Common.{◌≡◌, ◌≤◌, ◌-◌, max, List, length}
+use Rattle.bp_language.specs.Ast.{Program}
+use Rattle.bp_flat.specs.StandsFor.{StandsFor}
+use Rattle.bp_test.specs.Tallies.{MadeRun, IsTally}
+use Rattle.bp_test.specs.Tests.{AreCleanRuns}
+use Rattle.bp_test.proofs.RunsOfTests.{IsReseeded}
+use Rattle.bp_test.proofs.waves.first_found.Given as goal
+
+abbrev pub invariant-loop-run : goal.invariant-loop-run
+invariant-loop-run g l = record {
+  code : l.session.code ≡ l.fn.code;
+  setup : IsReseeded l.session.setup l.fn.setup;
+  earlier : List MadeRun;
+  count : length earlier ≡ l.run - l.fn.from;
+  ahead : l.run ≤ max l.fn.from l.fn.to;
+  clean : (t : Program) → StandsFor l.fn.code t → AreCleanRuns t l.fn.setup l.fn.plan.with_deadlock l.fn.plan.seed l.fn.from earlier;
+  tallied : (t : Program) → StandsFor l.fn.code t → IsTally t l.fn.setup earlier l.tally;
+}

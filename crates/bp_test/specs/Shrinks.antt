@@ -1,0 +1,100 @@
+-- Histories that end as another one does, and are no longer.
+use Rattle.std.specs.Prelude.{◌≡◌, List, ◌≤◌, ℕ, None, length}
+use Rattle.bp_language.specs.Ast.{Program}
+use Rattle.bp_flat.specs.StandsFor.{StandsFor}
+use Rattle.bp_machine.specs.declared.calls.Call.{Call}
+use Rattle.bp_machine.specs.declared.calls.Outcome.TheVariants.{Clean}
+use Rattle.bp_machine.specs.Runs.{IsDeadlocked}
+use Rattle.bp_machine.specs.Histories.{configuration_after, outcome_of, IsLeastWithin, granted_calls, granted_threads, IsLegal, IsReport}
+use Rattle.bp_machine.specs.Sessions.{SessionOf, Stands}
+use Rattle.bp_machine.specs.Setups.{SetupOf, setup_fault, FitsCode}
+use Rattle.bp_machine.specs.declared.calls.Report.{Report}
+use Rattle.bp_test.specs.declared.waiting.Waiting.{Waiting}
+use Rattle.bp_test.specs.Tests.{FailsAt, IsDeadlock, Wait}
+use Rattle.bp_test.specs.declared.shrinking.HistoryEnd.{HistoryEnd}
+use Rattle.bp_test.specs.declared.shrinking.HistoryEnd.TheVariants.{Failure, Deadlock, Other}
+use Rattle.bp_test.specs.declared.searches.Driven.{Driven}
+use Rattle.bp_test.specs.declared.searches.Search.{Search}
+use Rattle.bp_test.specs.declared.shrinking.Shrunk.{Shrunk}
+
+-- How histories end.
+
+-- the history ends in a deadlock, in which these threads wait, each at its instruction
+abbrev pub DeadlocksAt : Program → SetupOf → List Call → List Waiting → Type 0
+DeadlocksAt t s h waiting = IsDeadlock t s h × Wait t s h waiting
+
+-- no assertion failed, and the threads are not deadlocked
+pub record IsOtherEnd (t : Program) (s : SetupOf) (h : List Call) : Type 0 where
+  pub clean : outcome_of h ≡ Clean
+  pub lives : IsDeadlocked t (configuration_after t s h) → ⊥
+
+-- the history ends so: at this instruction an assertion failed, or it is a deadlock in which these
+-- threads wait, or neither
+abbrev pub IsEnd : Program → SetupOf → List Call → HistoryEnd → Type 0
+IsEnd t s h (Failure number) = FailsAt t s h number
+IsEnd t s h (Deadlock waiting) = DeadlocksAt t s h waiting.items
+IsEnd t s h Other = IsOtherEnd t s h
+
+-- so ends the history at which the session stands
+abbrev pub EndsIn : SessionOf → HistoryEnd → Type 0
+EndsIn x end =
+    (t : Program) (h : List Call)
+    → StandsFor x.code t
+    → Stands t x h
+    → IsEnd t x.setup h end
+
+-- the same setup without a seed
+abbrev pub unseeded : SetupOf → SetupOf
+unseeded s = record s { seed = None }
+
+-- and with this many contexts
+abbrev pub budgeted : SetupOf → ℕ → SetupOf
+budgeted s k = record s { contexts = k; seed = None }
+
+-- g is a legal history, in the setup of the contexts that it uses, each of whose calls made a step.
+-- It has the outcome of h and this end, by no more calls and no more contexts.
+pub record IsShrunk (t : Program) (s : SetupOf) (h : List Call) (end : HistoryEnd) (g : Shrunk)
+    : Type 0 where
+  pub setup : g.setup ≡ budgeted s g.report.contexts
+  pub fine : setup_fault t g.setup ≡ None
+  pub legal : IsLegal t g.setup g.history.items
+  pub report : IsReport g.setup g.history.items g.report
+  pub steps : granted_calls g.history.items ≡ g.history.items
+  pub outcome : outcome_of g.history.items ≡ outcome_of h
+  pub ends : IsEnd t g.setup g.history.items end
+  pub calls : length g.history.items ≤ length h
+  pub contexts : (n : ℕ) → IsLeastWithin n (granted_threads h) → g.report.contexts ≤ n
+
+-- What follows are devices of the proofs.
+
+-- a legal history with this end, and its report
+pub record IsDriven (t : Program) (s : SetupOf) (end : HistoryEnd) (d : Driven) : Type 0 where
+  pub legal : IsLegal t s d.history.items
+  pub report : IsReport s d.history.items d.report
+  pub ends : IsEnd t s d.history.items end
+
+-- the same outcome, by no more calls and no more contexts
+pub record IsNoMore (d : Driven) (report : Report) : Type 0 where
+  pub outcome : d.report.outcome ≡ report.outcome
+  pub calls : d.report.calls ≤ report.calls
+  pub contexts : d.report.contexts ≤ report.contexts
+
+-- the best history of a search is driven in the setup of its session, which has no seed
+pub record IsSearch (x : Search) : Type 0 where
+  pub fits : FitsCode x.session.code x.session.setup
+  pub unseeded_is : x.session.setup.seed ≡ None
+  pub driven : (t : Program)
+      → StandsFor x.session.code t
+      → IsDriven t x.session.setup x.end x.best
+
+-- g is what the best history of a search is shrunk to at the end
+abbrev pub IsShrunkOf : Program → SetupOf → Search → Shrunk → Type 0
+IsShrunkOf t s x g = IsShrunk t s x.best.history.items x.end g
+
+-- the search y goes on from x
+pub record GoesOn (x y : Search) : Type 0 where
+  pub search : IsSearch y
+  pub code : y.session.code ≡ x.session.code
+  pub setup : y.session.setup ≡ x.session.setup
+  pub end : y.end ≡ x.end
+  pub no_more : IsNoMore y.best x.best.report

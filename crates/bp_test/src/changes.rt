@@ -1,0 +1,193 @@
+//! Changes of a history.
+//! Leaving out loops of a history.
+ghost use Rattle.std.specs.Prelude.{◌≡◌, IfOk};
+ghost use Rattle.bp_machine.specs.Setups.{FitsCode};
+ghost use Rattle.bp_test.specs.Shrinks.{unseeded};
+
+use bp_machine::{AskFault, Call, Reply, Session, Top};
+use std::alloc::AllocError;
+
+/// The calls of a history from one place to before another.
+#[derive(Clone, Copy, PartialEq, Eq)]
+pub(crate) struct Part {
+    pub(crate) from: usize,
+    pub(crate) to: usize,
+}
+
+/// What is changed in a history.
+#[derive(Clone, Copy, PartialEq, Eq)]
+pub(crate) enum Change {
+    /// The calls that made no step are left out.
+    Idle,
+    /// The steps that lead a thread back to where it was in the same context are left out.
+    Loops,
+    /// This part is left out.
+    LeftOut(Part),
+    /// The calls of this part that are before `middle` are moved to `earlier`, the others to
+    /// `later`.
+    Split {
+        part: Part,
+        middle: usize,
+        earlier: usize,
+        later: usize,
+    },
+    /// The choice bits of this part are 0.
+    Zeros(Part),
+}
+
+/// Whether the call made a step.
+fn is_granted(call: &Call) -> bool {
+    matches!(call.reply, Reply::Stepped | Reply::Failed)
+}
+
+/// Writes the calls that made a step.
+fn write_granted(history: &[Call], lines: &mut Vec<Call>) -> Result<(), AllocError> {
+    for call in history {
+        if is_granted(call) {
+            lines.push(*call)?;
+        }
+    }
+    Ok(())
+}
+
+/// Writes these parts one after the other.
+fn write_parts(history: &[Call], parts: &[Part], lines: &mut Vec<Call>) -> Result<(), AllocError> {
+    for part in parts {
+        if let Some(calls) = history.get(part.from..part.to) {
+            lines.extend_from_slice(calls)?;
+        }
+    }
+    Ok(())
+}
+
+/// Writes the calls, those of this part with the bit 0.
+fn write_zeros(history: &[Call], part: Part, lines: &mut Vec<Call>) -> Result<(), AllocError> {
+    for (place, call) in history.iter().enumerate() {
+        let is_kept = place < part.from || part.to <= place;
+        let bit = call.bit && is_kept;
+        lines.push(Call { bit, ..*call })?;
+    }
+    Ok(())
+}
+
+/// Writes the history with a change other than that of its loops.
+pub(crate) fn write_changed(
+    history: &[Call],
+    change: Change,
+    lines: &mut Vec<Call>,
+) -> Result<(), AllocError> {
+    lines.clear();
+    let end = history.len();
+    match change {
+        Change::Idle | Change::Loops => write_granted(history, lines),
+        Change::Zeros(part) => write_zeros(history, part, lines),
+        Change::LeftOut(Part { from, to }) => {
+            let parts = [Part { from: 0, to: from }, Part { from: to, to: end }];
+            write_parts(history, &parts, lines)
+        }
+        Change::Split {
+            part: Part { from, to },
+            middle,
+            earlier,
+            later,
+        } => {
+            let bounds = [
+                Part {
+                    from: 0,
+                    to: earlier,
+                },
+                Part { from, to: middle },
+                Part {
+                    from: earlier,
+                    to: from,
+                },
+                Part {
+                    from: to,
+                    to: later,
+                },
+                Part { from: middle, to },
+                Part {
+                    from: later,
+                    to: end,
+                },
+            ];
+            write_parts(history, &bounds, lines)
+        }
+    }
+}
+
+/// How many calls a loop has at most that is left out.
+const LONGEST_LOOP: usize = 64;
+
+/// A call, and where its thread was before it.
+#[derive(Clone, Copy)]
+struct Visit {
+    call: Call,
+    top: Option<Top>,
+}
+
+/// The last place of the path at which the thread was there already.
+fn earlier_visit(path: &[Visit], top: Option<Top>) -> Option<usize> {
+    let from = path.len().saturating_sub(LONGEST_LOOP);
+    for place in from..path.len() {
+        if path[place].top == top {
+            return Some(place);
+        }
+    }
+    None
+}
+
+/// Goes on with a call on the path, from which a loop that it ends is left out.
+fn go_on(path: &mut Vec<Visit>, call: Call, top: Option<Top>) -> Result<(), AllocError> {
+    if let Some(place) = earlier_visit(path.as_slice(), top) {
+        path.truncate(place);
+    }
+    path.push(Visit { call, top })?;
+    Ok(())
+}
+
+/// Writes the calls of the path, which is then empty.
+fn write_path(path: &mut Vec<Visit>, lines: &mut Vec<Call>) -> Result<(), AllocError> {
+    for visit in path.as_slice() {
+        lines.push(visit.call)?;
+    }
+    path.clear();
+    Ok(())
+}
+
+/// Makes the call again, where the thread may make it.
+fn make(session: &mut Session, call: &Call) -> Result<(), AllocError>
+    ensures { (session.new.code ≡ session.old.code) × (session.new.setup ≡ session.old.setup) }
+{
+    match session.ask_with(call.thread, call.bit) {
+        Err(AskFault::Memory) => Err(AllocError),
+        _ => Ok(()),
+    }
+}
+
+/// Drives the calls of a history again without a seed, and writes them but for those that lead a
+/// thread back to where it was, with the same values, in the same context.
+pub(crate) fn without_loops(
+    session: Session,
+    history: &[Call],
+    lines: &mut Vec<Call>,
+) -> Result<Session, AllocError>
+    requires { FitsCode session.code session.setup }
+    ensures code { IfOk result (λ x. x.code ≡ session.code) }
+    ensures setup { IfOk result (λ x. x.setup ≡ unseeded session.setup) }
+{
+    let mut session = session.restarted(None)?;
+    let mut path = Vec::new(*lines.allocator());
+    let mut thread = None;
+    lines.clear();
+    for call in history {
+        if thread != Some(call.thread) {
+            write_path(&mut path, lines)?;
+            thread = Some(call.thread);
+        }
+        go_on(&mut path, *call, session.top(call.thread))?;
+        make(&mut session, call)?;
+    }
+    write_path(&mut path, lines)?;
+    Ok(session)
+}

@@ -1,0 +1,230 @@
+//! Shrinking a history that fails or ends in a deadlock.
+//! How histories end.
+//! Driving calls again, in the memory of an earlier session.
+ghost use Rattle.std.specs.Prelude.{◌≡◌, ◌≤◌, IfOk, List, true, IfErr, OnOk};
+ghost use Rattle.bp_language.specs.Ast.{Program};
+ghost use Rattle.bp_flat.specs.StandsFor.{StandsFor, IsOfProgram};
+ghost use Rattle.bp_machine.specs.Histories.{granted_calls, IsLegal, IsReport};
+ghost use Rattle.bp_machine.specs.Setups.{FitsCode, SetupOf};
+ghost use Rattle.bp_machine.specs.declared.calls.Call.{Call as Answered};
+ghost use Rattle.bp_machine.specs.Sessions.{Stands, StandsForAll};
+ghost use Rattle.bp_test.specs.Tests.{IsDeadlock};
+ghost use Rattle.bp_test.specs.Shrinks.{IsEnd, budgeted, IsDriven, IsShrunk, IsShrunkOf, EndsIn, unseeded};
+
+use crate::searches::{Driven, Search, improve};
+use crate::waiting::{Waiting, failed_instruction, waiting_threads};
+use bp_flat::Code;
+use bp_machine::{
+    AskFault, Call, Reply, Report, Session, Setup, open_lines, runs_are_histories, steps_are_within,
+};
+use std::alloc::{AllocError, Global};
+
+/// A history that ends as another one does, and is no larger.
+#[derive(Drop)]
+pub struct Shrunk {
+    /// Its setup: without a seed, and with as many contexts as its steps use.
+    pub setup: Setup,
+    /// The calls. Each made a step.
+    pub history: Vec<Call>,
+    pub report: Report,
+}
+
+/// The calls that made a step.
+fn granted(alloc: Global, history: &[Call]) -> Result<Vec<Call>, AllocError>
+    ensures { IfOk result (λ v. v.items ≡ granted_calls history.now) }
+{
+    let mut calls = Vec::new(alloc);
+    for call in history {
+        if matches!(call.reply, Reply::Stepped | Reply::Failed) {
+            calls.push(*call)?;
+        }
+    }
+    Ok(calls)
+}
+
+/// The setup with this many contexts and no seed.
+fn budgeted(setup: &Setup, contexts: u32) -> Result<Setup, AllocError>
+    requires { contexts ≤ setup.now.contexts }
+    ensures { IfOk result (λ x. x ≡ budgeted setup.now contexts) }
+{
+    setup.is_in_range();
+    let unseeded = setup.try_copy()?.with_seed(None);
+    Ok(unseeded.with_bounds(contexts, setup.calls()))
+}
+
+/// The calls of the best history that made a step, in the setup of the contexts that they use.
+fn used(alloc: Global, code: &Code, setup: &Setup, search: &Search) -> Result<Shrunk, AllocError>
+    requires fits { FitsCode code.now setup.now }
+    requires driven { (t : Program)
+        → StandsFor code.now t
+        → IsDriven t setup.now search.now.end search.now.best }
+    ensures { IfOk result (λ g.
+        (t : Program)
+        → StandsFor code.now t
+        → IsShrunkOf t setup.now search.now g) }
+{
+    runs_are_histories();
+    steps_are_within();
+    code.is_of_a_program();
+    let best = &search.best;
+    let history = granted(alloc, best.history.as_slice())?;
+    let setup = budgeted(setup, best.report.contexts)?;
+    setup.is_in_range();
+    let calls = history.as_slice();
+    let report = Report {
+        calls: calls.len() as u64,
+        left_open: open_lines(&setup, calls),
+        ..best.report
+    };
+    Ok(Shrunk {
+        setup,
+        history,
+        report,
+    })
+}
+
+/// A history that ends as this one does, by no more calls and no more contexts: the same assertion
+/// fails, or the same threads wait at the same assumptions. Contexts are left out and joined, loops
+/// and other calls are left out, and choices are 0, as long as that makes it smaller and `limits`
+/// allows the work. The calls keep their bits, so the setup of what is answered has no seed, and as
+/// many contexts as are used.
+pub fn shrink(
+    alloc: Global,
+    code: &Code,
+    setup: &Setup,
+    history: &[Call],
+    report: &Report,
+    end: HistoryEnd,
+) -> Result<Shrunk, AllocError>
+    requires fits { FitsCode code.now setup.now }
+    requires legal { (t : Program) → StandsFor code.now t → IsLegal t setup.now history.now }
+    requires report { (t : Program)
+        → StandsFor code.now t
+        → IsReport setup.now history.now report.now }
+    requires ends { (t : Program)
+        → StandsFor code.now t
+        → IsEnd t setup.now history.now end }
+    ensures { IfOk result (λ g.
+        (t : Program)
+        → StandsFor code.now t
+        → IsShrunk t setup.now history.now end g) }
+{
+    let setup = setup.try_copy()?.with_seed(None);
+    let search = Search {
+        session: Session::new(alloc, code, &setup)?,
+        end,
+        best: Driven {
+            history: Vec::from_slice(alloc, history)?,
+            report: *report,
+        },
+        lines: Vec::new(alloc),
+        spare: Vec::new(alloc),
+        is_taken: false,
+    };
+    let search = improve(search)?;
+    let shrunk = used(alloc, code, &setup, &search)?;
+    Ok(shrunk)
+}
+
+/// How a history ends.
+#[derive(Drop)]
+pub enum HistoryEnd {
+    /// An assertion failed, at the instruction of this number.
+    Failure { number: u32 },
+    /// The threads are deadlocked: these wait, in ascending order.
+    Deadlock { waiting: Vec<Waiting> },
+    /// Neither.
+    Other,
+}
+
+/// How the history of a session ends. Memory is needed in a deadlock alone.
+pub fn history_end(alloc: Global, session: &Session) -> Result<HistoryEnd, AllocError>
+    ensures end { IfOk result (EndsIn session.now) }
+    ensures memory { IfErr result (λ _.
+        (t : Program) (h : List Answered)
+        → StandsFor session.now.code t
+        → Stands t session.now h
+        → IsDeadlock t session.now.setup h) }
+{
+    if let Some(number) = failed_instruction(session) {
+        return Ok(HistoryEnd::Failure { number });
+    }
+    if !session.is_deadlocked() {
+        return Ok(HistoryEnd::Other);
+    }
+    let waiting = waiting_threads(alloc, session)?;
+    Ok(HistoryEnd::Deadlock { waiting })
+}
+
+/// Whether two ends are the same: the same instruction, or the same threads that wait at the same
+/// instructions.
+fn is_same(one: &HistoryEnd, other: &HistoryEnd) -> bool
+    ensures { result ≡ true
+        → (t : Program) (s : SetupOf) (h : List Answered)
+        → IsEnd t s h one.now
+        → IsEnd t s h other.now }
+{
+    match (one, other) {
+        (HistoryEnd::Failure { number }, HistoryEnd::Failure { number: failed }) => {
+            number == failed
+        }
+        (HistoryEnd::Deadlock { waiting }, HistoryEnd::Deadlock { waiting: threads }) => {
+            waiting.as_slice() == threads.as_slice()
+        }
+        (HistoryEnd::Other, HistoryEnd::Other) => true,
+        _ => false,
+    }
+}
+
+/// Whether the history of a session has this end.
+pub(crate) fn has_end(
+    alloc: Global,
+    session: &Session,
+    end: &HistoryEnd,
+) -> Result<bool, AllocError>
+    ensures { IfOk result (λ has. has ≡ true → EndsIn session.now end.now) }
+{
+    let own = history_end(alloc, session)?;
+    Ok(is_same(&own, end))
+}
+
+/// Makes a call again, where the thread may make it, and keeps it.
+fn make_again(session: &mut Session, history: &mut Vec<Call>, line: &Call) -> Result<(), AllocError>
+    requires program { IsOfProgram session.old.code }
+    requires stands { StandsForAll session.old history.old.items }
+    ensures stands { OnOk result (StandsForAll session.new history.new.items) }
+    ensures kept { (session.new.code ≡ session.old.code) × (session.new.setup ≡ session.old.setup) }
+{
+    match session.ask_with(line.thread, line.bit) {
+        Ok(call) => {
+            history.push(call)?;
+            Ok(())
+        }
+        Err(AskFault::Memory) => Err(AllocError),
+        Err(_) => Ok(()),
+    }
+}
+
+/// Drives the calls again without a seed, each with its thread and its bit. Those that a thread may
+/// not make are left out, and so are the calls after a failure.
+pub(crate) fn drive_again(
+    session: Session,
+    history: &mut Vec<Call>,
+    lines: &[Call],
+) -> Result<Session, AllocError>
+    requires { FitsCode session.code session.setup }
+    ensures stands { IfOk result (λ x. StandsForAll x history.new.items) }
+    ensures code { IfOk result (λ x. x.code ≡ session.code) }
+    ensures setup { IfOk result (λ x. x.setup ≡ unseeded session.setup) }
+{
+    let mut session = session.restarted(None)?;
+    session.code().is_of_a_program();
+    history.clear();
+    for line in lines {
+        if session.is_failed() {
+            return Ok(session);
+        }
+        make_again(&mut session, history, line)?;
+    }
+    Ok(session)
+}

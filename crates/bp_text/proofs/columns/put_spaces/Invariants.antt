@@ -1,6 +1,0 @@
-use Rattle.bp_text.specs.Columns.{spaces}
-use Rattle.bp_text.specs.Sinks.{Given}
-use Rattle.bp_text.proofs.columns.put_spaces.Given as goal
-
-abbrev pub invariant-loop-done : goal.invariant-loop-done
-invariant-loop-done g l = Given g.W.Write.contents l.fn.sink l.sink (spaces l.done)

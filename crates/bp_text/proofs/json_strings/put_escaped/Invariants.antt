@@ -1,8 +1,0 @@
-use Rattle.std.proofs.Common.{flat_map, take}
-use Rattle.bp_text.specs.JsonStrings.{string_byte}
-use Rattle.bp_text.specs.Sinks.{Given}
-use Rattle.bp_text.proofs.json_strings.put_escaped.Given as goal
-
-abbrev pub invariant-loop-byte : goal.invariant-loop-byte
-invariant-loop-byte g l =
-    Given g.W.Write.contents l.fn.sink l.sink (flat_map string_byte (take l.byte-index l.text))

@@ -1,6 +1,0 @@
-use Rattle.std.proofs.Common.{◌≡◌, ◌++◌, take, map}
-use Rattle.bp_text.specs.OneLine.{on_one_line}
-use Rattle.bp_text.proofs.one_line.push_on_one_line.Given as goal
-
-abbrev pub invariant-loop-byte : goal.invariant-loop-byte
-invariant-loop-byte l = l.line.items ≡ l.initial.line.items ++ map on_one_line (take l.byte-index l.bytes)

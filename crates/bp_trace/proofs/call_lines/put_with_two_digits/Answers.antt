@@ -1,8 +1,0 @@
-use Rattle.std.proofs.Common.{rules}
-use Rattle.bp_trace.proofs.TwoDigits.{decimal_two}
-use Rattle.bp_trace.proofs.call_lines.put_with_two_digits.Goals as goal
-
-pub returns : goal.returns
-returns g c =
-    let is = decimal_two c.args.call.now.thread c.requires.two c.requires.few in
-    grind (rules, is)

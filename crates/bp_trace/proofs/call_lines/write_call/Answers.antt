@@ -1,5 +1,0 @@
-use Rattle.bp_text.proofs.Givings.{written_at_end}
-use Rattle.bp_trace.proofs.call_lines.write_call.Goals as goal
-
-pub returns : goal.returns
-returns g c = written_at_end _ _ _ _ _ _ c.out-1.given c.new-sink.ensures c.put_call.ensures c.finish.ensures

@@ -1,0 +1,256 @@
+-- Devices: how the lines of traces are read and written. No public clause names them.
+use Rattle.std.specs.Prelude.{if◌then◌else◌, ◌==◌, ℕ, Bool, true, false, List, [], ◌∷◌, ◌++◌, Option, None, Some, codes, decimal, ◌≡◌, ◌≢◌, ◌<◌, ◌^◌, length, map, flat_map, ◌⊎◌, ◌+◌}
+use Rattle.std.specs.List.{AllByRecursion, concat}
+use Rattle.bp_machine.specs.declared.calls.Call.{Call}
+use Rattle.bp_machine.specs.declared.calls.Reply.{Reply}
+use Rattle.bp_machine.specs.Histories.{letter_of}
+use Rattle.bp_machine.specs.Setups.{SetupOf, setup_of}
+use Rattle.bp_trace.specs.TraceText.{symbol_of, symbol_text, bit_digit, call_line, IsEntryName, HasHead, HeadStops, version_line, entry_line, init_digits, init_line, field_line, seed_word, head_lines, head_text, Without, Symbol, call_of, end_line}
+use Rattle.bp_trace.specs.declared.heads.Head.{Head}
+use Rattle.bp_trace.specs.declared.faults.ReplayFault.{ReplayFault}
+use Rattle.bp_trace.specs.declared.faults.ReplayFault.TheVariants as fault
+use Rattle.bp_trace.specs.declared.traces.Version.{Version}
+use Rattle.bp_trace.specs.Replays.{IsBodyLine, IsDecimal, IsEndLine, HasOtherEnd, HasMoreAfter}
+use Rattle.bp_trace.specs.declared.faults.EndCounts.{EndCounts}
+
+-- The text of the pieces of a history, call by call: a device of the writer, which no public clause
+-- names.
+
+-- the thread of a line, after the end of the line before it
+abbrev pub line_start : Bool → ℕ → List ℕ
+line_start is_first i =
+    (if is_first then [] else codes "\n") ++ (decimal i ++ codes " ")
+
+-- what begins a call after one of this thread, or after none
+abbrev pub opening : Option ℕ → ℕ → List ℕ
+opening None i = line_start true i
+opening (Some l) i = if l == i then [] else line_start false i
+
+abbrev pub symbol_after : Option ℕ → Call → List ℕ
+symbol_after last x = opening last x.thread ++ symbol_text (symbol_of x)
+
+-- the calls after one of this thread, without the end of the last line
+abbrev pub symbols_after : Option ℕ → List Call → List ℕ
+symbols_after last [] = []
+symbols_after last (x ∷ xs) = symbol_after last x ++ symbols_after (Some x.thread) xs
+
+-- How a line of calls is read: a device of the reader, which no public clause names.
+
+abbrev pub BeginsWithSpace : List ℕ → Type 0
+BeginsWithSpace text = (more : List ℕ) × (text ≡ 32 ∷ more)
+
+abbrev pub HasNoSpace : List ℕ → Type 0
+HasNoSpace text = (more : List ℕ) → text ≢ 32 ∷ more
+
+-- this thread below n, and a space, begin the text
+abbrev pub IsThreadAt : ℕ → List ℕ → ℕ → Type 0
+IsThreadAt n text i = (more : List ℕ) × (i < n) × (text ≡ decimal i ++ 32 ∷ more)
+
+-- no thread below n and a space do
+abbrev pub HasNoThread : ℕ → List ℕ → Type 0
+HasNoThread n text = (i : ℕ) (more : List ℕ) → i < n → text ≢ decimal i ++ 32 ∷ more
+
+-- this bit, a space, the letter of this reply and a line feed begin the text
+abbrev pub IsTailAt : List ℕ → Bool × Reply → Type 0
+IsTailAt text x =
+    (more : List ℕ) × (text ≡ bit_digit x.0 ∷ 32 ∷ letter_of x.1 ∷ 10 ∷ more)
+
+abbrev pub HasNoTail : List ℕ → Type 0
+HasNoTail text =
+    (b : Bool) (r : Reply) (more : List ℕ) → text ≢ bit_digit b ∷ 32 ∷ letter_of r ∷ 10 ∷ more
+
+-- the line of this call of a thread below n begins the text
+abbrev pub IsCallAt : ℕ → List ℕ → Call → Type 0
+IsCallAt n text x = (more : List ℕ) × (x.thread < n) × (text ≡ call_line x ++ more)
+
+-- no line of a call of a thread below n does
+abbrev pub HasNoCall : ℕ → List ℕ → Type 0
+HasNoCall n text = (x : Call) (more : List ℕ) → x.thread < n → text ≢ call_line x ++ more
+
+-- How the head of a trace is read: a device of the reader, which no public clause names.
+
+-- the text is this line, a line feed and the rest
+pub record BeginsWithLine (text line rest : List ℕ) : Type 0 where
+  pub line_is : Without 10 line
+  pub parts : text ≡ line ++ 10 ∷ rest
+
+-- the word does not begin the text
+abbrev pub HasNoFront : List ℕ → List ℕ → Type 0
+HasNoFront word text = (rest : List ℕ) → text ≢ word ++ rest
+
+-- the line of this word and this value begins the text, and then comes the rest
+pub record IsFieldAt (word text value rest : List ℕ) : Type 0 where
+  pub value_is : Without 10 value
+  pub parts : text ≡ field_line word value ++ rest
+
+-- no line that begins with the word begins the text
+abbrev pub HasNoField : List ℕ → List ℕ → Type 0
+HasNoField word text =
+    (value rest : List ℕ) → Without 10 value → text ≢ field_line word value ++ rest
+
+-- no line of a version begins the text
+abbrev pub HasNoVersion : List ℕ → Type 0
+HasNoVersion text = (v : Version) (rest : List ℕ) → text ≢ version_line v ++ rest
+
+-- the line of this entry begins the text, and then comes the rest
+pub record IsEntryAt (text name rest : List ℕ) : Type 0 where
+  pub name_is : IsEntryName name
+  pub parts : text ≡ entry_line name ++ rest
+
+-- no line of an entry begins the text
+abbrev pub HasNoEntry : List ℕ → Type 0
+HasNoEntry text = (name rest : List ℕ) → IsEntryName name → text ≢ entry_line name ++ rest
+
+-- the lines of these entries begin the text, and then comes the rest
+pub record AreEntriesAt (text : List ℕ) (names : List (List ℕ)) (rest : List ℕ) : Type 0 where
+  pub names_are : AllByRecursion IsEntryName names
+  pub parts : text ≡ concat (map entry_line names) ++ rest
+
+-- the digits are not those of bits
+abbrev pub AreNoBits : List ℕ → Type 0
+AreNoBits digits = (bits : List Bool) → digits ≢ map bit_digit bits
+
+-- the value of an init line is that of no bits
+abbrev pub IsNoInit : List ℕ → Type 0
+IsNoInit value = (bits : List Bool) → value ≢ init_digits bits
+
+-- no init line begins the text
+abbrev pub HasNoInit : List ℕ → Type 0
+HasNoInit text = (bits : List Bool) (rest : List ℕ) → text ≢ init_line bits ++ rest
+
+-- the line of this word and this number begins the text, and then comes the rest
+pub record IsNumberAt (word text : List ℕ) (n : ℕ) (rest : List ℕ) : Type 0 where
+  pub fits : n < 2 ^ 64
+  pub parts : text ≡ field_line word (decimal n) ++ rest
+
+-- no line of the word and a number begins the text
+abbrev pub HasNoNumber : List ℕ → List ℕ → Type 0
+HasNoNumber word text =
+    (n : ℕ) (rest : List ℕ) → n < 2 ^ 64 → text ≢ field_line word (decimal n) ++ rest
+
+-- there is no seed, or it has 64 bits
+abbrev pub IsSeed : Option ℕ → Type 0
+IsSeed seed = (n : ℕ) → seed ≡ Some n → n < 2 ^ 64
+
+-- the line of this seed begins the text, and then comes the rest
+pub record IsSeedAt (text : List ℕ) (seed : Option ℕ) (rest : List ℕ) : Type 0 where
+  pub fits : IsSeed seed
+  pub parts : text ≡ field_line (codes "seed ") (seed_word seed) ++ rest
+
+-- no seed line begins the text
+abbrev pub HasNoSeed : List ℕ → Type 0
+HasNoSeed text =
+    (seed : Option ℕ) (rest : List ℕ)
+    → IsSeed seed
+    → text ≢ field_line (codes "seed ") (seed_word seed) ++ rest
+
+-- the setup that a head says
+abbrev pub setup_of_head : Head → SetupOf
+setup_of_head head =
+    setup_of (map (λ n. n.now) head.entries.items)
+    head.init.items head.contexts head.calls head.seed
+
+-- the head begins the text, and has this many bytes and lines
+pub record IsHeadOf (text : List ℕ) (head : Head) : Type 0 where
+  pub has : HasHead (setup_of_head head)
+  pub rest : List ℕ
+  pub parts : text ≡ head_text head.version (setup_of_head head) ++ rest
+  pub size : head.size ≡ length (head_text head.version (setup_of_head head))
+  pub lines : head.lines ≡ length (head_lines head.version (setup_of_head head))
+
+-- the line that is not as expected, or is not there; nothing is said of when memory is refused
+abbrev pub IsHeadRefusal : List ℕ → ReplayFault → Type 0
+IsHeadRefusal text (fault.Head k) = HeadStops text k
+IsHeadRefusal text fault.Memory = Unit {0}
+IsHeadRefusal text f = ⊥
+
+-- How a line of calls is read, in either version: a device of the reader, which no public clause
+-- names.
+
+-- this bit and the letter of this reply begin the text
+abbrev pub IsSymbolAt : List ℕ → Bool × Reply → Type 0
+IsSymbolAt text x = (more : List ℕ) × (text ≡ bit_digit x.0 ∷ letter_of x.1 ∷ more)
+
+-- no bit and no letter of a reply do
+abbrev pub HasNoSymbol : List ℕ → Type 0
+HasNoSymbol text = (b : Bool) (r : Reply) (more : List ℕ) → text ≢ bit_digit b ∷ letter_of r ∷ more
+
+-- the symbols at the front of the text have this size, and no other follows them; the calls
+-- that they are for this thread were added
+pub record HasSymbols (i : ℕ) (text : List ℕ) (old new : List Call) (size : ℕ) : Type 0 where
+  pub symbols : List Symbol
+  pub more : List ℕ
+  pub added : new ≡ old ++ map (call_of i) symbols
+  pub begins : text ≡ flat_map symbol_text symbols ++ more
+  pub size_is : size ≡ length (flat_map symbol_text symbols)
+  pub ends : HasNoSymbol more
+
+-- a line of calls of this size begins the text, and these are its calls
+pub record IsBodyLineAt
+    (v : Version) (n : ℕ) (last : Option ℕ) (text : List ℕ) (calls : List Call) (size : ℕ)
+    : Type 0 where
+  pub line : List ℕ
+  pub more : List ℕ
+  pub is_line : IsBodyLine n last line calls v
+  pub begins : text ≡ line ++ more
+  pub size_is : size ≡ length line
+
+-- no line of calls begins the text
+abbrev pub HasNoBodyLine : Version → ℕ → Option ℕ → List ℕ → Type 0
+HasNoBodyLine v n last text =
+    (line : List ℕ) (calls : List Call) (more : List ℕ)
+    → IsBodyLine n last line calls v
+    → text ≢ line ++ more
+
+-- How the line that ends a trace is read: a device of the reader, which no public clause names.
+
+-- the byte is no decimal digit
+abbrev pub IsNoDigit : ℕ → Type 0
+IsNoDigit byte = (byte < 48) ⊎ (57 < byte)
+
+-- a decimal and this byte after it begin the text, and have this size
+pub record IsDecimalAt (byte : ℕ) (text : List ℕ) (size : ℕ) : Type 0 where
+  pub digits : List ℕ
+  pub more : List ℕ
+  pub decimal : IsDecimal digits
+  pub begins : text ≡ digits ++ byte ∷ more
+  pub size_is : size ≡ length digits + 1
+
+-- no decimal with this byte after it begins the text
+abbrev pub HasNoDecimal : ℕ → List ℕ → Type 0
+HasNoDecimal byte text =
+    (digits more : List ℕ) → IsDecimal digits → text ≢ digits ++ byte ∷ more
+
+-- an end line of this size begins the text
+pub record IsEndAt (text : List ℕ) (size : ℕ) : Type 0 where
+  pub line : List ℕ
+  pub more : List ℕ
+  pub is_end : IsEndLine line
+  pub begins : text ≡ line ++ more
+  pub size_is : size ≡ length line
+
+-- no end line begins the text
+abbrev pub HasNoEnd : List ℕ → Type 0
+HasNoEnd text = (line more : List ℕ) → IsEndLine line → text ≢ line ++ more
+
+-- something, but no end line, begins the text
+pub record HasOtherLine (text : List ℕ) : Type 0 where
+  pub some : text ≢ []
+  pub ends : HasNoEnd text
+
+-- what an end counts
+abbrev pub counts : ℕ → ℕ → EndCounts
+counts calls left_open = record { calls = calls; left_open = left_open }
+
+-- Why what is after the calls of a trace is refused, where line n is due: it is not the end of so
+-- many calls and open lines, alone.
+module _ (rest : List ℕ) (calls left_open n : ℕ) where
+  abbrev own : List ℕ
+  own = end_line calls left_open
+
+  abbrev pub IsEndRefusal : ReplayFault → Type 0
+  IsEndRefusal (fault.NoEnd c) = (rest ≡ []) × (c ≡ counts calls left_open)
+  IsEndRefusal (fault.EndCount m c) = (m ≡ n) × (c ≡ counts calls left_open) × HasOtherEnd own rest
+  IsEndRefusal (fault.Line m) =
+      ((m ≡ n) × HasOtherLine rest) ⊎ ((m ≡ n + 1) × HasMoreAfter own rest)
+  IsEndRefusal f = ⊥

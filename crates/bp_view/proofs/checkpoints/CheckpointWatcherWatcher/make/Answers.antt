@@ -1,0 +1,40 @@
+use Rattle.std.proofs.Common.{◌≡◌, ◌≢◌, ◌∙◌, ◌+◌, ◌++◌, ◌∷◌, [], sym, subst, arith, length}
+use Rattle.bp_flat.specs.StandsFor.{StandsFor}
+use Rattle.bp_view.proofs.RecordedCalls.{one_more, still_kept, whole, next_number}
+use Rattle.bp_view.proofs.checkpoints.CheckpointWatcherWatcher.make.Goals as goal
+
+pub returns-in_ok-session-clause-sees : goal.returns-in_ok-session-clause-sees
+returns-in_ok-session-clause-sees c = λ first t h code stands seen.
+    let s = c.args.session.now.setup in
+    let y = c.in_ok-call.call in
+    let asked = c.in_ok-call.ensures in
+    let copied = c.in_ok-session.ensures in
+    let counted = seen.1.made in
+    let few = next_number t s h stands.state.legal (rw c.setup.ensures at c.is_in_range.ensures) in
+    let made : c.saturating_add-self.result ≡ length (h ++ y ∷ []) = omega (arith, c.saturating_add-self.ensures, counted, few, one_more t s h y) in
+    let last = c.last_step-self.ensures h seen.1.last in
+    let kept_code = subst (λ k. StandsFor k t) (sym (copied.kept.0 ∙ asked.kept.0)) code in
+    let setup = copied.kept.1 ∙ asked.kept.1 in (
+      seen.0,
+      record {
+        made = made;
+        last = last;
+        kept = (whole t s _ _ made kept_code setup (copied.stands t _ (asked.stands t h code stands)) last, c.if-self.true);
+      },
+    )
+
+pub returns-else-self-clause-sees : goal.returns-else-self-clause-sees
+returns-else-self-clause-sees c = λ first t h code stands seen.
+    let s = c.args.session.now.setup in
+    let y = c.in_ok-call.call in
+    let counted = seen.1.made in
+    let few = next_number t s h stands.state.legal (rw c.setup.ensures at c.is_in_range.ensures) in
+    let made : c.saturating_add-self.result ≡ length (h ++ y ∷ []) = omega (arith, c.saturating_add-self.ensures, counted, few, one_more t s h y) in
+    let other : length h + 1 ≢ c.args.self.now.after = λ e. c.if-self.false (omega (arith, c.saturating_add-self.ensures, counted, few, e)) in (
+      seen.0,
+      record {
+        made = made;
+        last = c.last_step-self.ensures h seen.1.last;
+        kept = still_kept t s h y c.args.self.now.after c.args.self.now.kept seen.1.kept other;
+      },
+    )

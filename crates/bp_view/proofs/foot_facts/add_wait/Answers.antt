@@ -1,0 +1,30 @@
+use Rattle.std.proofs.Common.{◌≡◌, ◌∙◌, ◌++◌, ◌∷◌, [], suc, true, map, subst, sym, rules}
+use Rattle.std.proofs.lemmas.List.{map-append}
+use Rattle.bp_machine.specs.Histories.{configuration_after}
+use Rattle.bp_machine.specs.Runs.{waits}
+use Rattle.bp_view.specs.FootFacts.{condition_in, waiting, AreWaitsFacts}
+use Rattle.bp_view.proofs.WholeFacts.{no_wait_more, one_wait_more}
+use Rattle.bp_view.proofs.FailedConditions.{at_assumption}
+use Rattle.bp_view.proofs.foot_facts.add_wait.Goals as goal
+
+pub returns-then-not-waits : goal.returns-then-not-waits
+returns-then-not-waits c = λ t text h set is stands are.
+    let now = configuration_after t c.args.session.now.setup h in
+    no_wait_more t text now c.args.thread _ are (sym (c.waits.ensures t h is stands) ∙ c.if-not-waits.true)
+
+pub returns-in_default : goal.returns-in_default
+returns-in_default c = λ t text h set is stands are.
+    let now = configuration_after t c.args.session.now.setup h in
+    let does : waits t now c.args.thread ≡ true = sym (c.waits.ensures t h is stands) ∙ c.if-not-waits.false in
+    absurd (rw c.in_default.is at c.in_ok-condition.ensures t text h set is stands (at_assumption t now c.args.thread does))
+
+pub returns : goal.returns
+returns c = λ t text h set is stands are.
+    let now = configuration_after t c.args.session.now.setup h in
+    let n = c.args.thread in
+    let x = c.in-Some.condition in
+    let before = map condition_in c.args.waits.now.items in
+    let does : waits t now n ≡ true = sym (c.waits.ensures t h is stands) ∙ c.if-not-waits.false in
+    let facts = rw c.in-Some.is at c.in_ok-condition.ensures t text h set is stands (at_assumption t now n does) in
+    let pushed : map condition_in c.push.new.self.items ≡ before ++ condition_in x ∷ [] = search (rules, map-append) in
+    subst (AreWaitsFacts text now (waiting t now (suc n))) (sym pushed) (one_wait_more t text now n before are does (condition_in x) facts.0 facts.1)

@@ -1,0 +1,28 @@
+use Rattle.std.proofs.Common.{◌≡◌, ◌∙◌, ℕ, List, Option, None, Some, subst, sym, option_map, IsSomeAnd}
+use Rattle.std.proofs.lemmas.Result.{IfOk-weaker}
+use Rattle.bp_language.specs.Ast.{Program}
+use Rattle.bp_machine.specs.declared.calls.Call.{Call}
+use Rattle.bp_machine.specs.declared.calls.Outcome.TheVariants.{Failed}
+use Rattle.bp_machine.specs.Histories.{configuration_after, outcome_of, IsRealFailure}
+use Rattle.bp_machine.specs.Setups.{SetupOf}
+use Rattle.bp_machine.proofs.RealFailures.{real}
+use Rattle.bp_view.specs.declared.foot_facts.ConditionFacts.{ConditionFacts}
+use Rattle.bp_view.specs.FootFacts.{condition_in, AreFailureFacts, AreStandingFacts}
+use Rattle.bp_view.proofs.FailedConditions.{assertion_facts, at_assertion}
+use Rattle.bp_view.proofs.foot_facts.failure_of.Goals as goal
+
+shown_failure : (t : Program) (text : List ℕ) (s : SetupOf) (h : List Call) (i : ℕ) → IsRealFailure t s h i → (o : Option ConditionFacts)
+    → IsSomeAnd o (λ x. (x.thread ≡ i) × AreStandingFacts text (configuration_after t s h) (condition_in x))
+    → AreFailureFacts t text s h (Failed i) (option_map condition_in o)
+shown_failure t text s h i failure None is = absurd is
+shown_failure t text s h i failure (Some x) is =
+    (is.0, assertion_facts t s h text (condition_in x) (subst (IsRealFailure t s h) (sym is.0) failure) is.1)
+
+pub returns : goal.returns
+returns c = λ t text h set code stands outcome.
+    let s = c.args.session.now.setup in
+    let i = c.in-Failed.thread in
+    let fails : outcome_of h ≡ Failed i = sym outcome ∙ c.in-Failed.is in
+    let failure = real t s h i stands.state.legal fails in
+    let own = c.condition_of.ensures t text h set code stands (at_assertion t s h i failure) in
+    rw c.in-Failed.is (IfOk-weaker c.condition_of.result _ _ (λ o is. shown_failure t text s h i failure o is) own)

@@ -1,0 +1,11 @@
+use Rattle.std.proofs.Common.{◌≡◌, flat_map, map, take}
+use Rattle.bp_flat.specs.InstrEffects.{store_of}
+use Rattle.bp_flat.specs.StandsFor.{named_store}
+use Rattle.bp_view.specs.CallFacts.{entry_of}
+use Rattle.bp_view.specs.FootFacts.{named_entry}
+use Rattle.bp_view.proofs.foot_facts.variables_named.Given as goal
+
+abbrev pub invariant-loop-name : goal.invariant-loop-name
+invariant-loop-name l =
+    let s = named_store l.globals l.proc (store_of l.store) in
+    map entry_of l.values.items ≡ flat_map (λ x. named_entry l.proc s x.now) (take l.name-index l.names)

@@ -1,6 +1,0 @@
-use Rattle.std.proofs.Common.{◌≡◌, ◌++◌, flat_map, take}
-use Rattle.bp_view.specs.JsonCalls.{bit_item}
-use Rattle.bp_view.proofs.json_calls.push_bit_items.Given as goal
-
-abbrev pub invariant-loop-bit : goal.invariant-loop-bit
-invariant-loop-bit l = l.items.items ≡ l.initial.items.items ++ flat_map bit_item (take l.bit-index l.bits)

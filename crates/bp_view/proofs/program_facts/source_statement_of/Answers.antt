@@ -1,0 +1,21 @@
+use Rattle.std.proofs.Common.{◌≡◌, Bor, Option, None, Some, subst, ◌∙◌, option_map, IsSomeAnd}
+use Rattle.bp_flat.specs.StandsFor.{place, places_of}
+use Rattle.bp_source.specs.declared.source_statements.SourceStatement.{SourceStatement}
+use Rattle.bp_source.specs.SourceStatements.{IsSourceStatement}
+use Rattle.bp_source.proofs.SourceStatementLists.{got_item, source_statement_at}
+use Rattle.bp_view.proofs.program_facts.source_statement_of.Goals as goal
+
+-- what is got is the source statement that is there
+is_got : (P : SourceStatement → Type 0) (o : Option (Bor SourceStatement)) (x : SourceStatement)
+    → option_map (λ s. s.now) o ≡ Some x → P x → IsSomeAnd o (λ s. P s.now)
+is_got P None x got p = absurd cc
+is_got P (Some s) x got p = let same : x ≡ s.now = cc in subst P same p
+
+pub returns : goal.returns
+returns c = λ t text d frames set is.
+    let x = place is.frame.procedure is.frame.left in
+    let statements = c.args.program.now.statements.now in
+    let n = c.args.top.number in
+    let found = source_statement_at text t.procedures (places_of t.procedures) statements n x set.statements is.next in
+    let got = got_item c.get.result statements n c.get.ensures.lookup.0 c.get.ensures.lookup.1 in
+    is_got (IsSourceStatement text t.procedures x) c.get.result found.statement (got ∙ found.at) found.is

@@ -1,0 +1,15 @@
+use Rattle.std.proofs.Common.{◌==◌, ◌≤◌, length, sym, arith, ne_eqb}
+use Rattle.std.proofs.lemmas.List.Sums.{prefix_len_is}
+use Rattle.bp_view.proofs.program_facts.spaces_before.Goals as goal
+
+pub returns-then-byte-ne32 : goal.returns-then-byte-ne32
+returns-then-byte-ne32 c =
+    let within : c.loop-i.i ≤ length c.args.text.now = omega (arith, c.loop-i-test.true) in
+    sym (prefix_len_is (λ b. b == 32) c.args.text.now c.loop-i.i 0 within c.loop-i.invariant (λ _. ne_eqb _ 32 c.if-byte-ne32.true))
+
+pub returns : goal.returns
+returns c =
+    let all : length c.args.text.now ≤ c.loop-i.i = omega (arith, c.loop-i-test.false) in
+    sym (prefix_len_is (λ b. b == 32) c.args.text.now (length c.args.text.now) 0 (omega arith)
+    (λ k less. c.loop-i.invariant k (omega (arith, all, less)))
+    (λ less. absurd (omega (arith, less))))

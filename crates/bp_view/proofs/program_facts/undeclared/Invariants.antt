@@ -1,0 +1,6 @@
+use Rattle.std.proofs.Common.{take, map}
+use Rattle.bp_view.specs.Filters.{AreDeclared}
+use Rattle.bp_view.proofs.program_facts.undeclared.Given as goal
+
+abbrev pub invariant-loop-n : goal.invariant-loop-n
+invariant-loop-n l = AreDeclared l.checked (take l.n (map (λ n. n.now) l.names))

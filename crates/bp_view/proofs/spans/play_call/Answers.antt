@@ -1,0 +1,62 @@
+use Rattle.std.proofs.Common.{◌≡◌, ◌∙◌, ◌++◌, ◌∷◌, [], false, true, ap, refl, subst, sym}
+use Rattle.std.proofs.lemmas.Result.{err_from_is_err_and}
+use Rattle.bp_flat.specs.StandsFor.{StandsFor}
+use Rattle.bp_machine.specs.Histories.{configuration_after, is_granted}
+use Rattle.bp_machine.specs.Sessions.{Stands}
+use Rattle.bp_trace.proofs.PlayableFronts.{own_is}
+use Rattle.bp_view.specs.declared.spans.Span.{Span}
+use Rattle.bp_view.specs.ContextFacts.{AreSpans, IsStandingPoint}
+use Rattle.bp_view.proofs.RecordedCalls.{asked_refused}
+use Rattle.bp_view.proofs.SpansOfHistories.{spans_idle, spans_with, IsOwnStep}
+use Rattle.bp_view.proofs.spans.play_call.Goals as goal
+
+pub returns-in_ok-push_step-clause-stands : goal.returns-in_ok-push_step-clause-stands
+returns-in_ok-push_step-clause-stands c = λ t h is stands playable.
+    let s = c.args.session.now.setup in
+    let own = own_is t s h c.args.recorded.now [] playable c.in_ok-call.call (c.in_ok-call.ensures.answer t h is stands) in
+    subst (λ y. Stands t c.ask_as_recorded.new.self (h ++ y ∷ [])) own (c.in_ok-call.ensures.stands t h is stands)
+
+pub returns-else-is_step-clause-stands : goal.returns-else-is_step-clause-stands
+returns-else-is_step-clause-stands c = λ t h is stands playable.
+    let s = c.args.session.now.setup in
+    let own = own_is t s h c.args.recorded.now [] playable c.in_ok-call.call (c.in_ok-call.ensures.answer t h is stands) in
+    subst (λ y. Stands t c.ask_as_recorded.new.self (h ++ y ∷ [])) own (c.in_ok-call.ensures.stands t h is stands)
+
+pub returns-in_ok-push_step-clause-spans : goal.returns-in_ok-push_step-clause-spans
+returns-in_ok-push_step-clause-spans c = λ t h is stands playable number are.
+    let s = c.args.session.now.setup in
+    let x = c.args.recorded.now in
+    let own = own_is t s h x [] playable c.in_ok-call.call (c.in_ok-call.ensures.answer t h is stands) in
+    let granted : is_granted x.reply ≡ true = ap (λ y. is_granted y.reply) (sym own) ∙ sym c.if-is_step.ensures in
+    let later = subst (λ y. Stands t c.ask_as_recorded.new.self (h ++ y ∷ [])) own (c.in_ok-call.ensures.stands t h is stands) in
+    let code = subst (λ k. StandsFor k t) (sym c.in_ok-call.ensures.kept.0) is in
+    let after = c.standing_point.ensures t (h ++ x ∷ []) code later in
+    let step : Span = record {
+      thread = x.thread;
+      first = c.args.number;
+      last = c.args.number;
+      before = c.standing_point-before.result;
+      after = c.standing_point.result;
+    } in
+    let own_step : IsOwnStep t s h x step = record {
+      thread = refl;
+      first = number;
+      last = number;
+      before = c.standing_point-before.ensures t h is stands;
+      after = subst (λ k. IsStandingPoint t (configuration_after t k (h ++ x ∷ [])) x.thread c.standing_point.result) c.in_ok-call.ensures.kept.1 after;
+    } in
+    subst (AreSpans t s (h ++ x ∷ [])) (sym c.in_ok-push_step.ensures) (spans_with t s h x step own_step c.args.spans.now.items are granted)
+
+pub returns-else-is_step-clause-spans : goal.returns-else-is_step-clause-spans
+returns-else-is_step-clause-spans c = λ t h is stands playable number are.
+    let s = c.args.session.now.setup in
+    let x = c.args.recorded.now in
+    let own = own_is t s h x [] playable c.in_ok-call.call (c.in_ok-call.ensures.answer t h is stands) in
+    let idle : is_granted x.reply ≡ false = ap (λ y. is_granted y.reply) (sym own) ∙ sym c.if-is_step.ensures in
+    spans_idle t s h x c.args.spans.now.items are idle
+
+pub returns-in_err-call-clause-stands : goal.returns-in_err-call-clause-stands
+returns-in_err-call-clause-stands c = λ t h is stands playable.
+    let p = err_from_is_err_and c.from_residual.result c.from_residual.ensures.1 in
+    let s = c.args.session.now.setup in
+    rw (p.1, p.2) (asked_refused t s h c.args.recorded.now playable c.in_err-call.field-0.0 (c.in_err-call.ensures.answer t h is stands))

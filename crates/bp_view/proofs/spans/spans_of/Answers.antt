@@ -1,0 +1,59 @@
+use Rattle.std.proofs.Common.{◌≡◌, ◌∙◌, ◌+◌, ◌<◌, ◌≤◌, [], suc, length, sym, subst, take, length-take-le, arith}
+use Rattle.std.proofs.lemmas.List.{take_all, take_more}
+use Rattle.std.proofs.lemmas.Result.{err_from_is_err_and}
+use Rattle.bp_flat.specs.StandsFor.{StandsFor}
+use Rattle.bp_machine.specs.Sessions.{Stands}
+use Rattle.bp_view.specs.ContextFacts.{AreSpans}
+use Rattle.bp_view.proofs.RecordedCalls.{playable_here}
+use Rattle.bp_view.proofs.SpansOfHistories.{no_spans}
+use Rattle.bp_view.proofs.spans.spans_of.Goals as goal
+
+pub loop-n-init : goal.loop-n-init
+loop-n-init c = record {
+  stands = c.in_ok-session.ensures.stands;
+  spans = λ t is. subst (AreSpans t c.args.setup.now []) (sym c.new-spans.ensures.items) (no_spans t c.args.setup.now);
+  code = c.in_ok-session.ensures.kept.0;
+  setup = c.in_ok-session.ensures.kept.1;
+}
+
+pub loop-n-preserved : goal.loop-n-preserved
+loop-n-preserved c =
+    let s = c.args.setup.now in
+    let h = c.args.history.now in
+    let i = c.loop-n.n in
+    let before = c.loop-n.invariant in
+    let after = c.in_ok-play_call.ensures in
+    let inside : i < length h = c.loop-n-test.true in
+    let count : i + 1 ≡ suc (length (take i h)) = omega (arith, length-take-le i h (omega (arith, inside))) in
+    record {
+      stands = λ t is.
+          let code = subst (λ k. StandsFor k t) (sym before.code) is in
+          subst (Stands t c.play_call.new.session) (sym (take_more h i _ inside))
+          (after.stands t (take i h) code (before.stands t is) (rw before.setup (playable_here t s h (c.requires.playable t is) i _ inside)));
+      spans = λ t is.
+          let code = subst (λ k. StandsFor k t) (sym before.code) is in
+          let are = subst (λ k. AreSpans t k (take i h) c.loop-n.spans.items) (sym before.setup) (before.spans t is) in
+          let playable = playable_here t s h (c.requires.playable t is) i _ inside in
+          let more = after.spans t (take i h) code (before.stands t is) (rw before.setup playable) count are in
+          subst (λ g. AreSpans t s g c.play_call.new.spans.items) (sym (take_more h i _ inside)) (rw before.setup at more);
+      code = after.kept.0 ∙ before.code;
+      setup = after.kept.1 ∙ before.setup;
+    }
+
+pub returns-in_err-play_call : goal.returns-in_err-play_call
+returns-in_err-play_call c = λ t is.
+    let p = err_from_is_err_and c.from_residual-in_err-play_call.result c.from_residual-in_err-play_call.ensures.1 in
+    let s = c.args.setup.now in
+    let h = c.args.history.now in
+    let i = c.loop-n.n in
+    let before = c.loop-n.invariant in
+    let inside : i < length h = c.loop-n-test.true in
+    let code = subst (λ k. StandsFor k t) (sym before.code) is in
+    let playable = playable_here t s h (c.requires.playable t is) i _ inside in
+    let why = c.in_err-play_call.ensures.stands t (take i h) code (before.stands t is) (rw before.setup playable) in
+    rw (p.1, p.2) why
+
+pub returns : goal.returns
+returns c = λ t is.
+    let past : length c.args.history.now ≤ c.loop-n.n = omega (arith, c.loop-n-test.false) in
+    subst (λ g. AreSpans t c.args.setup.now g c.loop-n.spans.items) (take_all c.loop-n.n c.args.history.now past) (c.loop-n.invariant.spans t is)

@@ -1,0 +1,14 @@
+use Rattle.std.proofs.Common.{◌≡◌, take}
+use Rattle.bp_language.specs.Ast.{Program}
+use Rattle.bp_flat.specs.StandsFor.{StandsFor}
+use Rattle.bp_machine.specs.Sessions.{Stands}
+use Rattle.bp_view.specs.ContextFacts.{AreSpans}
+use Rattle.bp_view.proofs.spans.spans_of.Given as goal
+
+abbrev pub invariant-loop-n : goal.invariant-loop-n
+invariant-loop-n l = record {
+  stands : (t : Program) → StandsFor l.code t → Stands t l.session (take l.n l.history);
+  spans : (t : Program) → StandsFor l.code t → AreSpans t l.setup (take l.n l.history) l.spans.items;
+  code : l.session.code ≡ l.code;
+  setup : l.session.setup ≡ l.setup;
+}

@@ -1,0 +1,238 @@
+-- What a call did and changed, as plain facts.
+use Rattle.std.specs.Prelude.{◌≡◌, ℕ, List, if◌then◌else◌, ◌==◌, nat_lt, [], ◌∷◌, length, take, Bool, ◌++◌, Option, None, Some, map, option_map, ◌&&◌, not, suc, false, MatchOption, codes}
+use Rattle.bp_text.specs.declared.lines.Position.{Position}
+use Rattle.bp_text.specs.Lines.{IsOneLine, position_at}
+use Rattle.bp_language.specs.Ast.{Program, Procedure}
+use Rattle.bp_flat.specs.Moves.{Frame, Configuration, Valuation, same_bit}
+use Rattle.bp_flat.specs.StandsFor.{start_of_block}
+use Rattle.bp_machine.specs.Histories.{stack_of, IsLeastWithin, configuration_after, granted_threads, is_granted}
+use Rattle.bp_machine.specs.declared.calls.Call.{Call}
+use Rattle.bp_machine.specs.Sessions.{last_thread}
+use Rattle.bp_machine.specs.Setups.{SetupOf}
+use Rattle.bp_machine.specs.Runs.{IsTop, values_printed}
+use Rattle.bp_machine.specs.declared.calls.Reply.{Reply}
+use Rattle.bp_machine.specs.declared.calls.Reply.TheVariants.{Blocked, Failed, Stepped}
+use Rattle.bp_source.specs.SourceStatements.{AreSourceStatements, place_text, IsStatementAt}
+use Rattle.bp_view.specs.declared.program_facts.ProgramFacts.{ProgramFacts}
+use Rattle.bp_view.specs.declared.change_facts.Change.{Change}
+use Rattle.bp_view.specs.declared.checkpoints.ReplayedCall.{ReplayedCall}
+use Rattle.bp_view.specs.declared.call_facts.CallFacts.{CallFacts}
+use Rattle.bp_view.specs.declared.call_facts.Next.{Next as NextFacts}
+
+-- What facts show of a program and its text.
+
+-- these are the source statements, the globals and the procedures of the program
+pub record AreProgramFacts (t : Program) (text : List ℕ) (x : ProgramFacts) : Type 0 where
+  pub statements : AreSourceStatements text t x.statements.now
+  pub globals : x.globals.now ≡ t.globals
+  pub procedures : x.procs.now ≡ t.procedures
+
+-- Which variables a call changed, by the configurations before and after it.
+
+-- the variables whose values before and after differ, with their values after; both have the same
+-- names
+abbrev pub changed : (before after : Valuation) → Valuation
+changed [] after = []
+changed (x ∷ xs) [] = []
+changed (x ∷ xs) (y ∷ ys) = if same_bit x.1 y.1 then changed xs ys else y ∷ changed xs ys
+
+-- the formals of a frame
+abbrev pub arguments_of : Frame → Valuation
+arguments_of f = take (length f.procedure.formals) f.locals
+
+-- what a call changed in the frame at the top of a stack, by the depths before and after it: the
+-- formals of a procedure that it entered, or the locals that have other values; nothing after a
+-- return
+abbrev pub frame_changed : Frame → Frame → (depth_before depth_after : ℕ) → Valuation
+frame_changed f g m n =
+    if nat_lt m n then arguments_of g
+    else if m == n then changed f.locals g.locals
+    else []
+
+-- A device: where the stacks have the same depth, their top frames are of the same procedure.
+abbrev pub IsSameCall : (before after : List Frame) → Type 0
+IsSameCall [] after = Unit {0}
+IsSameCall (f ∷ fs) [] = Unit {0}
+IsSameCall (f ∷ fs) (g ∷ gs) = length (f ∷ fs) ≡ length (g ∷ gs) → f.procedure ≡ g.procedure
+
+-- A device: so it is with the stacks of thread i, and a call without a stack before or after it
+-- changes no global.
+pub record IsNext (c d : Configuration) (i : ℕ) : Type 0 where
+  pub call : IsSameCall (stack_of c i) (stack_of d i)
+  pub idle : stack_of c i ≡ [] → d.globals ≡ c.globals
+  pub ended : stack_of d i ≡ [] → d.globals ≡ c.globals
+
+-- What a call changed, as plain facts.
+
+-- a variable, with the procedure of a local, and its value
+pub record Entry : Type 0 where
+  pub owner : Option Procedure
+  pub name : List ℕ
+  pub value : Bool
+
+-- what a change says
+abbrev pub entry_of : Change → Entry
+entry_of x = record { owner = option_map (λ p. p.now) x.owner; name = x.name.now; value = x.value }
+
+-- these variables, of this owner
+abbrev pub owned : Option Procedure → Valuation → List Entry
+owned owner values = map (λ v. record { owner = owner; name = v.0; value = v.1 }) values
+
+-- what a call changed in the frame at the top of a stack
+abbrev pub frame_entries : Frame → Frame → (depth_before depth_after : ℕ) → List Entry
+frame_entries f g m n = owned (Some g.procedure) (frame_changed f g m n)
+
+abbrev pub stack_entries : (before after : List Frame) → List Entry
+stack_entries [] after = []
+stack_entries (f ∷ fs) [] = []
+stack_entries (f ∷ fs) (g ∷ gs) = frame_entries f g (length (f ∷ fs)) (length (g ∷ gs))
+
+-- what a call of thread i changed: globals, and the variables at the top of its stack
+abbrev pub changes_between : (before after : Configuration) → ℕ → List Entry
+changes_between c d i =
+    owned None (changed c.globals d.globals) ++ stack_entries (stack_of c i) (stack_of d i)
+
+-- A device: the variable, where its values before and after differ.
+abbrev pub slot_entry : Option Procedure → List ℕ → (before after : Bool) → List Entry
+slot_entry owner name p q =
+    if same_bit p q then [] else record { owner = owner; name = name; value = q } ∷ []
+
+-- A call of a history with its context and the tops of its thread's stack before and after it.
+
+-- the step is one of another thread than the last
+abbrev pub is_other : Option ℕ → ℕ → Bool
+is_other None i = false
+is_other (Some l) i = not (l == i)
+
+abbrev pub is_switch : List Call → Call → Bool
+is_switch h x = is_granted x.reply && is_other (last_thread (granted_threads h)) x.thread
+
+-- the context of the step of the call x after h, where it is granted
+abbrev pub IsContext : List Call → Call → Option ℕ → Type 0
+IsContext h x None = is_granted x.reply ≡ false
+IsContext h x (Some n) =
+    (is_granted x.reply ≡ Bool.true) × IsLeastWithin n (granted_threads (h ++ x ∷ []))
+
+-- A call of thread i leads from one configuration to the other, and these are the tops of its stack
+-- before and after it.
+pub record Leads (t : Program) (c d : Configuration) (i : ℕ) (m : ReplayedCall) : Type 0 where
+  pub before : MatchOption m.before (stack_of c i ≡ []) (IsTop t c i)
+  pub after : MatchOption m.after (stack_of d i ≡ []) (IsTop t d i)
+  pub next : IsNext c d i
+
+-- the replayed call is that of the call x after h
+pub record IsReplayedCall (t : Program) (s : SetupOf) (h : List Call) (x : Call) (m : ReplayedCall)
+    : Type 0 where
+  pub number : m.number ≡ suc (length h)
+  pub call : m.call ≡ x
+  pub context : IsContext h x m.context
+  pub switch : m.is_switch ≡ is_switch h x
+  pub leads :
+      let now = configuration_after t s h in
+      Leads t now (configuration_after t s (h ++ x ∷ [])) x.thread m
+
+-- What is shown of a call, as plain facts.
+
+-- What a thread has next: where its statement begins, as it is printed and as a line and a column;
+-- in which procedure; how many frames the stack has; the text of the statement, and whether it
+-- reads a choice bit.
+pub record Next : Type 0 where
+  pub place : List ℕ
+  pub position : Option Position
+  pub procedure : Option (List ℕ)
+  pub depth : ℕ
+  pub text : Option (List ℕ)
+  pub reads : Bool
+
+-- a thread that has ended has nothing next
+abbrev pub nothing_next : Next
+nothing_next =
+    record {
+      place = codes "-";
+      position = None;
+      procedure = None;
+      depth = 0;
+      text = None;
+      reads = false;
+    }
+
+-- What is shown of a call: its number from 1, the call with its reply, its context, whether the
+-- step before was another thread's, what its thread had next, and what it changed.
+pub record ShownCall : Type 0 where
+  pub number : ℕ
+  pub call : Call
+  pub context : Option ℕ
+  pub switch : Bool
+  pub next : Next
+  pub changes : List Entry
+
+-- what the values of src/ say
+abbrev pub next_in : NextFacts → Next
+next_in x =
+    record {
+      place = x.place.now;
+      position = x.position;
+      procedure = option_map (λ s. s.now) x.procedure;
+      depth = x.depth;
+      text = option_map (λ s. s.now) x.text;
+      reads = x.reads_choice;
+    }
+
+abbrev pub facts_in : CallFacts → ShownCall
+facts_in x =
+    record {
+      number = x.number;
+      call = x.call;
+      context = x.context;
+      switch = x.is_switch;
+      next = next_in x.next;
+      changes = map entry_of x.changes.now;
+    }
+
+-- a statement that comes next was tried: it made a step, or its assumption was 0
+abbrev pub is_tried : Reply → Bool
+is_tried Stepped = Bool.true
+is_tried Failed = Bool.true
+is_tried Blocked = Bool.true
+is_tried r = false
+
+-- the choice bit of a call whose statement reads one, where it was tried
+abbrev pub choice_of : ShownCall → Option Bool
+choice_of f = if f.next.reads && is_tried f.call.reply then Some f.call.bit else None
+
+-- the statement that a frame has next, or its procedure's end, at this depth of a stack
+pub record IsNextAt (text : List ℕ) (f : Frame) (depth : ℕ) (next : Next) : Type 0 where
+  pub place : next.place ≡ place_text text (start_of_block f.left)
+  pub position : next.position ≡ option_map (position_at text) (start_of_block f.left)
+  pub procedure : next.procedure ≡ Some f.procedure.name.text
+  pub depth_is : next.depth ≡ depth
+  pub shown : List ℕ
+  pub said : next.text ≡ Some shown
+  pub statement : IsStatementAt text f.procedure (start_of_block f.left) shown next.reads
+  pub one_line : IsOneLine shown
+
+-- what a thread with this stack has next
+abbrev pub IsNextOf : List ℕ → List Frame → Next → Type 0
+IsNextOf text [] next = next ≡ nothing_next
+IsNextOf text (f ∷ fs) next = IsNextAt text f (length (f ∷ fs)) next
+
+-- the values that a call prints in this configuration: those of a step at a print
+abbrev pub printed_by : Configuration → Call → Option (List Bool)
+printed_by c x =
+    if is_granted x.reply then values_printed c.globals (stack_of c x.thread) else None
+
+-- what the call x after the history h of a program changed
+abbrev pub changes_by : Program → SetupOf → (h : List Call) → Call → List Entry
+changes_by t s h x =
+    changes_between (configuration_after t s h) (configuration_after t s (h ++ x ∷ [])) x.thread
+
+-- these are the facts of the call x after h
+pub record AreCallFacts
+    (t : Program) (text : List ℕ) (s : SetupOf) (h : List Call) (x : Call) (f : ShownCall)
+    : Type 0 where
+  pub number : f.number ≡ suc (length h)
+  pub call : f.call ≡ x
+  pub context : IsContext h x f.context
+  pub switch : f.switch ≡ is_switch h x
+  pub next : IsNextOf text (stack_of (configuration_after t s h) x.thread) f.next
+  pub changes : f.changes ≡ changes_by t s h x

@@ -1,0 +1,192 @@
+//! What is shown of a call, as plain facts.
+//! What is shown of a context of a history, as plain facts.
+ghost use Rattle.std.specs.Prelude.{◌≡◌, [], ℕ, List, map, MatchOption, OnOk};
+ghost use Rattle.bp_language.specs.Ast.{Program};
+ghost use Rattle.bp_flat.specs.Moves.{Configuration};
+ghost use Rattle.bp_machine.specs.declared.calls.Call.{Call as Answered};
+ghost use Rattle.bp_machine.specs.Histories.{stack_of};
+ghost use Rattle.bp_machine.specs.Setups.{SetupOf};
+ghost use Rattle.bp_machine.specs.Runs.{IsTop};
+ghost use Rattle.bp_view.specs.CallFacts.{changes_by, choice_of, facts_in, is_tried, next_in, AreCallFacts, IsNextOf, entry_of, IsReplayedCall, AreProgramFacts};
+ghost use Rattle.bp_view.specs.ContextFacts.{changes_within, context_in, AreContextFacts, IsSpan};
+
+use crate::change_facts::{Change, add_differing};
+use crate::checkpoints::ReplayedCall;
+use crate::program_facts::{ProgramFacts, source_statement_of};
+use crate::spans::Span;
+use bp_language::Proc;
+use bp_machine::{Call, Reply, Top};
+use bp_source::name_at;
+use bp_text::Position;
+use std::alloc::AllocError;
+
+/// What a thread has next.
+#[derive(Clone, Copy)]
+pub struct Next<'a> {
+    /// Where its statement begins, as it is printed.
+    pub place: &'a [u8],
+    /// The same as a line and a column; none at the end of a procedure.
+    pub position: Option<Position>,
+    /// The name of the procedure; none where the thread has ended.
+    pub procedure: Option<&'a [u8]>,
+    /// How many frames the stack has.
+    pub depth: usize,
+    /// The text of the statement; none where the thread has ended.
+    pub text: Option<&'a [u8]>,
+    /// Whether the statement reads a choice bit.
+    pub reads_choice: bool,
+}
+
+/// What is shown of a call.
+#[derive(Clone, Copy)]
+pub struct CallFacts<'a> {
+    /// Its place in the history, from 1.
+    pub number: u64,
+    /// The call with its reply.
+    pub call: Call,
+    /// The context in which its step is; none if it made none.
+    pub context: Option<u32>,
+    /// Whether another thread made the step before.
+    pub is_switch: bool,
+    /// What its thread had next, before it.
+    pub next: Next<'a>,
+    /// The variables that it changed, with their values after it.
+    pub changes: &'a [Change<'a>],
+}
+
+/// A thread that has ended has nothing next.
+const NOTHING: Next<'static> = Next {
+    place: b"-",
+    position: None,
+    procedure: None,
+    depth: 0,
+    text: None,
+    reads_choice: false,
+};
+
+/// What a thread has next, where this is the top of its stack.
+pub(crate) fn next_of<'a>(program: &ProgramFacts<'a>, top: Option<Top>) -> Next<'a>
+    ensures { (t : Program) (text : List ℕ) (c : Configuration) (i : ℕ)
+        → AreProgramFacts t text program.now
+        → MatchOption top (stack_of c i ≡ []) (IsTop t c i)
+        → IsNextOf text (stack_of c i) (next_in result) }
+{
+    let Some(top) = top else {
+        return NOTHING;
+    };
+    let Some(statement) = source_statement_of(program, top) else {
+        return NOTHING;
+    };
+    Next {
+        place: statement.place.as_slice(),
+        position: statement.position,
+        procedure: name_at(program.procs, statement.procedure),
+        depth: top.depth,
+        text: Some(statement.excerpt.text.as_slice()),
+        reads_choice: statement.excerpt.reads_choice,
+    }
+}
+
+/// The facts of a call that changed these variables.
+pub fn facts_of_call<'a>(
+    program: &ProgramFacts<'a>,
+    replayed: &ReplayedCall,
+    changes: &'a [Change<'a>],
+) -> CallFacts<'a>
+    ensures { (t : Program) (text : List ℕ) (s : SetupOf) (h : List Answered) (x : Answered)
+        → AreProgramFacts t text program.now
+        → IsReplayedCall t s h x replayed.now
+        → map entry_of changes.entry.now ≡ changes_by t s h x
+        → AreCallFacts t text s h x (facts_in result) }
+{
+    CallFacts {
+        number: replayed.number,
+        call: replayed.call,
+        context: replayed.context,
+        is_switch: replayed.is_switch,
+        next: next_of(program, replayed.before),
+        changes,
+    }
+}
+
+/// Whether the statement that came next was tried.
+fn is_tried(reply: Reply) -> bool
+    ensures { result ≡ is_tried reply }
+{
+    matches!(reply, Reply::Stepped | Reply::Failed | Reply::Blocked)
+}
+
+impl CallFacts<'_> {
+    /// The choice bit of a call whose statement reads one, where it was tried.
+    pub fn choice(&self) -> Option<bool>
+        ensures { result ≡ choice_of (facts_in self.now) }
+    {
+        if self.next.reads_choice && is_tried(self.call.reply) {
+            Some(self.call.bit)
+        } else {
+            None
+        }
+    }
+}
+
+/// What is shown of a context.
+#[derive(Clone, Copy)]
+pub struct ContextFacts<'a> {
+    /// Its number, from 1.
+    pub number: u64,
+    /// The thread of its steps.
+    pub thread: u32,
+    /// The number of its first call, from 1.
+    pub first: u64,
+    /// The number of its last call, from 1.
+    pub last: u64,
+    /// What its thread had next before the first of them.
+    pub from: Next<'a>,
+    /// What it had next after the last of them.
+    pub to: Next<'a>,
+    /// The globals whose values then differ.
+    pub changes: &'a [Change<'a>],
+}
+
+/// Fills the list with the globals whose values differ before and after a span. The only error is
+/// refused memory.
+pub fn fill_changes_within<'a>(
+    changes: &mut Vec<Change<'a>>,
+    program: &ProgramFacts<'a>,
+    span: &Span,
+) -> Result<(), AllocError>
+    ensures { (t : Program) (text : List ℕ) (s : SetupOf) (h : List Answered) (n : ℕ)
+        → AreProgramFacts t text program.now
+        → (is : IsSpan t s h n span.now)
+        → let filled = map entry_of changes.new.items in
+        OnOk result (filled ≡ changes_within t s h is.first is.last) }
+{
+    changes.clear();
+    let (before, after) = (span.before.globals, span.after.globals);
+    add_differing(changes, None, program.globals, 0, before, after)
+}
+
+/// The facts of a span that is the context of this number, and that changed this.
+pub fn facts_of_context<'a>(
+    program: &ProgramFacts<'a>,
+    number: u64,
+    span: &Span,
+    changes: &'a [Change<'a>],
+) -> ContextFacts<'a>
+    ensures facts { (t : Program) (text : List ℕ) (s : SetupOf) (h : List Answered)
+        → AreProgramFacts t text program.now
+        → (is : IsSpan t s h number span.now)
+        → map entry_of changes.entry.now ≡ changes_within t s h is.first is.last
+        → AreContextFacts t text s h number (context_in result) }
+    ensures changes { result.changes.now ≡ changes.entry.now }
+{
+    ContextFacts {
+        number,
+        thread: span.thread,
+        first: span.first,
+        last: span.last,
+        from: next_of(program, span.before.top),
+        to: next_of(program, span.after.top),
+        changes,
+    }
+}

@@ -1,0 +1,265 @@
+//! Checkpoints: the session after the first calls of a replay, so that only the later ones are made
+//! once more.
+//! The calls of a history, each with what was before and after it.
+ghost use Rattle.std.specs.Prelude.{◌≡◌, List, IfOk, MatchResult, if◌then◌else◌, ◌++◌, ◌∷◌, [], suc, None, Some, true, false, length, option_map, MatchOption};
+ghost use Rattle.bp_language.specs.Ast.{Program};
+ghost use Rattle.bp_flat.specs.StandsFor.{StandsFor};
+ghost use Rattle.bp_machine.specs.declared.calls.Call.{Call as Answered};
+ghost use Rattle.bp_machine.specs.Setups.{FitsCode};
+ghost use Rattle.bp_machine.specs.Sessions.{Stands, last_thread};
+ghost use Rattle.bp_machine.specs.Histories.{IsLeastWithin, granted_threads, is_granted};
+ghost use Rattle.bp_trace.specs.Replays.{IsReplayed, IsReplayRefusal, IsOwnCall, IsOwnRefusal};
+ghost use Rattle.bp_view.specs.Checkpoints.{IsCheckpoint, IsCheckpointAfter, HasCounted};
+ghost use Rattle.bp_view.specs.CallFacts.{is_other, is_switch, IsReplayedCall};
+
+use bp_flat::Code;
+use bp_machine::{AskFault, Call, Reply, Session, Setup, Top};
+use bp_trace::limits::MAX_TRACE;
+use bp_trace::{ReplayFault, Replayed, Watched, Watcher, replay_watched};
+use std::alloc::{AllocError, Global};
+
+/// The session after the first calls of a history.
+#[derive(Drop)]
+pub struct Checkpoint {
+    pub session: Session,
+    /// The thread of the last step of these calls; none where they made no step.
+    pub last: Option<u32>,
+    /// How many calls these are.
+    pub made: u64,
+}
+
+impl Checkpoint {
+    /// The checkpoint before any call.
+    pub fn start(alloc: Global, code: &Code, setup: &Setup) -> Result<Checkpoint, AllocError>
+        requires { FitsCode code.now setup.now }
+        ensures { (t : Program) (h : List Answered)
+            → StandsFor code.now t
+            → IfOk result (IsCheckpointAfter t setup.now h 0) }
+    {
+        Ok(Checkpoint {
+            session: Session::new(alloc, code, setup)?,
+            last: None,
+            made: 0,
+        })
+    }
+}
+
+/// Keeps a checkpoint of a replay after this many calls. After none it keeps none.
+#[derive(Drop)]
+struct CheckpointWatcher {
+    after: u64,
+    /// How many calls were made.
+    made: u64,
+    /// The thread of the last step; none where none was made.
+    last: Option<u32>,
+    kept: Option<Checkpoint>,
+}
+
+impl Watcher for CheckpointWatcher {
+    ghost use Rattle.std.specs.Prelude.{◌≡◌};
+    ghost use Rattle.bp_view.specs.Checkpoints.{HasCounted};
+
+    ghost sees = { λ first now t s h. (now.after ≡ first.after) × HasCounted t s h now };
+
+    fn begin(&mut self, _setup: &Setup) -> Result<(), AllocError> {
+        self.made = 0;
+        self.last = None;
+        self.kept = None;
+        Ok(())
+    }
+
+    fn make(&mut self, session: &mut Session, recorded: &Call) -> Result<Call, AskFault> {
+        session.setup().is_in_range();
+        let call = session.ask_as_recorded(recorded.thread, recorded.bit)?;
+        self.last = last_step(self.last, &call);
+        self.made = self.made.saturating_add(1);
+        if self.made == self.after {
+            let session = session.try_copy()?;
+            let (last, made) = (self.last, self.made);
+            self.kept = Some(Checkpoint {
+                session,
+                last,
+                made,
+            });
+        }
+        Ok(call)
+    }
+}
+
+/// The checkpoint that a watcher kept; where it kept none, the one after all calls or before any.
+/// The session stands after all.
+fn checkpoint_of(
+    alloc: Global,
+    code: &Code,
+    setup: &Setup,
+    session: Session,
+    watcher: CheckpointWatcher,
+) -> Result<Checkpoint, AllocError>
+    requires { FitsCode code.now setup.now }
+    ensures { (t : Program) (h : List Answered)
+        → StandsFor code.now t
+        → StandsFor session.code t
+        → session.setup ≡ setup.now
+        → Stands t session h
+        → HasCounted t setup.now h watcher
+        → IfOk result (IsCheckpointAfter t setup.now h watcher.after) }
+{
+    if let Some(kept) = watcher.kept {
+        return Ok(kept);
+    }
+    if watcher.after == 0 {
+        return Checkpoint::start(alloc, code, setup);
+    }
+    Ok(Checkpoint {
+        session,
+        last: watcher.last,
+        made: watcher.made,
+    })
+}
+
+/// Replays a text as `replay` does, and answers also the checkpoint after its first `after` calls,
+/// or after all where there are fewer.
+pub fn replay_to_checkpoint(
+    alloc: Global,
+    code: &Code,
+    text: &[u8],
+    after: u64,
+) -> Result<(Replayed, Checkpoint), ReplayFault>
+    ensures { (t : Program)
+        → StandsFor code.now t
+        → MatchResult result
+        (λ p. IsReplayed t text.now p.0
+        × IsCheckpointAfter t p.0.setup p.0.history.items after p.1)
+        (IsReplayRefusal t text.now) }
+{
+    if text.len() > MAX_TRACE {
+        return Err(ReplayFault::TooLong);
+    }
+    let watcher = CheckpointWatcher {
+        after,
+        made: 0,
+        last: None,
+        kept: None,
+    };
+    let Watched {
+        replayed,
+        session,
+        watcher,
+    } = replay_watched(alloc, code, text, watcher)?;
+    let checkpoint = checkpoint_of(alloc, code, &replayed.setup, session, watcher)?;
+    Ok((replayed, checkpoint))
+}
+
+/// A call of a history, and what was before and after it.
+#[derive(Clone, Copy)]
+pub struct ReplayedCall {
+    /// Its place in the history, from 1.
+    pub number: u64,
+    pub call: Call,
+    /// The context in which its step is; none if it made none.
+    pub context: Option<u32>,
+    /// Whether another thread made the step before.
+    pub is_switch: bool,
+    /// The top of its thread's stack before it; none where the stack is empty.
+    pub before: Option<Top>,
+    /// The same after it.
+    pub after: Option<Top>,
+}
+
+/// Whether a call made a step.
+pub(crate) fn is_step(reply: Reply) -> bool
+    ensures { result ≡ is_granted reply }
+{
+    matches!(reply, Reply::Stepped | Reply::Failed)
+}
+
+/// Whether this thread is another one than the last.
+fn is_other(last: Option<u32>, thread: u32) -> bool
+    ensures { result ≡ is_other last thread }
+{
+    match last {
+        Some(last) => last != thread,
+        None => false,
+    }
+}
+
+/// The context of the last call's step, where it made one.
+fn context_of(session: &Session, reply: Reply) -> Option<u32>
+    ensures { (t : Program) (h : List Answered)
+        → Stands t session.now h
+        → MatchOption result
+        (is_granted reply ≡ false)
+        (λ n. (is_granted reply ≡ true) × IsLeastWithin n (granted_threads h)) }
+{
+    if is_step(reply) {
+        return Some(session.contexts_used());
+    }
+    None
+}
+
+/// Whether a call made a step, and the last step was another thread's.
+fn is_switch(last: Option<u32>, call: &Call) -> bool
+    ensures { (h : List Answered)
+        → last ≡ last_thread (granted_threads h)
+        → result ≡ is_switch h call.now }
+{
+    is_step(call.reply) && is_other(last, call.thread)
+}
+
+/// Makes the machine's own call for a recorded one: what was before and after it, where this thread
+/// made the step before. A session refuses a call as `Session::ask_as_recorded` does.
+pub fn replayed_call(
+    session: &mut Session,
+    last: Option<u32>,
+    number: u64,
+    recorded: &Call,
+) -> Result<ReplayedCall, AskFault>
+    ensures answer { (t : Program) (h : List Answered)
+        → StandsFor session.old.code t
+        → Stands t session.old h
+        → MatchResult result
+        (λ m. IsOwnCall t session.old.setup h recorded.now m.call)
+        (IsOwnRefusal t session.old.setup h recorded.now) }
+    ensures stands { (t : Program) (h : List Answered)
+        → StandsFor session.old.code t
+        → Stands t session.old h
+        → IfOk result (λ m. Stands t session.new (h ++ m.call ∷ [])) }
+    ensures kept { (session.new.code ≡ session.old.code) × (session.new.setup ≡ session.old.setup) }
+    ensures is { (t : Program) (h : List Answered)
+        → StandsFor session.old.code t
+        → Stands t session.old h
+        → last ≡ last_thread (granted_threads h)
+        → number ≡ suc (length h)
+        → IfOk result (λ m. IsReplayedCall t session.old.setup h m.call m) }
+{
+    let before = session.top(recorded.thread);
+    let call = session.ask_as_recorded(recorded.thread, recorded.bit)?;
+    Ok(ReplayedCall {
+        number,
+        call,
+        context: context_of(session, call.reply),
+        is_switch: is_switch(last, &call),
+        before,
+        after: session.top(call.thread),
+    })
+}
+
+/// The thread of the last step, with that of one more call.
+pub fn last_step(last: Option<u32>, call: &Call) -> Option<u32>
+    ensures { (h : List Answered)
+        → last ≡ last_thread (granted_threads h)
+        → result ≡ last_thread (granted_threads (h ++ call.now ∷ [])) }
+{
+    if is_step(call.reply) {
+        return Some(call.thread);
+    }
+    last
+}
+
+/// The values that a call printed: those that were next, where it made a step.
+pub fn printed_by(next: Option<&[bool]>, reply: Reply) -> Option<&[bool]>
+    ensures { let values = option_map (λ v. v.now) next.entry in
+        option_map (λ v. v.now) result ≡ (if is_granted reply then values else None) }
+{
+    if is_step(reply) { next } else { None }
+}
