@@ -1,5 +1,5 @@
-//! Tests of the check of `bp_code`: a refused tree is handed back. Which trees are lawful, and at which place
-//! and how others are refused, is shown by the cases of the command `check`.
+//! Tests of the check of `bp_code`: a refused tree is handed back. Which trees are lawful, and at
+//! which place and how others are refused, is shown by the cases of the command `check`.
 
 use bp_code::{CheckFault, CheckRefusal, check};
 use bp_syntax::read;
