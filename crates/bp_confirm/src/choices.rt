@@ -3,9 +3,9 @@
 //! bits.
 ghost use Rattle.std.specs.Prelude.{◌≡◌, ℕ, Bool, List, Option, IfSome, option_map, if◌then◌else◌, ◌++◌, ◌∷◌, [], false, not, get_or, IfOk, OnOk};
 ghost use Rattle.bp_language.specs.Ast.{Block, Procedure, Program};
-ghost use Rattle.bp_flat.specs.StandsFor.{Does, places_of, StandsFor};
+ghost use Rattle.bp_flat.specs.StandsFor.{Does, places_of};
 ghost use Rattle.bp_machine.specs.declared.calls.Call.{Call as Answered};
-ghost use Rattle.bp_machine.specs.Sessions.{Stands};
+ghost use Rattle.bp_machine.specs.Sessions.{AfterEach};
 ghost use Rattle.bp_confirm.specs.FollowedSteps.{bit_of_effects, bit_of_instruction, has_test, is_fork, splits, IsInferred, is_there, source_points_of, last_bits};
 ghost use Rattle.bp_confirm.specs.Inferred.{bit_of_block, IsClear, deciding, differ, waits_after};
 ghost use Rattle.bp_confirm.specs.Steps.{place_of, Place};
@@ -181,11 +181,8 @@ pub(crate) fn last_bit_of(last: LastBits<'_>, thread: u32) -> bool
 
 /// For each thread whether it waits.
 pub(crate) fn waits_of(alloc: Global, session: &Session) -> Result<Vec<bool>, AllocError>
-    ensures { (t : Program) (h : List Answered)
-        → StandsFor session.now.code t
-        → Stands t session.now h
-        → IfOk result (λ v. (i : ℕ)
-        → get_or v.items i false ≡ waits_after t session.now.setup h i) }
+    ensures { AfterEach session.now (λ t h. IfOk result (λ v. (i : ℕ)
+        → get_or v.items i false ≡ waits_after t session.now.setup h i)) }
 {
     let mut waits = Vec::new(alloc);
     for thread in 0..session.setup().threads() {

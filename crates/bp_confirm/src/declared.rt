@@ -1,8 +1,7 @@
 //! The first line of a thread or a variable that is not declared.
 //! The bound of contexts of the trace that is written.
 ghost use Rattle.std.specs.Prelude.{◌≡◌, ◌<◌, ◌^◌, length, IsTrue, MatchOption, MatchResult, ◌≤◌, map, IfOk};
-ghost use Rattle.bp_language.specs.Ast.{Program};
-ghost use Rattle.bp_flat.specs.StandsFor.{StandsFor};
+ghost use Rattle.bp_flat.specs.StandsFor.{InEach};
 ghost use Rattle.bp_machine.specs.Setups.{threads};
 ghost use Rattle.bp_machine.specs.declared.limits.TheConstants.{MAX_CONTEXTS};
 ghost use Rattle.bp_machine.specs.Histories.{IsLeastWithin};
@@ -199,9 +198,8 @@ fn with_contexts(
     setup: &Setup,
     contexts: u32,
 ) -> Result<Setup, SetupFault>
-    ensures { (t : Program)
-        → StandsFor code.now t
-        → IfOk result (λ s. s ≡ record setup.now { contexts = contexts }) }
+    ensures { InEach code.now (λ t.
+        IfOk result (λ s. s ≡ record setup.now { contexts = contexts })) }
 {
     let entries = entries_of(alloc, setup)?;
     let bits = bits_of(alloc, setup)?;
@@ -225,9 +223,7 @@ pub(crate) fn setup_for(
     bound: ContextBound,
     lines: &StepLines,
 ) -> Result<Setup, SetupFault>
-    ensures { (t : Program)
-        → StandsFor code.now t
-        → IfOk result (IsSetupFor setup.now lines.now bound) }
+    ensures { InEach code.now (λ t. IfOk result (IsSetupFor setup.now lines.now bound)) }
 {
     match bound {
         ContextBound::Kept => Ok(setup.try_copy()?),

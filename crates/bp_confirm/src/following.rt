@@ -5,7 +5,7 @@ ghost use Rattle.bp_flat.specs.StandsFor.{StandsFor};
 ghost use Rattle.bp_machine.specs.declared.calls.Call.{Call as Answered};
 ghost use Rattle.bp_machine.specs.Histories.{stack_of, configuration_after, IsAllowed, is_granted};
 ghost use Rattle.bp_machine.specs.Setups.{threads, FitsCode};
-ghost use Rattle.bp_machine.specs.Sessions.{Stands};
+ghost use Rattle.bp_machine.specs.Sessions.{Stands, AfterEach};
 ghost use Rattle.bp_machine.specs.Runs.{IsTop};
 ghost use Rattle.bp_trace.specs.Replays.{IsPlayable};
 ghost use Rattle.bp_confirm.specs.declared.confirming.StepFault.{StepFault};
@@ -123,16 +123,11 @@ fn bit_at(
 fn call_of(session: &mut Session, thread: u32, bit: bool) -> Result<Call, NotCalled>
     requires thread { thread < threads session.old.setup }
     requires unseeded { session.old.setup.seed ≡ None }
-    ensures called { (t : Program) (h : List Answered)
-        → StandsFor session.old.code t
-        → Stands t session.old h
-        → IfOk result (λ c.
-        IsAllowed t session.old.setup h c × Stands t session.new (h ++ c ∷ [])) }
+    ensures called { AfterEach session.old (λ t h. IfOk result (λ c.
+        IsAllowed t session.old.setup h c × Stands t session.new (h ++ c ∷ []))) }
     ensures asked { IfOk result (λ c. (c.thread ≡ thread) × (c.bit ≡ bit)) }
-    ensures refused { (t : Program) (h : List Answered)
-        → StandsFor session.old.code t
-        → Stands t session.old h
-        → IfErr result (IsNotCalled session.old.setup h thread) }
+    ensures refused { AfterEach session.old (λ t h.
+        IfErr result (IsNotCalled session.old.setup h thread)) }
     ensures kept { (session.new.code ≡ session.old.code) × (session.new.setup ≡ session.old.setup) }
 {
     match session.ask_with(thread, bit) {
@@ -265,10 +260,8 @@ fn take_step(
 
 /// Whether the next statement of a thread is a branch or a loop of `?`.
 fn is_at_fork(session: &Session, thread: u32) -> bool
-    ensures { (t : Program) (h : List Answered)
-        → StandsFor session.now.code t
-        → Stands t session.now h
-        → result ≡ is_fork_on (stack_of (configuration_after t session.now.setup h) thread) }
+    ensures { AfterEach session.now (λ t h.
+        result ≡ is_fork_on (stack_of (configuration_after t session.now.setup h) thread)) }
 {
     let Some(top) = session.top(thread) else {
         return false;
@@ -283,12 +276,9 @@ fn is_at_fork(session: &Session, thread: u32) -> bool
 /// branch or a loop of `?`.
 fn asks_now(asks: bool, session: &Session, lines: &StepLines, next: u32, thread: u32) -> bool
     ensures before { result ≡ false → asks ≡ false }
-    ensures here { (t : Program) (h : List Answered)
-        → StandsFor session.now.code t
-        → Stands t session.now h
-        → result ≡ false
+    ensures here { AfterEach session.now (λ t h. result ≡ false
         → location_in lines.now next ≡ None
-        → is_fork_on (stack_of (configuration_after t session.now.setup h) thread) ≡ false }
+        → is_fork_on (stack_of (configuration_after t session.now.setup h) thread) ≡ false) }
 {
     if asks {
         return true;

@@ -2,7 +2,7 @@
 //! What an exploration answers.
 ghost use Rattle.std.specs.Prelude.{◌<◌, Bool, ℕ, false, IfOk, Option};
 ghost use Rattle.bp_language.specs.Ast.{Program};
-ghost use Rattle.bp_flat.specs.StandsFor.{StandsFor};
+ghost use Rattle.bp_flat.specs.StandsFor.{StandsFor, InEach};
 ghost use Rattle.bp_machine.specs.Setups.{FitsCode};
 ghost use Rattle.bp_explore.specs.Searches.{failures, IsSearchEnd};
 ghost use Rattle.bp_explore.specs.Explorations.{IsExploration};
@@ -65,9 +65,8 @@ pub fn explore<P: Watcher>(
     watcher: &P,
 ) -> Result<Explored, AllocError>
     requires { FitsCode code.now setup.now }
-    ensures { (t : Program)
-        → StandsFor code.now t
-        → IfOk result (λ x. IsExploration code.now t setup.now contexts with_deadlock x.ending) }
+    ensures { InEach code.now (λ t.
+        IfOk result (λ x. IsExploration code.now t setup.now contexts with_deadlock x.ending)) }
 {
     let first = State::first(alloc, code, setup)?;
     let mut space = Space::new(alloc, first, states)?;
@@ -151,10 +150,8 @@ pub fn explore_through<O: Observer, P: Watcher>(
     requires fits { FitsCode code.now setup.now }
     requires some { 0 < (O.listed observer.now).count }
     ensures { let o = O.listed observer.now in
-        (t : Program)
-        → StandsFor code.now t
-        → o.is_of t
-        → IfOk result (λ x. IsThrough code.now t setup.now o contexts x.ending) }
+        InEach code.now (λ t. o.is_of t
+        → IfOk result (λ x. IsThrough code.now t setup.now o contexts x.ending)) }
 {
     let first = State::first(alloc, code, setup)?;
     let mut space = Space::new(alloc, first, states)?;

@@ -2,11 +2,10 @@
 //! Playing a run on a session.
 //! Playing the run that makes listed steps, on a session.
 ghost use Rattle.std.specs.Prelude.{◌≡◌, IsTrue, List, IfOk, ◌<◌, ◌≤◌, true, [], IfSome, length};
-ghost use Rattle.bp_language.specs.Ast.{Program};
-ghost use Rattle.bp_flat.specs.StandsFor.{StandsFor};
+ghost use Rattle.bp_flat.specs.StandsFor.{InEach};
 ghost use Rattle.bp_machine.specs.declared.calls.Call.{Call as Answered};
 ghost use Rattle.bp_machine.specs.Histories.{configuration_after, calls_of_thread, granted_calls, is_granted};
-ghost use Rattle.bp_machine.specs.Sessions.{Stands};
+ghost use Rattle.bp_machine.specs.Sessions.{Stands, AfterEach};
 ghost use Rattle.bp_machine.specs.Setups.{FitsCode, threads};
 ghost use Rattle.bp_machine.specs.declared.limits.TheConstants.{MAX_CALLS, MAX_CONTEXTS};
 ghost use Rattle.bp_explore.specs.Explorations.{IsFinding, IsPlayed, most_calls};
@@ -22,11 +21,8 @@ use std::alloc::{AllocError, Global};
 
 /// Whether this is found where the session stands.
 fn is_found(session: &Session, finding: Finding) -> bool
-    ensures { (t : Program) (h : List Answered)
-        → StandsFor session.now.code t
-        → Stands t session.now h
-        → IsTrue result
-        → IsFinding t (configuration_after t session.now.setup h) finding }
+    ensures { AfterEach session.now (λ t h. IsTrue result
+        → IsFinding t (configuration_after t session.now.setup h) finding) }
 {
     match finding {
         Finding::Failure => session.is_failed(),
@@ -44,9 +40,7 @@ pub(crate) fn played(
     finding: Finding,
 ) -> Result<Ending, AllocError>
     requires { FitsCode code.now setup.now }
-    ensures { (t : Program)
-        → StandsFor code.now t
-        → IfOk result (IsPlayed code.now t setup.now contexts finding) }
+    ensures { InEach code.now (λ t. IfOk result (IsPlayed code.now t setup.now contexts finding)) }
 {
     let calls = most_calls(setup.threads(), history.as_slice());
     if contexts > MAX_CONTEXTS || calls > MAX_CALLS as usize {
@@ -121,16 +115,13 @@ fn is_same_step(made: Reply, reply: Reply) -> bool
 /// Makes these calls on a session, and returns how many listed steps they make. None if they are
 /// not the machine's own, each a granted step, or go on once all listed steps are made.
 fn play<O: Observer>(session: &mut Session, observer: &O, calls: &[Call]) -> Option<u32>
-    requires stands { (t : Program)
-        → StandsFor session.old.code t
-        → Stands t session.old [] }
+    requires stands { InEach session.old.code (λ t. Stands t session.old []) }
     requires some { 0 < (O.listed observer.now).count }
     ensures played { let o = O.listed observer.now in
         let s = session.new in
         IfSome result (λ made.
-        (t : Program)
-        → StandsFor s.code t
-        → Stands t s calls.now × (o.is_of t → IsPlayedTo t s.setup o calls.now made)) }
+        InEach s.code (λ t.
+        Stands t s calls.now × (o.is_of t → IsPlayedTo t s.setup o calls.now made))) }
     ensures granted { IfSome result (λ made. granted_calls calls.now ≡ calls.now) }
     ensures kept { (session.new.code ≡ session.old.code) × (session.new.setup ≡ session.old.setup) }
 {
@@ -174,9 +165,7 @@ pub(crate) fn replay_of<O: Observer>(
     requires contexts { contexts ≤ MAX_CONTEXTS }
     requires calls { (calls ≤ MAX_CALLS) × (calls ≡ most_calls (threads setup.now) history.now) }
     ensures { let o = O.listed observer.now in
-        (t : Program)
-        → StandsFor code.now t
-        → IfOk result (IsReplay code.now t setup.now o contexts history.now) }
+        InEach code.now (λ t. IfOk result (IsReplay code.now t setup.now o contexts history.now)) }
 {
     let allowed = DEFAULT_CALLS.max(calls as u32);
     let own = setup
@@ -202,10 +191,8 @@ pub(crate) fn played_through<O: Observer>(
     requires fits { FitsCode code.now setup.now }
     requires some { 0 < (O.listed observer.now).count }
     ensures { let o = O.listed observer.now in
-        (t : Program)
-        → StandsFor code.now t
-        → o.is_of t
-        → IfOk result (IsPlayedThrough code.now t setup.now o contexts) }
+        InEach code.now (λ t. o.is_of t
+        → IfOk result (IsPlayedThrough code.now t setup.now o contexts)) }
 {
     let calls = most_calls(setup.threads(), history.as_slice());
     if contexts > MAX_CONTEXTS || calls > MAX_CALLS as usize {

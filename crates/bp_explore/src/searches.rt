@@ -1,7 +1,6 @@
 //! Searching a space, layer by layer.
 ghost use Rattle.std.specs.Prelude.{◌≡◌, ◌<◌, ◌∷◌, []};
-ghost use Rattle.bp_language.specs.Ast.{Program};
-ghost use Rattle.bp_flat.specs.StandsFor.{StandsFor};
+ghost use Rattle.bp_flat.specs.StandsFor.{InEach};
 ghost use Rattle.bp_explore.specs.Searches.{BeginsAt, IsSearchEnd};
 
 use crate::explorations::Reason;
@@ -55,10 +54,8 @@ pub(crate) fn search<O: Observer, P: Watcher>(
     requires some { 0 < (O.listed observer.now).count }
     ensures { let o = O.listed observer.now in
         let nodes = space.new.nodes.items in
-        (t : Program)
-        → StandsFor code.now t
-        → o.is_of t
-        → IsSearchEnd t setup.now o contexts with_deadlock nodes result }
+        InEach code.now (λ t. o.is_of t
+        → IsSearchEnd t setup.now o contexts with_deadlock nodes result) }
 {
     steps_alike(code);
     match space.first_dead(code, 0, with_deadlock) {

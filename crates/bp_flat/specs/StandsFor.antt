@@ -182,6 +182,10 @@ pub record StandsFor (c : Flat) (t : Program) : Type 0 where
       → (i : Instruction) × (slice_get c.instructions n ≡ Some i)
       × Does t (places_of t.procedures) p r i
 
+-- what holds in each program that the code stands for
+abbrev pub InEach : Flat → (Program → Type 0) → Type 0
+InEach c P = (t : Program) → StandsFor c t → P t
+
 -- the instruction of this number is where the found procedure begins
 pub record IsEntryOf (t : Program) (found : Option Procedure) (n : ℕ) : Type 0 where
   pub procedure : Procedure

@@ -1,10 +1,9 @@
 //! Flat code.
 ghost use Rattle.std.specs.Prelude.{◌≡◌, None, IfOk, IsTrue, ◌↔◌, length, option_map, slice_get, MatchOption};
 ghost use Rattle.std.specs.Option.{option_copied};
-ghost use Rattle.bp_language.specs.Ast.{Program};
 ghost use Rattle.bp_flat.specs.Moves.{procedure_named};
 ghost use Rattle.bp_flat.specs.Flat.{flat, heading_named};
-ghost use Rattle.bp_flat.specs.StandsFor.{StandsFor, IsEntryOf, IsOfProgram};
+ghost use Rattle.bp_flat.specs.StandsFor.{IsEntryOf, IsOfProgram, InEach};
 
 use crate::headings::{Heading, find_heading};
 use crate::instrs::Instr;
@@ -66,10 +65,8 @@ impl Code {
     /// The heading of the first procedure of this name, which may be any bytes.
     pub fn heading_of(&self, name: &[u8]) -> Option<&Heading>
         ensures heading { option_copied result ≡ heading_named self.now.headings name.now }
-        ensures program { (t : Program)
-            → StandsFor self.now t
-            → let found = procedure_named t.procedures name.now in
-            option_map (λ h. h.now.formals) result ≡ option_map (λ p. length p.formals) found }
+        ensures program { InEach self.now (λ t. let found = procedure_named t.procedures name.now in
+            option_map (λ h. h.now.formals) result ≡ option_map (λ p. length p.formals) found) }
     {
         find_heading(self.headings.as_slice(), name)
     }
@@ -78,10 +75,8 @@ impl Code {
     pub fn entry(&self, name: &str) -> Option<u32>
         ensures heading { result
             ≡ option_map (λ h. h.entry) (heading_named self.now.headings name.now) }
-        ensures program { (t : Program)
-            → StandsFor self.now t
-            → let found = procedure_named t.procedures name.now in
-            MatchOption result (found ≡ None) (IsEntryOf t found) }
+        ensures program { InEach self.now (λ t. let found = procedure_named t.procedures name.now in
+            MatchOption result (found ≡ None) (IsEntryOf t found)) }
     {
         match find_heading(self.headings.as_slice(), name.as_bytes()) {
             Some(heading) => Some(heading.entry()),
@@ -93,10 +88,8 @@ impl Code {
     pub fn formals(&self, name: &str) -> Option<u32>
         ensures heading { result
             ≡ option_map (λ h. h.formals) (heading_named self.now.headings name.now) }
-        ensures program { (t : Program)
-            → StandsFor self.now t
-            → let found = procedure_named t.procedures name.now in
-            result ≡ option_map (λ p. length p.formals) found }
+        ensures program { InEach self.now (λ t. let found = procedure_named t.procedures name.now in
+            result ≡ option_map (λ p. length p.formals) found) }
     {
         match find_heading(self.headings.as_slice(), name.as_bytes()) {
             Some(heading) => Some(heading.formals()),

@@ -153,6 +153,11 @@ pub record Stands (t : Program) (x : SessionOf) (h : List Call) : Type 0 where
       → slice_get x.choices i ≡ Some c
       → IsAt c seed i (length (calls_of_thread i h))
 
+-- what holds in each program that the session's code stands for, after each history after which
+-- the session stands
+abbrev pub AfterEach : SessionOf → (Program → List Call → Type 0) → Type 0
+AfterEach x P = (t : Program) (h : List Call) → StandsFor x.code t → Stands t x h → P t h
+
 -- the session stands after the history of every program that its code stands for
 abbrev pub StandsForAll : SessionOf → List Call → Type 0
 StandsForAll x h = (t : Program) → StandsFor x.code t → Stands t x h

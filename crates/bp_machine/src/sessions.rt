@@ -1,10 +1,9 @@
 //! Sessions: the sequential machine, one call at a time.
 ghost use Rattle.std.specs.Prelude.{◌≡◌, ◌++◌, ◌∷◌, [], List, None, Some, IfOk, IsOk, OnOk, OnErr, MatchResult};
-ghost use Rattle.bp_language.specs.Ast.{Program};
-ghost use Rattle.bp_flat.specs.StandsFor.{StandsFor};
+ghost use Rattle.bp_flat.specs.StandsFor.{InEach};
 ghost use Rattle.bp_machine.specs.declared.calls.Call.{Call as Answered};
 ghost use Rattle.bp_machine.specs.Setups.{FitsCode};
-ghost use Rattle.bp_machine.specs.Sessions.{Stands, IsNextCall, IsAskRefusal, given_bit};
+ghost use Rattle.bp_machine.specs.Sessions.{Stands, IsNextCall, IsAskRefusal, given_bit, AfterEach};
 ghost use Rattle.bp_machine.specs.Transitions.{AreFirstChoices, AreDrawn, IsGiven};
 
 mod copying;
@@ -105,7 +104,7 @@ impl Session {
     /// A session of a code in a setup that fits it, before any call.
     pub fn new(alloc: Global, code: &Code, setup: &Setup) -> Result<Session, AllocError>
         requires { FitsCode code.now setup.now }
-        ensures stands { IfOk result (λ x. (t : Program) → StandsFor code.now t → Stands t x []) }
+        ensures stands { IfOk result (λ x. InEach code.now (λ t. Stands t x [])) }
         ensures kept { IfOk result (λ x. (x.code ≡ code.now) × (x.setup ≡ setup.now)) }
     {
         code.is_of_a_program();
@@ -127,17 +126,12 @@ impl Session {
     /// takes memory.
     #[inline(always)]
     pub fn ask(&mut self, thread: u32) -> Result<Call, AskFault>
-        ensures answer { (t : Program) (h : List Answered)
-            → StandsFor self.old.code t
-            → Stands t self.old h
-            → MatchResult result
+        ensures answer { AfterEach self.old (λ t h. MatchResult result
             (IsNextCall t self.old.setup h thread None)
-            (IsAskRefusal t self.old.setup h thread None) }
+            (IsAskRefusal t self.old.setup h thread None)) }
         ensures asked { IfOk result (λ c. c.thread ≡ thread) }
-        ensures stands { (t : Program) (h : List Answered)
-            → StandsFor self.old.code t
-            → Stands t self.old h
-            → IfOk result (λ c. Stands t self.new (h ++ c ∷ [])) }
+        ensures stands { AfterEach self.old (λ t h.
+            IfOk result (λ c. Stands t self.new (h ++ c ∷ []))) }
         ensures kept { (self.new.code ≡ self.old.code) × (self.new.setup ≡ self.old.setup) }
         ensures same { OnErr result (self.new ≡ self.old) }
     {
@@ -148,17 +142,12 @@ impl Session {
     /// is a call takes memory.
     #[inline(always)]
     pub fn ask_with(&mut self, thread: u32, bit: bool) -> Result<Call, AskFault>
-        ensures answer { (t : Program) (h : List Answered)
-            → StandsFor self.old.code t
-            → Stands t self.old h
-            → MatchResult result
+        ensures answer { AfterEach self.old (λ t h. MatchResult result
             (IsNextCall t self.old.setup h thread (Some bit))
-            (IsAskRefusal t self.old.setup h thread (Some bit)) }
+            (IsAskRefusal t self.old.setup h thread (Some bit))) }
         ensures asked { IfOk result (λ c. (c.thread ≡ thread) × (c.bit ≡ bit)) }
-        ensures stands { (t : Program) (h : List Answered)
-            → StandsFor self.old.code t
-            → Stands t self.old h
-            → IfOk result (λ c. Stands t self.new (h ++ c ∷ [])) }
+        ensures stands { AfterEach self.old (λ t h.
+            IfOk result (λ c. Stands t self.new (h ++ c ∷ []))) }
         ensures kept { (self.new.code ≡ self.old.code) × (self.new.setup ≡ self.old.setup) }
         ensures same { OnErr result (self.new ≡ self.old) }
     {
@@ -170,19 +159,14 @@ impl Session {
     /// takes memory.
     #[inline(always)]
     pub fn ask_as_recorded(&mut self, thread: u32, bit: bool) -> Result<Call, AskFault>
-        ensures answer { (t : Program) (h : List Answered)
-            → StandsFor self.old.code t
-            → Stands t self.old h
-            → let given = given_bit self.old.setup bit in
+        ensures answer { AfterEach self.old (λ t h. let given = given_bit self.old.setup bit in
             MatchResult result
             (IsNextCall t self.old.setup h thread given)
-            (IsAskRefusal t self.old.setup h thread given) }
+            (IsAskRefusal t self.old.setup h thread given)) }
         ensures asked { let given = given_bit self.old.setup bit in
             IfOk result (λ c. (c.thread ≡ thread) × IsGiven given c.bit) }
-        ensures stands { (t : Program) (h : List Answered)
-            → StandsFor self.old.code t
-            → Stands t self.old h
-            → IfOk result (λ c. Stands t self.new (h ++ c ∷ [])) }
+        ensures stands { AfterEach self.old (λ t h.
+            IfOk result (λ c. Stands t self.new (h ++ c ∷ []))) }
         ensures kept { (self.new.code ≡ self.old.code) × (self.new.setup ≡ self.old.setup) }
         ensures same { OnErr result (self.new ≡ self.old) }
     {

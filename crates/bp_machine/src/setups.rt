@@ -1,7 +1,6 @@
 //! What a session starts from.
 ghost use Rattle.std.specs.Prelude.{◌≡◌, ◌↔◌, IsTrue, None, map, slice_get, string_bytes, MatchResult, IfOk, option_map};
-ghost use Rattle.bp_language.specs.Ast.{Program};
-ghost use Rattle.bp_flat.specs.StandsFor.{StandsFor};
+ghost use Rattle.bp_flat.specs.StandsFor.{InEach};
 ghost use Rattle.bp_machine.specs.Setups.{setup_of, threads, setup_fault, IsSetupRefusal, Fits, FitsCode, IsInRange};
 
 mod equality;
@@ -104,11 +103,9 @@ impl Setup {
     ) -> Result<Setup, SetupFault>
         ensures answer { let names = map string_bytes entries.now in
             let given = setup_of names init.now contexts calls seed in
-            (t : Program)
-            → StandsFor code.now t
-            → MatchResult result
+            InEach code.now (λ t. MatchResult result
             (λ s. (s ≡ given) × (setup_fault t given ≡ None))
-            (IsSetupRefusal t given) }
+            (IsSetupRefusal t given)) }
         ensures taken { IfOk result (λ s. FitsCode code.now s × IsInRange s × (s.seed ≡ seed)) }
     {
         code.is_of_a_program();
@@ -216,9 +213,7 @@ impl Setup {
     /// Whether each entry is a procedure of this code without formals, and there is one bit for
     /// each of its globals.
     pub fn fits(&self, code: &Code) -> bool
-        ensures { (t : Program)
-            → StandsFor code.now t
-            → IsTrue result ↔ Fits t self.now }
+        ensures { InEach code.now (λ t. IsTrue result ↔ Fits t self.now) }
     {
         fault_of_entries(code, self.entries.as_slice()).is_none()
             && self.init.len() == code.globals() as usize

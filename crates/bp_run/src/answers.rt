@@ -3,7 +3,7 @@
 //! The setup of a program under the options of a run.
 ghost use Rattle.std.specs.Prelude.{◌≡◌, ◌≤◌, map, vec_len, vec_capacity, ◌<◌, None, Some, IfOk, MatchResult};
 ghost use Rattle.bp_language.specs.Ast.{Program};
-ghost use Rattle.bp_flat.specs.StandsFor.{StandsFor};
+ghost use Rattle.bp_flat.specs.StandsFor.{InEach};
 ghost use Rattle.bp_machine.specs.Setups.{FitsCode};
 ghost use Rattle.bp_run.specs.Runs.{seat_of_worker};
 ghost use Rattle.bp_run.specs.Options.{setup_under, options_fault, IsOptionsRefusal, IsSetupUnder, FitsOptions, has_bad_turn_or_ring};
@@ -142,9 +142,8 @@ pub(crate) fn setup_under(
     options: &RunOptions,
     code: &Code,
 ) -> Result<Setup, SetupFault>
-    ensures answer { (t : Program)
-        → StandsFor code.now t
-        → MatchResult result (IsSetupUnder options.now t) (IsOptionsRefusal options.now t) }
+    ensures answer { InEach code.now (λ t.
+        MatchResult result (IsSetupUnder options.now t) (IsOptionsRefusal options.now t)) }
     ensures taken { IfOk result (FitsOptions options.now code.now) }
 {
     let made = options.start.setup(alloc, code, Some(options.seed));

@@ -2,8 +2,7 @@
 //! What a board is made of.
 //! What names the ledgers and the ring of a board.
 ghost use Rattle.std.specs.Prelude.{◌≡◌, ◌≤◌, ◌<◌, [], true, false, None, is_some, IfOk, IfErr, MatchResult};
-ghost use Rattle.bp_language.specs.Ast.{Program};
-ghost use Rattle.bp_flat.specs.StandsFor.{StandsFor};
+ghost use Rattle.bp_flat.specs.StandsFor.{InEach};
 ghost use Rattle.bp_machine.specs.Setups.{threads, FitsCode};
 ghost use Rattle.bp_machine.specs.declared.limits.TheConstants.{MAX_THREADS};
 ghost use Rattle.bp_run.specs.declared.limits.TheConstants.{MAX_TURN, MAX_RING};
@@ -60,10 +59,8 @@ impl<C: Calls, O: Ledger> Board<C, O> {
         ensures answer { MatchResult result
             (IsSeatTurn seat.old seat.new n)
             (IsCutSeatTurn seat.old seat.new n) }
-        ensures refused { (t : Program)
-            → StandsFor C.code t
-            → seat.old.is_open ≡ true
-            → IfErr result (TellsOfRefusal t C.setup seat.old.thread) }
+        ensures refused { InEach C.code (λ t. seat.old.is_open ≡ true
+            → IfErr result (TellsOfRefusal t C.setup seat.old.thread)) }
     {
         let mut desk = self.desk.lock(rt);
         let answer = desk.turn(seat, n);

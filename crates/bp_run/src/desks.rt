@@ -3,10 +3,9 @@
 //! Whether a session has stopped: its open lines stand before calls.
 ghost use Rattle.std.specs.Prelude.{◌≡◌, ◌≤◌, ◌<◌, ◌↔◌, [], true, None, is_some, IfOk, OnErr, MatchResult, ◌+◌, ◌∷◌, ◌++◌, List};
 ghost use Rattle.rtrb.specs.Ring.{sent, known_free, SameProducer};
-ghost use Rattle.bp_language.specs.Ast.{Program};
-ghost use Rattle.bp_flat.specs.StandsFor.{StandsFor};
+ghost use Rattle.bp_flat.specs.StandsFor.{InEach};
 ghost use Rattle.bp_machine.specs.Setups.{threads, FitsCode};
-ghost use Rattle.bp_machine.specs.Sessions.{Stands, IsNextCall};
+ghost use Rattle.bp_machine.specs.Sessions.{Stands, IsNextCall, AfterEach};
 ghost use Rattle.bp_machine.specs.declared.calls.Call.{Call as Answered};
 ghost use Rattle.bp_run.specs.declared.limits.TheConstants.{MAX_TURN};
 ghost use Rattle.bp_run.specs.Turns.{IsAsked, IsShut, IsDeskRefusal, IsUnchanged, IsTurn, IsCutTurn, IsSendRefusal};
@@ -99,9 +98,7 @@ impl<C: Calls, O: Ledger> Desk<C, O> {
     /// States what a desk is at each moment: its history is a legal one of its board's code and
     /// setup, with the seed's bits.
     pub fn is_legal(&self)
-        ensures legal { (t : Program)
-            → StandsFor self.now.code t
-            → IsLegalDesk t self.now }
+        ensures legal { InEach self.now.code (λ t. IsLegalDesk t self.now) }
         ensures own { (self.now.code ≡ C.code) × (self.now.setup ≡ C.setup) }
     {
         let _ = &self.session;
@@ -166,17 +163,13 @@ pub(crate) fn send(
     thread: u32,
 ) -> Result<Call, AskFault>
     requires { thread < threads session.old.setup }
-    ensures answer { (t : Program)
-        → StandsFor session.old.code t
-        → Stands t session.old (sent to.old)
+    ensures answer { InEach session.old.code (λ t. Stands t session.old (sent to.old)
         → MatchResult result
         (IsNextCall t session.old.setup (sent to.old) thread None)
-        (IsSendRefusal t session.old.setup (sent to.old) thread) }
+        (IsSendRefusal t session.old.setup (sent to.old) thread)) }
     ensures asked { IfOk result (λ c. c.thread ≡ thread) }
-    ensures stands { (t : Program)
-        → StandsFor session.old.code t
-        → Stands t session.old (sent to.old)
-        → IfOk result (λ c. Stands t session.new (sent to.old ++ c ∷ [])) }
+    ensures stands { InEach session.old.code (λ t. Stands t session.old (sent to.old)
+        → IfOk result (λ c. Stands t session.new (sent to.old ++ c ∷ []))) }
     ensures kept { (session.new.code ≡ session.old.code) × (session.new.setup ≡ session.old.setup) }
     ensures same { OnErr result (session.new ≡ session.old) }
     ensures ring { SameProducer to.old to.new }
@@ -184,11 +177,9 @@ pub(crate) fn send(
         (sent to.new ≡ sent to.old ++ c ∷ []) × (known_free to.old ≤ known_free to.new + 1)) }
     ensures unsent { OnErr result
         ((sent to.new ≡ sent to.old) × (known_free to.old ≤ known_free to.new)) }
-    ensures full { (t : Program)
-        → StandsFor session.old.code t
-        → Stands t session.old (sent to.old)
+    ensures full { InEach session.old.code (λ t. Stands t session.old (sent to.old)
         → result ≡ Err AskFault.Busy
-        → known_free to.new ≡ 0 }
+        → known_free to.new ≡ 0) }
 {
     if to.is_full() {
         return Err(if session.is_finished(thread) {
@@ -204,10 +195,7 @@ pub(crate) fn send(
 
 /// Whether the next step of a thread is a call.
 fn is_at_call(session: &Session, thread: u32) -> bool
-    ensures { (t : Program) (h : List Answered)
-        → StandsFor session.now.code t
-        → Stands t session.now h
-        → result ≡ is_at_call t session.now.setup h thread }
+    ensures { AfterEach session.now (λ t h. result ≡ is_at_call t session.now.setup h thread) }
 {
     let Some(top) = session.top(thread) else {
         return false;
@@ -223,10 +211,7 @@ fn is_at_call(session: &Session, thread: u32) -> bool
 
 /// The first thread whose line is open although its next step is no call, if there is one.
 pub(crate) fn stopped_early(session: &Session) -> Option<u32>
-    ensures { (t : Program) (h : List Answered)
-        → StandsFor session.now.code t
-        → Stands t session.now h
-        → TellsEarly t session.now.setup h result }
+    ensures { AfterEach session.now (λ t h. TellsEarly t session.now.setup h result) }
 {
     for thread in 0..session.setup().threads() {
         if !session.is_finished(thread) && !is_at_call(session, thread) {

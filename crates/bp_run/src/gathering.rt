@@ -3,7 +3,7 @@
 ghost use Rattle.std.specs.Prelude.{◌≡◌, ◌+◌, ◌↔◌, ◌==◌, IsTrue, IfOk, OnOk, OnErr, vec_len, vec_capacity, List};
 ghost use Rattle.std.specs.List.{count_by};
 ghost use Rattle.bp_language.specs.Ast.{Program};
-ghost use Rattle.bp_flat.specs.StandsFor.{StandsFor};
+ghost use Rattle.bp_flat.specs.StandsFor.{InEach};
 ghost use Rattle.bp_machine.specs.declared.limits.TheConstants.{MAX_THREADS};
 ghost use Rattle.bp_machine.specs.declared.calls.Call.{Call as Answered};
 ghost use Rattle.bp_machine.specs.Sessions.{Stands};
@@ -163,10 +163,8 @@ fn joined<C: Calls, O: Ledger>(
     ensures own { OnOk result (AreOwn C.code C.setup seats.items code.now setup.now) }
     ensures foreign { OnErr result (AreOwn C.code C.setup seats.items code.now setup.now → ⊥) }
     ensures seats { IfOk result (λ g. g.seats.items ≡ seats.items) }
-    ensures gathered { (t : Program)
-        → StandsFor code.now t
-        → IfOk result (λ g.
-        IsGathered t setup.now tap.taken seats.items g.tap g.report g.early g.agree) }
+    ensures gathered { InEach code.now (λ t. IfOk result (λ g.
+        IsGathered t setup.now tap.taken seats.items g.tap g.report g.early g.agree)) }
 {
     let Desk {
         session,
@@ -240,10 +238,8 @@ pub fn gather<C: Calls, O: Ledger>(
     ensures own { OnOk result (AreOwn C.code C.setup seats.items code.now setup.now) }
     ensures foreign { OnErr result (AreOwn C.code C.setup seats.items code.now setup.now → ⊥) }
     ensures seats { IfOk result (λ g. g.seats.items ≡ seats.items) }
-    ensures gathered { (t : Program)
-        → StandsFor code.now t
-        → IfOk result (λ g.
-        IsGathered t setup.now tap.taken seats.items g.tap g.report g.early g.agree) }
+    ensures gathered { InEach code.now (λ t. IfOk result (λ g.
+        IsGathered t setup.now tap.taken seats.items g.tap g.report g.early g.agree)) }
 {
     let Board { desk } = board;
     let desk = desk.into_inner();

@@ -1,7 +1,6 @@
 //! Running a program by real threads, one for each guest thread.
 ghost use Rattle.std.specs.Prelude.{◌≡◌, ◌≤◌, ◌<◌, map, true, is_some, IfOk, MatchResult};
-ghost use Rattle.bp_language.specs.Ast.{Program};
-ghost use Rattle.bp_flat.specs.StandsFor.{StandsFor};
+ghost use Rattle.bp_flat.specs.StandsFor.{InEach};
 ghost use Rattle.bp_machine.specs.Setups.{threads, FitsCode};
 ghost use Rattle.bp_run.specs.declared.limits.TheConstants.{MAX_TURN, MAX_RING};
 ghost use Rattle.bp_run.specs.Desks.{IsNamed};
@@ -59,12 +58,10 @@ fn open_and_play<
     requires turn { (0 < turns.calls) × (turns.calls ≤ MAX_TURN) }
     ensures { let old = W.contents out.old in
         let new = W.contents out.new in
-        (t : Program)
-        → StandsFor code.now t
-        → MatchResult result
+        InEach code.now (λ t. MatchResult result
         (λ r. let seats = map seat_of_worker r.workers.items in
         IsPlayedFrom t setup.now old new seats r.counts_agree r.report)
-        (IsPlayRefusal t setup.now old new) }
+        (IsPlayRefusal t setup.now old new)) }
 {
     let room = Vec::with_capacity(alloc, setup.threads() as usize)?;
     let (board, seats, tap) = Board::<C, O>::open(alloc, kit, code, setup)?;

@@ -1,7 +1,6 @@
 //! Workers: each makes the calls of one guest thread.
 ghost use Rattle.std.specs.Prelude.{◌≡◌, ◌≤◌, ◌<◌, false, true, IfErr, OnOk, OnErr};
-ghost use Rattle.bp_language.specs.Ast.{Program};
-ghost use Rattle.bp_flat.specs.StandsFor.{StandsFor};
+ghost use Rattle.bp_flat.specs.StandsFor.{InEach};
 ghost use Rattle.bp_run.specs.declared.limits.TheConstants.{MAX_TURN};
 ghost use Rattle.bp_run.specs.Works.{IsWorked, TellsOfStop};
 
@@ -39,9 +38,7 @@ fn take_turns<C: Calls, O: Ledger, G: Gate, R: Wait + Clock>(
     requires few { turn ≤ MAX_TURN }
     ensures ok { OnOk result (seat.new.is_open ≡ false) }
     ensures refused { OnErr result (seat.new.is_open ≡ true) }
-    ensures stopped { (t : Program)
-        → StandsFor C.code t
-        → IfErr result (TellsOfStop t C.setup seat.old.thread) }
+    ensures stopped { InEach C.code (λ t. IfErr result (TellsOfStop t C.setup seat.old.thread)) }
     ensures thread { seat.new.thread ≡ seat.old.thread }
     ensures calls { seat.old.calls ≤ seat.new.calls }
 {
@@ -86,9 +83,7 @@ pub fn work<C: Calls, O: Ledger, G: Gate, R: Wait + Clock>(
     requires few { turn ≤ MAX_TURN }
     ensures ok { OnOk result (seat.new.is_open ≡ false) }
     ensures refused { OnErr result (seat.new.is_open ≡ true) }
-    ensures stopped { (t : Program)
-        → StandsFor C.code t
-        → IfErr result (TellsOfStop t C.setup seat.old.thread) }
+    ensures stopped { InEach C.code (λ t. IfErr result (TellsOfStop t C.setup seat.old.thread)) }
     ensures thread { seat.new.thread ≡ seat.old.thread }
     ensures calls { seat.old.calls ≤ seat.new.calls }
 {

@@ -1,11 +1,10 @@
 //! Runs: histories of a seed and of the schedule that is drawn by it.
 //! Keys of runs, by which runs with the same steps are told.
 ghost use Rattle.std.specs.Prelude.{◌≡◌, ◌<◌, ◌+◌, ◌++◌, ◌∷◌, ◌||◌, [], ℕ, List, true, length, Some, IfOk, OnOk, take};
-ghost use Rattle.bp_language.specs.Ast.{Program};
-ghost use Rattle.bp_flat.specs.StandsFor.{IsOfProgram, StandsFor};
+ghost use Rattle.bp_flat.specs.StandsFor.{IsOfProgram, InEach};
 ghost use Rattle.bp_machine.specs.declared.calls.Call.{Call as Answered};
 ghost use Rattle.bp_machine.specs.Histories.{configuration_after, outcome_of, is_failure};
-ghost use Rattle.bp_machine.specs.Sessions.{Stands, StandsForAll};
+ghost use Rattle.bp_machine.specs.Sessions.{StandsForAll, AfterEach};
 ghost use Rattle.bp_machine.specs.Setups.{threads, FitsCode};
 ghost use Rattle.bp_test.specs.Reached.{IsEndKey, IsKey, IsRunKey, has_refusal, is_marked, next_place, marks_after, place_of, refuses_context, IsNumberOf, IsReachedByCall, IsWaiting, MarksGrow, Reaches, key_after, key_at_end, key_with};
 ghost use Rattle.bp_test.specs.Tests.{IsOver};
@@ -44,11 +43,8 @@ fn play(session: &mut Session, history: &mut Vec<Call>, thread: u32) -> Result<R
 /// The number of the instruction that is next for a thread, where there is one.
 #[inline(always)]
 pub(crate) fn next_number(session: &Session, thread: u32) -> Option<u32>
-    ensures { (t : Program) (h : List Answered)
-        → StandsFor session.now.code t
-        → Stands t session.now h
-        → let now = configuration_after t session.now.setup h in
-        IsNumberOf t (next_place now thread) result }
+    ensures { AfterEach session.now (λ t h. let now = configuration_after t session.now.setup h in
+        IsNumberOf t (next_place now thread) result) }
 {
     Some(session.top(thread)?.number)
 }
@@ -93,13 +89,10 @@ pub(crate) fn is_marked(marks: &[bool], place: usize) -> bool
 /// tell that the instruction is marked than that the thread waits.
 fn reach_wait(reached: &mut Vec<bool>, session: &Session, thread: u32, number: Option<u32>)
     requires { thread < threads session.now.setup }
-    ensures { (t : Program) (h : List Answered)
-        → StandsFor session.now.code t
-        → Stands t session.now h
-        → let now = configuration_after t session.now.setup h in
+    ensures { AfterEach session.now (λ t h. let now = configuration_after t session.now.setup h in
         IsNumberOf t (next_place now thread) number
         → let is_at = IsWaiting t session.now.setup h thread in
-        MarksGrow (place_of t) is_at reached.old.items reached.new.items }
+        MarksGrow (place_of t) is_at reached.old.items reached.new.items) }
 {
     let Some(number) = number else {
         return;
@@ -114,12 +107,9 @@ fn reach_wait(reached: &mut Vec<bool>, session: &Session, thread: u32, number: O
 
 /// Marks the instructions at which threads wait.
 fn reach_waits(reached: &mut Vec<bool>, session: &Session)
-    ensures { (t : Program) (h : List Answered)
-        → StandsFor session.now.code t
-        → Stands t session.now h
-        → let s = session.now.setup in
+    ensures { AfterEach session.now (λ t h. let s = session.now.setup in
         MarksGrow (place_of t) (λ x. (i : ℕ) × IsWaiting t s h i x)
-        reached.old.items reached.new.items }
+        reached.old.items reached.new.items) }
 {
     for thread in 0..session.setup().threads() {
         reach_wait(reached, session, thread, next_number(session, thread));
@@ -137,11 +127,8 @@ pub(crate) struct FollowedRun {
 
 /// The key of a run with this key of its steps, at whose end the session stands.
 fn end_key(session: &Session, steps: u64) -> u64
-    ensures { (t : Program) (h : List Answered)
-        → StandsFor session.now.code t
-        → Stands t session.now h
-        → let s = session.now.setup in
-        IsEndKey t (configuration_after t s h) steps (threads s) result }
+    ensures { AfterEach session.now (λ t h. let s = session.now.setup in
+        IsEndKey t (configuration_after t s h) steps (threads s) result) }
 {
     let mut key = steps;
     for thread in 0..session.setup().threads() {
@@ -163,18 +150,13 @@ fn follow(
     requires stands { StandsForAll session.old [] }
     ensures stands { OnOk result (StandsForAll session.new history.new.items) }
     ensures over { OnOk result
-        ((t : Program)
-        → StandsFor session.new.code t
-        → IsOver t session.new.setup history.new.items) }
+        (InEach session.new.code (λ t. IsOver t session.new.setup history.new.items)) }
     ensures marks { OnOk result
-        ((t : Program)
-        → StandsFor session.new.code t
-        → let by_call = IsReachedByCall t session.new.setup history.new.items in
-        MarksGrow (place_of t) by_call reached.old.items reached.new.items) }
+        (InEach session.new.code (λ t.
+        let by_call = IsReachedByCall t session.new.setup history.new.items in
+        MarksGrow (place_of t) by_call reached.old.items reached.new.items)) }
     ensures key { IfOk result (λ x.
-        (t : Program)
-        → StandsFor session.new.code t
-        → IsKey t session.new.setup history.new.items x.key) }
+        InEach session.new.code (λ t. IsKey t session.new.setup history.new.items x.key)) }
     ensures refused { IfOk result (λ x. x.was_refused ≡ has_refusal history.new.items) }
     ensures kept { (session.new.code ≡ session.old.code) × (session.new.setup ≡ session.old.setup) }
 {
@@ -213,18 +195,13 @@ pub(crate) fn run_once(
     requires { FitsCode session.old.code session.old.setup }
     ensures stands { OnOk result (StandsForAll session.new history.new.items) }
     ensures over { OnOk result
-        ((t : Program)
-        → StandsFor session.new.code t
-        → IsOver t session.new.setup history.new.items) }
+        (InEach session.new.code (λ t. IsOver t session.new.setup history.new.items)) }
     ensures marks { OnOk result
-        ((t : Program)
-        → StandsFor session.new.code t
-        → let reaches = Reaches t session.new.setup history.new.items in
-        MarksGrow (place_of t) reaches reached.old.items reached.new.items) }
+        (InEach session.new.code (λ t.
+        let reaches = Reaches t session.new.setup history.new.items in
+        MarksGrow (place_of t) reaches reached.old.items reached.new.items)) }
     ensures key { IfOk result (λ x.
-        (t : Program)
-        → StandsFor session.new.code t
-        → IsRunKey t session.new.setup history.new.items x.key) }
+        InEach session.new.code (λ t. IsRunKey t session.new.setup history.new.items x.key)) }
     ensures refused { IfOk result (λ x. x.was_refused ≡ has_refusal history.new.items) }
     ensures code { OnOk result (session.new.code ≡ session.old.code) }
     ensures setup { OnOk result

@@ -3,11 +3,11 @@
 //! Driving calls again, in the memory of an earlier session.
 ghost use Rattle.std.specs.Prelude.{◌≡◌, ◌≤◌, IfOk, List, true, IfErr, OnOk};
 ghost use Rattle.bp_language.specs.Ast.{Program};
-ghost use Rattle.bp_flat.specs.StandsFor.{StandsFor, IsOfProgram};
+ghost use Rattle.bp_flat.specs.StandsFor.{IsOfProgram, InEach};
 ghost use Rattle.bp_machine.specs.Histories.{granted_calls, IsLegal, IsReport};
 ghost use Rattle.bp_machine.specs.Setups.{FitsCode, SetupOf};
 ghost use Rattle.bp_machine.specs.declared.calls.Call.{Call as Answered};
-ghost use Rattle.bp_machine.specs.Sessions.{Stands, StandsForAll};
+ghost use Rattle.bp_machine.specs.Sessions.{StandsForAll, AfterEach};
 ghost use Rattle.bp_test.specs.Tests.{IsDeadlock};
 ghost use Rattle.bp_test.specs.Shrinks.{IsEnd, budgeted, IsDriven, IsShrunk, IsShrunkOf, EndsIn, unseeded};
 
@@ -55,13 +55,9 @@ fn budgeted(setup: &Setup, contexts: u32) -> Result<Setup, AllocError>
 /// The calls of the best history that made a step, in the setup of the contexts that they use.
 fn used(alloc: Global, code: &Code, setup: &Setup, search: &Search) -> Result<Shrunk, AllocError>
     requires fits { FitsCode code.now setup.now }
-    requires driven { (t : Program)
-        → StandsFor code.now t
-        → IsDriven t setup.now search.now.end search.now.best }
+    requires driven { InEach code.now (λ t. IsDriven t setup.now search.now.end search.now.best) }
     ensures { IfOk result (λ g.
-        (t : Program)
-        → StandsFor code.now t
-        → IsShrunkOf t setup.now search.now g) }
+        InEach code.now (λ t. IsShrunkOf t setup.now search.now g)) }
 {
     runs_are_histories();
     steps_are_within();
@@ -97,17 +93,11 @@ pub fn shrink(
     end: HistoryEnd,
 ) -> Result<Shrunk, AllocError>
     requires fits { FitsCode code.now setup.now }
-    requires legal { (t : Program) → StandsFor code.now t → IsLegal t setup.now history.now }
-    requires report { (t : Program)
-        → StandsFor code.now t
-        → IsReport setup.now history.now report.now }
-    requires ends { (t : Program)
-        → StandsFor code.now t
-        → IsEnd t setup.now history.now end }
+    requires legal { InEach code.now (λ t. IsLegal t setup.now history.now) }
+    requires report { InEach code.now (λ t. IsReport setup.now history.now report.now) }
+    requires ends { InEach code.now (λ t. IsEnd t setup.now history.now end) }
     ensures { IfOk result (λ g.
-        (t : Program)
-        → StandsFor code.now t
-        → IsShrunk t setup.now history.now end g) }
+        InEach code.now (λ t. IsShrunk t setup.now history.now end g)) }
 {
     let setup = setup.try_copy()?.with_seed(None);
     let search = Search {
@@ -141,10 +131,7 @@ pub enum HistoryEnd {
 pub fn history_end(alloc: Global, session: &Session) -> Result<HistoryEnd, AllocError>
     ensures end { IfOk result (EndsIn session.now) }
     ensures memory { IfErr result (λ _.
-        (t : Program) (h : List Answered)
-        → StandsFor session.now.code t
-        → Stands t session.now h
-        → IsDeadlock t session.now.setup h) }
+        AfterEach session.now (λ t h. IsDeadlock t session.now.setup h)) }
 {
     if let Some(number) = failed_instruction(session) {
         return Ok(HistoryEnd::Failure { number });

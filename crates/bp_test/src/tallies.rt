@@ -1,7 +1,7 @@
 //! What runs of a test came to, counted.
 ghost use Rattle.std.specs.Prelude.{◌≡◌, ◌<◌, ◌^◌, ◌++◌, ◌∷◌, [], ℕ, true, false, List, length, take, slice_set, slice_index_or, IfOk, OnOk};
 ghost use Rattle.bp_language.specs.Ast.{Program};
-ghost use Rattle.bp_flat.specs.StandsFor.{StandsFor};
+ghost use Rattle.bp_flat.specs.StandsFor.{InEach};
 ghost use Rattle.bp_machine.specs.Histories.{is_granted};
 ghost use Rattle.bp_machine.specs.Setups.{SetupOf};
 ghost use Rattle.bp_test.specs.Tallies.{contexts_with, AreContextsUsed, MadeRun, made, ends_of, ends_sum, count_with, has_full_stack, with_lack, IsCounted, IsTally};
@@ -260,9 +260,7 @@ impl Tally {
     /// The tally of no run.
     pub(crate) fn new(alloc: Global, code: &Code, setup: &Setup) -> Result<Tally, AllocError>
         ensures { IfOk result (λ x.
-            (t : Program)
-            → StandsFor code.now t
-            → IsTally t setup.now [] x) }
+            InEach code.now (λ t. IsTally t setup.now [] x)) }
     {
         Ok(Tally {
             runs: 0,

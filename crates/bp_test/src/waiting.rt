@@ -1,11 +1,9 @@
 //! Whether a thread may step, and where threads wait.
 //! Where an assertion failed.
 ghost use Rattle.std.specs.Prelude.{◌≡◌, ◌<◌, ◌↔◌, List, true, false, IsTrue, IfOk, MatchOption, IfNone, IfSome};
-ghost use Rattle.bp_language.specs.Ast.{Program};
-ghost use Rattle.bp_flat.specs.StandsFor.{StandsFor};
 ghost use Rattle.bp_machine.specs.declared.calls.Call.{Call as Answered};
 ghost use Rattle.bp_machine.specs.Histories.{configuration_after, outcome_of};
-ghost use Rattle.bp_machine.specs.Sessions.{Stands};
+ghost use Rattle.bp_machine.specs.Sessions.{AfterEach};
 ghost use Rattle.bp_machine.specs.Setups.{threads};
 ghost use Rattle.bp_machine.specs.Runs.{waits};
 ghost use Rattle.bp_test.specs.Tests.{HaveReturned, RestsIn, FailsAt};
@@ -66,11 +64,8 @@ pub(crate) fn may_step(session: &Session, thread: u32) -> bool
 
 /// Whether each thread is at the end of its program.
 pub(crate) fn have_returned(session: &Session) -> bool
-    ensures { (t : Program) (h : List Answered)
-        → StandsFor session.now.code t
-        → Stands t session.now h
-        → let now = configuration_after t session.now.setup h in
-        (IsTrue result ↔ HaveReturned now (threads session.now.setup)) }
+    ensures { AfterEach session.now (λ t h. let now = configuration_after t session.now.setup h in
+        (IsTrue result ↔ HaveReturned now (threads session.now.setup))) }
 {
     for thread in 0..session.setup().threads() {
         if next_number(session, thread).is_some() {
@@ -82,11 +77,8 @@ pub(crate) fn have_returned(session: &Session) -> bool
 
 /// Where a thread waits, if it does.
 fn waiting_at(session: &Session, thread: u32) -> Option<Waiting>
-    ensures { (t : Program) (h : List Answered)
-        → StandsFor session.now.code t
-        → Stands t session.now h
-        → let now = configuration_after t session.now.setup h in
-        MatchOption result (waits t now thread ≡ false) (IsWait t now thread) }
+    ensures { AfterEach session.now (λ t h. let now = configuration_after t session.now.setup h in
+        MatchOption result (waits t now thread ≡ false) (IsWait t now thread)) }
 {
     if !session.waits(thread) {
         return None;
@@ -98,11 +90,8 @@ fn waiting_at(session: &Session, thread: u32) -> Option<Waiting>
 /// The threads that wait, in ascending order, and where.
 pub fn waiting_threads(alloc: Global, session: &Session) -> Result<Vec<Waiting>, AllocError>
     ensures { IfOk result (λ v.
-        (t : Program) (h : List Answered)
-        → StandsFor session.now.code t
-        → Stands t session.now h
-        → let now = configuration_after t session.now.setup h in
-        AreWaiting t now (threads session.now.setup) v.items) }
+        AfterEach session.now (λ t h. let now = configuration_after t session.now.setup h in
+        AreWaiting t now (threads session.now.setup) v.items)) }
 {
     let mut waiting = Vec::new(alloc);
     for thread in 0..session.setup().threads() {
@@ -115,14 +104,8 @@ pub fn waiting_threads(alloc: Global, session: &Session) -> Result<Vec<Waiting>,
 
 /// The number of the instruction whose assertion failed, where one did.
 pub fn failed_instruction(session: &Session) -> Option<u32>
-    ensures at { (t : Program) (h : List Answered)
-        → StandsFor session.now.code t
-        → Stands t session.now h
-        → IfSome result (FailsAt t session.now.setup h) }
-    ensures none { (t : Program) (h : List Answered)
-        → StandsFor session.now.code t
-        → Stands t session.now h
-        → IfNone result (outcome_of h ≡ Outcome.Clean) }
+    ensures at { AfterEach session.now (λ t h. IfSome result (FailsAt t session.now.setup h)) }
+    ensures none { AfterEach session.now (λ t h. IfNone result (outcome_of h ≡ Outcome.Clean)) }
 {
     failures_are_real();
     let report = session.report();

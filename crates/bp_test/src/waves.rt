@@ -1,9 +1,8 @@
 //! Waves: blocks of runs that are made side by side.
 //! Blocks of runs.
 ghost use Rattle.std.specs.Prelude.{if◌then◌else◌, ◌≡◌, ◌<◌, ◌≤◌, ◌+◌, ◌*◌, ◌^◌, min, ℕ, List, length, IfOk};
-ghost use Rattle.bp_language.specs.Ast.{Program};
 ghost use Rattle.bp_flat.specs.Flat.{Flat};
-ghost use Rattle.bp_flat.specs.StandsFor.{StandsFor};
+ghost use Rattle.bp_flat.specs.StandsFor.{InEach};
 ghost use Rattle.bp_machine.specs.Setups.{SetupOf, FitsCode};
 ghost use Rattle.bp_test.specs.declared.plans.Plan.{Plan as PlanOf};
 ghost use Rattle.bp_test.specs.Tests.{start_of_block, AreBlocks, IsBlock, IsEnd, IsTalliedAfter, IsTallied, is_sought};
@@ -97,13 +96,11 @@ fn first_of(
         → start ≡ start_of_block from size 0 runs
         → let last = start_of_block from size (length blocks.items) runs in
         IfOk result (λ wave.
-        (t : Program)
-        → StandsFor k t
-        → (before : List MadeRun)
+        InEach k (λ t. (before : List MadeRun)
         → IsTally t s before tally.old
         → let found = wave.found in
         IsEnd p.deadline start last found wave.end
-        × IsTalliedAfter before t s p.with_deadlock p.seed start wave.end found tally.new) }
+        × IsTalliedAfter before t s p.with_deadlock p.seed start wave.end found tally.new)) }
 {
     let mut end = start;
     for block in blocks {
@@ -152,11 +149,9 @@ pub(crate) fn search<R: Threads + Sync, C: Clock + Sync, P: Progress>(
     requires fits { FitsCode code.now setup.now }
     requires some { 0 < jobs }
     ensures { IfOk result (λ block.
-        (t : Program)
-        → StandsFor code.now t
-        → let p = plan.now in
+        InEach code.now (λ t. let p = plan.now in
         IsEnd p.deadline 0 runs block.found block.end
-        × IsTallied t setup.now p.with_deadlock p.seed 0 block.end block.found block.tally) }
+        × IsTallied t setup.now p.with_deadlock p.seed 0 block.end block.found block.tally)) }
 {
     let mut tally = Tally::new(alloc, code, setup)?;
     let (mut from, mut size) = (0, FIRST_BLOCK);
@@ -244,10 +239,8 @@ pub fn first_found<C: Clock>(
     ensures from { IfOk result (λ block. block.from ≡ from) }
     ensures end { IfOk result (λ block. IsEnd plan.now.deadline from to block.found block.end) }
     ensures tallied { IfOk result (λ block.
-        (t : Program)
-        → StandsFor code.now t
-        → let p = plan.now in
-        IsTallied t setup.now p.with_deadlock p.seed from block.end block.found block.tally) }
+        InEach code.now (λ t. let p = plan.now in
+        IsTallied t setup.now p.with_deadlock p.seed from block.end block.found block.tally)) }
 {
     let mut session = Session::new(alloc, code, setup)?;
     let mut history = Vec::new(alloc);

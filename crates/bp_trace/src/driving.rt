@@ -2,7 +2,7 @@
 //! Schedules: lines that name the thread of the next call and its choice bit.
 ghost use Rattle.std.specs.Prelude.{◌≡◌, ◌<◌, ◌≤◌, ℕ, List, Option, None, [], length, IfOk, IfErr, OnOk, MatchResult, drop, decimal, MatchOption};
 ghost use Rattle.bp_language.specs.Ast.{Program};
-ghost use Rattle.bp_flat.specs.StandsFor.{StandsFor, IsOfProgram};
+ghost use Rattle.bp_flat.specs.StandsFor.{StandsFor, IsOfProgram, InEach};
 ghost use Rattle.bp_machine.specs.declared.limits.TheConstants.{MAX_THREADS};
 ghost use Rattle.bp_machine.specs.Setups.{FitsCode};
 ghost use Rattle.bp_machine.specs.Sessions.{StandsForAll};
@@ -101,11 +101,9 @@ pub fn drive<W: Write>(
 ) -> Result<Report, DriveFault>
     requires fits { FitsCode code.now setup.now }
     requires unseeded { setup.now.seed ≡ None }
-    ensures { (t : Program)
-        → StandsFor code.now t
-        → MatchResult result
+    ensures { InEach code.now (λ t. MatchResult result
         (DrivesTo t setup.now schedule.now (W.contents out.old) (W.contents out.new))
-        (IsRefusal t setup.now schedule.now (W.contents out.old) (W.contents out.new)) }
+        (IsRefusal t setup.now schedule.now (W.contents out.old) (W.contents out.new))) }
 {
     if schedule.len() > MAX_SCHEDULE {
         return Err(DriveFault::TooLong);

@@ -1,12 +1,10 @@
 //! Judging the calls of a trace, one after the other.
 ghost use Rattle.std.specs.Prelude.{◌≡◌, ◌<◌, ◌++◌, ◌∷◌, [], List, Some, IfOk, IfErr, OnOk, length, map};
-ghost use Rattle.bp_language.specs.Ast.{Program};
-ghost use Rattle.bp_flat.specs.StandsFor.{StandsFor};
 ghost use Rattle.bp_machine.specs.declared.calls.Call.{Call as Answered};
 ghost use Rattle.bp_machine.specs.Histories.{configuration_after, is_granted};
 ghost use Rattle.bp_machine.specs.Runs.{rows_of_call};
 ghost use Rattle.bp_machine.specs.Setups.{threads};
-ghost use Rattle.bp_machine.specs.Sessions.{Stands};
+ghost use Rattle.bp_machine.specs.Sessions.{Stands, AfterEach};
 ghost use Rattle.bp_trace.specs.Replays.{row_of};
 ghost use Rattle.bp_trace.specs.Judging.{rows_of, replay_fault_of, IsOwnAs, IsMismatch, IsCallRefusal};
 
@@ -85,16 +83,10 @@ fn matched(own: &Call, call: &Call, n: u32, made: u64) -> Result<(), ReplayFault
 /// What a call prints, where its step is granted and at a `print`.
 #[inline(always)]
 fn row_of_call(session: &Session, call: &Call) -> Result<Option<Printed>, AskFault>
-    ensures row { (t : Program) (h : List Answered)
-        → StandsFor session.now.code t
-        → Stands t session.now h
-        → IfOk result (λ row.
-        rows_of row ≡ rows_of_call (configuration_after t session.now.setup h) call.now) }
-    ensures memory { (t : Program) (h : List Answered)
-        → StandsFor session.now.code t
-        → Stands t session.now h
-        → call.now.thread < threads session.now.setup
-        → IfErr result (λ f. f ≡ AskFault.Memory) }
+    ensures row { AfterEach session.now (λ t h. IfOk result (λ row.
+        rows_of row ≡ rows_of_call (configuration_after t session.now.setup h) call.now)) }
+    ensures memory { AfterEach session.now (λ t h. call.now.thread < threads session.now.setup
+        → IfErr result (λ f. f ≡ AskFault.Memory)) }
 {
     if !matches!(call.reply, Reply::Stepped | Reply::Failed) || !session.is_at_print(call.thread) {
         return Ok(None);
@@ -117,29 +109,20 @@ pub(crate) fn judge<O: Watcher + Drop>(
     played: &mut Played<O>,
 ) -> Result<(), ReplayFault>
     requires thread { call.now.thread < threads session.old.setup }
-    ensures stands { (t : Program) (h : List Answered)
-        → StandsFor session.old.code t
-        → Stands t session.old h
-        → OnOk result (Stands t session.new (h ++ call.now ∷ [])) }
+    ensures stands { AfterEach session.old (λ t h.
+        OnOk result (Stands t session.new (h ++ call.now ∷ []))) }
     ensures history { OnOk result
         (played.new.history.items ≡ played.old.history.items ++ call.now ∷ []) }
-    ensures printed { (t : Program) (h : List Answered)
-        → StandsFor session.old.code t
-        → Stands t session.old h
-        → let rows = rows_of_call (configuration_after t session.old.setup h) call.now in
+    ensures printed { AfterEach session.old (λ t h.
+        let rows = rows_of_call (configuration_after t session.old.setup h) call.now in
         OnOk result
-        (map row_of played.new.printed.items ≡ map row_of played.old.printed.items ++ rows) }
-    ensures watched { (first : O) (t : Program) (h : List Answered)
-        → StandsFor session.old.code t
-        → Stands t session.old h
-        → O.sees first played.old.watcher t session.old.setup h
-        → OnOk result (O.sees first played.new.watcher t session.old.setup (h ++ call.now ∷ [])) }
+        (map row_of played.new.printed.items ≡ map row_of played.old.printed.items ++ rows)) }
+    ensures watched { (first : O) → AfterEach session.old (λ t h.
+        O.sees first played.old.watcher t session.old.setup h
+        → OnOk result (O.sees first played.new.watcher t session.old.setup (h ++ call.now ∷ []))) }
     ensures kept { (session.new.code ≡ session.old.code) × (session.new.setup ≡ session.old.setup) }
-    ensures refused { (t : Program) (h : List Answered)
-        → StandsFor session.old.code t
-        → Stands t session.old h
-        → h ≡ played.old.history.items
-        → IfErr result (IsCallRefusal t session.old.setup h n call.now) }
+    ensures refused { AfterEach session.old (λ t h. h ≡ played.old.history.items
+        → IfErr result (IsCallRefusal t session.old.setup h n call.now)) }
     ensures unkept { IfErr result (λ _. played.new.history.items ≡ played.old.history.items) }
 {
     let made = played.history.len() as u64;

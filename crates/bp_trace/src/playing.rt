@@ -4,8 +4,8 @@
 ghost use Rattle.std.specs.Prelude.{◌≡◌, ◌<◌, ◌+◌, ◌^◌, ◌++◌, [], length, map, IfOk, IfErr, OnOk, ◌∷◌, List, MatchResult};
 ghost use Rattle.std.specs.List.{AllByRecursion};
 ghost use Rattle.bp_language.specs.Ast.{Program};
-ghost use Rattle.bp_flat.specs.StandsFor.{StandsFor};
-ghost use Rattle.bp_machine.specs.Sessions.{last_thread, StandsForAll, Stands};
+ghost use Rattle.bp_flat.specs.StandsFor.{InEach};
+ghost use Rattle.bp_machine.specs.Sessions.{last_thread, StandsForAll, Stands, AfterEach};
 ghost use Rattle.bp_machine.specs.Setups.{threads, SetupOf};
 ghost use Rattle.bp_machine.specs.declared.calls.Call.{Call as Answered};
 ghost use Rattle.bp_trace.specs.Judging.{ArePlayed, IsBody, IsBodyRefusal, IsLineRefused, Watches, WatchesAll};
@@ -47,17 +47,14 @@ fn judge_line<O: Watcher + Drop>(
     requires threads { AllByRecursion (λ x. x.thread < threads session.old.setup) calls.now }
     requires played { ArePlayed session.old played.old }
     ensures played { OnOk result (ArePlayed session.new played.new) }
-    ensures watched { (t : Program)
-        → StandsFor session.old.code t
-        → OnOk result (Watches O.sees t session.old.setup played.old played.new) }
+    ensures watched { InEach session.old.code (λ t.
+        OnOk result (Watches O.sees t session.old.setup played.old played.new)) }
     ensures history { OnOk result
         (played.new.history.items ≡ played.old.history.items ++ calls.now) }
     ensures kept { (session.new.code ≡ session.old.code) × (session.new.setup ≡ session.old.setup) }
-    ensures refused { (t : Program)
-        → StandsFor session.old.code t
-        → IfErr result
+    ensures refused { InEach session.old.code (λ t. IfErr result
         (IsLineRefused t session.old.setup played.old.history.items n calls.now
-        played.new.history.items) }
+        played.new.history.items)) }
 {
     for call in calls {
         judge(session, call, n, played)?;
@@ -81,14 +78,12 @@ pub(crate) fn play<O: Watcher + Drop>(
     requires setup { session.old.setup ≡ setup.now }
     requires lines { first + length text.now < 2 ^ 32 }
     ensures played { IfOk result (λ b. ArePlayed session.new b.played) }
-    ensures watched { (t : Program)
-        → StandsFor session.old.code t
-        → IfOk result (λ b. WatchesAll O.sees t setup.now watcher b.played) }
+    ensures watched { InEach session.old.code (λ t.
+        IfOk result (λ b. WatchesAll O.sees t setup.now watcher b.played)) }
     ensures body { IfOk result (IsBody version setup.now text.now first) }
     ensures kept { (session.new.code ≡ session.old.code) × (session.new.setup ≡ setup.now) }
-    ensures refused { (t : Program)
-        → StandsFor session.old.code t
-        → IfErr result (IsBodyRefusal t version setup.now text.now first kept.new.items) }
+    ensures refused { InEach session.old.code (λ t.
+        IfErr result (IsBodyRefusal t version setup.now text.now first kept.new.items)) }
 {
     setup.is_in_range();
     let mut played = Played {
@@ -130,23 +125,16 @@ pub trait Watcher {
     /// Makes the machine's own call for a recorded one: of its thread, and with its bit where the
     /// setup has no seed. It may also be refused memory of its own, after the call was made.
     fn make(&mut self, session: &mut Session, recorded: &Call) -> Result<Call, AskFault>
-        ensures answer { (t : Program) (h : List Answered)
-            → StandsFor session.old.code t
-            → Stands t session.old h
-            → MatchResult result
+        ensures answer { AfterEach session.old (λ t h. MatchResult result
             (IsOwnCall t session.old.setup h recorded.now)
-            (IsOwnRefusal t session.old.setup h recorded.now) }
-        ensures stands { (t : Program) (h : List Answered)
-            → StandsFor session.old.code t
-            → Stands t session.old h
-            → IfOk result (λ own. Stands t session.new (h ++ own ∷ [])) }
+            (IsOwnRefusal t session.old.setup h recorded.now)) }
+        ensures stands { AfterEach session.old (λ t h.
+            IfOk result (λ own. Stands t session.new (h ++ own ∷ []))) }
         ensures kept { (session.new.code ≡ session.old.code)
             × (session.new.setup ≡ session.old.setup) }
-        ensures sees { (first : Self) (t : Program) (h : List Answered)
-            → StandsFor session.old.code t
-            → Stands t session.old h
-            → sees first self.old t session.old.setup h
-            → IfOk result (λ own. sees first self.new t session.old.setup (h ++ own ∷ [])) };
+        ensures sees { (first : Self) → AfterEach session.old (λ t h.
+            sees first self.old t session.old.setup h
+            → IfOk result (λ own. sees first self.new t session.old.setup (h ++ own ∷ []))) };
 }
 
 /// A watcher that only makes the calls.

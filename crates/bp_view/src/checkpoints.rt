@@ -3,10 +3,10 @@
 //! The calls of a history, each with what was before and after it.
 ghost use Rattle.std.specs.Prelude.{◌≡◌, List, IfOk, MatchResult, if◌then◌else◌, ◌++◌, ◌∷◌, [], suc, None, Some, true, false, length, option_map, MatchOption};
 ghost use Rattle.bp_language.specs.Ast.{Program};
-ghost use Rattle.bp_flat.specs.StandsFor.{StandsFor};
+ghost use Rattle.bp_flat.specs.StandsFor.{StandsFor, InEach};
 ghost use Rattle.bp_machine.specs.declared.calls.Call.{Call as Answered};
 ghost use Rattle.bp_machine.specs.Setups.{FitsCode};
-ghost use Rattle.bp_machine.specs.Sessions.{Stands, last_thread};
+ghost use Rattle.bp_machine.specs.Sessions.{Stands, last_thread, AfterEach};
 ghost use Rattle.bp_machine.specs.Histories.{IsLeastWithin, granted_threads, is_granted};
 ghost use Rattle.bp_trace.specs.Replays.{IsReplayed, IsReplayRefusal, IsOwnCall, IsOwnRefusal};
 ghost use Rattle.bp_view.specs.Checkpoints.{IsCheckpoint, IsCheckpointAfter, HasCounted};
@@ -125,12 +125,10 @@ pub fn replay_to_checkpoint(
     text: &[u8],
     after: u64,
 ) -> Result<(Replayed, Checkpoint), ReplayFault>
-    ensures { (t : Program)
-        → StandsFor code.now t
-        → MatchResult result
+    ensures { InEach code.now (λ t. MatchResult result
         (λ p. IsReplayed t text.now p.0
         × IsCheckpointAfter t p.0.setup p.0.history.items after p.1)
-        (IsReplayRefusal t text.now) }
+        (IsReplayRefusal t text.now)) }
 {
     if text.len() > MAX_TRACE {
         return Err(ReplayFault::TooLong);
@@ -214,23 +212,15 @@ pub fn replayed_call(
     number: u64,
     recorded: &Call,
 ) -> Result<ReplayedCall, AskFault>
-    ensures answer { (t : Program) (h : List Answered)
-        → StandsFor session.old.code t
-        → Stands t session.old h
-        → MatchResult result
+    ensures answer { AfterEach session.old (λ t h. MatchResult result
         (λ m. IsOwnCall t session.old.setup h recorded.now m.call)
-        (IsOwnRefusal t session.old.setup h recorded.now) }
-    ensures stands { (t : Program) (h : List Answered)
-        → StandsFor session.old.code t
-        → Stands t session.old h
-        → IfOk result (λ m. Stands t session.new (h ++ m.call ∷ [])) }
+        (IsOwnRefusal t session.old.setup h recorded.now)) }
+    ensures stands { AfterEach session.old (λ t h.
+        IfOk result (λ m. Stands t session.new (h ++ m.call ∷ []))) }
     ensures kept { (session.new.code ≡ session.old.code) × (session.new.setup ≡ session.old.setup) }
-    ensures is { (t : Program) (h : List Answered)
-        → StandsFor session.old.code t
-        → Stands t session.old h
-        → last ≡ last_thread (granted_threads h)
+    ensures is { AfterEach session.old (λ t h. last ≡ last_thread (granted_threads h)
         → number ≡ suc (length h)
-        → IfOk result (λ m. IsReplayedCall t session.old.setup h m.call m) }
+        → IfOk result (λ m. IsReplayedCall t session.old.setup h m.call m)) }
 {
     let before = session.top(recorded.thread);
     let call = session.ask_as_recorded(recorded.thread, recorded.bit)?;

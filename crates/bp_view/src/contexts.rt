@@ -1,7 +1,7 @@
 //! The contexts of a history, a line for each.
 ghost use Rattle.std.specs.Prelude.{◌≡◌, ◌++◌, ℕ, suc, List, length, map, MatchResult, IfOk, OnOk};
 ghost use Rattle.bp_language.specs.Ast.{Program};
-ghost use Rattle.bp_flat.specs.StandsFor.{StandsFor};
+ghost use Rattle.bp_flat.specs.StandsFor.{StandsFor, InEach};
 ghost use Rattle.bp_machine.specs.declared.calls.Call.{Call as Answered};
 ghost use Rattle.bp_machine.specs.Setups.{FitsCode, SetupOf};
 ghost use Rattle.bp_trace.specs.Replays.{IsPlayable, IsReplayRefusal};
@@ -217,9 +217,8 @@ fn contexts_in(
 ) -> Result<Vec<u8>, AllocError>
     requires code { StandsFor code.now checked.now }
     requires fits { FitsCode code.now shown.now.replayed.setup }
-    requires playable { (t : Program)
-        → StandsFor code.now t
-        → IsPlayable t shown.now.replayed.setup shown.now.replayed.history.items }
+    requires playable { InEach code.now (λ t.
+        IsPlayable t shown.now.replayed.setup shown.now.replayed.history.items) }
     ensures { (text : List ℕ)
         → AreSourceStatements text checked.now shown.now.statements.items
         → let r = shown.now.replayed in

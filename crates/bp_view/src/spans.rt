@@ -1,10 +1,9 @@
 //! The contexts of a history: where the steps of each begin and end.
 ghost use Rattle.std.specs.Prelude.{◌≡◌, ◌++◌, ◌∷◌, [], suc, List, length, MatchResult, OnOk};
-ghost use Rattle.bp_language.specs.Ast.{Program};
-ghost use Rattle.bp_flat.specs.StandsFor.{StandsFor};
+ghost use Rattle.bp_flat.specs.StandsFor.{InEach};
 ghost use Rattle.bp_machine.specs.declared.calls.Call.{Call as Answered};
 ghost use Rattle.bp_machine.specs.Histories.{configuration_after};
-ghost use Rattle.bp_machine.specs.Sessions.{Stands};
+ghost use Rattle.bp_machine.specs.Sessions.{Stands, AfterEach};
 ghost use Rattle.bp_machine.specs.Setups.{FitsCode};
 ghost use Rattle.bp_trace.specs.Replays.{IsPlayable};
 ghost use Rattle.bp_view.specs.ContextFacts.{joined, with_step, AreSpans, IsStandingPoint};
@@ -40,10 +39,8 @@ pub struct Span {
 
 /// Where a thread of the session continues.
 fn standing_point(session: &Session, thread: u32) -> StandingPoint
-    ensures { (t : Program) (h : List Answered)
-        → StandsFor session.now.code t
-        → Stands t session.now h
-        → IsStandingPoint t (configuration_after t session.now.setup h) thread result }
+    ensures { AfterEach session.now (λ t h.
+        IsStandingPoint t (configuration_after t session.now.setup h) thread result) }
 {
     StandingPoint {
         top: session.top(thread),
@@ -87,21 +84,17 @@ fn play_call(
     number: u64,
     recorded: &Call,
 ) -> Result<(), AskFault>
-    ensures stands { (t : Program) (h : List Answered)
-        → StandsFor session.old.code t
-        → Stands t session.old h
-        → IsPlayable t session.old.setup (h ++ recorded.now ∷ [])
+    ensures stands { AfterEach session.old (λ t h.
+        IsPlayable t session.old.setup (h ++ recorded.now ∷ [])
         → MatchResult result
         (λ _. Stands t session.new (h ++ recorded.now ∷ []))
-        (λ f. f ≡ AskFault.Memory) }
-    ensures spans { (t : Program) (h : List Answered)
-        → StandsFor session.old.code t
-        → Stands t session.old h
-        → IsPlayable t session.old.setup (h ++ recorded.now ∷ [])
+        (λ f. f ≡ AskFault.Memory)) }
+    ensures spans { AfterEach session.old (λ t h.
+        IsPlayable t session.old.setup (h ++ recorded.now ∷ [])
         → number ≡ suc (length h)
         → AreSpans t session.old.setup h spans.old.items
         → let s = session.old.setup in
-        OnOk result (AreSpans t s (h ++ recorded.now ∷ []) spans.new.items) }
+        OnOk result (AreSpans t s (h ++ recorded.now ∷ []) spans.new.items)) }
     ensures kept { (session.new.code ≡ session.old.code) × (session.new.setup ≡ session.old.setup) }
 {
     let thread = recorded.thread;
@@ -129,14 +122,10 @@ pub fn spans_of(
     history: &[Call],
 ) -> Result<Vec<Span>, AskFault>
     requires fits { FitsCode code.now setup.now }
-    requires playable { (t : Program)
-        → StandsFor code.now t
-        → IsPlayable t setup.now history.now }
-    ensures { (t : Program)
-        → StandsFor code.now t
-        → MatchResult result
+    requires playable { InEach code.now (λ t. IsPlayable t setup.now history.now) }
+    ensures { InEach code.now (λ t. MatchResult result
         (λ v. AreSpans t setup.now history.now v.items)
-        (λ f. f ≡ AskFault.Memory) }
+        (λ f. f ≡ AskFault.Memory)) }
 {
     let mut session = Session::new(alloc, code, setup)?;
     let mut spans = Vec::new(alloc);

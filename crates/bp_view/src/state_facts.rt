@@ -2,10 +2,10 @@
 //! How a thread stands after a history.
 ghost use Rattle.std.specs.Prelude.{◌≡◌, ◌<◌, ℕ, List, Some, length, map, slice_get, IfOk, IsSomeAnd};
 ghost use Rattle.bp_language.specs.Ast.{Program};
-ghost use Rattle.bp_flat.specs.StandsFor.{StandsFor};
+ghost use Rattle.bp_flat.specs.StandsFor.{StandsFor, InEach};
 ghost use Rattle.bp_flat.specs.Moves.{Frame};
 ghost use Rattle.bp_machine.specs.Histories.{calls_of_thread, stack_of, configuration_after};
-ghost use Rattle.bp_machine.specs.Sessions.{Stands};
+ghost use Rattle.bp_machine.specs.Sessions.{Stands, AfterEach};
 ghost use Rattle.bp_machine.specs.Setups.{threads};
 ghost use Rattle.bp_machine.specs.declared.calls.Call.{Call as Answered};
 ghost use Rattle.bp_view.specs.StateFacts.{last_reply, standing, standing_after, frame_in, state_in, thread_in, AreFrameFacts, AreStackFacts, AreStateFacts, AreThreadFacts, AreThreadsFacts};
@@ -70,10 +70,8 @@ impl Standing {
     /// How a thread of a session stands, which stands after this history.
     pub(crate) fn of(session: &Session, history: &[Call], thread: u32) -> Standing
         requires { thread < threads session.now.setup }
-        ensures { (t : Program)
-            → StandsFor session.now.code t
-            → Stands t session.now history.now
-            → result ≡ standing t session.now.setup history.now thread }
+        ensures { InEach session.now.code (λ t. Stands t session.now history.now
+            → result ≡ standing t session.now.setup history.now thread) }
     {
         if session.is_finished(thread) {
             return Standing::after(last_reply(history, thread));
@@ -161,11 +159,8 @@ fn frame_below<'a>(
 
 /// How many frames the stack of a thread has.
 fn depth_of(session: &Session, thread: u32) -> usize
-    ensures { (t : Program) (h : List Answered)
-        → StandsFor session.now.code t
-        → Stands t session.now h
-        → let now = configuration_after t session.now.setup h in
-        result ≡ length (stack_of now thread) }
+    ensures { AfterEach session.now (λ t h. let now = configuration_after t session.now.setup h in
+        result ≡ length (stack_of now thread)) }
 {
     match session.top(thread) {
         Some(top) => top.depth,

@@ -2,8 +2,7 @@
 //! columns.
 //! A trace that was replayed, with the source statements of its program.
 ghost use Rattle.std.specs.Prelude.{◌≡◌, ◌<◌, ◌≤◌, ◌^◌, ℕ, List, length, map, max, MatchResult};
-ghost use Rattle.bp_language.specs.Ast.{Program};
-ghost use Rattle.bp_flat.specs.StandsFor.{StandsFor};
+ghost use Rattle.bp_flat.specs.StandsFor.{InEach};
 ghost use Rattle.bp_trace.specs.Replays.{IsReplayRefusal};
 ghost use Rattle.bp_source.specs.SourceStatements.{AreSourceStatements};
 ghost use Rattle.bp_view.specs.Filters.{watched_names, skipped};
@@ -142,11 +141,9 @@ pub(crate) fn shown_trace_of(
     code: &Code,
     trace: &[u8],
 ) -> Result<ShownTrace, ReplayFault>
-    ensures { (t : Program)
-        → StandsFor code.now t
-        → MatchResult result
+    ensures { InEach code.now (λ t. MatchResult result
         (IsShownTrace checked.now text.now t trace.now)
-        (IsReplayRefusal t trace.now) }
+        (IsReplayRefusal t trace.now)) }
 {
     if trace.len() > MAX_TRACE {
         return Err(ReplayFault::TooLong);
@@ -169,12 +166,10 @@ pub(crate) fn shown_trace_to(
     trace: &[u8],
     after: u64,
 ) -> Result<(ShownTrace, Checkpoint), ReplayFault>
-    ensures { (t : Program)
-        → StandsFor code.now t
-        → MatchResult result
+    ensures { InEach code.now (λ t. MatchResult result
         (λ p. IsShownTrace checked.now text.now t trace.now p.0
         × IsCheckpointAfter t p.0.replayed.setup p.0.replayed.history.items after p.1)
-        (IsReplayRefusal t trace.now) }
+        (IsReplayRefusal t trace.now)) }
 {
     if trace.len() > MAX_TRACE {
         return Err(ReplayFault::TooLong);
@@ -209,14 +204,12 @@ pub(crate) fn shown_trace_before(
     trace: &[u8],
     filter: &CallFilter,
 ) -> Result<(ShownTrace, Checkpoint), ReplayFault>
-    ensures { (t : Program)
-        → StandsFor code.now t
-        → MatchResult result
+    ensures { InEach code.now (λ t. MatchResult result
         (λ p. let h = p.0.replayed.history.items in
         IsShownTrace checked.now text.now t trace.now p.0
         × IsCheckpoint t p.0.replayed.setup h p.1
         × (p.1.made ≤ skipped filter.now (length h)))
-        (IsReplayRefusal t trace.now) }
+        (IsReplayRefusal t trace.now)) }
 {
     let after = filter.skipped(told_calls(trace));
     let (shown, checkpoint) = shown_trace_to(alloc, text, checked, code, trace, after)?;

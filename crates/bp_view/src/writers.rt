@@ -4,11 +4,10 @@
 ghost use Rattle.std.specs.Prelude.{◌≡◌, ◌++◌, ◌∷◌, [], ℕ, List, option_map, MatchResult, OnOk, None};
 ghost use Rattle.bp_text.specs.Lines.{Adds};
 ghost use Rattle.bp_language.specs.Ast.{Program};
-ghost use Rattle.bp_flat.specs.StandsFor.{StandsFor};
 ghost use Rattle.bp_machine.specs.declared.calls.Call.{Call as Answered};
 ghost use Rattle.bp_machine.specs.Histories.{stack_of, configuration_after};
 ghost use Rattle.bp_machine.specs.Runs.{values_printed};
-ghost use Rattle.bp_machine.specs.Sessions.{Stands, IsPrintRefusal};
+ghost use Rattle.bp_machine.specs.Sessions.{IsPrintRefusal, AfterEach};
 ghost use Rattle.bp_machine.specs.Setups.{SetupOf};
 ghost use Rattle.bp_trace.specs.Replays.{IsPlayable};
 ghost use Rattle.bp_view.specs.CallFacts.{facts_in, IsReplayedCall};
@@ -33,14 +32,11 @@ fn next_print(
     format: ViewFormat,
     thread: u32,
 ) -> Result<Option<Vec<bool>>, AskFault>
-    ensures { (t : Program) (h : List Answered)
-        → StandsFor session.now.code t
-        → Stands t session.now h
-        → let now = configuration_after t session.now.setup h in
+    ensures { AfterEach session.now (λ t h. let now = configuration_after t session.now.setup h in
         MatchResult result
         (λ values. option_map (λ v. v.items) values ≡ next_print_in format now thread)
         (IsPrintRefusal session.now.setup thread
-        (values_printed now.globals (stack_of now thread))) }
+        (values_printed now.globals (stack_of now thread)))) }
 {
     match format {
         ViewFormat::Columns => Ok(None),

@@ -1,9 +1,7 @@
 //! How a session judges a call before it makes it.
 ghost use Rattle.std.specs.Prelude.{◌≡◌, ◌++◌, ◌∷◌, [], List, Option, None, Some, IfOk, OnErr, MatchResult};
-ghost use Rattle.bp_language.specs.Ast.{Program};
-ghost use Rattle.bp_flat.specs.StandsFor.{StandsFor};
 ghost use Rattle.bp_machine.specs.declared.calls.Call.{Call as Answered};
-ghost use Rattle.bp_machine.specs.Sessions.{Stands, IsNextCall, IsAskRefusal, given_bit};
+ghost use Rattle.bp_machine.specs.Sessions.{Stands, IsNextCall, IsAskRefusal, given_bit, AfterEach};
 ghost use Rattle.bp_machine.specs.Transitions.{IsKeptBit, IsBitRefusal, IsGiven, IsJudged, IsKeptRefusal};
 
 use crate::calls::{AskFault, Call};
@@ -62,17 +60,12 @@ impl Session {
     /// Makes a call of the thread, where this bit or none is handed in.
     #[inline(always)]
     pub(super) fn make_given(&mut self, thread: u32, given: Option<bool>) -> Result<Call, AskFault>
-        ensures answer { (t : Program) (h : List Answered)
-            → StandsFor self.old.code t
-            → Stands t self.old h
-            → MatchResult result
+        ensures answer { AfterEach self.old (λ t h. MatchResult result
             (IsNextCall t self.old.setup h thread given)
-            (IsAskRefusal t self.old.setup h thread given) }
+            (IsAskRefusal t self.old.setup h thread given)) }
         ensures asked { IfOk result (λ c. (c.thread ≡ thread) × IsGiven given c.bit) }
-        ensures stands { (t : Program) (h : List Answered)
-            → StandsFor self.old.code t
-            → Stands t self.old h
-            → IfOk result (λ c. Stands t self.new (h ++ c ∷ [])) }
+        ensures stands { AfterEach self.old (λ t h.
+            IfOk result (λ c. Stands t self.new (h ++ c ∷ []))) }
         ensures kept { (self.new.code ≡ self.old.code) × (self.new.setup ≡ self.old.setup) }
         ensures same { OnErr result (self.new ≡ self.old) }
     {

@@ -2,12 +2,12 @@
 ghost use Rattle.std.specs.Prelude.{◌≡◌, ◌<◌, [], List, drop, slice_get, option_map, is_some, length, MatchOption, MatchResult};
 ghost use Rattle.bp_language.specs.Ast.{Program};
 ghost use Rattle.bp_flat.specs.InstrEffects.{bits_of};
-ghost use Rattle.bp_flat.specs.StandsFor.{valuation_of, StandsFor};
+ghost use Rattle.bp_flat.specs.StandsFor.{valuation_of};
 ghost use Rattle.bp_machine.specs.declared.calls.Call.{Call as Answered};
 ghost use Rattle.bp_machine.specs.Histories.{IsLeastWithin, stack_of, calls_of_thread, granted_threads, configuration_after, is_finished, open_lines, IsReport};
 ghost use Rattle.bp_machine.specs.Runs.{values_printed, IsTop, IsTopOf};
 ghost use Rattle.bp_machine.specs.Setups.{threads};
-ghost use Rattle.bp_machine.specs.Sessions.{Stands, IsPrintRefusal};
+ghost use Rattle.bp_machine.specs.Sessions.{Stands, IsPrintRefusal, AfterEach};
 
 use crate::calls::{AskFault, Report};
 use crate::sessions::Session;
@@ -43,11 +43,9 @@ impl Session {
 
     /// The bit of a global, by its place in the declarations from 0.
     pub fn global(&self, n: u32) -> Option<bool>
-        ensures { (t : Program) (h : List Answered)
-            → StandsFor self.now.code t
-            → Stands t self.now h
-            → let globals = (configuration_after t self.now.setup h).globals in
-            result ≡ option_map (λ e. e.1) (slice_get globals n) }
+        ensures { AfterEach self.now (λ t h.
+            let globals = (configuration_after t self.now.setup h).globals in
+            result ≡ option_map (λ e. e.1) (slice_get globals n)) }
     {
         self.code.is_of_a_program();
         if n >= self.code.globals() {
@@ -109,11 +107,8 @@ impl Session {
 
     /// Whether the next statement of a thread is a `print`.
     pub fn is_at_print(&self, thread: u32) -> bool
-        ensures { (t : Program) (h : List Answered)
-            → StandsFor self.now.code t
-            → Stands t self.now h
-            → let now = configuration_after t self.now.setup h in
-            result ≡ is_some (values_printed now.globals (stack_of now thread)) }
+        ensures { AfterEach self.now (λ t h. let now = configuration_after t self.now.setup h in
+            result ≡ is_some (values_printed now.globals (stack_of now thread))) }
     {
         let Some(guest) = self.machine.thread(thread) else {
             return false;
@@ -129,15 +124,12 @@ impl Session {
 
     /// The values that the next statement of a thread prints, where it is a `print`.
     pub fn next_print(&self, thread: u32) -> Result<Option<Vec<bool>>, AskFault>
-        ensures { (t : Program) (h : List Answered)
-            → StandsFor self.now.code t
-            → Stands t self.now h
-            → let now = configuration_after t self.now.setup h in
+        ensures { AfterEach self.now (λ t h. let now = configuration_after t self.now.setup h in
             let printed = values_printed now.globals (stack_of now thread) in
             MatchResult result
             (λ values.
             (thread < threads self.now.setup) × (option_map (λ v. v.items) values ≡ printed))
-            (IsPrintRefusal self.now.setup thread printed) }
+            (IsPrintRefusal self.now.setup thread printed)) }
     {
         let Some(guest) = self.machine.thread(thread) else {
             return Err(AskFault::NoThread);
@@ -159,12 +151,9 @@ impl Session {
     /// Where a thread continues once its topmost calls have returned; `returned` is their number.
     /// None if its stack has no more frames, or there is no such thread.
     pub fn top_below(&self, thread: u32, returned: usize) -> Option<Top>
-        ensures { (t : Program) (h : List Answered)
-            → StandsFor self.now.code t
-            → Stands t self.now h
-            → let now = configuration_after t self.now.setup h in
+        ensures { AfterEach self.now (λ t h. let now = configuration_after t self.now.setup h in
             let left = drop returned (stack_of now thread) in
-            MatchOption result (left ≡ []) (IsTopOf t now left) }
+            MatchOption result (left ≡ []) (IsTopOf t now left)) }
     {
         let Some(guest) = self.machine.thread(thread) else {
             return None;
@@ -185,11 +174,8 @@ impl Session {
 
     /// Where a thread continues: none if its stack is empty, or there is no such thread.
     pub fn top(&self, thread: u32) -> Option<Top>
-        ensures { (t : Program) (h : List Answered)
-            → StandsFor self.now.code t
-            → Stands t self.now h
-            → let now = configuration_after t self.now.setup h in
-            MatchOption result (stack_of now thread ≡ []) (IsTop t now thread) }
+        ensures { AfterEach self.now (λ t h. let now = configuration_after t self.now.setup h in
+            MatchOption result (stack_of now thread ≡ []) (IsTop t now thread)) }
     {
         self.top_below(thread, 0)
     }

@@ -1,7 +1,6 @@
 //! Starting a session anew.
 ghost use Rattle.std.specs.Prelude.{◌≡◌, [], None, IfOk, IsOk, OnOk, OnErr};
-ghost use Rattle.bp_language.specs.Ast.{Program};
-ghost use Rattle.bp_flat.specs.StandsFor.{StandsFor};
+ghost use Rattle.bp_flat.specs.StandsFor.{InEach};
 ghost use Rattle.bp_machine.specs.Setups.{FitsCode};
 ghost use Rattle.bp_machine.specs.Sessions.{Stands};
 
@@ -16,7 +15,7 @@ impl Session {
     pub fn restart(&mut self, seed: Option<u64>) -> Result<(), AllocError>
         requires { FitsCode self.old.code self.old.setup }
         ensures stands { OnOk result
-            ((t : Program) → StandsFor self.old.code t → Stands t self.new []) }
+            (InEach self.old.code (λ t. Stands t self.new [])) }
         ensures code { self.new.code ≡ self.old.code }
         ensures setup { OnOk result (self.new.setup ≡ record self.old.setup { seed = seed }) }
         ensures same { OnErr result (self.new ≡ self.old) }
@@ -36,7 +35,7 @@ impl Session {
     /// none. It uses the memory of this one.
     pub fn restarted(self, seed: Option<u64>) -> Result<Session, AllocError>
         requires { FitsCode self.code self.setup }
-        ensures stands { IfOk result (λ x. (t : Program) → StandsFor self.code t → Stands t x []) }
+        ensures stands { IfOk result (λ x. InEach self.code (λ t. Stands t x [])) }
         ensures kept { IfOk result (λ x.
             (x.code ≡ self.code) × (x.setup ≡ record self.setup { seed = seed })) }
     {

@@ -5,7 +5,7 @@ ghost use Rattle.bp_flat.specs.StandsFor.{StandsFor};
 ghost use Rattle.bp_machine.specs.declared.calls.Call.{Call as Answered};
 ghost use Rattle.bp_machine.specs.Runs.{has_frames, IsDeadlocked, finds_zero, is_blocked, waits};
 ghost use Rattle.bp_machine.specs.Histories.{configuration_after};
-ghost use Rattle.bp_machine.specs.Sessions.{Stands};
+ghost use Rattle.bp_machine.specs.Sessions.{Stands, AfterEach};
 
 use crate::calls::Reply;
 use crate::sessions::Session;
@@ -38,11 +38,8 @@ impl Session {
     /// is not asked whether the thread may make a further call. One look is enough: an assumption
     /// of `?` lets its thread go on where its bit is 1, and no other test depends on the bit.
     pub fn waits(&self, thread: u32) -> bool
-        ensures { (t : Program) (h : List Answered)
-            → StandsFor self.now.code t
-            → Stands t self.now h
-            → let now = configuration_after t self.now.setup h in
-            result ≡ waits t now thread }
+        ensures { AfterEach self.now (λ t h. let now = configuration_after t self.now.setup h in
+            result ≡ waits t now thread) }
     {
         let Some(guest) = self.machine.thread(thread) else {
             return false;
@@ -52,11 +49,8 @@ impl Session {
 
     /// Whether a thread has frames left: it did not come to the end of its program.
     fn has_frames(&self, thread: u32) -> bool
-        ensures { (t : Program) (h : List Answered)
-            → StandsFor self.now.code t
-            → Stands t self.now h
-            → let now = configuration_after t self.now.setup h in
-            result ≡ has_frames now thread }
+        ensures { AfterEach self.now (λ t h. let now = configuration_after t self.now.setup h in
+            result ≡ has_frames now thread) }
     {
         self.top(thread).is_some()
     }
@@ -64,11 +58,8 @@ impl Session {
     /// Whether the threads are deadlocked: some have frames left, and each of those waits. It does
     /// not matter whether a thread may make a further call, or was refused a context.
     pub fn is_deadlocked(&self) -> bool
-        ensures { (t : Program) (h : List Answered)
-            → StandsFor self.now.code t
-            → Stands t self.now h
-            → let now = configuration_after t self.now.setup h in
-            IsTrue result ↔ IsDeadlocked t now }
+        ensures { AfterEach self.now (λ t h. let now = configuration_after t self.now.setup h in
+            IsTrue result ↔ IsDeadlocked t now) }
     {
         let mut is_any_left = false;
         for thread in 0..self.setup.threads() {
