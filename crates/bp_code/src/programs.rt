@@ -105,5 +105,6 @@ fn compile_program(alloc: Global, globals: &[Name], procs: &[Proc]) -> Result<Co
         let headings = headings.as_slice();
         emit_proc(&mut instrs, &global_names, &proc_names, headings, proc)?;
     }
-    Ok(Code::new(headings, globals.len() as u32, instrs))
+    let code = Code::new(alloc, headings, globals.len() as u32, instrs)?;
+    Ok(code)
 }

@@ -2,3 +2,4 @@ mod WordBits
 pub mod SlotsOfNames
 pub mod ProceduresOfPlaces
 pub mod StandsForStepsAlike
+pub mod CodesCross

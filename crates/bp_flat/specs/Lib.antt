@@ -5,5 +5,4 @@ pub mod Moves
 pub mod Flat
 pub mod Instructions
 pub mod Steps
-pub mod Same
 pub mod Views

@@ -1,5 +1,5 @@
 //! Flat code.
-ghost use Rattle.std.specs.Prelude.{◌≡◌, None, IfOk, IsTrue, ◌↔◌, length, option_map, slice_get, MatchOption};
+ghost use Rattle.std.specs.Prelude.{◌≡◌, None, IfOk, length, option_map, slice_get, MatchOption};
 ghost use Rattle.std.specs.Option.{option_copied};
 ghost use Rattle.bp_flat.specs.Moves.{procedure_named};
 ghost use Rattle.bp_flat.specs.Flat.{flat, heading_named};
@@ -7,14 +7,21 @@ ghost use Rattle.bp_flat.specs.StandsFor.{IsEntryOf, IsOfProgram, InEach};
 
 use crate::headings::{Heading, find_heading};
 use crate::instrs::Instr;
-use std::alloc::AllocError;
+use std::alloc::{AllocError, Global};
 use std::marker::Model;
+use std::sync::Arc;
 
 /// A program as flat code: one instruction for each statement, numbered from 0 in text order over
 /// all procedures, and one return after each procedure's statements. Each instruction names its
-/// successors. Every code stands for the lawful program of some text.
+/// successors. Every code stands for the lawful program of some text. Copies of a code share it.
 #[derive(Drop)]
 pub struct Code {
+    parts: Arc<Parts, Global>,
+}
+
+/// The parts of a code.
+#[derive(Drop)]
+struct Parts {
     headings: Vec<Heading>,
     globals: u32,
     instrs: Vec<Instr>,
@@ -29,37 +36,54 @@ impl Model for Code {
     ghost coded = { coded_flat };
 
     ghost use Rattle.bp_flat.specs.StandsFor.{IsOfProgram};
+    ghost use Rattle.std.specs.Arc.{arc_value};
 
-    ghost view = { λ c. flat c.headings.items c.globals c.instrs.items };
+    ghost view = { λ c. let p = arc_value c.parts in flat p.headings.items p.globals p.instrs.items };
 
-    ghost invariant = { λ c. IsOfProgram (flat c.headings.items c.globals c.instrs.items) };
+    ghost invariant = { λ c. let p = arc_value c.parts in
+        IsOfProgram (flat p.headings.items p.globals p.instrs.items) };
 }
 
 impl Code {
-    /// The code with these headings, globals and instructions.
-    pub fn new(headings: Vec<Heading>, globals: u32, instrs: Vec<Instr>) -> Code
+    /// The code with these headings, globals and instructions. Fails only if memory is refused.
+    pub fn new(
+        alloc: Global,
+        headings: Vec<Heading>,
+        globals: u32,
+        instrs: Vec<Instr>,
+    ) -> Result<Code, AllocError>
         requires { IsOfProgram (flat headings.items globals instrs.items) }
-        ensures { result ≡ flat headings.items globals instrs.items }
+        ensures { IfOk result (λ c. c ≡ flat headings.items globals instrs.items) }
     {
-        Code {
+        let parts = Parts {
             headings,
             globals,
             instrs,
-        }
+        };
+        let parts = Arc::new(alloc, parts)?;
+        Ok(Code { parts })
+    }
+
+    #[inline(always)]
+    fn parts(&self) -> &Parts
+        ensures { let p = result.now in
+            self.now ≡ flat p.headings.items p.globals p.instrs.items }
+    {
+        &self.parts
     }
 
     /// How many instructions there are. Each has a number below that.
     pub fn len(&self) -> usize
         ensures { result ≡ length self.now.instructions }
     {
-        self.instrs.len()
+        self.parts().instrs.len()
     }
 
     /// The instruction of this number.
     pub fn get(&self, number: u32) -> Option<&Instr>
         ensures { option_copied result ≡ slice_get self.now.instructions number }
     {
-        self.instrs.get(number as usize)
+        self.parts().instrs.get(number as usize)
     }
 
     /// The heading of the first procedure of this name, which may be any bytes.
@@ -68,7 +92,7 @@ impl Code {
         ensures program { InEach self.now (λ t. let found = procedure_named t.procedures name.now in
             option_map (λ h. h.now.formals) result ≡ option_map (λ p. length p.formals) found) }
     {
-        find_heading(self.headings.as_slice(), name)
+        find_heading(self.parts().headings.as_slice(), name)
     }
 
     /// The number of the first instruction of the first procedure of this name.
@@ -78,7 +102,7 @@ impl Code {
         ensures program { InEach self.now (λ t. let found = procedure_named t.procedures name.now in
             MatchOption result (found ≡ None) (IsEntryOf t found)) }
     {
-        match find_heading(self.headings.as_slice(), name.as_bytes()) {
+        match find_heading(self.parts().headings.as_slice(), name.as_bytes()) {
             Some(heading) => Some(heading.entry()),
             None => None,
         }
@@ -91,7 +115,7 @@ impl Code {
         ensures program { InEach self.now (λ t. let found = procedure_named t.procedures name.now in
             result ≡ option_map (λ p. length p.formals) found) }
     {
-        match find_heading(self.headings.as_slice(), name.as_bytes()) {
+        match find_heading(self.parts().headings.as_slice(), name.as_bytes()) {
             Some(heading) => Some(heading.formals()),
             None => None,
         }
@@ -101,114 +125,35 @@ impl Code {
     pub fn globals(&self) -> u32
         ensures { result ≡ self.now.globals }
     {
-        self.globals
+        self.parts().globals
     }
 
     /// The procedures in text order.
     pub fn headings(&self) -> &[Heading]
         ensures { result.now ≡ self.now.headings }
     {
-        self.headings.as_slice()
+        self.parts().headings.as_slice()
     }
 
     /// The instructions in order of number.
     pub fn instrs(&self) -> &[Instr]
         ensures { result.now ≡ self.now.instructions }
     {
-        self.instrs.as_slice()
+        self.parts().instrs.as_slice()
     }
 
     /// The law that every code stands for the lawful program of some text.
     pub fn is_of_a_program(&self)
         ensures { IsOfProgram self.now }
     {
-        let _ = &self.globals;
+        let _ = &self.parts;
     }
 
-    /// A copy. Fails only if memory is refused.
+    /// A copy, which shares the parts. Fails only if too many share them.
     pub fn try_copy(&self) -> Result<Code, AllocError>
         ensures { IfOk result (λ c. c ≡ self.now) }
     {
-        let alloc = *self.instrs.allocator();
-        let mut headings = Vec::new(alloc);
-        for heading in self.headings.as_slice() {
-            headings.push(heading.try_copy()?)?;
-        }
-        let mut instrs = Vec::new(alloc);
-        for instr in self.instrs.as_slice() {
-            instrs.push(instr.try_copy()?)?;
-        }
-        Ok(Code {
-            headings,
-            globals: self.globals,
-            instrs,
-        })
+        let parts = Arc::try_clone(&self.parts)?;
+        Ok(Code { parts })
     }
-}
-
-impl Code {
-    /// Whether both are the same code.
-    pub fn is_same(&self, other: &Code) -> bool
-        ensures { IsTrue result ↔ (self.now ≡ other.now) }
-    {
-        self.globals == other.globals
-            && same_headings(self.headings.as_slice(), other.headings.as_slice())
-            && same_instrs(self.instrs.as_slice(), other.instrs.as_slice())
-    }
-}
-
-/// Whether both lists have the same headings in order.
-fn same_headings(headings: &[Heading], others: &[Heading]) -> bool
-    ensures { IsTrue result ↔ (headings.now ≡ others.now) }
-{
-    if headings.len() != others.len() {
-        return false;
-    }
-    for (i, heading) in headings.iter().enumerate() {
-        if !heading.is_same(&others[i]) {
-            return false;
-        }
-    }
-    true
-}
-
-/// Whether both lists have the same instructions in order.
-fn same_instrs(instrs: &[Instr], others: &[Instr]) -> bool
-    ensures { IsTrue result ↔ (instrs.now ≡ others.now) }
-{
-    if instrs.len() != others.len() {
-        return false;
-    }
-    for (i, instr) in instrs.iter().enumerate() {
-        if !instr.is_same(&others[i]) {
-            return false;
-        }
-    }
-    true
-}
-
-impl PartialEq for Code {
-    ghost use Rattle.std.specs.Prelude.{◌≡◌, IsTrue, ◌↔◌};
-    ghost use Rattle.std.specs.Cmp.{partial_equiv_from_equiv};
-    ghost use Rattle.bp_flat.specs.Codes.{coded_flat};
-    ghost use Rattle.bp_flat.specs.Same.{same, same-equiv};
-
-    ghost eq = { same coded_flat };
-
-    ghost laws = { partial_equiv_from_equiv (same-equiv coded_flat) };
-
-    /// Whether both are the same code.
-    fn eq(&self, other: &Code) -> bool
-        ensures gives { result ≡ same coded_flat self.now other.now }
-        ensures equal { IsTrue result ↔ (self.now ≡ other.now) }
-    {
-        self.is_same(other)
-    }
-}
-
-impl Eq for Code {
-    ghost use Rattle.bp_flat.specs.Codes.{coded_flat};
-    ghost use Rattle.bp_flat.specs.Same.{same-equiv};
-
-    ghost laws = { same-equiv coded_flat };
 }

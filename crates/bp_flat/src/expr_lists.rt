@@ -1,5 +1,5 @@
 //! Expressions in order.
-ghost use Rattle.std.specs.Prelude.{◌≡◌, ◌≤◌, ◌↔◌, IfOk, IsTrue, map, length};
+ghost use Rattle.std.specs.Prelude.{◌≡◌, ◌≤◌, IfOk, map, length};
 ghost use Rattle.bp_flat.specs.declared.limits.TheConstants.{SLOTS};
 ghost use Rattle.bp_flat.specs.Steps.{formula_values, bits_from};
 ghost use Rattle.bp_flat.specs.InstrEffects.{bits_of, store_of};
@@ -56,33 +56,6 @@ impl SlotExprs {
         }
         Ok(values)
     }
-
-    /// A copy. Fails only if memory is refused.
-    pub fn try_copy(&self) -> Result<SlotExprs, AllocError>
-        ensures { IfOk result (λ es. es ≡ self.now) }
-    {
-        let mut items = Vec::new(*self.items.allocator());
-        for expr in self.items.as_slice() {
-            items.push(expr.try_copy()?)?;
-        }
-        Ok(SlotExprs { items })
-    }
-
-    /// Whether both are the same expressions in order.
-    pub fn is_same(&self, other: &SlotExprs) -> bool
-        ensures { IsTrue result ↔ (self.now ≡ other.now) }
-    {
-        let others = other.as_slice();
-        if self.items.len() != others.len() {
-            return false;
-        }
-        for (i, expr) in self.items.as_slice().iter().enumerate() {
-            if !expr.is_same(&others[i]) {
-                return false;
-            }
-        }
-        true
-    }
 }
 
 /// The arguments of a call, which fit into the slots of a word.
@@ -132,20 +105,5 @@ impl Arguments {
             word = with_bit(word, i as u8, value.value(store));
         }
         word
-    }
-
-    /// A copy. Fails only if memory is refused.
-    pub fn try_copy(&self) -> Result<Arguments, AllocError>
-        ensures { IfOk result (λ a. a ≡ self.now) }
-    {
-        let values = self.values.try_copy()?;
-        Ok(Arguments { values })
-    }
-
-    /// Whether both are the same expressions in order.
-    pub fn is_same(&self, other: &Arguments) -> bool
-        ensures { IsTrue result ↔ (self.now ≡ other.now) }
-    {
-        self.values.is_same(&other.values)
     }
 }

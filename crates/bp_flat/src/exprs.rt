@@ -1,5 +1,5 @@
 //! Expressions over slots.
-ghost use Rattle.std.specs.Prelude.{◌≡◌, ◌↔◌, IfOk, IsTrue};
+ghost use Rattle.std.specs.Prelude.{◌≡◌, IfOk};
 ghost use Rattle.bp_flat.specs.Moves.{operation_value};
 ghost use Rattle.bp_flat.specs.Steps.{formula_value, test_value};
 ghost use Rattle.bp_flat.specs.InstrEffects.{store_of};
@@ -88,26 +88,6 @@ impl SlotSub {
     pub fn globals(&self) -> u128 {
         self.inner.globals()
     }
-
-    /// A copy. Fails only if memory is refused.
-    #[cycle(slot_copy)]
-    pub fn try_copy(&self) -> Result<SlotSub, AllocError>
-        ensures { IfOk result (λ s. s ≡ self.now) }
-    {
-        let alloc = *Box::allocator(&self.inner);
-        let expr = self.inner.try_copy()?;
-        Ok(SlotSub {
-            inner: Box::new(alloc, expr)?,
-        })
-    }
-
-    /// Whether both are the same expression.
-    #[cycle(slot_same)]
-    pub fn is_same(&self, other: &SlotSub) -> bool
-        ensures { IsTrue result ↔ (self.now ≡ other.now) }
-    {
-        self.inner.is_same(&other.inner)
-    }
 }
 
 impl SlotExpr {
@@ -138,38 +118,6 @@ impl SlotExpr {
             SlotExpr::Binary(_, left, right) => left.globals() | right.globals(),
         }
     }
-
-    /// A copy. Fails only if memory is refused.
-    #[cycle(slot_copy)]
-    pub fn try_copy(&self) -> Result<SlotExpr, AllocError>
-        ensures { IfOk result (λ e. formula_of e ≡ formula_of self.now) }
-    {
-        match self {
-            SlotExpr::Const(b) => Ok(SlotExpr::Const(*b)),
-            SlotExpr::Var(slot) => Ok(SlotExpr::Var(*slot)),
-            SlotExpr::Not(e) => Ok(SlotExpr::Not(e.try_copy()?)),
-            SlotExpr::Binary(op, left, right) => {
-                let left = left.try_copy()?;
-                Ok(SlotExpr::Binary(*op, left, right.try_copy()?))
-            }
-        }
-    }
-
-    /// Whether both are the same expression.
-    #[cycle(slot_same)]
-    pub fn is_same(&self, other: &SlotExpr) -> bool
-        ensures { IsTrue result ↔ (formula_of self.now ≡ formula_of other.now) }
-    {
-        match (self, other) {
-            (SlotExpr::Const(a), SlotExpr::Const(b)) => a == b,
-            (SlotExpr::Var(a), SlotExpr::Var(b)) => a == b,
-            (SlotExpr::Not(a), SlotExpr::Not(b)) => a.is_same(b),
-            (SlotExpr::Binary(op, a, b), SlotExpr::Binary(op2, a2, b2)) => {
-                op == op2 && a.is_same(a2) && b.is_same(b2)
-            }
-            _ => false,
-        }
-    }
 }
 
 /// What decides an instruction with two ways.
@@ -197,27 +145,6 @@ impl Test {
         match self {
             Test::Choice => 0,
             Test::Value(e) => e.globals(),
-        }
-    }
-
-    /// A copy. Fails only if memory is refused.
-    pub fn try_copy(&self) -> Result<Test, AllocError>
-        ensures { IfOk result (λ t. test_of t ≡ test_of self.now) }
-    {
-        match self {
-            Test::Choice => Ok(Test::Choice),
-            Test::Value(e) => Ok(Test::Value(e.try_copy()?)),
-        }
-    }
-
-    /// Whether both are the same test.
-    pub fn is_same(&self, other: &Test) -> bool
-        ensures { IsTrue result ↔ (test_of self.now ≡ test_of other.now) }
-    {
-        match (self, other) {
-            (Test::Choice, Test::Choice) => true,
-            (Test::Value(a), Test::Value(b)) => a.is_same(b),
-            _ => false,
         }
     }
 }

@@ -1,5 +1,5 @@
 //! Headings of procedures.
-ghost use Rattle.std.specs.Prelude.{◌≡◌, IfOk, IsTrue, ◌↔◌, string_bytes, bytes_eq};
+ghost use Rattle.std.specs.Prelude.{◌≡◌, string_bytes};
 ghost use Rattle.std.specs.Option.{option_copied};
 ghost use Rattle.bp_flat.specs.Flat.{heading, heading_named};
 
@@ -67,28 +67,6 @@ impl Heading {
         ensures { result ≡ self.now.entry }
     {
         self.entry
-    }
-
-    /// Whether both are the same heading.
-    pub fn is_same(&self, other: &Heading) -> bool
-        ensures { IsTrue result ↔ (self.now ≡ other.now) }
-    {
-        self.name.as_str() == other.name.as_str()
-            && self.formals == other.formals
-            && self.locals == other.locals
-            && self.entry == other.entry
-    }
-
-    /// A copy. Fails only if memory is refused.
-    pub fn try_copy(&self) -> Result<Heading, AllocError>
-        ensures { IfOk result (λ h. h ≡ self.now) }
-    {
-        Ok(Heading {
-            name: self.name.clone()?,
-            formals: self.formals,
-            locals: self.locals,
-            entry: self.entry,
-        })
     }
 }
 

@@ -1,5 +1,5 @@
 //! Instructions of flat code.
-ghost use Rattle.std.specs.Prelude.{◌≡◌, IfOk, IsTrue, ◌↔◌};
+ghost use Rattle.std.specs.Prelude.{◌≡◌};
 ghost use Rattle.bp_flat.specs.Instructions.{instruction_of};
 ghost use Rattle.bp_flat.specs.Flat.{instruction_kind, next_of, other_of, callee_of};
 
@@ -105,21 +105,6 @@ impl Instr {
             Action::Call(call) => Some(call.callee),
             _ => None,
         }
-    }
-
-    /// A copy. Fails only if memory is refused.
-    pub fn try_copy(&self) -> Result<Instr, AllocError>
-        ensures { IfOk result (λ i. i ≡ self.now) }
-    {
-        let action = self.action.try_copy()?;
-        Ok(Instr { action })
-    }
-
-    /// Whether both are the same instruction.
-    pub fn is_same(&self, other: &Instr) -> bool
-        ensures { IsTrue result ↔ (self.now ≡ other.now) }
-    {
-        self.action.is_same(&other.action)
     }
 
     /// What this instruction does.

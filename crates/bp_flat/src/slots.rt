@@ -1,5 +1,5 @@
 //! Variables by their slots.
-ghost use Rattle.std.specs.Prelude.{◌≡◌, ◌<◌, ◌↔◌, IfOk, IsTrue};
+ghost use Rattle.std.specs.Prelude.{◌≡◌, ◌<◌};
 ghost use Rattle.bp_flat.specs.declared.limits.TheConstants.{SLOTS};
 ghost use Rattle.bp_flat.specs.Steps.{slot_bit, with_slot};
 ghost use Rattle.bp_flat.specs.InstrEffects.{store_of};
@@ -111,32 +111,5 @@ impl Slots {
         ensures { result.now ≡ self.now }
     {
         self.items.as_slice()
-    }
-
-    /// A copy. Fails only if memory is refused.
-    pub fn try_copy(&self) -> Result<Slots, AllocError>
-        ensures { IfOk result (λ s. s ≡ self.now) }
-    {
-        let mut items = Vec::new(*self.items.allocator());
-        for slot in self.items.as_slice() {
-            items.push(*slot)?;
-        }
-        Ok(Slots { items })
-    }
-
-    /// Whether both are the same variables in order.
-    pub fn is_same(&self, other: &Slots) -> bool
-        ensures { IsTrue result ↔ (self.now ≡ other.now) }
-    {
-        let others = other.as_slice();
-        if self.items.len() != others.len() {
-            return false;
-        }
-        for (i, slot) in self.items.as_slice().iter().enumerate() {
-            if *slot != others[i] {
-                return false;
-            }
-        }
-        true
     }
 }

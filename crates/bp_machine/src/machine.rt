@@ -1,5 +1,5 @@
 //! The machine of a session: the globals, the guest threads, and the count of contexts.
-ghost use Rattle.std.specs.Prelude.{◌≡◌, ◌≤◌, ◌<◌, ◌^◌, ◌+◌, ℕ, List, Some, true, length, map, slice_get, string_bytes, option_map, IfOk, OnOk, OnErr};
+ghost use Rattle.std.specs.Prelude.{◌≡◌, ◌≤◌, ◌<◌, ◌^◌, ◌+◌, List, Some, true, length, map, slice_get, string_bytes, option_map, IfOk, OnOk, OnErr};
 ghost use Rattle.bp_language.specs.Ast.{Program};
 ghost use Rattle.bp_flat.specs.InstrEffects.{bits_of};
 ghost use Rattle.bp_machine.specs.declared.calls.Call.{Call as Answered};

@@ -6,13 +6,7 @@ use denote.Struct.Declared as structs
 use Rattle.std.proofs.sync.ledger.Book.TheSendSync as Book
 use Rattle.rtrb.proofs.end.End.TheSendSync as End
 use Rattle.std.specs.declared.sync.ledger.Ledger as Ledger
-use Rattle.bp_flat.specs.contracts.expr_lists.SlotExprs as SlotExprs
-use Rattle.bp_flat.specs.contracts.expr_lists.Arguments as Arguments
-use Rattle.bp_flat.specs.contracts.slots.Slots as Slots
-use Rattle.bp_flat.specs.contracts.instrs.Instr as Instr
-use Rattle.bp_flat.specs.contracts.headings.Heading as Heading
-use Rattle.bp_flat.specs.contracts.code.Code as Code
-use Rattle.bp_flat.proofs.exprs.SlotSub.TheLaws.TheKnot.{send-SlotSub, send-SlotExpr}
+use Rattle.bp_flat.proofs.CodesCross.{code_send}
 use Rattle.bp_machine.specs.contracts.setups.Setup as Setup
 use Rattle.bp_machine.specs.contracts.machine.Machine as Machine
 use Rattle.bp_machine.specs.contracts.sessions.Session as Session
@@ -22,26 +16,6 @@ use Rattle.bp_run.specs.contracts.desks.Desk.TheInside as Inside
 use Rattle.bp_run.specs.contracts.boards.Board as Board
 use Rattle.bp_run.specs.contracts.signals.Bell as Bell
 use Rattle.bp_run.specs.contracts.signals.Signals as Signals
-
--- That codes may be shared among threads, in steps that `search` can take.
-
-exprs_send : IsSend SlotExprs.the_row
-exprs_send = search (sendable, crosses, send-SlotSub, send-SlotExpr) depth 40
-
-arguments_send : IsSend Arguments.the_row
-arguments_send = search (sendable, crosses, send-SlotSub, send-SlotExpr) depth 40
-
-slots_send : IsSend Slots.the_row
-slots_send = search (sendable, crosses) depth 40
-
-instr_send : IsSend Instr.the_row
-instr_send = search (sendable, crosses, send-SlotSub, send-SlotExpr, exprs_send, arguments_send, slots_send) depth 40 fits 20000
-
-heading_send : IsSend Heading.the_row
-heading_send = search (sendable, crosses) depth 40
-
-pub code_send : IsSend Code.the_row
-code_send = search (sendable, crosses, instr_send, heading_send) depth 40
 
 -- That sessions may be shared among threads.
 

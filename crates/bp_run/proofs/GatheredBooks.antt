@@ -1,13 +1,12 @@
 -- What a desk's books come to once its seats and its tap are joined with it.
 use Rattle.std.proofs.Common.{◌≡◌, Bool, true, false, not, sym, ◌∙◌, ap, refl, ℕ, ◌+◌, ◌*◌, ◌<◌, ◌≤◌, ◌^◌, cond, List, [], ◌∷◌, ◌++◌, None, is_some, subst, arith, length-append, ◌↔◌, IsTrue, length, Option, Some}
 use Rattle.std.proofs.lemmas.Bool.{false≢true}
-use Rattle.std.specs.Coded.{Coded, le_prop}
+use Rattle.std.specs.Coded.{le_prop}
 use Rattle.std.proofs.Math.Logic.{∥∥₁_elim}
 use Rattle.std.proofs.Math.Nat.{mul-le-mul_left, mul-le-mul_right}
 use Rattle.bp_language.specs.Ast.{Program}
-use Rattle.bp_flat.specs.Same.{same, same-Decides}
-use Rattle.bp_flat.specs.StandsFor.{IsOfProgram, StandsFor}
 use Rattle.bp_flat.specs.Flat.{Flat}
+use Rattle.bp_flat.specs.StandsFor.{IsOfProgram, StandsFor}
 use Rattle.bp_machine.specs.declared.calls.Call.{Call}
 use Rattle.bp_machine.specs.declared.limits.TheConstants.{MAX_THREADS, MAX_CALLS}
 use Rattle.bp_machine.specs.Histories.{is_finished, finished_by, open_lines, IsLegal, IsReport, HasSeededBits}
@@ -18,19 +17,7 @@ use Rattle.bp_machine.proofs.SetupInRange.{same_number, for_one}
 use Rattle.bp_machine.proofs.HistoryWithCall.{open_at_start, open_lines-append}
 use Rattle.bp_machine.proofs.HistoriesAreRuns.{legal_length}
 use Rattle.bp_run.specs.Desks.{IsInBooks, SeatOf, TapOf}
-use Rattle.bp_run.specs.Gatherings.{calls_of_seats, open_seats, AreOwn, AreSeatsOf, IsGathered, TellsEarly}
-
--- What a test of equality says, by its law.
-
-pub differ : {A : Type 0} (c : Coded A) (x y : A) (b : Bool) → b ≡ not (same c x y) → b ≡ true → x ≡ y → ⊥
-differ c x y b e t same_values = false≢true (sym (ap not ((same-Decides c x y).1 same_values)) ∙ sym e ∙ t)
-
-by_not : (b : Bool) → not b ≡ false → b ≡ true
-by_not true e = refl
-by_not false e = absurd (false≢true (sym e))
-
-pub alike : {A : Type 0} (c : Coded A) (x y : A) (b : Bool) → b ≡ not (same c x y) → b ≡ false → x ≡ y
-alike c x y b e f = (same-Decides c x y).0 (by_not (same c x y) (sym e ∙ f))
+use Rattle.bp_run.specs.Gatherings.{calls_of_seats, open_seats, AreOnePerThread, AreSeatsOf, IsGathered, TellsEarly}
 
 -- The books of a desk at the start, and after one more call.
 
@@ -90,35 +77,38 @@ few_made x h made lines books of_some range = ∥∥₁_elim (for_one x.code (ma
     few : made ≤ MAX_THREADS * MAX_CALLS → made < 2 ^ 32
     few most = omega (arith, most)
 
-module _ (t : Program) (x : SessionOf) (h : List Call) (made lines : ℕ) (books : IsInBooks x h made lines) (code : Flat)
-    (s : SetupOf) (seats : List SeatOf) (own : AreOwn x.code x.setup seats code s)
-    (is : StandsFor code t) (r : Report) (early : Option ℕ) (agree : Bool)
+module _ (t : Program) (x : SessionOf) (h : List Call) (made lines : ℕ) (books : IsInBooks x h made lines)
+    (seats : List SeatOf) (one_each : AreOnePerThread (threads x.setup) seats)
+    (is : StandsFor x.code t) (r : Report) (early : Option ℕ) (agree : Bool)
     (report : (t : Program) (g : List Call) → Stands t x g → IsReport x.setup g r) (calls : calls_of_seats seats ≡ made)
     (open_are : open_seats seats ≡ lines)
     (stops : (t : Program) (g : List Call) → StandsFor x.code t → Stands t x g → TellsEarly t x.setup g early)
     (agreement : (t : Program) (g : List Call) → Stands t x g → (IsTrue agree ↔ AreSeatsOf x.setup g seats)) where
   stands : Stands t x h
-  stands = books.stands t (subst (λ c. StandsFor c t) (sym own.code_is) is)
+  stands = books.stands t is
 
   reported : IsReport x.setup h r
   reported = report t h stands
 
   pub gathered : (taken left : List Call) (tap : TapOf) → taken ++ left ≡ h → tap.taken ≡ taken → tap.rest ≡ Some left
-      → IsGathered t s taken seats tap r early agree
+      → IsGathered t x.setup taken seats tap r early agree
   gathered taken left tap all same rest = record {
     left = left;
     rest = rest;
     same = same;
-    legal = subst (IsLegal t s) (sym all) (subst (λ u. IsLegal t u h) own.setup_is stands.state.legal);
-    seeded = subst (HasSeededBits s) (sym all) (subst (λ u. HasSeededBits u h) own.setup_is stands.seeded);
-    report = subst (λ g. IsReport s g r) (sym all) (subst (λ u. IsReport u h r) own.setup_is reported);
-    one_each = own.one_each;
+    legal = subst (IsLegal t x.setup) (sym all) stands.state.legal;
+    seeded = subst (HasSeededBits x.setup) (sym all) stands.seeded;
+    report = subst (λ g. IsReport x.setup g r) (sym all) reported;
+    one_each = one_each;
     calls = calls ∙ books.made_is ∙ ap length (sym all);
-    stops =
-        subst (λ g. TellsEarly t s g early) (sym all)
-        (subst (λ u. TellsEarly t u h early) own.setup_is (stops t h (subst (λ c. StandsFor c t) (sym own.code_is) is) stands));
-    agreement =
-        subst (λ g. IsTrue agree ↔ AreSeatsOf s g seats) (sym all)
-        (subst (λ u. IsTrue agree ↔ AreSeatsOf u h seats) own.setup_is (agreement t h stands));
+    stops = subst (λ g. TellsEarly t x.setup g early) (sym all) (stops t h is stands);
+    agreement = subst (λ g. IsTrue agree ↔ AreSeatsOf x.setup g seats) (sym all) (agreement t h stands);
     open_are = open_are ∙ books.lines_are ∙ sym reported.left_open;
   }
+
+-- what was gathered, by other names of the code and the setup
+pub gathered_as : {code own : Flat} {s its : SetupOf} {taken : List Call} {seats : List SeatOf} {tap : TapOf} {r : Report} {early : Option ℕ} {agree : Bool}
+    (t : Program) → code ≡ own → s ≡ its → ((t : Program) → StandsFor own t → IsGathered t its taken seats tap r early agree)
+    → StandsFor code t → IsGathered t s taken seats tap r early agree
+gathered_as {taken = taken} {seats = seats} {tap = tap} {r = r} {early = early} {agree = agree} t code_is setup_is gathered is =
+    subst (λ z. IsGathered t z taken seats tap r early agree) (sym setup_is) (gathered t (subst (λ d. StandsFor d t) code_is is))

@@ -77,14 +77,6 @@ pub record IsSeatOf (s : SetupOf) (h : List Call) (seat : SeatOf) : Type 0 where
 abbrev pub AreSeatsOf : SetupOf → List Call → List SeatOf → Type 0
 AreSeatsOf s h seats = All (IsSeatOf s h) seats
 
--- a board of this code and setup, and the seats of its threads
-pub record AreOwn
-    (its_code : Flat) (its_setup : SetupOf) (seats : List SeatOf) (code : Flat) (s : SetupOf)
-    : Type 0 where
-  pub code_is : its_code ≡ code
-  pub setup_is : its_setup ≡ s
-  pub one_each : AreOnePerThread (threads s) seats
-
 -- What was taken and what is left are one legal history, with the bits of the seed, which the
 -- report is of; the tap gives what is left. The seats are one for each thread, and together they
 -- have its calls and its open lines. It is said which thread stopped early, if one did, and whether

@@ -1,27 +1,19 @@
 //! Gathering a board: the desk, the seats and the tap are joined once all work is done.
 //! Whether the seats of a board agree with its machine.
-ghost use Rattle.std.specs.Prelude.{◌≡◌, ◌+◌, ◌↔◌, ◌==◌, IsTrue, IfOk, OnOk, OnErr, vec_len, vec_capacity, List};
-ghost use Rattle.std.specs.List.{count_by};
+ghost use Rattle.std.specs.Prelude.{◌≡◌, ◌+◌, ◌↔◌, IsTrue, vec_len, vec_capacity, List};
 ghost use Rattle.bp_language.specs.Ast.{Program};
 ghost use Rattle.bp_flat.specs.StandsFor.{InEach};
 ghost use Rattle.bp_machine.specs.declared.limits.TheConstants.{MAX_THREADS};
 ghost use Rattle.bp_machine.specs.declared.calls.Call.{Call as Answered};
 ghost use Rattle.bp_machine.specs.Sessions.{Stands};
 ghost use Rattle.bp_machine.specs.Setups.{threads};
-ghost use Rattle.bp_run.specs.Gatherings.{AreOnePerThread, AreOwn, IsGathered, calls_of_seats, open_seats, IsSeatOf, AreSeatsOf};
+ghost use Rattle.bp_run.specs.Gatherings.{AreOnePerThread, IsGathered, calls_of_seats, open_seats, IsSeatOf, AreSeatsOf};
 
 use crate::boards::{Board, Calls};
 use crate::desks::{Desk, stopped_early};
 use crate::seats::{Seat, Tap};
-use bp_flat::Code;
-use bp_machine::{Report, Session, Setup};
+use bp_machine::{Report, Session};
 use std::sync::ledger::{Book, Ledger, Share};
-use thiserror::Error;
-
-/// The desk has another code or setup, or the seats are not one for each thread.
-#[derive(Clone, Copy, Debug, PartialEq, Eq, Error)]
-#[error("the board is of another code or setup, or the seats are not its own")]
-pub struct Foreign;
 
 /// A gathered board: the seats, the tap, which gives what was not taken yet, the report of the
 /// history, the first thread whose line is open although its next step is no call, and whether each
@@ -41,47 +33,6 @@ struct Sums<C: Calls, O: Ledger> {
     seats: Vec<Seat<C, O>>,
     made: Share<C>,
     lines: Share<O>,
-}
-
-/// How many of the seats are of this thread.
-fn seats_of<C: Calls, O: Ledger>(seats: &[Seat<C, O>], thread: u32) -> usize
-    ensures { result ≡ count_by (λ s. s.thread == thread) seats.now }
-{
-    seats.iter().filter(|seat| seat.thread() == thread).count()
-}
-
-fn are_one_per_thread<C: Calls, O: Ledger>(seats: &[Seat<C, O>], threads: u32) -> bool
-    ensures { IsTrue result ↔ AreOnePerThread threads seats.now }
-{
-    if seats.len() != threads as usize {
-        return false;
-    }
-    for thread in 0..threads {
-        if seats_of(seats, thread) != 1 {
-            return false;
-        }
-    }
-    true
-}
-
-/// Whether a session of this history is of the code and the setup, and the seats are those of its
-/// threads.
-fn are_own<C: Calls, O: Ledger>(
-    session: &Session,
-    seats: &[Seat<C, O>],
-    code: &Code,
-    setup: &Setup,
-) -> bool
-    ensures { IsTrue result
-        ↔ AreOwn session.now.code session.now.setup seats.now code.now setup.now }
-{
-    if session.code() != code {
-        return false;
-    }
-    if session.setup() != setup {
-        return false;
-    }
-    are_one_per_thread(seats, setup.threads())
 }
 
 /// Adds the shares of the seats to those beside them, looks what the books say of all, and gives
@@ -157,14 +108,12 @@ fn joined<C: Calls, O: Ledger>(
     desk: Desk<C, O>,
     mut seats: Vec<Seat<C, O>>,
     tap: Tap<C>,
-    code: &Code,
-    setup: &Setup,
-) -> Result<Gathered<C, O>, Foreign>
-    ensures own { OnOk result (AreOwn C.code C.setup seats.items code.now setup.now) }
-    ensures foreign { OnErr result (AreOwn C.code C.setup seats.items code.now setup.now → ⊥) }
-    ensures seats { IfOk result (λ g. g.seats.items ≡ seats.items) }
-    ensures gathered { InEach code.now (λ t. IfOk result (λ g.
-        IsGathered t setup.now tap.taken seats.items g.tap g.report g.early g.agree)) }
+) -> Gathered<C, O>
+    requires { AreOnePerThread (threads C.setup) seats.items }
+    ensures seats { result.seats.items ≡ seats.items }
+    ensures gathered { let r = result in
+        InEach C.code (λ t.
+        IsGathered t C.setup tap.taken seats.items r.tap r.report r.early r.agree) }
 {
     let Desk {
         session,
@@ -173,12 +122,9 @@ fn joined<C: Calls, O: Ledger>(
         mut lines,
     } = desk;
     session.code().is_of_a_program();
-    setup.is_in_range();
-    if !are_own(&session, seats.as_slice(), code, setup) {
-        return Err(Foreign);
-    }
+    session.setup().is_in_range();
     let Some(seat) = seats.pop() else {
-        return Err(Foreign);
+        unreachable!()
     };
     let Seat {
         thread,
@@ -214,36 +160,32 @@ fn joined<C: Calls, O: Ledger>(
     } = tap;
     let left = Some(from.slots_beside(&mut to));
     let tap = Tap { from, left, of };
-    Ok(Gathered {
+    Gathered {
         seats,
         tap,
         report,
         early,
         agree,
-    })
+    }
 }
 
 /// Gathers a board once its workers are done: what was taken from the tap is a front of the
 /// history, and the tap that is given back has the rest. The seats come back as they were. It takes
 /// no memory and waits for nobody.
-/// Where the desk has another code or setup, or the seats are not one for each thread, all is
-/// dropped.
 pub fn gather<C: Calls, O: Ledger>(
     board: Board<C, O>,
     seats: Vec<Seat<C, O>>,
     tap: Tap<C>,
-    code: &Code,
-    setup: &Setup,
-) -> Result<Gathered<C, O>, Foreign>
-    ensures own { OnOk result (AreOwn C.code C.setup seats.items code.now setup.now) }
-    ensures foreign { OnErr result (AreOwn C.code C.setup seats.items code.now setup.now → ⊥) }
-    ensures seats { IfOk result (λ g. g.seats.items ≡ seats.items) }
-    ensures gathered { InEach code.now (λ t. IfOk result (λ g.
-        IsGathered t setup.now tap.taken seats.items g.tap g.report g.early g.agree)) }
+) -> Gathered<C, O>
+    requires { AreOnePerThread (threads C.setup) seats.items }
+    ensures seats { result.seats.items ≡ seats.items }
+    ensures gathered { let r = result in
+        InEach C.code (λ t.
+        IsGathered t C.setup tap.taken seats.items r.tap r.report r.early r.agree) }
 {
     let Board { desk } = board;
     let desk = desk.into_inner();
-    joined(desk, seats, tap, code, setup)
+    joined(desk, seats, tap)
 }
 
 /// Whether a seat has counted the calls of its thread, and is open where its line is not finished.

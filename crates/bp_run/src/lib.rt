@@ -22,7 +22,7 @@ pub use boards::{Board, Calls, Kit};
 pub use bp_tasks::RunOptions;
 pub use desks::Desk;
 pub use gates::{Gate, Open, Turns};
-pub use gathering::{Foreign, Gathered, gather};
+pub use gathering::{Gathered, gather};
 pub use playing::{OpenedBoard, PlayedBoard, play};
 pub use runner::run;
 pub use seats::{Seat, Tap};

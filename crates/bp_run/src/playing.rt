@@ -145,16 +145,13 @@ fn play_with<
     if !all_started {
         return refused(pen, RunFault::Start);
     }
-    let Ok(gathered) = gather(board, seats, tap, code, setup) else {
-        unreachable!()
-    };
     let Gathered {
         seats,
         mut tap,
         report,
         early,
         agree,
-    } = gathered;
+    } = gather(board, seats, tap);
     *back = seats;
     if pen.has_failed() {
         return refused(pen, RunFault::Write);

@@ -1,6 +1,5 @@
 //! How a session judges a call before it makes it.
-ghost use Rattle.std.specs.Prelude.{◌≡◌, ◌++◌, ◌∷◌, [], List, Option, None, Some, IfOk, OnErr, MatchResult};
-ghost use Rattle.bp_machine.specs.declared.calls.Call.{Call as Answered};
+ghost use Rattle.std.specs.Prelude.{◌≡◌, ◌++◌, ◌∷◌, [], Option, None, Some, IfOk, OnErr, MatchResult};
 ghost use Rattle.bp_machine.specs.Sessions.{Stands, IsNextCall, IsAskRefusal, given_bit, AfterEach};
 ghost use Rattle.bp_machine.specs.Transitions.{IsKeptBit, IsBitRefusal, IsGiven, IsJudged, IsKeptRefusal};
 

@@ -2,6 +2,7 @@
 ghost use Rattle.std.specs.Prelude.{◌≡◌, true, is_some, IfOk};
 ghost use Rattle.bp_machine.specs.Setups.{threads, FitsCode};
 ghost use Rattle.bp_run.specs.Desks.{IsNamed};
+ghost use Rattle.bp_run.specs.Gatherings.{AreOnePerThread};
 
 use super::ready::{begin, calls, setup, tell, wants};
 use crate::common::code_of;
@@ -110,19 +111,19 @@ fn gathers<C: Calls, O: Ledger, R: Wait + Runtime>(
     board: Board<C, O>,
     mut seats: Vec<Seat<C, O>>,
     mut tap: Tap<C>,
-    code: &Code,
-    setup: &Setup,
-) -> Result<(), Fail> {
-    let Some(seat) = seats.get_mut(1) else {
+) -> Result<(), Fail>
+    requires { AreOnePerThread (threads C.setup) seats.items }
+{
+    let Some(mut seat) = seats.pop() else {
         return Err(Fail::from("no seat"));
     };
-    board.turn(rt, seat, 2)?;
+    board.turn(rt, &mut seat, 2)?;
+    let was_turned = seat.thread() == 1 && seat.calls() == 2 && seat.is_open();
+    seats.push(seat)?;
     begin(rt)?;
-    wants(seat.thread() == 1 && seat.calls() == 2 && seat.is_open())?;
     let first = tap.next();
-    let Ok(mut gathered) = gather(board, seats, tap, code, setup) else {
-        return Err(Fail::from("another board"));
-    };
+    let mut gathered = gather(board, seats, tap);
+    wants(was_turned && gathered.agree)?;
     let taken = (first, gathered.tap.next(), gathered.tap.next());
     wants(gathered.report.calls == 2 && gathered.report.left_open == 2)?;
     wants(matches!(taken, (Some(first), Some(_), None) if first.thread == 1))
@@ -148,7 +149,7 @@ fn at_a_board<C: Calls, O: Ledger, R: Wait + Runtime>(
 {
     let (board, mut seats, mut tap) = Board::<C, O>::open(alloc, kit, code, setup)?;
     if way == Way::Gathered {
-        return gathers(rt, board, seats, tap, code, setup);
+        return gathers(rt, board, seats, tap);
     }
     match seats.get_mut(0) {
         Some(seat) => plays(rt, &board, seat, &mut tap, way, session),

@@ -1,6 +1,5 @@
 //! Boards and desks of a small program.
 mod desks;
-mod gathering;
 mod turns;
 
 ghost use Rattle.std.specs.Prelude.{◌≡◌, true, is_some, IfOk};

@@ -33,4 +33,4 @@ returns-clause-stands c =
     let t : Program = record { globals = c.args.globals.now; procedures = c.args.procs.now } in
     let all = rw (dropped_all c.args.procs.now c.loop-proc.proc-index c.loop-proc-test.false) at c.loop-proc.invariant.code in
     let code = sym (append-nil c.loop-proc.instrs.items) ∙ all in
-    rw (c.new.ensures, c.in_ok-headings.ensures, code) (flat_stands t c.requires.able)
+    rw (c.in_ok-code.ensures, c.in_ok-headings.ensures, code) (flat_stands t c.requires.able)

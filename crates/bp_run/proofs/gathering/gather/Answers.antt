@@ -3,6 +3,3 @@ use Rattle.bp_run.proofs.gathering.gather.Goals as goal
 
 pub returns-clause-seats : goal.returns-clause-seats
 returns-clause-seats g c = search rules depth 1
-
-pub returns-clause-own : goal.returns-clause-own
-returns-clause-own g c = search rules depth 1

@@ -2,7 +2,8 @@ use Rattle.std.proofs.Common.{rules}
 use denote.Param.{param}
 use denote.Param.Send.{sendable, IsSync}
 use Rattle.std.proofs.Crossing.{crosses}
-use Rattle.bp_test.proofs.CodesShared.{code_sync, setup_sync, plan_sync}
+use Rattle.bp_flat.proofs.CodesCross.{code_sync}
+use Rattle.bp_test.proofs.CodesShared.{setup_sync, plan_sync}
 use Rattle.bp_test.proofs.waves.blocks_of.Goals as goal
 
 pub map_indices-requires-sync-F : goal.map_indices-requires-sync-F

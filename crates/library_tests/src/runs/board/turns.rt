@@ -3,6 +3,7 @@
 ghost use Rattle.std.specs.Prelude.{◌≡◌, true, is_some};
 ghost use Rattle.bp_machine.specs.Setups.{threads, FitsCode};
 ghost use Rattle.bp_run.specs.Desks.{IsNamed};
+ghost use Rattle.bp_run.specs.Gatherings.{AreOnePerThread};
 
 use super::{LOOP, WAIT, kit_of, setup_of};
 use crate::common::code_of;
@@ -150,19 +151,17 @@ fn is_gathered<C: Calls, O: Ledger>(
     board: Board<C, O>,
     seats: Vec<Seat<C, O>>,
     mut tap: Tap<C>,
-    code: &Code,
-    setup: &Setup,
     play: Play,
-) -> bool {
+) -> bool
+    requires { AreOnePerThread (threads C.setup) seats.items }
+{
     let (taken, left) = play
         .history
         .split_at(play.taken.saturating_mul(2).min(play.history.len()));
     if !gives(&mut tap, taken) {
         return false;
     }
-    let Ok(mut gathered) = gather(board, seats, tap, code, setup) else {
-        return false;
-    };
+    let mut gathered = gather(board, seats, tap);
     let report = Report {
         outcome: play.used.1,
         calls: (play.history.len() / 2) as u64,
@@ -189,11 +188,12 @@ fn is_played_at<C: Calls, O: Ledger, R: Wait + Runtime>(
     requires seeded { is_some setup.now.seed ≡ true }
 {
     let (board, mut seats, tap) = Board::<C, O>::open(alloc, kit, code, setup)?;
-    let is_answered = match seats.get_mut(0) {
-        Some(seat) => turns_are_answered(rt, &board, seat, play.turns) && !seat.is_open(),
-        None => false,
+    let Some(mut seat) = seats.pop() else {
+        return Ok(false);
     };
-    Ok(is_answered && is_gathered(board, seats, tap, code, setup, play))
+    let is_answered = turns_are_answered(rt, &board, &mut seat, play.turns) && !seat.is_open();
+    seats.push(seat)?;
+    Ok(is_answered && is_gathered(board, seats, tap, play))
 }
 
 /// Whether a play comes out at a board.
