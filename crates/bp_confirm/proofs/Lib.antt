@@ -4,14 +4,12 @@ pub mod LocalRefusals
 pub mod BitsOfEffects
 pub mod ValuesSeen
 pub mod NextLocations
+pub mod ReadValues
+pub mod ReadLines
 pub mod LinesKept
 pub mod LastChanges
 pub mod StepsFollowed
 pub mod OneConfirmed
-pub mod OneNumberAt
-pub mod OneName
-pub mod OneStepLine
-pub mod OneReading
 pub mod OneTextRefusal
 pub mod StartsInOrder
 pub mod OnePosition

@@ -1,7 +1,7 @@
 -- Lines that are kept, and the places at which they are found.
 use Rattle.std.proofs.Common.{◌≡◌, ◌∙◌, ◌++◌, ◌∷◌, [], ◌<◌, ◌-◌, ◌≢◌, ℕ, zero, suc, List, Option, None, Some, Bor, length, take, get_or, refl, ap, sym, subst, arith, length-append, ◌&&◌, ◌==◌, Bool, true, false, not, ap₂, ◌≤◌, ◌+◌, inl, inr, slice_get, IfSome, MatchOption, option_map, is_some}
 use Rattle.std.specs.List.{AllByRecursion, list_all}
-use Rattle.std.proofs.lemmas.List.{map-append, get_or_append_left, take_at, append_assoc, get_or_past}
+use Rattle.std.proofs.lemmas.List.{append-nil, map-append, get_or_append_left, take_at, append_assoc, get_or_past}
 use Rattle.std.proofs.lemmas.Option.{slice_get-get_or, slice_get-map}
 use Rattle.std.proofs.lemmas.Bool.{cases_lt}
 use Rattle.bp_language.specs.Ast.{Program}
@@ -13,8 +13,9 @@ use Rattle.bp_machine.specs.Setups.{threads}
 use Rattle.bp_machine.specs.Runs.{is_blocked}
 use Rattle.bp_confirm.specs.declared.kept_lines.KeptLine.{KeptLine}
 use Rattle.bp_confirm.specs.KeptLines.{kept_lines, lines_at, no_line, AreWithin, GrowsByOne, IsKeptLine, IsStepThere}
-use Rattle.bp_confirm.specs.LineReading.{IsStepAt}
-use Rattle.bp_confirm.specs.Steps.{StepLineOf, line_text, stands_at, step_of, steps_of, StepOf, value_seen, IsFirstUnseen, SeesValues}
+use Rattle.bp_text.specs.Formats.{IsAt, text_of}
+use Rattle.bp_confirm.specs.Steps.{StepLineOf, step_line, stands_at, step_of, steps_of, StepOf, value_seen, IsFirstUnseen, SeesValues}
+use Rattle.bp_confirm.proofs.ReadLines.{line_before}
 use Rattle.bp_confirm.specs.OwnSteps.{is_step, is_value, sees_values}
 use Rattle.bp_confirm.specs.Inferred.{waits_after}
 
@@ -59,13 +60,9 @@ pub step_there : (kept : List KeptLine) (k : ℕ) (x : KeptLine) (text rest : Li
 step_there [] k x text rest each at parts = absurd cc
 step_there (y ∷ kept) zero x text rest each at parts =
     let same : x ≡ y = cc in
-    let is = subst IsKeptLine (sym same) each.0 in
-    record {
-      within = omega arith;
-      at =
-          subst (λ z. IsStepAt text z.line rest) same
-          (record { has = is.has; parts = parts ∙ ap (λ z. z ++ rest) is.is ∙ append_assoc (line_text x.line) (10 ∷ []) rest });
-    }
+    let is = (subst IsKeptLine (sym same) each.0).at in
+    let whole : text ≡ text_of step_line x.line ++ rest = parts ∙ ap (λ z. z ++ rest) (is.parts ∙ append-nil _) in
+    record { within = omega arith; at = subst (λ z. IsAt step_line text z.line rest) same (line_before is whole) }
 step_there (y ∷ kept) (suc k) x text rest each at parts =
     let there = step_there kept k x text rest each.1 at parts in
     record { within = omega (arith, there.within); at = there.at }
@@ -77,18 +74,19 @@ step_after kept k x text None each at begins = tt
 step_after kept k x text (Some rest) each at begins = step_there kept k x text rest.now each at begins
 
 -- the text of a line that is read
-pub text_of_line : (text more : List ℕ) (x : StepLineOf) → IsStepAt text x more → take (length text - length more) text ≡ line_text x ++ 10 ∷ []
-text_of_line text more x at =
-    let whole : text ≡ (line_text x ++ 10 ∷ []) ++ more = at.parts ∙ sym (append_assoc (line_text x) (10 ∷ []) more) in
-    let size = ap length whole ∙ length-append (line_text x ++ 10 ∷ []) more in
-    ap (take (length text - length more)) whole ∙ take_at (line_text x ++ 10 ∷ []) more (length text - length more) (omega (arith, size))
+pub kept_line : (text more : List ℕ) (x : KeptLine) → IsAt step_line text x.line more → x.text.now ≡ take (length text - length more) text → IsKeptLine x
+kept_line text more x at own =
+    let size = ap length at.parts ∙ length-append (text_of step_line x.line) more in
+    let is =
+    own ∙ ap (take (length text - length more)) at.parts ∙ take_at (text_of step_line x.line) more (length text - length more) (omega (arith, size)) in
+    record { at = line_before at (is ∙ sym (append-nil _)) }
 
 pub each_kept : (kept : List KeptLine) (x : KeptLine) → AllByRecursion IsKeptLine kept → IsKeptLine x → AllByRecursion IsKeptLine (kept ++ x ∷ [])
 each_kept [] x each here = (here, tt)
 each_kept (y ∷ kept) x each here = (each.0, each_kept kept x each.1 here)
 
 -- and it is kept at the end
-pub step_at_end : (kept : List KeptLine) (x : KeptLine) (text rest : List ℕ) → IsStepAt text x.line rest
+pub step_at_end : (kept : List KeptLine) (x : KeptLine) (text rest : List ℕ) → IsAt step_line text x.line rest
     → IsStepThere (kept_lines (kept ++ x ∷ [])) (length kept) text rest
 step_at_end [] x text rest at = record { within = omega arith; at = at }
 step_at_end (y ∷ kept) x text rest at =

@@ -23,7 +23,7 @@ use Rattle.bp_confirm.specs.declared.confirming.StepRefusal.{StepRefusal}
 use Rattle.bp_confirm.specs.declared.choices.LastChoice.{LastChoice}
 use Rattle.bp_confirm.specs.Inferred.{zeros}
 use Rattle.bp_confirm.specs.Laws.{NoRefusalOfConfirmed, OneRefusal}
-use Rattle.bp_confirm.proofs.OneReading.{bad_begins, one_bad, one_reading}
+use Rattle.bp_text.proofs.WholeTexts.{none_bad, one_bad, one_reading}
 use Rattle.bp_confirm.proofs.OneStepRefusal.{cuts, not_followed_too, one_step_refusal}
 
 -- The first value, and the first line, of what is not declared.
@@ -176,15 +176,13 @@ module _ (text : List ℕ) (t : Program) (is : IsLawfulText text t) (s : SetupOf
   long_or_empty long none = absurd (omega (arith, long, none))
 
   bad_or_read : {X : Type 0} (n : ℕ) (lines : List StepLineOf) → IsBadLine steps n → HasLines steps lines → X
-  bad_or_read n lines bad has = absurd (bad_begins lines bad.before bad.rest has.each bad.each (sym has.is ∙ bad.whole) bad.some bad.bad)
+  bad_or_read n lines bad has = absurd (none_bad has bad)
 
   same_bad : (m n : ℕ) → IsBadLine steps m → IsBadLine steps n → m ≡ n
-  same_bad m n p q =
-      let same = one_bad p.before q.before p.rest q.rest p.each q.each (sym p.whole ∙ q.whole) p.bad q.bad in
-      omega (arith, same, p.number, q.number)
+  same_bad m n p q = one_bad p q
 
   same_lines : (xs ys : List StepLineOf) → AreRead t s steps xs → AreRead t s steps ys → xs ≡ ys
-  same_lines xs ys p q = one_reading xs ys p.has.each q.has.each (sym p.has.is ∙ q.has.is)
+  same_lines xs ys p q = one_reading p.has q.has
 
   module _ (lines : List StepLineOf) where
     thread_or_variable : {X : Type 0} (m n i k : ℕ) → IsFirstStray t s lines m (IsOfNoThread s i) → IsFirstStray t s lines n (IsOfNoVariable t s k) → X

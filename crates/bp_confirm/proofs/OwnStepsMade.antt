@@ -21,7 +21,7 @@ use Rattle.bp_confirm.specs.declared.step_lines.Location.{Location}
 use Rattle.bp_confirm.specs.declared.step_lines.Location.TheVariants.{End, Line, Column}
 use Rattle.bp_confirm.specs.Laws.{OwnLinesAreConfirmed, IsMoveOf, MovesTake, IsRunOfSteps}
 use Rattle.bp_confirm.specs.Confirms.{ForStuck}
-use Rattle.bp_confirm.specs.OwnSteps.{exact_location, next_start, IsOwnLine, AreOwnLines, own_step, own_steps, own_steps_from, lines_of_steps, step_line, StepsAreOfTheRun, TextIsOfLines}
+use Rattle.bp_confirm.specs.OwnSteps.{exact_location, next_start, IsOwnLine, AreOwnLines, own_step, own_steps, own_steps_from, lines_of_steps, own_line, StepsAreOfTheRun, TextIsOfLines}
 use Rattle.bp_confirm.specs.Steps.{place_of, stands_at, StepLineOf, step_of, steps_of, next_location, SeesValues}
 use Rattle.bp_confirm.specs.declared.noted_steps.OwnStep.{OwnStep}
 use Rattle.bp_confirm.specs.declared.source_points.SourcePoint.{SourcePoint}
@@ -211,4 +211,4 @@ steps_of_the_run text t s h legal = own_from text t s [] h (start t s) refl lega
 
 pub text_of_lines : TextIsOfLines
 text_of_lines [] = refl
-text_of_lines (x ∷ xs) = ap (λ ys. step_line x ++ ys) (text_of_lines xs)
+text_of_lines (x ∷ xs) = ap (λ ys. own_line x ++ ys) (text_of_lines xs)

@@ -1,6 +1,5 @@
 -- The text of a run's own steps is read as their lines, which are declared and are not refused.
-use Rattle.std.proofs.Common.{◌≡◌, ◌∙◌, ◌≤◌, ℕ, Bool, true, false, cond, List, [], ◌∷◌, ◌++◌, Option, None, Some, map, length, take, refl, ap, sym, subst, arith, nat_lt, length-take}
-use Rattle.std.specs.List.{AllByRecursion}
+use Rattle.std.proofs.Common.{◌≡◌, ◌∙◌, ◌≤◌, ℕ, Bool, true, false, cond, List, [], ◌∷◌, ◌++◌, Option, None, Some, map, length, take, refl, ap, sym, subst, arith, nat_lt, length-take, append-nil}
 use Rattle.std.proofs.lemmas.Bool.Decides.{nat_tests}
 use Rattle.bp_text.proofs.LinesOfTexts.{column_within, line_within}
 use Rattle.bp_language.specs.Ast.{Program}
@@ -24,8 +23,10 @@ use Rattle.bp_confirm.specs.ConfirmedTexts.{HasFitLength, IsStepsRefusal, IsSetu
 use Rattle.bp_confirm.specs.OwnSteps.{AreOwnLines, exact_location, next_start, lines_of_steps, own_step, own_steps, own_steps_from, own_steps_text}
 use Rattle.bp_confirm.specs.Laws.{OwnDeadlockIsConfirmed, OwnTextIsConfirmed}
 use Rattle.bp_confirm.specs.declared.choices.LastChoice.{LastChoice}
-use Rattle.bp_confirm.specs.Steps.{StepLineOf, steps_of, AreNamed, HasLine, HasLines, IsBadLine, IsShortLocation}
-use Rattle.bp_confirm.proofs.OneReading.{bad_begins, one_reading}
+use Rattle.bp_confirm.specs.Steps.{StepLineOf, steps_of, HasLines, IsBadLine, step_line, value}
+use Rattle.bp_text.specs.Formats.{EachFits, Fits, text_of}
+use Rattle.bp_text.proofs.WholeTexts.{none_bad, one_reading}
+use Rattle.bp_confirm.proofs.ReadLines.{IsShortLocation, line_fits, no_step_in_nothing}
 use Rattle.bp_confirm.proofs.OneTextRefusal.{IsStray, no_thread, no_variable, stray_alone}
 use Rattle.bp_confirm.proofs.DeadlocksTaken.{deadlock_is_taken}
 use Rattle.bp_confirm.proofs.OwnStepsMade.{own_lines_confirmed, own_run, steps_of_the_run, text_of_lines}
@@ -57,16 +58,14 @@ module _ (text : List ℕ) (few : length text ≤ TEXT_LIMIT) where
 
   module _ (t : Program) (s : SetupOf) (small : threads s ≤ MAX_THREADS) where
     each_line : (c : Configuration) (calls : List Call) (lines : List StepLineOf) → AreOwnLines text t c calls lines
-        → AreDeclaredLines t s lines → AllByRecursion HasLine lines
-    each_line c [] [] own all = tt
+        → AreDeclaredLines t s lines → EachFits (text_of step_line) (Fits step_line) lines []
+    each_line c [] [] own all = no_step_in_nothing.none
     each_line c [] (x ∷ xs) own all = absurd own
     each_line c (call ∷ calls) [] own all = absurd own
     each_line c (call ∷ calls) (x ∷ xs) (here, (next, move, rest)) (declared, others) = (
-      record {
-        thread = omega (arith, small, declared.thread);
-        location = subst IsShortLocation (sym here.location) (short_location (next_start (stack_of c call.thread)));
-        values = subst AreNamed (sym here.values) tt;
-      },
+      line_fits x [] _ (omega (arith, small, declared.thread))
+          (subst IsShortLocation (sym here.location) (short_location (next_start (stack_of c call.thread))))
+          (subst (λ vs. EachFits (text_of value) (Fits value) vs []) (sym here.values) (λ v more fits e. absurd cc)),
       each_line next calls xs rest others,
     )
 
@@ -133,10 +132,10 @@ module _ (text : List ℕ) (t : Program) (s : SetupOf) (steps : List ℕ) (bound
     (has : HasLines steps lines) (declared : AreDeclaredLines t s lines)
     (taken : (setup : SetupOf) (r : StepRefusal) → IsSetupFor s lines bound setup → IsStepRefusal text t setup zeros lines r → ⊥) where
   same_lines : (others : List StepLineOf) → HasLines steps others → others ≡ lines
-  same_lines others p = one_reading others lines p.each has.each (sym p.is ∙ has.is)
+  same_lines others p = one_reading p has
 
   no_bad : (n : ℕ) → IsBadLine steps n → ⊥
-  no_bad n bad = bad_begins lines bad.before bad.rest has.each bad.each (sym has.is ∙ bad.whole) bad.some bad.bad
+  no_bad n bad = none_bad has bad
 
   no_stray : (others : List StepLineOf) (n : ℕ) (Is : StepLineOf → Type 0) → IsStray t s Is → HasLines steps others → IsFirstStray t s others n Is → ⊥
   no_stray others n Is stray p first =
@@ -163,8 +162,8 @@ module _ (text : List ℕ) (t : Program) (s : SetupOf) (h : List Call) (legal : 
   module _ (is : IsTextOf text t) (small : threads s ≤ MAX_THREADS) where
     own_has : HasLines (own_steps_text (own_steps text t s h)) (lines_of_steps (own_steps text t s h))
     own_has = record {
-      each = each_line text is.short t s small (start t s) (granted_calls h) (lines_of_steps (own_steps text t s h)) own_of (declared_from text t s [] h (start t s) legal);
-      is = text_of_lines (own_steps text t s h);
+      fits = each_line text is.short t s small (start t s) (granted_calls h) (lines_of_steps (own_steps text t s h)) own_of (declared_from text t s [] h (start t s) legal);
+      parts = text_of_lines (own_steps text t s h) ∙ sym (append-nil _);
     }
 
 pub own_text_confirmed : RunsAreHistories → HistoriesAreRuns → OwnTextIsConfirmed
@@ -179,7 +178,7 @@ own_deadlock_confirmed each back text t s h bound setup g choices is small few l
     let lines = lines_of_steps (own_steps text t s h) in
     let has = own_has text t s h legal is small in
     let read = confirmed.told.read.has in
-    let same = one_reading confirmed.lines lines read.each has.each (sym read.is ∙ has.is) in
+    let same = one_reading read has in
     deadlocked each text t s is (granted_calls h) (configuration_after t s h) (back t s h legal).run lines (own_of text t s h legal) bound setup g choices few
     (subst (λ xs. IsSetupFor s xs bound setup) same confirmed.allows)
     (subst (λ xs. IsConfirmed t setup (steps_of text xs) g choices) same confirmed.confirmed) going dead going_g

@@ -1,10 +1,10 @@
 -- A device: the lines of a text of steps. Most of those with the same text are kept once.
 use Rattle.std.specs.Prelude.{◌≡◌, ◌<◌, ◌≤◌, ◌++◌, ◌∷◌, ℕ, List, [], length, map, get_or}
 use Rattle.std.specs.List.{AllByRecursion}
+use Rattle.bp_text.specs.Formats.{IsAt}
 use Rattle.bp_confirm.specs.declared.kept_lines.KeptLine.{KeptLine}
 use Rattle.bp_confirm.specs.declared.step_lines.Location.TheVariants.{End}
-use Rattle.bp_confirm.specs.LineReading.{IsStepAt}
-use Rattle.bp_confirm.specs.Steps.{StepLineOf, line_text, HasLine}
+use Rattle.bp_confirm.specs.Steps.{StepLineOf, step_line}
 
 abbrev pub kept_lines : List KeptLine → List StepLineOf
 kept_lines kept = map (λ x. x.line) kept
@@ -23,8 +23,7 @@ AreWithin lines places = AllByRecursion (λ k. k < length lines) places
 
 -- the line has this text
 pub record IsKeptLine (x : KeptLine) : Type 0 where
-  pub has : HasLine x.line
-  pub is : x.text.now ≡ line_text x.line ++ 10 ∷ []
+  pub at : IsAt step_line x.text.now x.line []
 
 -- one more is kept, or none
 abbrev pub GrowsByOne : List KeptLine → List KeptLine → Type 0
@@ -33,4 +32,4 @@ GrowsByOne old new = (more : List KeptLine) × (new ≡ old ++ more) × (length 
 -- the line at this place begins the text
 pub record IsStepThere (lines : List StepLineOf) (place : ℕ) (text rest : List ℕ) : Type 0 where
   pub within : place < length lines
-  pub at : IsStepAt text (get_or lines place no_line) rest
+  pub at : IsAt step_line text (get_or lines place no_line) rest

@@ -1,5 +1,5 @@
 -- The steps that a run makes, and the lists that it makes in their order.
-use Rattle.std.specs.Prelude.{◌≡◌, ℕ, List, [], ◌∷◌, Option, None, Some, option_map, if◌then◌else◌, ◌++◌, codes, flat_map, map, ◌==◌, ◌&&◌, Bool, true, false, MatchOption, length, slice_get}
+use Rattle.std.specs.Prelude.{◌≡◌, ℕ, List, [], ◌∷◌, Option, None, Some, option_map, if◌then◌else◌, ◌++◌, flat_map, map, ◌==◌, ◌&&◌, Bool, true, false, MatchOption, length, slice_get}
 use Rattle.std.specs.List.{list_all}
 use Rattle.std.specs.Option.{option_map_or}
 use Rattle.bp_text.specs.declared.lines.Position.{Position}
@@ -19,7 +19,8 @@ use Rattle.bp_trace.specs.declared.traces.Version.{Version}
 use Rattle.bp_trace.specs.Replays.{IsTrace}
 use Rattle.bp_confirm.specs.declared.step_lines.Location.{Location}
 use Rattle.bp_confirm.specs.declared.step_lines.Location.TheVariants.{End, Column}
-use Rattle.bp_confirm.specs.Steps.{StepLineOf, line_text, steps_text, stands_at, StepOf, value_seen, steps_of}
+use Rattle.bp_text.specs.Formats.{text_of}
+use Rattle.bp_confirm.specs.Steps.{StepLineOf, step_line, steps_text, stands_at, StepOf, value_seen, steps_of}
 use Rattle.bp_confirm.specs.declared.noted_steps.OwnStep.{OwnStep}
 
 -- The lines of a run's own steps, each with its column.
@@ -83,12 +84,12 @@ line_of_step x = record { thread = x.thread; location = location_at x.position; 
 abbrev pub lines_of_steps : List OwnStep → List StepLineOf
 lines_of_steps xs = map line_of_step xs
 
-abbrev pub step_line : OwnStep → List ℕ
-step_line x = line_text (line_of_step x) ++ codes "\n"
+abbrev pub own_line : OwnStep → List ℕ
+own_line x = text_of step_line (line_of_step x)
 
 -- a line for each step
 abbrev pub own_steps_text : List OwnStep → List ℕ
-own_steps_text xs = flat_map step_line xs
+own_steps_text xs = flat_map own_line xs
 
 -- the text is the trace of a history that makes these steps, and this is its report
 pub record AreStepsOfTrace

@@ -1,7 +1,7 @@
 -- Reported steps: places, steps, their lines and their text.
-use Rattle.std.specs.Prelude.{ℕ, Bool, true, false, ◌&&◌, ◌==◌, List, [], ◌∷◌, Option, None, Some, option_map, if◌then◌else◌, slice_get, take, ◌≢◌, ◌≡◌, ◌++◌, map, ◌<◌, ◌^◌, ◌+◌, length, flat_map, codes, decimal}
+use Rattle.std.proofs.Common.{inl, inr, refl}
+use Rattle.std.specs.Prelude.{ℕ, Bool, true, false, ◌&&◌, ◌||◌, ◌==◌, List, [], ◌∷◌, Option, None, Some, option_map, if◌then◌else◌, slice_get, take, ◌≢◌, ◌≡◌, ◌++◌, ◌⊎◌, map, ◌<◌, ◌^◌, ◌+◌, length, codes}
 use Rattle.std.specs.Option.{option_or}
-use Rattle.std.specs.List.{AllByRecursion}
 use Rattle.bp_text.specs.declared.lines.Position.{Position}
 use Rattle.bp_text.specs.Lines.{position_at}
 use Rattle.bp_language.specs.Ast.{Program}
@@ -10,8 +10,11 @@ use Rattle.bp_flat.specs.StandsFor.{start_of_block}
 use Rattle.bp_machine.specs.declared.calls.Call.{Call}
 use Rattle.bp_machine.specs.Histories.{stack_of, configuration_after, IsAllowed, is_granted}
 use Rattle.bp_machine.specs.Setups.{SetupOf}
-use Rattle.bp_trace.specs.TraceText.{bit_digit}
-use Rattle.bp_source.specs.Names.{qualified, is_braced_after}
+use Rattle.bp_text.specs.Formats.{AreAll, bit, Format, IsBad, text_of}
+use Rattle.bp_text.specs.Formats.Format.{After, As, Before, Either, Many, Number, Span, Then, Word}
+use Rattle.bp_source.specs.Names.{qualified}
+use Rattle.bp_confirm.specs.declared.fields.NameState.{NameState}
+use Rattle.bp_confirm.specs.declared.fields.NameState.TheVariants.{Start, Outside, Inside}
 use Rattle.bp_confirm.specs.declared.step_lines.Location.{Location}
 use Rattle.bp_confirm.specs.declared.step_lines.Location.TheVariants.{End, Line, Column}
 use Rattle.bp_confirm.specs.declared.step_lines.SeenValue.{SeenValue}
@@ -147,69 +150,71 @@ next_locations (x ∷ xs) = next_location x.thread xs ∷ next_locations xs
 
 -- The text of reported steps: a line for each, T PLACE and then any number of NAME=BIT.
 
-abbrev pub location_text : Location → List ℕ
-location_text End = codes "-"
-location_text (Line n) = decimal n
-location_text (Column n m) = decimal n ++ (codes ":" ++ decimal m)
+-- a name has no line feed, and outside braces neither a space nor =
+abbrev pub outside_braces : ℕ → Option NameState
+outside_braces b =
+    if b == 10 || b == 32 || b == 61 then None else if b == 123 then Some Inside else Some Outside
 
-abbrev pub value_text : List ℕ × Bool → List ℕ
-value_text v = codes " " ++ (v.0 ++ (codes "=" ++ bit_digit v.1 ∷ []))
+abbrev pub after_byte : NameState → ℕ → Option NameState
+after_byte Start b = outside_braces b
+after_byte Outside b = outside_braces b
+after_byte Inside b = if b == 10 then None else if b == 125 then Some Outside else Some Inside
 
-abbrev pub values_text : Valuation → List ℕ
-values_text vs = flat_map value_text vs
+-- it is not empty, and its braces are closed
+abbrev pub may_end : NameState → Bool
+may_end Start = false
+may_end Outside = true
+may_end Inside = false
 
--- a line without its line feed
-abbrev pub line_text : StepLineOf → List ℕ
-line_text x = decimal x.thread ++ (codes " " ++ (location_text x.location ++ values_text x.values))
+abbrev pub name : Format (List ℕ)
+name = Span after_byte may_end Start
 
-abbrev pub steps_text : List StepLineOf → List ℕ
-steps_text xs = flat_map (λ x. line_text x ++ codes "\n") xs
+abbrev pub value : Format (List ℕ × Bool)
+value = After (codes " ") (Then (Before name (codes "=")) bit)
 
 -- a number of 32 bits
-abbrev pub IsShort : ℕ → Type 0
-IsShort n = n < 2 ^ 32
+abbrev pub short : Format ℕ
+short = Number (2 ^ 32)
 
-abbrev pub IsShortLocation : Location → Type 0
-IsShortLocation End = Unit {0}
-IsShortLocation (Line n) = IsShort n
-IsShortLocation (Column n m) = IsShort n × IsShort m
+-- a dash for the end of a procedure, a line, or a line and a column with a colon between them
+abbrev pub LocationParts : Type 0
+LocationParts = Unit {0} ⊎ (ℕ × (ℕ ⊎ Unit {0}))
 
--- a name continues with this byte, inside braces or outside
-abbrev pub Continues : (braced : Bool) → ℕ → Type 0
-Continues true b = b ≢ 10
-Continues false b = (b ≢ 10) × (b ≢ 32) × (b ≢ 61)
+abbrev pub parts_of_location : Location → LocationParts
+parts_of_location End = inl tt
+parts_of_location (Line n) = inr (n, inr tt)
+parts_of_location (Column n m) = inr (n, inl m)
 
--- and with these bytes, after which its braces are closed
-abbrev pub IsNameRest : List ℕ → (braced : Bool) → Type 0
-IsNameRest [] true = ⊥
-IsNameRest [] false = Unit {0}
-IsNameRest (b ∷ bs) braced = Continues braced b × IsNameRest bs (is_braced_after braced b)
+abbrev pub location_of_parts : LocationParts → Location
+location_of_parts (inl x) = End
+location_of_parts (inr (n, inr x)) = Line n
+location_of_parts (inr (n, inl m)) = Column n m
 
--- a name has no line feed, and outside braces neither a space nor =
-pub record IsStepName (name : List ℕ) : Type 0 where
-  pub some : name ≢ []
-  pub is : IsNameRest name false
+abbrev pub location_again : (x : Location) → location_of_parts (parts_of_location x) ≡ x
+location_again End = refl
+location_again (Line n) = refl
+location_again (Column n m) = refl
 
-abbrev pub AreNamed : Valuation → Type 0
-AreNamed vs = AllByRecursion (λ v. IsStepName v.0) vs
+abbrev pub location : Format Location
+location =
+    As parts_of_location location_of_parts location_again
+    (Either (Word (codes "-")) (Then short (Either (After (codes ":") short) (Word (codes "")))))
 
--- the step can be written on a line
-pub record HasLine (x : StepLineOf) : Type 0 where
-  pub thread : IsShort x.thread
-  pub location : IsShortLocation x.location
-  pub values : AreNamed x.values
+-- a line of a step, with its line feed
+abbrev pub step_line : Format StepLineOf
+step_line =
+    As (λ x. (x.thread, (x.location, x.values)))
+    (λ p. record { thread = p.0; location = p.1.0; values = p.1.1 }) (λ x. refl)
+    (Then short (After (codes " ") (Then location (Before (Many value) (codes "\n")))))
+
+-- the text of these lines
+abbrev pub steps_text : List StepLineOf → List ℕ
+steps_text xs = text_of (Many step_line) xs
 
 -- the text has these lines
-pub record HasLines (text : List ℕ) (xs : List StepLineOf) : Type 0 where
-  pub each : AllByRecursion HasLine xs
-  pub is : text ≡ steps_text xs
+abbrev pub HasLines : List ℕ → List StepLineOf → Type 0
+HasLines text xs = AreAll step_line text xs
 
 -- line n, from 1, is the first that is malformed
-pub record IsBadLine (text : List ℕ) (n : ℕ) : Type 0 where
-  pub before : List StepLineOf
-  pub each : AllByRecursion HasLine before
-  pub rest : List ℕ
-  pub whole : text ≡ steps_text before ++ rest
-  pub number : n ≡ length before + 1
-  pub some : rest ≢ []
-  pub bad : (x : StepLineOf) (more : List ℕ) → HasLine x → rest ≢ line_text x ++ 10 ∷ more
+abbrev pub IsBadLine : List ℕ → ℕ → Type 0
+IsBadLine text n = IsBad step_line text n

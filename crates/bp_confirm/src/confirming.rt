@@ -7,9 +7,8 @@ ghost use Rattle.bp_confirm.specs.ConfirmedTexts.{AreTold, ConfirmsTo, IsStepsRe
 
 use crate::declared::{Stray, check_lines, setup_for};
 use crate::histories::{Confirmed, confirm_lines};
-use crate::kept_lines::{StepLines, read_lines};
+use crate::kept_lines::{StepLines, StepsFault, read_lines};
 use crate::step_lines::{Location, Stand};
-use crate::step_texts::StepsFault;
 use bp_code::Checked;
 use bp_flat::Code;
 use bp_machine::{Reply, Setup};

@@ -1,18 +1,38 @@
 //! The lines of a text of steps, in a few bytes each.
 //! Reading the lines of a text of steps. Most lines come more than once.
 //! A value on a line of a text of steps.
-ghost use Rattle.std.specs.Prelude.{◌≡◌, ◌<◌, ◌≤◌, ◌^◌, ◌++◌, ◌∷◌, [], IfOk, IfSome, MatchOption, MatchResult, OnOk, length, option_map};
+ghost use Rattle.std.specs.Prelude.{◌≡◌, ◌<◌, ◌≤◌, ◌^◌, ◌++◌, ◌∷◌, [], IfOk, IfSome, MatchOption, MatchResult, OnOk, length, option_map, slice_get};
 ghost use Rattle.std.specs.List.{AllByRecursion};
 ghost use Rattle.bp_confirm.specs.KeptLines.{kept_lines, GrowsByOne, IsKeptLine, IsStepThere};
-ghost use Rattle.bp_confirm.specs.LineReading.{HasNoStep, IsUnreadable, AreValuesOf, IsTextOfLine, HasNoLine, IsValueOnLine};
-ghost use Rattle.bp_confirm.specs.Steps.{HasLines, value_of};
+ghost use Rattle.bp_text.specs.Formats.{HasNone};
+ghost use Rattle.bp_confirm.specs.LineReading.{IsStepOnLine, IsUnreadable, IsValueOnLine, SaysValues, values_in};
+ghost use Rattle.bp_confirm.specs.Steps.{HasLines, step_line, value_of};
 
-use crate::fields::{cut_at, field_at, value_at};
+use crate::fields::{step_at, value_at};
 use crate::step_lines::{SeenValue, StepLine};
-use crate::step_texts::{StepsFault, step_at};
 use bp_text::part_before;
 use std::alloc::{AllocError, Global};
 use std::marker::Model;
+
+/// Why a text is not read as steps.
+#[derive(Clone, Copy)]
+pub(crate) enum StepsFault {
+    /// This line is the first that is malformed, or the last one that does not end.
+    Line(u32),
+    /// There was not enough memory.
+    Memory,
+}
+
+impl From<AllocError> for StepsFault {
+    ghost use Rattle.std.specs.Prelude.{◌≡◌};
+    ghost use Rattle.bp_confirm.specs.declared.kept_lines.StepsFault.{StepsFault};
+
+    ghost from_gives = { λ _ e. e ≡ StepsFault.Memory };
+
+    fn from(_: AllocError) -> StepsFault {
+        StepsFault::Memory
+    }
+}
 
 /// How many lines are noted, so that they are known when they are read again.
 const SLOTS: usize = 4096;
@@ -55,7 +75,7 @@ fn read_line<'a>(
     ensures each { OnOk result (AllByRecursion IsKeptLine kept.new.items) }
     ensures grown { OnOk result (GrowsByOne kept.old.items kept.new.items) }
     ensures read { IfOk result (λ r. MatchOption r
-        (HasNoStep text.now)
+        (HasNone step_line text.now)
         (λ p. IsStepThere (kept_lines kept.new.items) p.0 text.now p.1.now)) }
 {
     let slot = slot_of(text);
@@ -157,52 +177,28 @@ impl<'a> StepLines<'a> {
     }
 }
 
-/// The text of this line, counted from 1.
-fn line_text(steps: &[u8], line: u32) -> Option<&[u8]>
-    ensures { MatchOption result
-        (HasNoLine steps.now line)
-        (λ text. IsTextOfLine steps.now line text.now) }
+/// The step of this line, counted from 1.
+fn step_on_line(steps: &[u8], line: u32) -> Option<StepLine<'_>>
+    ensures { IsStepOnLine steps.now line result }
 {
     let mut rest = steps;
     for _before in 1..line {
-        let Some((_, more)) = cut_at(rest, b'\n') else {
+        let Some((_, more)) = step_at(rest) else {
             return None;
         };
         rest = more;
     }
-    match cut_at(rest, b'\n') {
+    match step_at(rest) {
         None => None,
-        Some((own, _)) => Some(own),
+        Some((step, _)) => Some(step),
     }
 }
 
-/// The text of the values of this line, counted from 1.
-fn values_on(steps: &[u8], line: u32) -> Option<&[u8]>
-    ensures { MatchOption result
-        (HasNoLine steps.now line)
-        (λ values. AreValuesOf steps.now line values.now) }
+/// The value at this place, from 0, of a part of a line that says values.
+fn value_at_place(values: &[u8], place: usize) -> Option<SeenValue<'_>>
+    requires { SaysValues values.now }
+    ensures { option_map value_of result ≡ slice_get (values_in values.now) place }
 {
-    let Some(text) = line_text(steps, line) else {
-        return None;
-    };
-    let Some((_, rest)) = cut_at(text, b' ') else {
-        return None;
-    };
-    let (_, values) = field_at(rest);
-    Some(values)
-}
-
-/// The value at this place on a line of a text of steps. Lines are counted from 1, and the values
-/// of a line from 0.
-pub fn value_on_line(steps: &[u8], line: u32, place: usize) -> Option<SeenValue<'_>>
-    ensures { IsValueOnLine steps.now line place (option_map value_of result) }
-{
-    if line == 0 {
-        return None;
-    }
-    let Some(values) = values_on(steps, line) else {
-        return None;
-    };
     let mut rest = values;
     for _before in 0..place {
         let Some((_, more)) = value_at(rest) else {
@@ -214,4 +210,18 @@ pub fn value_on_line(steps: &[u8], line: u32, place: usize) -> Option<SeenValue<
         None => None,
         Some((value, _)) => Some(value),
     }
+}
+
+/// The value at this place on a line of a text of steps. Lines are counted from 1, and the values
+/// of a line from 0.
+pub fn value_on_line(steps: &[u8], line: u32, place: usize) -> Option<SeenValue<'_>>
+    ensures { IsValueOnLine steps.now line place (option_map value_of result) }
+{
+    if line == 0 {
+        return None;
+    }
+    let Some(step) = step_on_line(steps, line) else {
+        return None;
+    };
+    value_at_place(step.values, place)
 }

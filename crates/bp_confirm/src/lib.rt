@@ -14,11 +14,11 @@ mod listed_lines;
 mod noted_steps;
 mod source_points;
 mod step_lines;
-mod step_texts;
 mod values;
 
 pub use choices::LastChoice;
 pub use confirming::{ConfirmFault, Difference, StepReason, StepRefusal, confirm};
+pub use fields::NameState;
 pub use histories::Confirmed;
 pub use kept_lines::value_on_line;
 pub use laws::{

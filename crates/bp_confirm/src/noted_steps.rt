@@ -9,7 +9,7 @@ ghost use Rattle.bp_machine.specs.declared.calls.Call.{Call as Answered};
 ghost use Rattle.bp_machine.specs.Histories.{stack_of, configuration_after, is_granted};
 ghost use Rattle.bp_machine.specs.Sessions.{Stands};
 ghost use Rattle.bp_trace.specs.Replays.{IsReplayRefusal};
-ghost use Rattle.bp_confirm.specs.OwnSteps.{next_start, AreStepsOfTrace, own_steps_text, step_line};
+ghost use Rattle.bp_confirm.specs.OwnSteps.{next_start, AreStepsOfTrace, own_line, own_steps_text};
 ghost use Rattle.bp_confirm.specs.FollowedSteps.{source_points_of};
 
 use crate::source_points::{SourcePoint, point_of, source_points_of};
@@ -139,7 +139,7 @@ pub fn own_steps(
 /// Writes the line of a step.
 fn put_step<W: Write>(step: &OwnStep, out: &mut W) -> Result<(), WriteFault>
     ensures { Writes (W.contents out.old) (W.contents out.new)
-        (step_line step.now) result }
+        (own_line step.now) result }
 {
     let thread = Number(u64::from(step.thread));
     match step.position {

@@ -52,10 +52,10 @@ item_at (x ∷ xs) (suc k) within = item_at xs k (omega (arith, within))
 
 -- Whether a list has an element.
 
-pub none_left : (xs : List ℕ) → (length xs == 0) ≡ true → xs ≡ []
+pub none_left : {A : Type 0} (xs : List A) → (length xs == 0) ≡ true → xs ≡ []
 none_left xs none = nil_from_length xs ((Decides-eqb (length xs) 0).0 none)
 
-pub some_left : (xs : List ℕ) → (length xs == 0) ≡ false → xs ≢ []
+pub some_left : {A : Type 0} (xs : List A) → (length xs == 0) ≡ false → xs ≢ []
 some_left xs some e = let none = (Decides-eqb (length xs) 0).1 (ap length e) in false≢true (sym some ∙ none)
 
 -- Texts that are added one after the other, and the next turn of a loop that adds a text.

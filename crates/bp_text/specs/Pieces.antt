@@ -121,10 +121,6 @@ NoControlIsDisplayed = (text : List ℕ) → HasNoControl (displayed text)
 
 -- Which digits are the decimal of a number of 64 bits.
 
--- a zero stands before other digits
-abbrev pub IsPadded : List ℕ → Type 0
-IsPadded digits = (1 < length digits) × (slice_index digits 0 ≡ 48)
-
 -- the digits are the decimal of this number, which has 64 bits
 pub record IsNumber (digits : List ℕ) (n : ℕ) : Type 0 where
   pub fits : n < 2 ^ 64

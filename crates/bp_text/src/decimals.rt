@@ -1,7 +1,8 @@
 //! Decimals: how many digits a number has, and the number whose decimal some digits are.
-ghost use Rattle.std.specs.Prelude.{◌≡◌, ◌<◌, ◌≤◌, ◌^◌, ◌+◌, ◌-◌, ◌*◌, ◌↔◌, IsTrue, MatchOption, SomeIff, length, decimal};
-ghost use Rattle.bp_text.specs.Pieces.{IsPadded, IsNumber, IsNoNumber};
+ghost use Rattle.std.specs.Prelude.{◌≡◌, MatchOption, length, decimal};
+ghost use Rattle.bp_text.specs.Pieces.{IsNumber, IsNoNumber};
 
+use crate::formats::long_number_at;
 use itoa::Buffer;
 
 /// How many digits a number has.
@@ -12,49 +13,14 @@ pub fn digits(number: u64) -> usize
     buffer.format(number).len()
 }
 
-/// The number with one more digit after it, where it has 64 bits.
-fn with_digit(number: u64, digit: u8) -> Option<u64>
-    requires low { 48 ≤ digit }
-    requires high { digit ≤ 57 }
-    ensures { SomeIff result (number * 10 + (digit - 48) < 2 ^ 64) (number * 10 + (digit - 48)) }
-{
-    let Some(tens) = number.checked_mul(10) else {
-        return None;
-    };
-    match tens.checked_add(u64::from(digit - b'0')) {
-        None => None,
-        Some(number) => Some(number),
-    }
-}
-
-/// Whether a zero stands before other digits.
-fn is_padded(digits: &[u8]) -> bool
-    ensures { IsTrue result ↔ IsPadded digits.now }
-{
-    digits.len() > 1 && digits[0] == b'0'
-}
-
-/// The number of 64 bits whose decimal the digits are.
+/// Reads the digits of a number of 64 bits.
 pub fn number_of(digits: &[u8]) -> Option<u64>
     ensures { MatchOption result
         (IsNoNumber digits.now)
         (IsNumber digits.now) }
 {
-    if digits.is_empty() {
+    let Some((number, rest)) = long_number_at(digits) else {
         return None;
-    }
-    if is_padded(digits) {
-        return None;
-    }
-    let mut number = 0;
-    for digit in digits {
-        if !digit.is_ascii_digit() {
-            return None;
-        }
-        let Some(next) = with_digit(number, *digit) else {
-            return None;
-        };
-        number = next;
-    }
-    Some(number)
+    };
+    if rest.is_empty() { Some(number) } else { None }
 }

@@ -5,6 +5,7 @@
 mod decimals;
 mod displayed;
 mod excerpts;
+mod formats;
 mod lines;
 mod pieces;
 mod sinks;
@@ -12,6 +13,9 @@ mod sinks;
 pub use decimals::{digits, number_of};
 pub use displayed::{no_control_is_displayed, push_displayed, strings_are_read_back};
 pub use excerpts::{excerpt_of, push_line, push_place};
+pub use formats::{
+    Machine, after, after_word, bit_at, long_number_at, number_at, short_number_at, span_at,
+};
 pub use lines::{
     FIRST, Line, Position, after_all, first_line, last_line, line_of, part_before, part_from,
     position_from, position_of, push_on_one_line, take_line, text_from_line,

@@ -3,7 +3,7 @@ use Rattle.bp_confirm.specs.ConfirmedTexts.{AreDeclared}
 use Rattle.bp_confirm.specs.Steps.{value_of}
 use Rattle.bp_confirm.specs.LineReading.{values_in}
 use Rattle.bp_confirm.proofs.OneTextRefusal.{first_undeclared, declared_more}
-use Rattle.bp_confirm.proofs.OneReading.{all_read, none_read, one_more_read, value_there}
+use Rattle.bp_confirm.proofs.ReadValues.{all_read, none_read, one_more_read, value_there}
 use Rattle.bp_confirm.proofs.declared.undeclared_value.Goals as goal
 
 pub loop-value-init : goal.loop-value-init
@@ -13,7 +13,7 @@ pub returns-then-not-is_declared-clause-first : goal.returns-then-not-is_declare
 returns-then-not-is_declared-clause-first c =
     let values = c.args.values.now in
     let v = value_of c.in-Some.value in
-    let there = value_there values c.requires.values c.loop-value.rest.now c.loop-value.n c.loop-value.invariant.read v c.in-Some.more.now c.in-Some.ensures in
+    let there = value_there values c.loop-value.rest.now c.loop-value.n c.loop-value.invariant.read v c.in-Some.more.now c.in-Some.ensures in
     first_undeclared c.args.checked.now v (values_in values) c.loop-value.n there c.loop-value.invariant.first (sym c.is_declared.ensures.is ∙ c.if-not-is_declared.true)
 
 pub loop-value-preserved : goal.loop-value-preserved
@@ -23,9 +23,9 @@ loop-value-preserved c =
     let n = c.loop-value.n in
     let v = value_of c.in-Some.value in
     let read = c.loop-value.invariant.read in
-    let there = value_there values c.requires.values rest n read v c.in-Some.more.now c.in-Some.ensures in
+    let there = value_there values rest n read v c.in-Some.more.now c.in-Some.ensures in
     record {
-      read = one_more_read values c.requires.values rest n read v c.in-Some.more.now c.in-Some.ensures;
+      read = one_more_read values rest n read v c.in-Some.more.now c.in-Some.ensures;
       known = c.is_declared.ensures.known;
       first = declared_more c.args.checked.now v (values_in values) n there c.loop-value.invariant.first (sym c.is_declared.ensures.is ∙ c.if-not-is_declared.false);
     }
@@ -34,5 +34,5 @@ pub returns-clause-first : goal.returns-clause-first
 returns-clause-first c =
     let values = c.args.values.now in
     subst (AreDeclared c.args.checked.now)
-    (all_read values c.requires.values c.loop-value.rest.now c.loop-value.n c.loop-value.invariant.read c.in_default.ensures)
+    (all_read values c.loop-value.rest.now c.loop-value.n c.loop-value.invariant.read c.in_default.ensures)
     c.loop-value.invariant.first

@@ -1,7 +1,8 @@
-use Rattle.std.proofs.Common.{◌≡◌, ◌≤◌, ◌+◌, ◌++◌, length}
+use Rattle.std.proofs.Common.{◌≤◌, ◌+◌, length}
 use Rattle.std.specs.List.{AllByRecursion}
+use Rattle.bp_text.proofs.WholeTexts.{AreReadTo}
 use Rattle.bp_confirm.specs.KeptLines.{kept_lines, lines_at, AreWithin, IsKeptLine}
-use Rattle.bp_confirm.specs.Steps.{HasLine, steps_text}
+use Rattle.bp_confirm.specs.Steps.{step_line}
 use Rattle.bp_confirm.proofs.kept_lines.read_lines.Given as goal
 
 abbrev pub invariant-loop-rest : goal.invariant-loop-rest
@@ -9,8 +10,7 @@ invariant-loop-rest l = record {
   kept : AllByRecursion IsKeptLine l.kept.items;
   few : length l.kept.items ≤ length l.places.items;
   within : AreWithin (kept_lines l.kept.items) l.places.items;
-  each : AllByRecursion HasLine (lines_at (kept_lines l.kept.items) l.places.items);
-  parts : l.text ≡ steps_text (lines_at (kept_lines l.kept.items) l.places.items) ++ l.rest;
+  read : AreReadTo step_line l.text (lines_at (kept_lines l.kept.items) l.places.items) l.rest;
   less : length l.places.items + length l.rest ≤ length l.text;
 }
 

@@ -2,7 +2,7 @@ use Rattle.std.proofs.Common.{◌∙◌, ap, sym, subst, option_map}
 use Rattle.bp_confirm.specs.Steps.{value_of, SeesValues}
 use Rattle.bp_confirm.specs.LineReading.{values_in}
 use Rattle.bp_confirm.proofs.StepsFollowed.{sees_more}
-use Rattle.bp_confirm.proofs.OneReading.{all_read, none_read, one_more_read, value_there}
+use Rattle.bp_confirm.proofs.ReadValues.{all_read, none_read, one_more_read, value_there}
 use Rattle.bp_confirm.proofs.values.first_unseen.Goals as goal
 
 pub loop-value-init : goal.loop-value-init
@@ -11,7 +11,7 @@ loop-value-init c = record { read = none_read c.args.values.now c.requires; sees
 pub returns-then-not-is_value : goal.returns-then-not-is_value
 returns-then-not-is_value c =
     let v = value_of c.in-Some.value in
-    let there = value_there c.args.values.now c.requires c.loop-value.rest.now c.loop-value.place
+    let there = value_there c.args.values.now c.loop-value.rest.now c.loop-value.place
     c.loop-value.invariant.read v c.in-Some.more.now c.in-Some.ensures in
     record {
       name = ap (option_map (λ x. x.0)) there;
@@ -31,9 +31,9 @@ loop-value-preserved c =
     let n = c.loop-value.place in
     let v = value_of c.in-Some.value in
     let read = c.loop-value.invariant.read in
-    let there = value_there values c.requires rest n read v c.in-Some.more.now c.in-Some.ensures in
+    let there = value_there values rest n read v c.in-Some.more.now c.in-Some.ensures in
     record {
-      read = one_more_read values c.requires rest n read v c.in-Some.more.now c.in-Some.ensures;
+      read = one_more_read values rest n read v c.in-Some.more.now c.in-Some.ensures;
       sees = λ text now i are shown.
           let seen = c.value_at_top-seen.ensures text now i are shown in
           sees_more now i v (values_in values) n there (c.loop-value.invariant.sees text now i are shown)
@@ -44,6 +44,6 @@ pub returns : goal.returns
 returns c = record {
   name = tt;
   first = λ text now i are shown.
-      let all = all_read c.args.values.now c.requires c.loop-value.rest.now c.loop-value.place c.loop-value.invariant.read c.in_default.ensures in
+      let all = all_read c.args.values.now c.loop-value.rest.now c.loop-value.place c.loop-value.invariant.read c.in_default.ensures in
       subst (SeesValues now i) all (c.loop-value.invariant.sees text now i are shown);
 }
