@@ -1,5 +1,5 @@
 -- The decimals of any length, and the end line, that begin a text.
-use Rattle.std.proofs.Common.{◌≡◌, ◌≢◌, ℕ, ◌+◌, ◌<◌, ◌≤◌, Bool, List, [], ◌∷◌, ◌++◌, length, drop, None, Some, ap, sym, ◌∙◌, arith, length-append, decimal, suc, take, get_or, refl, subst, codes, inl, inr, add-one, drop-cons, take-append-drop, map, flat_map, Option, slice_get}
+use Rattle.std.proofs.Common.{◌≡◌, ◌≢◌, ℕ, ◌+◌, ◌-◌, ◌<◌, ◌≤◌, Bool, List, [], ◌∷◌, ◌++◌, length, drop, None, Some, ap, sym, ◌∙◌, arith, length-append, decimal, suc, take, get_or, refl, subst, codes, inl, inr, add-one, drop-cons, take-append-drop, map, flat_map, Option, slice_get}
 use Rattle.std.proofs.lemmas.List.{drop_at, get_or-take, get_or_at, get_or_append_left, length-take-le, map-append, take_more}
 use Rattle.std.specs.Str.Parse.{AllDigits}
 use Rattle.std.proofs.lemmas.Bool.{cases_lt}
@@ -11,67 +11,50 @@ use Rattle.bp_text.proofs.Givings.{flat_map_at}
 use Rattle.bp_machine.specs.declared.calls.Reply.{Reply}
 use Rattle.bp_machine.specs.declared.limits.TheConstants.{MAX_THREADS}
 use Rattle.bp_machine.specs.declared.calls.Call.{Call}
-use Rattle.bp_trace.specs.Drives.{number_at}
-use Rattle.bp_trace.specs.Reading.{IsThreadAt, HasNoThread, IsTailAt, HasNoTail, IsCallAt, HasNoCall, IsNoDigit, IsDecimalAt, HasNoDecimal, IsEndAt, HasNoEnd, IsSymbolAt, HasSymbols, IsBodyLineAt, HasNoBodyLine}
+use Rattle.bp_text.specs.Formats.{HasNone, IsAt}
+use Rattle.bp_text.proofs.Readings.{one_at}
+use Rattle.bp_machine.specs.Histories.{letter_of}
+use Rattle.bp_trace.specs.Reading.{thread_field, IsTailAt, HasNoTail, IsCallAt, HasNoCall, IsNoDigit, IsDecimalAt, HasNoDecimal, IsEndAt, HasNoEnd, IsSymbolAt, HasSymbols, IsBodyLineAt, HasNoBodyLine}
 use Rattle.bp_trace.specs.Replays.{IsDecimal, IsEndLine, IsBodyLine}
 use Rattle.bp_trace.specs.declared.traces.Version.TheVariants.{Two, One}
-use Rattle.bp_trace.specs.TraceText.{Symbol, Piece, call_of, symbol_text, piece_line, calls_of_piece, call_line}
+use Rattle.bp_trace.specs.TraceText.{bit_digit, Symbol, Piece, call_of, symbol_text, piece_line, calls_of_piece, call_line}
 use Rattle.bp_trace.specs.declared.traces.Version.{Version}
 use Rattle.bp_trace.proofs.OneText.{one_number, call_then, one_cut, digits_without, front_cut, piece_then, symbols_alike, no_symbol_at_end, number_begins, one_call_line, one_piece_line}
-use Rattle.bp_trace.proofs.ScheduleLineAt.{reads_back, front, drop_front}
+use Rattle.bp_trace.proofs.ScheduleLineAt.{thread_parts, thread_there}
 
--- The thread that begins a text, with a space after it.
-
-pub drop_more : (xs : List ℕ) (byte : ℕ) (ys : List ℕ) → drop (length xs + 1) (xs ++ byte ∷ ys) ≡ ys
-drop_more xs byte ys = simp regrouped at (drop_at (xs ++ byte ∷ []) ys (length xs + 1) (length-append xs (byte ∷ [])))
+-- The thread that begins a text, with a space after it, and the call that does.
 
 module _ (n : ℕ) (text : List ℕ) (few : n ≤ MAX_THREADS) where
-  -- a thread that begins the text is the number that is read
-  is_read : (i : ℕ) (more : List ℕ) → i < n → text ≡ decimal i ++ 32 ∷ more → number_at text ≡ Some i
-  is_read i more below e = ap number_at e ∙ reads_back i more (omega (arith, below, few))
+  there : (i : ℕ) (more : List ℕ) → i < n → text ≡ decimal i ++ 32 ∷ more → IsAt (thread_field n) text i more
+  there i more below e = thread_there n (omega (arith, few)) text i more below e
 
-  pub no_number : number_at text ≡ None → HasNoThread n text
-  no_number none = λ i more below e. let a = none in let b = is_read i more below e in cc
+  pub no_thread_no_call : HasNone (thread_field n) text → HasNoCall n text
+  no_thread_no_call lacks = λ x more below e.
+      let at = there x.thread _ below (e ∙ call_then x more) in
+      lacks.none x.thread _ at.fits at.parts
 
-  module _ (t : ℕ) (number : number_at text ≡ Some t) where
-    same : (i : ℕ) (more : List ℕ) → i < n → text ≡ decimal i ++ 32 ∷ more → t ≡ i
-    same i more below e = let a = number in let b = is_read i more below e in cc
+  module _ (t : ℕ) (rest : List ℕ) (at : IsAt (thread_field n) text t rest) where
+    pub begins_rest : text ≡ decimal t ++ 32 ∷ rest
+    begins_rest = thread_parts n (omega (arith, few)) text t rest at
 
-    pub past_threads : n ≤ t → HasNoThread n text
-    past_threads past = λ i more below e. omega (arith, past, below, same i more below e)
+    pub one_thread : (i : ℕ) (more : List ℕ) → i < n → text ≡ decimal i ++ 32 ∷ more → (t ≡ i) × (rest ≡ more)
+    one_thread i more below e = one_at at (there i more below e)
 
-    pub no_space : ((more : List ℕ) → drop (length (decimal t)) text ≢ 32 ∷ more) → HasNoThread n text
-    no_space none = λ i more below e.
-        let at = ap (λ k. decimal k) (same i more below e) in
-        none more (ap (λ ds. drop (length ds) text) at ∙ ap (drop (length (decimal i))) e ∙ drop_front (decimal i) (32 ∷ more))
+    pub size_of_front : length text ≡ length (decimal t) + 1 + length rest
+    size_of_front = let whole = ap length begins_rest in omega (arith, whole, length-append (decimal t) (32 ∷ rest))
 
-    pub has_thread : t < n → (more : List ℕ) → drop (length (decimal t)) text ≡ 32 ∷ more → IsThreadAt n text t
-    has_thread below more e = (more, below, front text t number ∙ ap (λ x. decimal t ++ x) e)
+    pub no_tail_no_call : HasNoTail rest → HasNoCall n text
+    no_tail_no_call none = λ x more below e. none x.bit x.reply more (one_thread x.thread _ below (e ∙ call_then x more)).1
 
--- the call that begins a text, where its thread does
-module _ (n : ℕ) (text : List ℕ) where
-  pub no_thread_no_call : HasNoThread n text → HasNoCall n text
-  no_thread_no_call none = λ x more below e. none x.thread _ below (e ∙ call_then x more)
+    module _ (bit : Bool) (reply : Reply) where
+      abbrev call : Call
+      call = record { thread = t; bit = bit; reply = reply }
 
-  module _ (few : n ≤ MAX_THREADS) (t : ℕ) (at : IsThreadAt n text t) where
-    pub after : drop (length (decimal t) + 1) text ≡ at.0
-    after = ap (drop (length (decimal t) + 1)) at.2 ∙ drop_more (decimal t) 32 at.0
+      pub tail_is_call : IsTailAt rest (bit, reply) → IsCallAt n text call
+      tail_is_call tail = (tail.0, at.fits.0, begins_rest ∙ ap (λ r. decimal t ++ 32 ∷ r) tail.1 ∙ sym (call_then call tail.0))
 
-    pub one_thread : (i : ℕ) (more : List ℕ) → i < n → text ≡ decimal i ++ 32 ∷ more → (t ≡ i) × (at.0 ≡ more)
-    one_thread i more below e = one_number 32 (omega arith) t i at.0 more (omega (arith, at.1, few)) (omega (arith, below, few)) (sym at.2 ∙ e)
-
-    pub within_text : length (decimal t) + 1 ≤ length text
-    within_text = let whole = ap length at.2 in omega (arith, whole, length-append (decimal t) (32 ∷ at.0))
-
-    pub no_tail_no_call : HasNoTail (drop (length (decimal t) + 1) text) → HasNoCall n text
-    no_tail_no_call none = λ x more below e.
-        let same = one_thread x.thread _ below (e ∙ call_then x more) in
-        none x.bit x.reply more (after ∙ same.1)
-
-    pub tail_is_call : (bit : Bool) (reply : Reply) → IsTailAt (drop (length (decimal t) + 1) text) (bit, reply)
-        → IsCallAt n text (record { thread = t; bit = bit; reply = reply })
-    tail_is_call bit reply tail =
-        (tail.0, at.1, at.2 ∙ ap (λ r. decimal t ++ 32 ∷ r) (sym after ∙ tail.1) ∙ sym (call_then (record { thread = t; bit = bit; reply = reply }) tail.0))
+      pub call_size : length text - length rest + 4 ≡ length (call_line call)
+      call_size = omega (arith, size_of_front, length-append (decimal t) (32 ∷ bit_digit bit ∷ 32 ∷ letter_of reply ∷ 10 ∷ []))
 
 -- ---- a decimal and the byte after it
 
@@ -243,16 +226,18 @@ reads_after [] more d = refl
 reads_after (f ∷ fs) more d = reads_after fs more d
 
 module _ (n : ℕ) (last : Option ℕ) (text : List ℕ) where
-  module _ (few : n ≤ MAX_THREADS) (t : ℕ) (at : IsThreadAt n text t) where
-    abbrev rest : List ℕ
-    rest = drop (length (decimal t) + 1) text
+  pub no_thread_no_piece : n ≤ MAX_THREADS → HasNone (thread_field n) text → HasNoBodyLine Two n last text
+  no_thread_no_piece few lacks = λ line calls more b begins.
+      let whole = begins ∙ ap (λ l. l ++ more) b.is ∙ piece_then b.piece more in
+      let at = there n text few b.piece.thread _ b.thread whole in
+      lacks.none b.piece.thread _ at.fits at.parts
 
+  module _ (few : n ≤ MAX_THREADS) (t : ℕ) (rest : List ℕ) (at : IsAt (thread_field n) text t rest) where
     -- the thread of a piece that begins the text, and what is after it
     same_thread : (p : Piece) (more : List ℕ) → p.thread < n → text ≡ piece_line p ++ more
         → (t ≡ p.thread) × (rest ≡ flat_map symbol_text (p.first ∷ p.others) ++ 10 ∷ more)
     same_thread p more below begins =
-        let same = one_thread n text few t at p.thread _ below (begins ∙ piece_then p more) in
-        (same.0, after n text few t at ∙ same.1)
+        one_thread n text few t rest at p.thread _ below (begins ∙ piece_then p more)
 
     pub no_piece_of_last : last ≡ Some t → HasNoBodyLine Two n last text
     no_piece_of_last is = λ line calls more b begins.
@@ -270,12 +255,12 @@ module _ (n : ℕ) (last : Option ℕ) (text : List ℕ) where
           (ap (λ text. slice_get text size) same.1 ∙ ap (slice_get (flat_map symbol_text symbols ++ 10 ∷ more)) long
           ∙ reads_after (flat_map symbol_text symbols) more 10)
 
-      pub has_piece : last ≢ Some t → 0 < size → slice_get rest size ≡ Some 10 → IsBodyLineAt Two n last text calls (length (decimal t) + size + 2)
+      pub has_piece : last ≢ Some t → 0 < size → slice_get rest size ≡ Some 10 → IsBodyLineAt Two n last text calls (length text - length rest + size + 1)
       has_piece other some ended = go read.symbols read.more read.added read.begins read.size_is
         where
           go : (ts : List Symbol) (more : List ℕ) → calls ≡ map (call_of t) ts → rest ≡ flat_map symbol_text ts ++ more
               → size ≡ length (flat_map symbol_text ts)
-              → IsBodyLineAt Two n last text calls (length (decimal t) + size + 2)
+              → IsBodyLineAt Two n last text calls (length text - length rest + size + 1)
           go [] more added begins long = absurd (omega (arith, long, some))
           go (u ∷ us) more added begins long =
               let symbols = flat_map symbol_text (u ∷ us) in
@@ -286,12 +271,14 @@ module _ (n : ℕ) (last : Option ℕ) (text : List ℕ) where
               record {
                 line = piece_line p;
                 more = drop 1 more;
-                is_line = record { piece = p; thread = at.1; other = λ e. other (sym e); is = refl; holds = added };
+                is_line = record { piece = p; thread = at.fits.0; other = λ e. other (sym e); is = refl; holds = added };
                 begins =
-                    at.2
-                    ∙ ap (λ r. decimal t ++ 32 ∷ r) (sym (after n text few t at) ∙ begins ∙ ap (λ r. symbols ++ r) line)
+                    begins_rest n text few t rest at
+                    ∙ ap (λ r. decimal t ++ 32 ∷ r) (begins ∙ ap (λ r. symbols ++ r) line)
                     ∙ sym (piece_then p (drop 1 more));
-                size_is = omega (arith, long, length-append (decimal t) (32 ∷ (symbols ++ codes "\n")), length-append symbols (codes "\n"));
+                size_is =
+                    let front = size_of_front n text few t rest at in
+                    omega (arith, long, front, length-append (decimal t) (32 ∷ (symbols ++ codes "\n")), length-append symbols (codes "\n"));
               }
 
 -- One line begins a text: no two lines of calls do, no two end lines, and no line of each kind.

@@ -1,8 +1,7 @@
-mod OneHead
+mod HeadsRead
 mod EndLineAt
 mod OneText
 mod PiecesAreFewest
-mod HeadStopsAt
 pub mod LinesDriveAgain
 mod OneHistoryAfter
 mod LongestAccepted

@@ -22,13 +22,13 @@ use Rattle.bp_machine.proofs.HistoriesAreRuns.{AllBelow, all_below, legal_length
 use Rattle.bp_machine.proofs.RunsAreHistories.{run_is_history}
 use Rattle.bp_machine.proofs.SetupInRange.{is_true, is_false}
 use Rattle.bp_trace.specs.declared.limits.TheConstants.{MAX_SCHEDULE}
-use Rattle.bp_trace.specs.TraceText.{bit_digit, line_text, schedule_text, line_of_call, lines_of_history, IsLineAt}
+use Rattle.bp_trace.specs.TraceText.{bit_digit, line_text, schedule_text, line_of_call, lines_of_history, IsLineAt, HasNoLine}
 use Rattle.bp_trace.specs.declared.driving.ScheduleLine.{ScheduleLine}
 use Rattle.bp_trace.specs.Drives.{IsDriven, IsBadLine, IsAfterFinish, IsRefusal, drive_fault_of, IsAdded, IsLineRefusal}
 use Rattle.bp_trace.specs.Laws.{LinesDriveAgain, DrivesTo, RunsDriveToHistories}
 use Rattle.bp_trace.specs.declared.faults.DriveFault.{DriveFault}
 use Rattle.bp_trace.specs.declared.faults.DriveFault.TheVariants as fault
-use Rattle.bp_trace.proofs.ScheduleLineAt.{one_digit, both_digits, number_of_line, line_front}
+use Rattle.bp_trace.proofs.ScheduleLineAt.{one_digit, both_digits, same_line, same_rest}
 
 -- The schedule of a legal history is short enough to be driven.
 
@@ -59,39 +59,6 @@ schedule_short t s h range legal =
     let one = mul-le-mul_right s.calls range.few in
     let other = mul-le-mul_left MAX_THREADS range.calls in
     omega (arith, few, calls, one, other)
-
-same_bit : (x y : Bool) → bit_digit x ≡ bit_digit y → x ≡ y
-same_bit false false e = refl
-same_bit false true e = absurd (omega (arith, e))
-same_bit true false e = absurd (omega (arith, e))
-same_bit true true e = refl
-
-line_is : (x y : ScheduleLine) → x.thread ≡ y.thread → x.bit ≡ y.bit → x ≡ y
-line_is x y p q = λ i. record { thread = p i; bit = q i }
-
--- one line begins a text
-module _ (x y : ScheduleLine) (a b : List ℕ) (few_x : x.thread < 100) (few_y : y.thread < 100) (e : line_text x ++ a ≡ line_text y ++ b) where
-  same_thread : x.thread ≡ y.thread
-  same_thread =
-      let p = number_of_line x (line_text x ++ a) a few_x refl in
-      let q = number_of_line y (line_text x ++ a) b few_y e in
-      cc
-
-  ends_alike : 32 ∷ bit_digit x.bit ∷ 10 ∷ a ≡ 32 ∷ bit_digit y.bit ∷ 10 ∷ b
-  ends_alike =
-      sym (drop-append_seam (decimal x.thread) (32 ∷ bit_digit x.bit ∷ 10 ∷ a))
-      ∙ ap (drop (length (decimal x.thread))) (sym (line_front x a) ∙ e ∙ line_front y b)
-      ∙ ap (λ n. drop (length (decimal n)) (decimal y.thread ++ 32 ∷ bit_digit y.bit ∷ 10 ∷ b)) same_thread
-      ∙ drop-append_seam (decimal y.thread) (32 ∷ bit_digit y.bit ∷ 10 ∷ b)
-
-  pub same_line : x ≡ y
-  same_line =
-      let ends = ends_alike in
-      let digits : bit_digit x.bit ≡ bit_digit y.bit = cc in
-      line_is x y same_thread (same_bit x.bit y.bit digits)
-
-  pub same_rest : a ≡ b
-  same_rest = let ends = ends_alike in cc
 
 pub not_empty : (x : ScheduleLine) (more : List ℕ) → [] ≢ line_text x ++ more
 not_empty x more e =
@@ -240,38 +207,42 @@ module _ (x : SessionOf) (h : List Call) (of_some : IsOfProgram x.code) (stands 
   refused_line line n Busy within unseeded refused = absurd (is_false x.code (Unit {0}) of_some (λ t is u. refused t h is (stands t is)) tt)
 
 -- one more line of the schedule
-module _ (schedule : List ℕ) (old new : List Call) (line : ScheduleLine) (place many : ℕ) (within : place ≤ length schedule)
-    (front : schedule ≡ schedule_text (lines_of_history old) ++ drop place schedule) (begins : IsLineAt many (drop place schedule) line) where
-  rest_is : drop (place + length (line_text line)) schedule ≡ begins.0
-  rest_is = sym (drop-drop (length (line_text line)) place schedule) ∙ ap (drop (length (line_text line))) begins.2 ∙ drop-append_seam (line_text line) begins.0
-
-  pub next_within : place + length (line_text line) ≤ length schedule
-  next_within =
-      let whole = ap length begins.2 in
-      omega (arith, whole, length-append (line_text line) begins.0, length-drop place schedule)
-
+module _ (schedule rest : List ℕ) (old new : List Call) (line : ScheduleLine)
+    (front : schedule ≡ schedule_text (lines_of_history old) ++ rest) (more : List ℕ) (parts : rest ≡ line_text line ++ more) where
   schedule_more : (y : Call) → line_of_call y ≡ line → schedule_text (lines_of_history (old ++ y ∷ [])) ≡ schedule_text (lines_of_history old) ++ line_text line
   schedule_more y e =
       ap schedule_text (map-append line_of_call old (y ∷ []))
       ∙ flat_map-append line_text (lines_of_history old) (line_of_call y ∷ [])
       ∙ ap (λ t. schedule_text (lines_of_history old) ++ t) (append-nil (line_text (line_of_call y)) ∙ ap line_text e)
 
-  pub next_front : IsAdded old new line → schedule ≡ schedule_text (lines_of_history new) ++ drop (place + length (line_text line)) schedule
+  pub next_front : IsAdded old new line → schedule ≡ schedule_text (lines_of_history new) ++ more
   next_front added =
       front
-      ∙ ap (λ t. schedule_text (lines_of_history old) ++ t) begins.2
-      ∙ rw (added.is, schedule_more added.call added.asked, rest_is) (simp regrouped)
+      ∙ ap (λ t. schedule_text (lines_of_history old) ++ t) parts
+      ∙ rw (added.is, schedule_more added.call added.asked) (simp regrouped)
 
-  pub next_few : IsAdded old new line → length old ≤ place → length new ≤ place + length (line_text line)
+  pub next_few : IsAdded old new line → length old + length rest ≤ length schedule → length new + length more ≤ length schedule
   next_few added few =
       let longer = ap length added.is ∙ length-append old (added.call ∷ []) in
-      omega (arith, longer, few, length-append (decimal line.thread) (32 ∷ bit_digit line.bit ∷ 10 ∷ []))
+      let whole = ap length parts ∙ length-append (line_text line) more in
+      omega (arith, longer, few, whole, length-append (decimal line.thread) (32 ∷ bit_digit line.bit ∷ 10 ∷ []))
 
 -- the refusal of a line, as that of the schedule
 module _ (x : SessionOf) (t : Program) (is : StandsFor x.code t) (s : SetupOf) (h : List Call) (setup : x.setup ≡ s) (stands : StandsForAll x h)
     (schedule rest : List ℕ) (short : length schedule ≤ MAX_SCHEDULE) (whole : schedule ≡ schedule_text (lines_of_history h) ++ rest) where
   pub legal_of : IsLegal t s h
   legal_of = subst (λ z. IsLegal t z h) setup (stands t is).state.legal
+
+  pub bad_line : (n many : ℕ) → n ≡ length h + 1 → many ≡ threads s → rest ≢ [] → HasNoLine many rest → (bytes : Option (List ℕ))
+      → IsRefusal t s schedule bytes bytes (fault.Line n)
+  bad_line n many number all some none bytes =
+      let bad : IsBadLine t s schedule n = record {
+        rest = rest;
+        reached = record { history = h; legal = legal_of; whole = whole; number = number };
+        some = some;
+        bad = subst (λ k. HasNoLine k rest) all none;
+      } in
+      (refl, (short, bad))
 
   module _ (line : ScheduleLine) (n many : ℕ) (number : n ≡ length h + 1) (all : many ≡ threads s) (begins : IsLineAt many rest line) where
     pub line_refused : (f : DriveFault) → IsLineRefusal x.setup h line n f → (bytes : Option (List ℕ)) → IsRefusal t s schedule bytes bytes f

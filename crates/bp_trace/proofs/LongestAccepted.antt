@@ -20,7 +20,7 @@ use Rattle.bp_trace.specs.Judging.{IsCallRefusal, IsLineRefused, IsBodyRefusal}
 use Rattle.bp_trace.specs.TraceText.{calls_text, HasHead, head_text}
 use Rattle.bp_trace.specs.Replays.{IsPlayable, IsBodyLine, IsCallFault, line_count, IsAccepted, IsLongestAccepted, HasRefusedCall}
 use Rattle.bp_trace.proofs.PiecesAreFewest.{text_grows, count_grows, some_line, line_below, thread_of}
-use Rattle.bp_trace.proofs.OneHead.{all_of_both, all_of_second, one_head}
+use Rattle.bp_trace.proofs.HeadsRead.{all_of_both, all_of_second, one_head}
 use Rattle.bp_trace.proofs.OneHistoryAfter.{Line, text_of_lines, calls_of_lines, AreLines, lines_of, below}
 use Rattle.bp_trace.proofs.EndLineAt.{one_body_line}
 use Rattle.bp_trace.proofs.OneText.{front_cut}

@@ -16,10 +16,13 @@ use Rattle.bp_trace.specs.declared.faults.ReplayFault.{ReplayFault}
 use Rattle.bp_trace.specs.declared.faults.ReplayFault.TheVariants as fault
 use Rattle.bp_trace.specs.declared.traces.Version.{Version}
 use Rattle.bp_trace.specs.declared.limits.TheConstants.{MAX_TRACE}
-use Rattle.bp_trace.specs.TraceText.{HasHead, HeadStops, head_lines, head_text, calls_text, end_line}
+use Rattle.bp_trace.specs.TraceText.{HasHead, head_lines, head_text, calls_text, end_line}
 use Rattle.bp_trace.specs.Laws.{OneRefusal, RefusedIsNoTrace}
 use Rattle.bp_trace.specs.Replays.{IsTrace, line_count, Reaches, HasRefusedSetup, HasRefusedRest, IsReplayRefusal, IsEndLine, IsRestRefused}
-use Rattle.bp_trace.proofs.OneHead.{one_head, one_head_stop, whole_head_stops_nowhere}
+use Rattle.bp_text.specs.Formats.{BreaksAt}
+use Rattle.bp_text.proofs.Breaks.{one_break}
+use Rattle.bp_trace.specs.HeadFormat.{head}
+use Rattle.bp_trace.proofs.HeadsRead.{no_break, one_head}
 use Rattle.bp_trace.proofs.OneText.{front_cut}
 use Rattle.bp_trace.proofs.TraceLength.{own_end, trace_short}
 use Rattle.bp_trace.proofs.OneHistoryAfter.{one_history, refused, stops, one_rest, end_stops, end_not_refused}
@@ -59,8 +62,8 @@ module _ (t : Program) (text : List ℕ) where
         let moved = subst (λ z. IsRestRefused t v s h m z k) (sym after) (subst (λ z. IsRestRefused t v s z m y k) (sym calls) b) in
         end_not_refused t v s few h own_h m x k end (refused t v s few h own_h m x k moved)
 
-  no_stop : (v : Version) (s : SetupOf) (rest : List ℕ) (k : ℕ) → HasHead s → text ≡ head_text v s ++ rest → HeadStops text k → ⊥
-  no_stop v s rest k has parts stops = whole_head_stops_nowhere v s rest k has (subst (λ z. HeadStops z k) parts stops)
+  no_stop : (v : Version) (s : SetupOf) (rest : List ℕ) (k : ℕ) → HasHead s → text ≡ head_text v s ++ rest → BreaksAt head text k → ⊥
+  no_stop v s rest k has parts breaks = no_break v s text rest k has parts breaks
 
   -- of a setup that has a fault and one that has none, one is not that of the text
   not_fine : (v w : Version) (s r : SetupOf) (x y : List ℕ) (g : SetupFault) → HasHead s → HasHead r → text ≡ head_text v s ++ x → text ≡ head_text w r ++ y
@@ -74,7 +77,7 @@ module _ (t : Program) (text : List ℕ) where
   -- why it is refused
   abbrev Cause : ReplayFault → Type 0
   Cause f =
-      ((k : ℕ) × (f ≡ fault.Head k) × HeadStops text k)
+      ((k : ℕ) × (f ≡ fault.Head k) × BreaksAt head text k)
       ⊎ (((g : SetupFault) × (f ≡ fault.Setup g) × HasRefusedSetup t text g)
       ⊎ HasRefusedRest t text f)
 
@@ -101,7 +104,7 @@ module _ (t : Program) (text : List ℕ) where
   rest_moved_to v w s r g m y f a b q = subst (λ z. IsRestRefused t v z g m y f) (sym b) (subst (λ z. IsRestRefused t z r g m y f) (sym a) q)
 
   one_cause : (f g : ReplayFault) → Cause f → Cause g → f ≡ g
-  one_cause f g (inl p) (inl q) = p.1 ∙ ap fault.Head (one_head_stop text p.0 q.0 p.2 q.2) ∙ sym q.1
+  one_cause f g (inl p) (inl q) = p.1 ∙ ap fault.Head (one_break head text p.0 q.0 p.2 q.2) ∙ sym q.1
   one_cause f g (inl p) (inr (inl q)) = absurd (no_stop q.2.version q.2.setup q.2.rest p.0 q.2.head q.2.parts p.2)
   one_cause f g (inl p) (inr (inr q)) = absurd (no_stop q.version q.setup _ p.0 q.reached.head q.reached.parts p.2)
   one_cause f g (inr (inl p)) (inl q) = absurd (no_stop p.2.version p.2.setup p.2.rest q.0 p.2.head p.2.parts q.2)

@@ -13,7 +13,8 @@ use Rattle.bp_trace.specs.declared.driving.ScheduleLine.{ScheduleLine}
 use Rattle.bp_trace.specs.TraceText.{line_text, line_of_call, lines_of_history, schedule_text}
 use Rattle.bp_trace.specs.Drives.{IsDriven, IsBadLine, IsAfterFinish}
 use Rattle.bp_trace.specs.Laws.{OneScheduleRefusal, RefusedDrivesNowhere}
-use Rattle.bp_trace.proofs.LinesDriveAgain.{same_line, same_rest, same_call, not_empty}
+use Rattle.bp_trace.proofs.LinesDriveAgain.{same_call, not_empty}
+use Rattle.bp_trace.proofs.ScheduleLineAt.{same_line, same_rest}
 
 module _ (t : Program) (s : SetupOf) (few : threads s ≤ MAX_THREADS) where
   abbrev lines : List Call → List ℕ

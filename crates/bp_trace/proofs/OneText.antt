@@ -5,7 +5,7 @@ use Rattle.std.proofs.lemmas.Str.Parse.{digit_from_value}
 use Rattle.std.proofs.lemmas.Fmt.{digits_decimal, decimal_injective, decimal_nonempty}
 use Rattle.std.specs.List.{concat, AllByRecursion}
 use Rattle.bp_text.specs.Pieces.{bit_text}
-use Rattle.bp_text.proofs.NumberOfDigits.{numerals}
+use Rattle.bp_text.proofs.NumbersInTurn.{numerals}
 use Rattle.bp_text.proofs.PartsOfTexts.{regrouped}
 use Rattle.bp_machine.specs.Setups.{SetupOf, setup_of}
 use Rattle.bp_machine.specs.declared.calls.Call.{Call}

@@ -19,7 +19,7 @@ use Rattle.bp_trace.specs.Replays.{IsLongestAccepted, counts_of, IsPlayable, IsT
 use Rattle.bp_trace.specs.Judging.{IsBody, IsBodyRefusal, HasRefusedBody, FitsText, IsOpened}
 use Rattle.bp_trace.proofs.OneText.{limits_text, setup_text, head_joined}
 use Rattle.bp_trace.proofs.LongestAccepted.{longest_before_no_line, longest_before_refused}
-use Rattle.bp_trace.proofs.HeadStopsAt.{line_total}
+use Rattle.bp_trace.proofs.HeadsRead.{line_total}
 
 -- ---- each line of a head has a byte
 

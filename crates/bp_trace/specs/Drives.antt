@@ -1,5 +1,5 @@
 -- What a schedule drives a program to.
-use Rattle.std.specs.Prelude.{◌≡◌, ◌≢◌, ℕ, ◌+◌, ◌<◌, ◌≤◌, true, List, [], ◌++◌, Option, length, ◌∷◌, if◌then◌else◌, ◌-◌, ◌*◌, ◌==◌, Bool, ◌&&◌, nat_le, None, Some, option_map}
+use Rattle.std.specs.Prelude.{◌≡◌, ◌≢◌, ℕ, ◌+◌, ◌<◌, ◌≤◌, true, List, [], ◌++◌, Option, length, ◌∷◌, ◌-◌}
 use Rattle.bp_text.specs.Writing.{AppendsAll, AppendsPart}
 use Rattle.bp_language.specs.Ast.{Program}
 use Rattle.bp_machine.specs.declared.calls.Call.{Call}
@@ -7,13 +7,12 @@ use Rattle.bp_machine.specs.declared.calls.Report.{Report}
 use Rattle.bp_machine.specs.Setups.{SetupOf, threads}
 use Rattle.bp_machine.specs.Histories.{IsLegal, is_finished, IsReport}
 use Rattle.bp_machine.specs.declared.calls.AskFault.{AskFault}
-use Rattle.bp_machine.specs.declared.calls.AskFault.TheVariants.{NoThread, Finished}
 use Rattle.bp_machine.specs.declared.calls.AskFault.TheVariants as refused
 use Rattle.bp_trace.specs.declared.faults.DriveFault.{DriveFault}
 use Rattle.bp_trace.specs.declared.faults.DriveFault.TheVariants.{TooLong, Line, AfterFinish, Memory, Write}
 use Rattle.bp_trace.specs.declared.limits.TheConstants.{MAX_SCHEDULE}
 use Rattle.bp_trace.specs.declared.driving.ScheduleLine.{ScheduleLine}
-use Rattle.bp_trace.specs.TraceText.{schedule_text, lines_of_history, IsLineAt, HasNoLine, trace_text, line_of_call, bit_digit}
+use Rattle.bp_trace.specs.TraceText.{schedule_text, lines_of_history, IsLineAt, HasNoLine, trace_text, line_of_call}
 
 -- a legal history makes the calls of the lines before the n-th, which begins the rest
 pub record DrivesUpTo
@@ -94,26 +93,3 @@ module _ (s : SetupOf) (h : List Call) (line : ScheduleLine) (n : ℕ) where
   IsLineRefusal (AfterFinish m) = (m ≡ n) × (is_finished s h line.thread ≡ true)
   IsLineRefusal Memory = Unit {0}
   IsLineRefusal Write = ⊥
-
--- How a line of a schedule is read: a device of the reader, which no public clause names.
-
-abbrev pub digit_of : ℕ → Option ℕ
-digit_of b = if nat_le 48 b && nat_le b 57 then Some (b - 48) else None
-
--- a second digit counts after one that is not 0
-abbrev pub two_digits : ℕ → Option ℕ → ℕ
-two_digits n None = n
-two_digits n (Some m) = if n == 0 then n else 10 * n + m
-
-abbrev pub number_at : List ℕ → Option ℕ
-number_at [] = None
-number_at (a ∷ []) = digit_of a
-number_at (a ∷ b ∷ bs) = option_map (λ n. two_digits n (digit_of b)) (digit_of a)
-
--- a space, the bit and a line feed begin the text
-abbrev pub EndsLine : List ℕ → Bool → Type 0
-EndsLine text b = (more : List ℕ) × (text ≡ 32 ∷ bit_digit b ∷ 10 ∷ more)
-
--- no space, bit and line feed do
-abbrev pub EndsNoLine : List ℕ → Type 0
-EndsNoLine text = (b : Bool) (more : List ℕ) → text ≢ 32 ∷ bit_digit b ∷ 10 ∷ more

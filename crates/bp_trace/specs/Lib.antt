@@ -4,3 +4,4 @@ pub mod Drives
 pub mod TraceText
 pub mod Judging
 pub mod Laws
+pub mod HeadFormat

@@ -21,7 +21,9 @@ use Rattle.bp_trace.specs.declared.faults.ReplayFault.{ReplayFault}
 use Rattle.bp_trace.specs.declared.faults.ReplayFault.TheVariants as fault
 use Rattle.bp_trace.specs.declared.traces.Version.{Version}
 use Rattle.bp_trace.specs.declared.traces.Version.TheVariants.{One, Two}
-use Rattle.bp_trace.specs.TraceText.{HasHead, HeadStops, Piece, pieces_of, calls_of_piece, head_lines, head_text, call_line, piece_line, calls_text, end_line, text_of, trace_text_2}
+use Rattle.bp_text.specs.Formats.{BreaksAt}
+use Rattle.bp_trace.specs.HeadFormat.{head}
+use Rattle.bp_trace.specs.TraceText.{HasHead, Piece, pieces_of, calls_of_piece, head_lines, head_text, call_line, piece_line, calls_text, end_line, text_of, trace_text_2}
 use Rattle.bp_trace.specs.declared.replaying.AcceptedTrace.{AcceptedTrace}
 use Rattle.bp_trace.specs.declared.judging.Printed.{Printed}
 use Rattle.bp_trace.specs.declared.replaying.Replayed.{Replayed}
@@ -221,7 +223,7 @@ module _ (t : Program) (text : List ℕ) where
 
   abbrev pub IsReplayRefusal : ReplayFault → Type 0
   IsReplayRefusal fault.TooLong = MAX_TRACE < length text
-  IsReplayRefusal (fault.Head k) = IsShort × HeadStops text k
+  IsReplayRefusal (fault.Head k) = IsShort × BreaksAt head text k
   IsReplayRefusal (fault.Setup f) = IsShort × HasRefusedSetup f
   IsReplayRefusal fault.Memory = IsShort
   IsReplayRefusal f = IsShort × HasRefusedRest f

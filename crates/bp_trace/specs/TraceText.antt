@@ -1,6 +1,7 @@
 -- The text of a trace: the setups that have one, its head, and the lines of its calls; schedules.
-use Rattle.std.specs.Prelude.{◌≡◌, ◌≢◌, ◌<◌, ℕ, Bool, true, false, List, [], ◌∷◌, ◌++◌, map, flat_map, decimal, if◌then◌else◌, ◌==◌, Option, None, Some, length, codes, ◌^◌, ◌+◌}
+use Rattle.std.specs.Prelude.{◌≡◌, ◌≢◌, ◌<◌, ℕ, Bool, List, [], ◌∷◌, ◌++◌, map, flat_map, decimal, if◌then◌else◌, ◌==◌, Option, None, Some, length, codes, ◌^◌, ◌+◌}
 use Rattle.std.specs.List.{concat, AllByRecursion}
+pub use Rattle.bp_text.specs.Formats.{bit_digit}
 use Rattle.bp_machine.specs.declared.calls.Call.{Call}
 use Rattle.bp_machine.specs.declared.calls.Reply.{Reply}
 use Rattle.bp_machine.specs.Setups.{SetupOf}
@@ -10,10 +11,6 @@ use Rattle.bp_trace.specs.declared.traces.Version.{Version}
 use Rattle.bp_trace.specs.declared.traces.Version.TheVariants.{One, Two}
 
 -- Schedules: lines that say which thread makes the next call, and with which choice bit.
-
-abbrev pub bit_digit : Bool → ℕ
-bit_digit false = 48
-bit_digit true = 49
 
 -- the thread, a space, the bit and a line feed
 abbrev pub line_text : ScheduleLine → List ℕ
@@ -167,7 +164,7 @@ pub record IsWritable (s : SetupOf) (h : List Call) : Type 0 where
   pub seed : (n : ℕ) → s.seed ≡ Some n → n < 2 ^ 64
   pub threads : AllByRecursion (λ x. x.thread < 2 ^ 64) h
 
--- Heads of traces: which setups have one, and where a text stops being one.
+-- Which setups have a head.
 
 -- a name that an entry line can hold
 pub record IsEntryName (name : List ℕ) : Type 0 where
@@ -180,22 +177,3 @@ pub record HasHead (s : SetupOf) : Type 0 where
   pub contexts : s.contexts < 2 ^ 64
   pub calls : s.calls < 2 ^ 64
   pub seed : (n : ℕ) → s.seed ≡ Some n → n < 2 ^ 64
-
--- these are the first lines of some head
-pub record BeginsHead (lines : List (List ℕ)) : Type 0 where
-  pub version : Version
-  pub setup : SetupOf
-  pub has : HasHead setup
-  pub more : List (List ℕ)
-  pub is : head_lines version setup ≡ lines ++ more
-
--- the first lines of the text begin a head and are none yet, and no line that may follow them
--- follows: line k is malformed or missing
-pub record HeadStops (text : List ℕ) (k : ℕ) : Type 0 where
-  pub front : List (List ℕ)
-  pub rest : List ℕ
-  pub parts : text ≡ concat front ++ rest
-  pub place : k ≡ length front + 1
-  pub due : List ℕ
-  pub begins : BeginsHead (front ++ due ∷ [])
-  pub stops : (line more : List ℕ) → BeginsHead (front ++ line ∷ []) → rest ≢ line ++ more

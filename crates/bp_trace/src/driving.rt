@@ -7,14 +7,18 @@ ghost use Rattle.bp_machine.specs.declared.limits.TheConstants.{MAX_THREADS};
 ghost use Rattle.bp_machine.specs.Setups.{FitsCode};
 ghost use Rattle.bp_machine.specs.Sessions.{StandsForAll};
 ghost use Rattle.bp_trace.specs.declared.limits.TheConstants.{MAX_SCHEDULE};
-ghost use Rattle.bp_trace.specs.TraceText.{schedule_text, lines_of_history, line_text, IsLineAt, HasNoLine};
-ghost use Rattle.bp_trace.specs.Drives.{DrivesTo, IsRefusal, drive_fault_of, IsAdded, IsLineRefusal, digit_of, number_at, EndsLine, EndsNoLine};
+ghost use Rattle.bp_text.specs.Formats.{Finds};
+ghost use Rattle.bp_trace.specs.TraceText.{schedule_text, lines_of_history};
+ghost use Rattle.bp_trace.specs.Drives.{DrivesTo, IsRefusal, drive_fault_of, IsAdded, IsLineRefusal};
+ghost use Rattle.bp_trace.specs.Reading.{schedule_line};
 
 use crate::faults::DriveFault;
 use crate::limits::MAX_SCHEDULE;
+use crate::trace_lines::thread_at;
 use crate::traces::{Version, write_with_open_lines};
 use bp_flat::Code;
 use bp_machine::{AskFault, Call, Report, Session, Setup};
+use bp_text::{after, bit_at};
 use std::alloc::Global;
 use std::io::Write;
 
@@ -77,14 +81,14 @@ fn play(
         → IfErr result (IsRefusal t session.old.setup schedule.now bytes bytes) }
 {
     let mut calls = Vec::new(alloc);
-    let mut at = 0;
-    while at < schedule.len() {
+    let mut rest = schedule;
+    while !rest.is_empty() {
         let n = calls.len() as u32 + 1;
-        let Some(line) = line_at(threads, text_from(schedule, at)) else {
+        let Some((line, more)) = line_at(threads, rest) else {
             return Err(DriveFault::Line(n));
         };
         play_line(session, &mut calls, line, n)?;
-        at += line.text_len();
+        rest = more;
     }
     Ok(calls)
 }
@@ -125,63 +129,6 @@ pub struct ScheduleLine {
     pub bit: bool,
 }
 
-/// How many digits the number of a thread has.
-pub(crate) fn digit_count(thread: u32) -> usize
-    requires { thread < 100 }
-    ensures value { result ≡ length (decimal thread) }
-    ensures small { result ≤ 2 }
-{
-    if thread < 10 { 1 } else { 2 }
-}
-
-impl ScheduleLine {
-    /// How many bytes the line has.
-    pub(crate) fn text_len(&self) -> usize
-        requires { self.now.thread < 100 }
-        ensures { result ≡ length (line_text self.now) }
-    {
-        digit_count(self.thread) + 3
-    }
-}
-
-/// The value of a decimal digit.
-fn digit(byte: u8) -> Option<u32>
-    ensures { result ≡ digit_of byte }
-{
-    if b'0' <= byte && byte <= b'9' {
-        Some(u32::from(byte - b'0'))
-    } else {
-        None
-    }
-}
-
-/// The number at the front of the text, of two digits where it can be.
-pub(crate) fn number_at(text: &[u8]) -> Option<u32>
-    ensures { result ≡ number_at text.now }
-{
-    let first = digit(*text.first()?)?;
-    let Some(second) = text.get(1) else {
-        return Some(first);
-    };
-    match digit(*second) {
-        Some(second) if first != 0 => Some(10 * first + second),
-        _ => Some(first),
-    }
-}
-
-/// The bit of the text that ends a line.
-fn bit_at(text: &[u8]) -> Option<bool>
-    ensures { MatchOption result (EndsNoLine text.now) (EndsLine text.now) }
-{
-    if text.starts_with(b" 0\n") {
-        Some(false)
-    } else if text.starts_with(b" 1\n") {
-        Some(true)
-    } else {
-        None
-    }
-}
-
 /// The text from this place on.
 pub(crate) fn text_from(text: &[u8], place: usize) -> &[u8]
     requires { place ≤ length text.now }
@@ -190,19 +137,19 @@ pub(crate) fn text_from(text: &[u8], place: usize) -> &[u8]
     &text[place..]
 }
 
-/// The line of a thread below this number that begins the text.
-pub(crate) fn line_at(threads: u32, text: &[u8]) -> Option<ScheduleLine>
-    requires { threads ≤ MAX_THREADS }
-    ensures { MatchOption result (HasNoLine threads text.now) (IsLineAt threads text.now) }
+/// The line of a thread below this number that begins the text, and what is after it.
+#[inline(always)]
+fn line_at(threads: u32, text: &[u8]) -> Option<(ScheduleLine, &[u8])>
+    ensures { Finds (schedule_line threads) text.now result }
 {
-    let Some(thread) = number_at(text) else {
+    let Some((thread, digit)) = thread_at(threads, text) else {
         return None;
     };
-    if thread >= threads {
+    let Some((bit, rest)) = bit_at(digit) else {
         return None;
-    }
-    match bit_at(text_from(text, digit_count(thread))) {
+    };
+    match after(rest, b'\n') {
         None => None,
-        Some(bit) => Some(ScheduleLine { thread, bit }),
+        Some(rest) => Some((ScheduleLine { thread, bit }, rest)),
     }
 }

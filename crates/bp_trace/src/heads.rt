@@ -1,13 +1,14 @@
 //! Heads of traces, read line by line.
-ghost use Rattle.std.specs.Prelude.{◌≡◌, ◌≤◌, ◌+◌, ◌++◌, IfOk, MatchOption, MatchResult, length, map};
+ghost use Rattle.std.specs.Prelude.{◌≤◌, ◌^◌, IfOk, MatchOption, MatchResult, length, map};
+ghost use Rattle.bp_text.specs.Formats.{bit, Finds, FindsPart, HasNone, IsAt};
+ghost use Rattle.bp_text.specs.Formats.Format.{After, Line, Many, Number};
 ghost use Rattle.bp_trace.specs.declared.limits.TheConstants.{MAX_TRACE};
-ghost use Rattle.bp_trace.specs.TraceText.{bit_digit, version_line, init_digits, init_line, Without};
-ghost use Rattle.bp_trace.specs.Reading.{BeginsWithLine, HasNoFront, IsFieldAt, HasNoField, HasNoVersion, IsEntryAt, HasNoEntry, AreEntriesAt, AreNoBits, IsNoInit, HasNoInit, IsNumberAt, HasNoNumber, IsSeedAt, HasNoSeed, IsHeadOf, IsHeadRefusal};
+ghost use Rattle.bp_trace.specs.HeadFormat.{after_byte, bits, entry, init, may_end, seed, seed_value, version_word};
+ghost use Rattle.bp_trace.specs.Reading.{IsHeadOf, IsHeadRefusal};
 
 use crate::faults::ReplayFault;
-use crate::trace_lines::bit_of;
 use crate::traces::Version;
-use bp_text::number_of;
+use bp_text::{Machine, after, after_word, bit_at, long_number_at, span_at};
 use std::alloc::{AllocError, Global};
 
 /// What the head of a trace says.
@@ -26,167 +27,179 @@ pub(crate) struct Head<'a> {
     pub(crate) lines: u32,
 }
 
-/// The first line of the text without its line feed, and what is after it.
-fn cut_line(text: &[u8]) -> Option<(&[u8], &[u8])>
-    ensures { MatchOption result
-        (Without 10 text.now)
-        (λ p. BeginsWithLine text.now p.0.now p.1.now) }
-{
-    let Some(place) = text.iter().position(|byte| *byte == b'\n') else {
-        return None;
-    };
-    let (line, rest) = text.split_at(place);
-    Some((line, &rest[1..]))
+/// Whether the name of an entry has a byte.
+#[derive(Clone, Copy)]
+pub enum EntryState {
+    Start,
+    Within,
 }
 
-/// What is after the word, where the word begins the text.
-pub(crate) fn after<'a>(text: &'a [u8], word: &[u8]) -> Option<&'a [u8]>
-    ensures { MatchOption result
-        (HasNoFront word.now text.now)
-        (λ rest. text.now ≡ word.now ++ rest.now) }
-{
-    text.strip_prefix(word)
-}
+impl Machine for EntryState {
+    ghost takes = { after_byte };
 
-/// What stands after the word on the first line of the text, and what is after the line.
-fn field_at<'a>(text: &'a [u8], word: &[u8]) -> Option<(&'a [u8], &'a [u8])>
-    ensures { MatchOption result
-        (HasNoField word.now text.now)
-        (λ p. IsFieldAt word.now text.now p.0.now p.1.now) }
-{
-    let Some(line) = after(text, word) else {
-        return None;
-    };
-    match cut_line(line) {
-        None => None,
-        Some((value, rest)) => Some((value, rest)),
+    ghost may_end = { may_end };
+
+    fn after(self, byte: u8) -> Option<EntryState> {
+        if byte == b'\n' {
+            None
+        } else {
+            Some(EntryState::Within)
+        }
+    }
+
+    fn is_end(self) -> bool {
+        match self {
+            EntryState::Start => false,
+            EntryState::Within => true,
+        }
     }
 }
 
-/// The version whose line begins the text, and what is after the line.
-fn version_at(text: &[u8]) -> Option<(Version, &[u8])>
-    ensures { MatchOption result
-        (HasNoVersion text.now)
-        (λ p. text.now ≡ version_line p.0 ++ p.1.now) }
+/// The version whose words begin the text, and what is after them.
+fn version_word_at(text: &[u8]) -> Option<(Version, &[u8])>
+    ensures { Finds version_word text.now result }
 {
-    if let Some(rest) = after(text, b"btrace 1\n") {
+    if let Some(rest) = after_word(text, b"btrace 1") {
         return Some((Version::One, rest));
     }
-    match after(text, b"btrace 2\n") {
+    match after_word(text, b"btrace 2") {
         None => None,
         Some(rest) => Some((Version::Two, rest)),
     }
 }
 
-/// The name on the entry line that begins the text, and what is after the line.
-fn entry_at(text: &[u8]) -> Option<(&[u8], &[u8])>
-    ensures { MatchOption result
-        (HasNoEntry text.now)
-        (λ p. IsEntryAt text.now p.0.now p.1.now) }
+/// The version whose line begins the text, and what is after the line.
+fn version_at(text: &[u8]) -> Option<(Version, &[u8])>
+    ensures { Finds (Line version_word) text.now result }
 {
-    let Some((name, rest)) = field_at(text, b"entry ") else {
+    let Some((version, rest)) = version_word_at(text) else {
         return None;
     };
-    if name.is_empty() {
-        return None;
+    match after(rest, b'\n') {
+        None => None,
+        Some(rest) => Some((version, rest)),
     }
-    Some((name, rest))
+}
+
+/// The name on the entry line that begins the text, and what is after the line.
+fn entry_at(text: &[u8]) -> Option<(&[u8], &[u8])>
+    ensures { FindsPart entry text.now result }
+{
+    let Some(field) = after_word(text, b"entry ") else {
+        return None;
+    };
+    let Some((name, rest)) = span_at(EntryState::Start, field) else {
+        return None;
+    };
+    match after(rest, b'\n') {
+        None => None,
+        Some(rest) => Some((name, rest)),
+    }
 }
 
 /// The names on the entry lines that begin the text, and what is after these lines.
 fn entries_at(alloc: Global, text: &[u8]) -> Result<(Vec<&[u8]>, &[u8]), AllocError>
-    ensures entries { IfOk result (λ p.
-        AreEntriesAt text.now (map (λ n. n.now) p.0.items) p.1.now) }
-    ensures after { IfOk result (λ p. HasNoEntry p.1.now) }
-    ensures few { IfOk result (λ p. length p.0.items + length p.1.now ≤ length text.now) }
+    ensures { IfOk result (λ p.
+        IsAt (Many entry) text.now (map (λ n. n.now) p.0.items) p.1.now) }
 {
     let mut names = Vec::new(alloc);
     let mut rest = text;
-    loop {
-        let Some((name, more)) = entry_at(rest) else {
-            return Ok((names, rest));
-        };
+    while let Some((name, more)) = entry_at(rest) {
         names.push(name)?;
         rest = more;
     }
+    Ok((names, rest))
 }
 
-/// The bits of the digits.
-fn bits_of(alloc: Global, digits: &[u8]) -> Result<Option<Vec<bool>>, AllocError>
-    ensures { IfOk result (λ bits. MatchOption bits
-        (AreNoBits digits.now)
-        (λ bs. digits.now ≡ map bit_digit bs.items)) }
+/// The bits whose digits begin the text, and what is after them.
+fn bits_at(alloc: Global, text: &[u8]) -> Result<(Vec<bool>, &[u8]), AllocError>
+    ensures { IfOk result (λ p. IsAt (Many bit) text.now p.0.items p.1.now) }
 {
     let mut bits = Vec::new(alloc);
-    for digit in digits {
-        let Some(bit) = bit_of(*digit) else {
-            return Ok(None);
-        };
+    let mut rest = text;
+    while let Some((bit, more)) = bit_at(rest) {
         bits.push(bit)?;
+        rest = more;
     }
-    Ok(Some(bits))
+    Ok((bits, rest))
 }
 
-/// The bits that the value of an init line says, which has a dash where there are none.
-fn init_of(alloc: Global, value: &[u8]) -> Result<Option<Vec<bool>>, AllocError>
-    ensures { IfOk result (λ bits. MatchOption bits
-        (IsNoInit value.now)
-        (λ bs. value.now ≡ init_digits bs.items)) }
+/// The bits that begin the text, which has a dash where there are none, and what is after them.
+fn init_value_at(alloc: Global, text: &[u8]) -> Result<Option<(Vec<bool>, &[u8])>, AllocError>
+    ensures { IfOk result (λ found. MatchOption found
+        (HasNone bits text.now)
+        (λ p. IsAt bits text.now p.0.items p.1.now)) }
 {
-    if value.is_empty() {
+    if let Some(rest) = after(text, b'-') {
+        return Ok(Some((Vec::new(alloc), rest)));
+    }
+    let (bits, rest) = bits_at(alloc, text)?;
+    if bits.is_empty() {
         return Ok(None);
     }
-    if value == b"-".as_slice() {
-        return Ok(Some(Vec::new(alloc)));
-    }
-    bits_of(alloc, value)
+    Ok(Some((bits, rest)))
 }
 
 /// The bits on the init line that begins the text, and what is after the line.
 fn init_at(alloc: Global, text: &[u8]) -> Result<Option<(Vec<bool>, &[u8])>, AllocError>
-    ensures { IfOk result (λ init. MatchOption init
-        (HasNoInit text.now)
-        (λ p. text.now ≡ init_line p.0.items ++ p.1.now)) }
+    ensures { IfOk result (λ found. MatchOption found
+        (HasNone init text.now)
+        (λ p. IsAt init text.now p.0.items p.1.now)) }
 {
-    let Some((value, rest)) = field_at(text, b"init ") else {
+    let Some(field) = after_word(text, b"init ") else {
         return Ok(None);
     };
-    match init_of(alloc, value)? {
-        None => Ok(None),
-        Some(bits) => Ok(Some((bits, rest))),
-    }
+    let Some((bits, rest)) = init_value_at(alloc, field)? else {
+        return Ok(None);
+    };
+    let Some(rest) = after(rest, b'\n') else {
+        return Ok(None);
+    };
+    Ok(Some((bits, rest)))
 }
 
 /// The number on the line of the word that begins the text, and what is after the line.
-fn number_at<'a>(text: &'a [u8], word: &[u8]) -> Option<(u64, &'a [u8])>
-    ensures { MatchOption result
-        (HasNoNumber word.now text.now)
-        (λ p. IsNumberAt word.now text.now p.0 p.1.now) }
+fn number_line_at<'a>(text: &'a [u8], word: &[u8]) -> Option<(u64, &'a [u8])>
+    ensures { Finds (Line (After word.now (Number (2 ^ 64)))) text.now result }
 {
-    let Some((digits, rest)) = field_at(text, word) else {
+    let Some(field) = after_word(text, word) else {
         return None;
     };
-    match number_of(digits) {
+    let Some((number, rest)) = long_number_at(field) else {
+        return None;
+    };
+    match after(rest, b'\n') {
         None => None,
-        Some(number) => Some((number, rest)),
+        Some(rest) => Some((number, rest)),
     }
 }
 
-/// The seed on the seed line that begins the text, where it is one, and what is after the line.
-fn seed_at(text: &[u8]) -> Option<(Option<u64>, &[u8])>
-    ensures { MatchOption result
-        (HasNoSeed text.now)
-        (λ p. IsSeedAt text.now p.0 p.1.now) }
+/// The seed that begins the text, if there is one, and what is after it.
+fn seed_word_at(text: &[u8]) -> Option<(Option<u64>, &[u8])>
+    ensures { Finds seed_value text.now result }
 {
-    let Some((word, rest)) = field_at(text, b"seed ") else {
-        return None;
-    };
-    if word == b"none".as_slice() {
+    if let Some(rest) = after_word(text, b"none") {
         return Some((None, rest));
     }
-    match number_of(word) {
+    match long_number_at(text) {
         None => None,
-        Some(seed) => Some((Some(seed), rest)),
+        Some((seed, rest)) => Some((Some(seed), rest)),
+    }
+}
+
+/// The seed on the seed line that begins the text, if there is one, and what is after the line.
+fn seed_at(text: &[u8]) -> Option<(Option<u64>, &[u8])>
+    ensures { Finds seed text.now result }
+{
+    let Some(field) = after_word(text, b"seed ") else {
+        return None;
+    };
+    let Some((seed, rest)) = seed_word_at(field) else {
+        return None;
+    };
+    match after(rest, b'\n') {
+        None => None,
+        Some(rest) => Some((seed, rest)),
     }
 }
 
@@ -203,10 +216,10 @@ pub(crate) fn read_head<'a>(alloc: Global, text: &'a [u8]) -> Result<Head<'a>, R
     let Some((init, limits)) = init_at(alloc, settings)? else {
         return Err(ReplayFault::Head(line));
     };
-    let Some((contexts, last_two)) = number_at(limits, b"contexts ") else {
+    let Some((contexts, last_two)) = number_line_at(limits, b"contexts ") else {
         return Err(ReplayFault::Head(line + 1));
     };
-    let Some((calls, last)) = number_at(last_two, b"calls ") else {
+    let Some((calls, last)) = number_line_at(last_two, b"calls ") else {
         return Err(ReplayFault::Head(line + 2));
     };
     let Some((seed, rest)) = seed_at(last) else {

@@ -1,19 +1,20 @@
 //! The lines of calls in a trace.
 //! Writing the line of a call: by one write, for each thread that a setup may have.
 //! The lines of calls in a trace of either version.
-ghost use Rattle.std.specs.Prelude.{◌≡◌, ◌≢◌, ◌↔◌, ◌≤◌, Bool, Some, IsTrue, slice_get, MatchBool, MatchOption, ◌<◌, [], IfOk};
+ghost use Rattle.std.specs.Prelude.{◌≡◌, ◌≢◌, ◌↔◌, ◌≤◌, Bool, Some, IsTrue, slice_get, MatchOption, ◌<◌, [], IfOk, length};
 ghost use Rattle.bp_text.specs.Writing.{Given, Writes};
 ghost use Rattle.bp_machine.specs.declared.limits.TheConstants.{MAX_THREADS};
 ghost use Rattle.bp_machine.specs.declared.calls.Reply.{Reply as Answer};
 ghost use Rattle.bp_machine.specs.Histories.{letter_of};
 ghost use Rattle.bp_trace.specs.TraceText.{bit_digit, call_line};
-ghost use Rattle.bp_trace.specs.Reading.{BeginsWithSpace, HasNoSpace, IsThreadAt, HasNoThread, IsTailAt, HasNoTail, IsCallAt, HasNoCall, HasNoSymbol, IsSymbolAt, HasSymbols, HasNoBodyLine, IsBodyLineAt};
+ghost use Rattle.bp_text.specs.Formats.{Finds};
+ghost use Rattle.bp_trace.specs.Reading.{thread_field, IsTailAt, HasNoTail, IsCallAt, HasNoCall, HasNoSymbol, IsSymbolAt, HasSymbols, HasNoBodyLine, IsBodyLineAt};
 
-use crate::driving::{digit_count, number_at, text_from};
+use crate::driving::text_from;
 use crate::traces::{Version, bit_digit};
 use bp_machine::{Call, Reply};
 use bp_text::Piece::{Bytes, Number};
-use bp_text::{Sink, WriteFault};
+use bp_text::{Sink, WriteFault, after, short_number_at};
 use std::alloc::AllocError;
 use std::io::Write;
 
@@ -52,28 +53,17 @@ pub(crate) fn has_byte(byte: u8, text: &[u8], place: usize) -> bool
     text.get(place) == Some(&byte)
 }
 
-/// Whether a space begins the text.
-fn is_spaced(text: &[u8]) -> bool
-    ensures { MatchBool result (BeginsWithSpace text.now) (HasNoSpace text.now) }
+/// The thread below this number that begins the text, with a space after it, and what is after that.
+#[inline(always)]
+pub(crate) fn thread_at(threads: u32, text: &[u8]) -> Option<(u32, &[u8])>
+    ensures { Finds (thread_field threads) text.now result }
 {
-    text.starts_with(b" ")
-}
-
-/// The thread below this number that begins the text, with a space after it.
-pub(crate) fn thread_at(threads: u32, text: &[u8]) -> Option<u32>
-    requires { threads ≤ MAX_THREADS }
-    ensures { MatchOption result (HasNoThread threads text.now) (IsThreadAt threads text.now) }
-{
-    let Some(thread) = number_at(text) else {
+    let Some((thread, rest)) = short_number_at(text, threads) else {
         return None;
     };
-    if thread >= threads {
-        return None;
-    }
-    if is_spaced(text_from(text, digit_count(thread))) {
-        Some(thread)
-    } else {
-        None
+    match after(rest, b' ') {
+        None => None,
+        Some(rest) => Some((thread, rest)),
     }
 }
 
@@ -94,18 +84,21 @@ fn tail_at(text: &[u8]) -> Option<(bool, Reply)>
     }
 }
 
-/// The call of a thread below this number whose line begins the text.
+/// The call of a thread below this number whose line begins the text, and how many bytes the line
+/// has.
 #[inline(always)]
-pub(crate) fn call_at(threads: u32, text: &[u8]) -> Option<Call>
+fn call_at(threads: u32, text: &[u8]) -> Option<(Call, usize)>
     requires { threads ≤ MAX_THREADS }
-    ensures { MatchOption result (HasNoCall threads text.now) (IsCallAt threads text.now) }
+    ensures { MatchOption result
+        (HasNoCall threads text.now)
+        (λ p. IsCallAt threads text.now p.0 × (p.1 ≡ length (call_line p.0))) }
 {
-    let Some(thread) = thread_at(threads, text) else {
+    let Some((thread, rest)) = thread_at(threads, text) else {
         return None;
     };
-    match tail_at(text_from(text, digit_count(thread) + 1)) {
+    match tail_at(rest) {
         None => None,
-        Some((bit, reply)) => Some(Call { thread, bit, reply }),
+        Some((bit, reply)) => Some((Call { thread, bit, reply }, text.len() - rest.len() + 4)),
     }
 }
 
@@ -196,11 +189,11 @@ fn read_call(
         (HasNoBodyLine Version.One threads last text.now)
         (IsBodyLineAt Version.One threads last text.now calls.new.items)) }
 {
-    let Some(call) = call_at(threads, text) else {
+    let Some((call, size)) = call_at(threads, text) else {
         return Ok(None);
     };
     calls.push(call)?;
-    Ok(Some(digit_count(call.thread) + 5))
+    Ok(Some(size))
 }
 
 /// Reads the line of a piece that begins the text, after a call of the thread `last`.
@@ -217,16 +210,15 @@ fn read_piece(
         (HasNoBodyLine Version.Two threads last text.now)
         (IsBodyLineAt Version.Two threads last text.now calls.new.items)) }
 {
-    let Some(thread) = thread_at(threads, text) else {
+    let Some((thread, symbols)) = thread_at(threads, text) else {
         return Ok(None);
     };
     if last == Some(thread) {
         return Ok(None);
     }
-    let symbols = text_from(text, digit_count(thread) + 1);
     let size = read_symbols(thread, symbols, calls)?;
     if size > 0 && has_byte(b'\n', symbols, size) {
-        Ok(Some(digit_count(thread) + size + 2))
+        Ok(Some(text.len() - symbols.len() + size + 1))
     } else {
         Ok(None)
     }

@@ -1,25 +1,11 @@
-use Rattle.std.proofs.Common.{arith}
-use Rattle.bp_trace.proofs.ScheduleLineAt.{no_number, no_thread, no_bit, has_line, digits_within}
+use Rattle.bp_text.proofs.Readings.{no_first, no_second, no_word_after, none_as, none_before}
 use Rattle.bp_trace.proofs.driving.line_at.Goals as goal
 
 pub returns-in_default : goal.returns-in_default
-returns-in_default c = no_number c.args.threads c.args.text.now c.requires (cc)
+returns-in_default c = none_as (no_first c.in_default.ensures)
 
-pub returns-then-thread-threads : goal.returns-then-thread-threads
-returns-then-thread-threads c =
-    no_thread c.args.threads c.args.text.now c.in-Some.thread c.requires (cc) c.if-thread-threads.true
-
-pub text_from-requires : goal.text_from-requires
-text_from-requires c =
-    let within = digits_within c.args.text.now c.in-Some.thread (cc) in
-    omega (arith, within, c.digit_count.ensures.value)
+pub returns-in_default-bit_at : goal.returns-in_default-bit_at
+returns-in_default-bit_at c = none_as (no_second c.in-Some.ensures (none_before c.in_default-bit_at.ensures))
 
 pub returns-in-None : goal.returns-in-None
-returns-in-None c =
-    let none = rw (c.text_from.ensures, c.digit_count.ensures.value) at c.in-None.ensures in
-    no_bit c.args.threads c.args.text.now c.in-Some.thread c.requires (cc) none
-
-pub returns-in-Some-bit_at : goal.returns-in-Some-bit_at
-returns-in-Some-bit_at c =
-    let ends = rw (c.text_from.ensures, c.digit_count.ensures.value) at c.in-Some-bit_at.ensures in
-    has_line c.args.threads c.args.text.now c.in-Some.thread c.in-Some-bit_at.bit (cc) c.if-thread-threads.false ends
+returns-in-None c = none_as (no_second c.in-Some.ensures (no_word_after c.in-Some-bit_at.ensures c.in-None.ensures))

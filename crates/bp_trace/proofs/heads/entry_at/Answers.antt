@@ -1,9 +1,8 @@
-use Rattle.std.proofs.Common.{sym, ◌∙◌}
-use Rattle.bp_text.proofs.PartsOfTexts.{none_left}
-use Rattle.bp_trace.proofs.OneHead.{no_name}
+use Rattle.bp_text.proofs.Readings.{after_at, no_feed, no_word_before, none_in_line}
 use Rattle.bp_trace.proofs.heads.entry_at.Goals as goal
 
-pub returns-then-is_empty : goal.returns-then-is_empty
-returns-then-is_empty c =
-    let none = none_left c.in-Some.name.now (sym c.is_empty.ensures ∙ c.if-is_empty.true) in
-    no_name c.args.text.now c.in-Some.name.now c.in-Some.rest.now c.in-Some.ensures none
+pub returns-in_default : goal.returns-in_default
+returns-in_default c = none_in_line (no_word_before c.in_default.ensures)
+
+pub returns-in-None : goal.returns-in-None
+returns-in-None c = no_feed (after_at c.in-Some.ensures c.in-Some-span_at.ensures) c.in-None.ensures

@@ -1,8 +1,8 @@
 use Rattle.std.proofs.Common.{rules}
-use Rattle.bp_trace.proofs.ScheduleLineAt.{decimal_two}
+use Rattle.bp_trace.proofs.ScheduleLineAt.{two_text}
 use Rattle.bp_trace.proofs.trace_lines.put_with_two_digits.Goals as goal
 
 pub returns : goal.returns
 returns g c =
-    let is = decimal_two c.args.call.now.thread c.requires.two c.requires.few in
+    let is = two_text c.args.call.now.thread c.requires.two c.requires.few in
     grind (rules, is)

@@ -1,29 +1,29 @@
 use Rattle.std.proofs.lemmas.Grind.{common_steps}
 use Rattle.std.proofs.Common.{◌≢◌, ◌∙◌, sym, Some, arith, rules}
 use Rattle.std.proofs.lemmas.Bool.{false≢true}
-use Rattle.bp_trace.proofs.EndLineAt.{no_piece_of_last, no_piece, has_piece}
+use Rattle.bp_trace.proofs.EndLineAt.{no_piece_of_last, no_piece, no_thread_no_piece, has_piece}
 use Rattle.bp_trace.proofs.trace_lines.read_piece.Goals as goal
 use Rattle.bp_trace.proofs.trace_lines.read_piece.Goals.{else-size-gt0-via-then-size-gt0+else-has_byte, else-size-gt0-via-else-size-gt0}
 
 pub returns-then-eq : goal.returns-then-eq
-returns-then-eq c = no_piece_of_last c.args.threads c.args.last c.args.text.now c.requires.few c.in-Some.thread c.in-Some.ensures (search rules)
+returns-then-eq c = no_piece_of_last c.args.threads c.args.last c.args.text.now c.requires.few c.in-Some.thread c.in-Some.symbols.now c.in-Some.ensures (search rules)
 
 pub returns-then-has_byte : goal.returns-then-has_byte
 returns-then-has_byte c =
-    let read = rw (c.requires.empty, c.text_from-symbols.ensures, c.digit_count.ensures.value) at c.in_ok-size.ensures in
-    let ended = rw (c.text_from-symbols.ensures, c.digit_count.ensures.value) at (c.has_byte.ensures.0 c.if-has_byte.true) in
+    let read = rw c.requires.empty at c.in_ok-size.ensures in
+    let ended = c.has_byte.ensures.0 c.if-has_byte.true in
     let other : c.args.last ≢ Some c.in-Some.thread = search rules in
-    rw c.digit_count-then-has_byte.ensures.value (has_piece c.args.threads c.args.last c.args.text.now c.requires.few
-    c.in-Some.thread c.in-Some.ensures c.read_symbols.new.calls.items c.in_ok-size.size read other
-    c.if-size-gt0.true ended)
+    has_piece c.args.threads c.args.last c.args.text.now c.requires.few
+    c.in-Some.thread c.in-Some.symbols.now c.in-Some.ensures c.read_symbols.new.calls.items c.in_ok-size.size read other
+    c.if-size-gt0.true ended
 
 pub returns-else-size-gt0 : goal.returns-else-size-gt0
 returns-else-size-gt0 c =
-    let read = rw (c.requires.empty, c.text_from-symbols.ensures, c.digit_count.ensures.value) at c.in_ok-size.ensures in
-    no_piece c.args.threads c.args.last c.args.text.now c.requires.few c.in-Some.thread c.in-Some.ensures c.read_symbols.new.calls.items c.in_ok-size.size read
+    let read = rw c.requires.empty at c.in_ok-size.ensures in
+    no_piece c.args.threads c.args.last c.args.text.now c.requires.few c.in-Some.thread c.in-Some.symbols.now c.in-Some.ensures c.read_symbols.new.calls.items c.in_ok-size.size read
     (λ some ended. elim c.else-size-gt0.branch [
       | else-size-gt0-via-then-size-gt0+else-has_byte w ↦
-          let has = rw (c.text_from-symbols.ensures, c.digit_count.ensures.value) at w.has_byte.ensures in
+          let has = w.has_byte.ensures in
           false≢true (sym w.if-has_byte.false ∙ has.1 ended)
       | else-size-gt0-via-else-size-gt0 w ↦ absurd (omega (arith, some, w.if-size-gt0.false))
     ])
@@ -35,7 +35,4 @@ pub overflow_add-result-then-has_byte : goal.overflow_add-result-then-has_byte
 overflow_add-result-then-has_byte c = grind (arith, common_steps)
 
 pub returns-in_default : goal.returns-in_default
-returns-in_default c = grind (arith, common_steps)
-
-pub text_from-symbols-requires : goal.text_from-symbols-requires
-text_from-symbols-requires c = grind (arith, common_steps)
+returns-in_default c = no_thread_no_piece c.args.threads c.args.last c.args.text.now c.requires.few c.in_default.ensures

@@ -1,0 +1,215 @@
+-- A text has one head, or stops being one at one line.
+use Rattle.std.proofs.Common.{append_assoc, append-nil, ◌≡◌, ◌≢◌, ◌<◌, ◌≤◌, ◌+◌, ◌-◌, ◌^◌, ◌∙◌, inl, inr, ℕ, Bool, true, false, cond, Option, None, Some, List, [], ◌∷◌, ◌++◌, flat_map, map, length, get_or, refl, ap, sym, subst, arith, codes, decimal}
+use Rattle.std.specs.List.{AllByRecursion, concat}
+use Rattle.std.proofs.lemmas.Bool.{false≢true, ne_eqb}
+use Rattle.std.proofs.lemmas.List.{length-append, length-map}
+use Rattle.bp_text.specs.Formats.{bit, bit_digit, BreaksAt, EachFits, Fits, IsAt, lines_of, SpanFits, text_of}
+use Rattle.bp_text.specs.Formats.Format.{After, Line, Many, Span, Then}
+use Rattle.bp_text.proofs.Breaks.{breaks_after, has_none, lines_each}
+use Rattle.bp_text.proofs.NumbersInTurn.{ends_at, no_digit_first}
+use Rattle.bp_text.proofs.PartsOfTexts.{regrouped}
+use Rattle.bp_text.proofs.Readings.{within}
+use Rattle.bp_text.proofs.WholeTexts.{few_values}
+use Rattle.bp_machine.specs.Setups.{SetupOf}
+use Rattle.bp_trace.specs.declared.heads.EntryState.{EntryState}
+use Rattle.bp_trace.specs.declared.heads.EntryState.TheVariants.{Start, Within}
+use Rattle.bp_trace.specs.declared.heads.Head.{Head}
+use Rattle.bp_trace.specs.declared.traces.Version.{Version}
+use Rattle.bp_trace.specs.declared.traces.Version.TheVariants.{One, Two}
+use Rattle.bp_trace.specs.HeadFormat.{after_byte, bits, entry, head, may_end, seed, seed_value, settings, version_word}
+use Rattle.bp_trace.specs.Reading.{IsHeadOf, setup_of_head}
+use Rattle.bp_trace.specs.TraceText.{IsEntryName, entry_line, field_line, init_digits, init_line, limit_lines, seed_word, Without, HasHead, version_line, setting_lines, head_lines, head_text}
+use Rattle.bp_trace.proofs.OneText.{HasLines, head_parts, heads_alike}
+
+-- What holds of each element of two lists holds of each of both, and what of both of each.
+
+module _ {X : Type 0} (P : X → Type 0) where
+  pub all_of_both : (a b : List X) → AllByRecursion P a → AllByRecursion P b → AllByRecursion P (a ++ b)
+  all_of_both [] b p q = q
+  all_of_both (x ∷ a) b p q = (p.0, all_of_both a b p.1 q)
+
+  pub all_of_second : (a b : List X) → AllByRecursion P (a ++ b) → AllByRecursion P b
+  all_of_second [] b p = p
+  all_of_second (x ∷ a) b p = all_of_second a b p.1
+
+names_without : (es : List (List ℕ)) → AllByRecursion IsEntryName es → AllByRecursion (Without 10) es
+names_without [] p = tt
+names_without (n ∷ es) p = ((p.0).line, names_without es p.1)
+
+has_lines : (s : SetupOf) → HasHead s → HasLines s
+has_lines s p = record { names = names_without s.entries p.names; contexts = p.contexts; calls = p.calls; seed = p.seed }
+
+pub one_head : (v w : Version) (s r : SetupOf) (x y : List ℕ) → HasHead s → HasHead r → head_text v s ++ x ≡ head_text w r ++ y → (v ≡ w) × (s ≡ r) × (x ≡ y)
+one_head v w s r x y p q e = heads_alike s r (has_lines s p) (has_lines r q) v w x y e
+
+pub line_total : (v : Version) (s : SetupOf) → length (head_lines v s) ≡ length s.entries + 5
+line_total v s = omega (arith, length-append (map entry_line s.entries) (setting_lines s), length-map s.entries entry_line)
+
+-- The format's texts are those of the heads.
+
+same_version : (v : Version) → text_of (Line version_word) v ≡ version_line v
+same_version One = refl
+same_version Two = refl
+
+same_entries : (es : List (List ℕ)) → flat_map (text_of entry) es ≡ flat_map entry_line es
+same_entries [] = refl
+same_entries (n ∷ es) =
+    let one : text_of entry n ≡ entry_line n = simp regrouped in
+    λ i. one i ++ same_entries es i
+
+same_digits : (bs : List Bool) → flat_map (text_of bit) bs ≡ map bit_digit bs
+same_digits [] = refl
+same_digits (b ∷ bs) = ap (λ ds. bit_digit b ∷ ds) (same_digits bs)
+
+same_bits : (bs : List Bool) → text_of bits bs ≡ init_digits bs
+same_bits [] = refl
+same_bits (b ∷ bs) = ap (λ ds. bit_digit b ∷ ds) (same_digits bs)
+
+same_seed : (o : Option ℕ) → text_of seed_value o ≡ seed_word o
+same_seed None = refl
+same_seed (Some n) = refl
+
+module _ (s : SetupOf) where
+  init_part : (codes "init " ++ text_of bits s.init) ++ codes "\n" ≡ init_line s.init
+  init_part =
+      ap (λ t. (codes "init " ++ t) ++ codes "\n") (same_bits s.init) ∙ append_assoc (codes "init ") (init_digits s.init) (codes "\n")
+
+  limit_part : (word : List ℕ) (n : ℕ) → (word ++ decimal n) ++ codes "\n" ≡ field_line word (decimal n)
+  limit_part word n = append_assoc word (decimal n) (codes "\n")
+
+  seed_part : (codes "seed " ++ text_of seed_value s.seed) ++ codes "\n" ≡ field_line (codes "seed ") (seed_word s.seed) ++ []
+  seed_part =
+      ap (λ t. (codes "seed " ++ t) ++ codes "\n") (same_seed s.seed)
+      ∙ append_assoc (codes "seed ") (seed_word s.seed) (codes "\n")
+      ∙ sym (append-nil (field_line (codes "seed ") (seed_word s.seed)))
+
+  same_settings : text_of settings (s.init, (s.contexts, (s.calls, s.seed))) ≡ init_line s.init ++ concat (limit_lines s)
+  same_settings = λ i.
+      init_part i ++ (limit_part (codes "contexts ") s.contexts i ++ (limit_part (codes "calls ") s.calls i ++ seed_part i))
+
+same_head : (v : Version) (s : SetupOf) → text_of head (v, s) ≡ head_text v s
+same_head v s = (λ i. same_version v i ++ (same_entries s.entries i ++ same_settings s i)) ∙ sym (head_parts v s)
+
+-- A setup that can be said in a head fits.
+
+version_fits : (v : Version) (rest : List ℕ) → Fits (Line version_word) v rest
+version_fits One rest = tt
+version_fits Two rest = (tt, λ x more fits e. absurd (omega (arith, ap (λ t. get_or t 7 0) e)))
+
+goes_on : (s : EntryState) (b : ℕ) → b ≢ 10 → after_byte s b ≡ Some Within
+goes_on s b other = ap (λ t. cond t None (Some Within)) (ne_eqb b 10 other)
+
+span_fits : (bs rest : List ℕ) → Without 10 bs → SpanFits after_byte may_end Within bs (10 ∷ rest)
+span_fits [] rest without = (refl, refl)
+span_fits (b ∷ bs) rest without = (Within, goes_on Within b without.0, span_fits bs rest without.1)
+
+name_fits : (name rest : List ℕ) → IsEntryName name → SpanFits after_byte may_end Start name (10 ∷ rest)
+name_fits [] rest is = absurd (is.some refl)
+name_fits (b ∷ bs) rest is = (Within, goes_on Start b (is.line).0, span_fits bs rest (is.line).1)
+
+entries_fit : (es : List (List ℕ)) (rest more : List ℕ) → rest ≡ 105 ∷ more → AllByRecursion IsEntryName es → EachFits (text_of entry) (Fits entry) es rest
+entries_fit [] rest more is names = λ name after fits e. absurd (omega (arith, ap (λ t. get_or t 0 0) (sym is ∙ e)))
+entries_fit (n ∷ es) rest more is names = (name_fits n _ names.0, entries_fit es rest more is names.1)
+
+digit_is : (b : Bool) (n : ℕ) → n < 48 → n ≢ bit_digit b
+digit_is false n low e = omega (arith, low, e)
+digit_is true n low e = omega (arith, low, e)
+
+digits_fit : (bs : List Bool) (rest : List ℕ) → EachFits (text_of bit) (Fits bit) bs (10 ∷ rest)
+digits_fit [] rest = λ b more fits e. digit_is b 10 (omega arith) (ap (λ t. get_or t 0 0) e)
+digits_fit (b ∷ bs) rest = (tt, digits_fit bs rest)
+
+bits_fit : (bs : List Bool) (rest : List ℕ) → Fits bits bs (10 ∷ rest)
+bits_fit [] rest = tt
+bits_fit (b ∷ bs) rest = ((tt, digits_fit bs rest), λ x more fits e. digit_is b 45 (omega arith) (sym (ap (λ t. get_or t 0 0) e)))
+
+seed_fits : (o : Option ℕ) (rest : List ℕ) → ((n : ℕ) → o ≡ Some n → n < 2 ^ 64) → Fits seed_value o (10 ∷ rest)
+seed_fits None rest small = tt
+seed_fits (Some n) rest small =
+    let fits = small n refl in
+    let ends = ends_at 10 rest (inl (omega arith)) in (
+      (fits, fits, ends),
+      λ x more other e. (no_digit_first (codes "none" ++ more) 110 (codes "one" ++ more) refl (inr (omega arith))).none n (10 ∷ rest) (fits, fits, ends) (sym e),
+    )
+
+pub head_at : (v : Version) (s : SetupOf) (text rest : List ℕ) → HasHead s → text ≡ head_text v s ++ rest → IsAt head text (v, s) rest
+head_at v s text rest has parts = record {
+  fits = (
+    version_fits v _,
+    (
+      entries_fit s.entries _ _ refl has.names,
+      (
+        bits_fit s.init _,
+        (
+          (has.contexts, has.contexts, ends_at 10 _ (inl (omega arith))),
+          ((has.calls, has.calls, ends_at 10 _ (inl (omega arith))), seed_fits s.seed _ has.seed),
+        ),
+      ),
+    ),
+  );
+  parts = parts ∙ ap (λ t. t ++ rest) (sym (same_head v s));
+}
+
+-- so a text that begins with a head is one at each line
+pub no_break : (v : Version) (s : SetupOf) (text rest : List ℕ) (k : ℕ) → HasHead s → text ≡ head_text v s ++ rest → BreaksAt head text k → ⊥
+no_break v s text rest k has parts breaks =
+    let at = head_at v s text rest has parts in
+    (has_none head text k breaks).none (v, s) rest at.fits at.parts
+
+-- And what fits can be said in a head.
+
+span_without : (s : EntryState) (bs rest : List ℕ) → SpanFits after_byte may_end s bs rest → Without 10 bs
+span_without s [] rest fits = tt
+span_without s (b ∷ bs) rest (t, on, fits) = (
+  λ e.
+      let none : after_byte s b ≡ None = ap (λ k. after_byte s k) e in
+      let both : None ≡ Some t = sym none ∙ on in
+      absurd cc,
+  span_without t bs rest fits,
+)
+
+is_name : (name rest : List ℕ) → SpanFits after_byte may_end Start name rest → IsEntryName name
+is_name [] rest fits = absurd (false≢true fits.0)
+is_name (b ∷ bs) rest fits = record { some = λ e. cc; line = span_without Start (b ∷ bs) rest fits }
+
+are_names : (es : List (List ℕ)) (rest : List ℕ) → EachFits (text_of entry) (Fits entry) es rest → AllByRecursion IsEntryName es
+are_names [] rest fits = tt
+are_names (n ∷ es) rest fits = (is_name n _ fits.0, are_names es rest fits.1)
+
+small_seed : (o : Option ℕ) (rest : List ℕ) → Fits seed o rest → (n : ℕ) → o ≡ Some n → n < 2 ^ 64
+small_seed None rest fits n e = absurd cc
+small_seed (Some m) rest fits n e = let same : m ≡ n = cc in subst (λ k. k < 2 ^ 64) same fits.0.0
+
+module _ (text rest : List ℕ) (read : Head) (at : IsAt head text (read.version, setup_of_head read) rest) where
+  parts : text ≡ head_text read.version (setup_of_head read) ++ rest
+  parts = at.parts ∙ ap (λ t. t ++ rest) (same_head read.version (setup_of_head read))
+
+  pub is_head : read.size ≡ length text - length rest → read.lines ≡ length (map (λ n. n.now) read.entries.items) + 5 → IsHeadOf text read
+  is_head size lines = record {
+    has = record {
+      names = are_names _ _ at.fits.1.0;
+      contexts = at.fits.1.1.1.0.0;
+      calls = at.fits.1.1.1.1.0.0;
+      seed = small_seed read.seed _ at.fits.1.1.1.1.1;
+    };
+    rest = rest;
+    parts = parts;
+    size = let whole = ap length parts ∙ length-append (head_text read.version (setup_of_head read)) rest in omega (arith, size, whole);
+    lines = lines ∙ sym (line_total read.version (setup_of_head read));
+  }
+
+-- Where a text stops being a head.
+
+entry_has_byte : (name : List ℕ) → 0 < length (text_of entry name)
+entry_has_byte name = omega arith
+
+module _ {text first rest : List ℕ} {v : Version} {names : List (List ℕ)} (version : IsAt (Line version_word) text v first)
+    (entries : IsAt (Many entry) first names rest) where
+  pub few_entries : length names ≤ length text
+  few_entries = let few = few_values entry entry_has_byte first names rest entries in let all = within version in omega (arith, few, all)
+
+  pub breaks_after_entries : (k m : ℕ) → BreaksAt settings rest m → k ≡ length names + 1 + m → BreaksAt head text k
+  breaks_after_entries k m breaks number =
+      let lines : lines_of (Many entry) names ≡ length names = lines_each (After (codes "entry ") (Span after_byte may_end Start)) names in
+      let later = breaks_after settings (length names + m) m entries breaks (omega (arith, lines)) in
+      breaks_after (Then (Many entry) settings) k (length names + m) version later (omega (arith, number))

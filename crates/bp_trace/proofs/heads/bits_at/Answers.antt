@@ -1,0 +1,5 @@
+use Rattle.bp_text.proofs.WholeTexts.{all_read}
+use Rattle.bp_trace.proofs.heads.bits_at.Goals as goal
+
+pub returns : goal.returns
+returns c = all_read c.loop-bit.invariant c.in_default.ensures

@@ -1,0 +1,5 @@
+use Rattle.bp_text.proofs.Readings.{no_feed}
+use Rattle.bp_trace.proofs.heads.version_at.Goals as goal
+
+pub returns-in-None : goal.returns-in-None
+returns-in-None c = no_feed c.in-Some.ensures c.in-None.ensures
