@@ -1,4 +1,4 @@
-mod OneHead
+pub mod OneHead
 mod EndLineAt
 mod OneText
 mod PiecesAreFewest
