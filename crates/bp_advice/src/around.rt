@@ -1,16 +1,16 @@
 //! The tokens around a place of a program text.
-//! The token at a place of a program text.
 ghost use Rattle.std.specs.Prelude.{◌≤◌, [], length, IsTrue};
 ghost use Rattle.bp_language.specs.Tokens.{HasTokens};
 
 use bp_syntax::{is_reserved, take_lexeme};
 use bp_text::{part_before, part_from};
+use std::alloc::{AllocError, Global};
 
 /// The tokens around a place of a text. One that is not there has no bytes.
 #[derive(Clone, Copy)]
 pub(crate) struct Around<'a> {
     /// The third token before the place, the second, and the one right before it.
-    third: &'a [u8],
+    pub(crate) third: &'a [u8],
     pub(crate) second: &'a [u8],
     pub(crate) before: &'a [u8],
     /// The last name before the place that a bracket follows, as in a call.
@@ -58,73 +58,56 @@ pub(crate) fn is_gap(text: &[u8]) -> bool
     true
 }
 
-/// The first token of a text. It has no bytes where there is none.
-fn first_token(text: &[u8]) -> &[u8] {
+/// The tokens of a text, up to the first byte that begins none.
+pub(crate) fn tokens_of(alloc: Global, text: &[u8]) -> Result<Vec<&[u8]>, AllocError> {
+    let mut tokens = Vec::new(alloc);
     let mut rest = text;
     while let Some(lexeme) = take_lexeme(&mut rest) {
         if !lexeme.is_gap() {
-            return lexeme.text;
+            tokens.push(lexeme.text)?;
         }
     }
-    part_before(text, 0)
+    Ok(tokens)
 }
 
-/// The last three tokens of a text, the last one first.
-fn last_tokens(text: &[u8]) -> (&[u8], &[u8], &[u8]) {
-    let none = part_before(text, 0);
-    let mut tokens = (none, none, none);
-    let mut rest = text;
-    while let Some(lexeme) = take_lexeme(&mut rest) {
-        if !lexeme.is_gap() {
-            tokens = (lexeme.text, tokens.0, tokens.1);
-        }
+/// The token of this place, or no bytes if there is none.
+fn nth<'a>(tokens: &[&'a [u8]], place: usize) -> &'a [u8] {
+    match tokens.get(place) {
+        Some(token) => token,
+        None => b"",
     }
-    tokens
 }
 
-/// The last name of a text that a bracket follows. It has no bytes where there is none.
-fn last_called(text: &[u8]) -> &[u8] {
-    let mut called = part_before(text, 0);
-    let mut last = called;
-    let mut rest = text;
-    while let Some(lexeme) = take_lexeme(&mut rest) {
-        if lexeme.text == b"(".as_slice() && is_name(last) {
-            called = last;
-        }
-        if !lexeme.is_gap() {
-            last = lexeme.text;
-        }
+/// The name right before the first bracket that follows one, in tokens from the last to the first.
+fn last_called<'a>(backwards: &[&'a [u8]]) -> &'a [u8] {
+    let names = backwards.iter().skip(1);
+    let mut pairs = backwards.iter().zip(names);
+    match pairs.find(|(token, name)| **token == b"(".as_slice() && is_name(name)) {
+        Some((_, name)) => name,
+        None => b"",
     }
-    called
 }
 
 /// The tokens around this place of a text.
-pub(crate) fn tokens_around(text: &[u8], at: usize) -> Around<'_> {
+pub(crate) fn tokens_around(
+    alloc: Global,
+    text: &[u8],
+    at: usize,
+) -> Result<Around<'_>, AllocError> {
     let front = part_before(text, at);
     let gap = part_from(front, size_to_last_token(front));
-    let (before, second, third) = last_tokens(front);
-    let found = token_at(text, at);
-    Around {
-        third,
-        second,
-        before,
-        called: last_called(front),
-        found,
-        next: first_token(part_from(text, at.saturating_add(found.len()))),
-        is_on_new_line: gap.iter().any(|byte| *byte == b'\n'),
-    }
-}
-
-impl<'a> Around<'a> {
-    /// The variable to which the place is assigned, where it is the first value of one variable.
-    pub(crate) fn target(&self) -> Option<&'a [u8]> {
-        let is_alone = self.third != b",".as_slice();
-        if self.before == b":=".as_slice() && is_alone && is_name(self.second) {
-            Some(self.second)
-        } else {
-            None
-        }
-    }
+    let mut before = tokens_of(alloc, front)?;
+    before.reverse();
+    let after = tokens_of(alloc, part_from(text, at))?;
+    Ok(Around {
+        third: nth(&before, 2),
+        second: nth(&before, 1),
+        before: nth(&before, 0),
+        called: last_called(&before),
+        found: nth(&after, 0),
+        next: nth(&after, 1),
+        is_on_new_line: gap.contains(&b'\n'),
+    })
 }
 
 /// The token at this place of a text. It has no bytes where the text ends.

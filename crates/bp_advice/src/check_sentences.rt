@@ -1,262 +1,158 @@
 //! Sentences on faults of a program whose text is in order.
-ghost use Rattle.std.specs.Prelude.{◌≡◌, IfOk};
-ghost use Rattle.bp_language.specs.Faults.{check_fault_place};
-ghost use Rattle.bp_advice.specs.Explanations.{ExplainsPlace};
 
 use crate::around::token_at;
-use crate::declared::{
-    Role, argument_count, first_named, first_procedure, procedure_around, role_at, side_counts,
-    tree_of,
-};
-use crate::explanations::{Explanation, about_place};
-use crate::guesses::{push_near_label, push_near_procedure, push_near_variable};
-use crate::sentences::Part::{Count, Number, Place, Quoted, Words};
-use crate::sentences::{Part, push_all, push_parts};
+use crate::declared::{first_named, first_procedure, procedure_around, tree_of};
+use crate::sentences::{Count, Quoted};
 use bp_language::limits::{MAX_GLOBALS, MAX_OWN_NAMES, MAX_PROCEDURES};
 use bp_language::{CheckFault, Name};
 use bp_syntax::Tree;
 use bp_text::position_of;
 use std::alloc::{AllocError, Global};
 
-/// Adds words, a name in quotes, and more words.
-fn push_about<'a>(
-    out: &mut Vec<u8>,
-    before: &'a [u8],
-    name: &'a [u8],
-    after: &'a [u8],
-) -> Result<(), AllocError> {
-    push_parts(out, &[Words(before), Quoted(name), Words(after)])
+/// A name of a program that is refused.
+#[derive(Clone, Copy)]
+pub(crate) struct RefusedName<'a> {
+    pub(crate) alloc: Global,
+    pub(crate) text: &'a [u8],
+    pub(crate) tree: &'a Tree,
+    pub(crate) name: &'a [u8],
+    /// The byte of the text at which the name is.
+    pub(crate) at: usize,
 }
 
-/// Adds where the first declaration of a name is, where it is known.
-fn push_first(out: &mut Vec<u8>, text: &[u8], first: Option<&Name>) -> Result<(), AllocError> {
-    let Some(name) = first else {
-        return Ok(());
-    };
-    let position = position_of(text, name.at() as usize);
-    push_parts(
-        out,
-        &[Words(b", first at "), Place(position.line, position.column)],
-    )
-}
-
-fn push_twice_global(
-    out: &mut Vec<u8>,
-    text: &[u8],
-    tree: &Tree,
-    name: &[u8],
-) -> Result<(), AllocError> {
-    push_about(out, b"the global ", name, b" is declared twice")?;
-    push_first(out, text, first_named(tree.globals(), name))
-}
-
-fn push_twice_procedure(
-    out: &mut Vec<u8>,
-    text: &[u8],
-    tree: &Tree,
-    name: &[u8],
-) -> Result<(), AllocError> {
-    push_about(out, b"there are two procedures ", name, b"")?;
-    match first_procedure(tree, name) {
-        Some(proc) => push_first(out, text, Some(proc.name())),
-        None => Ok(()),
+impl<'a> RefusedName<'a> {
+    fn quoted(&self) -> Quoted<'a> {
+        Quoted(self.name)
     }
-}
 
-fn push_twice_local(
-    out: &mut Vec<u8>,
-    text: &[u8],
-    tree: &Tree,
-    name: &[u8],
-    at: usize,
-) -> Result<(), AllocError> {
-    push_about(
-        out,
-        b"the variable ",
-        name,
-        b" of this procedure is declared twice",
-    )?;
-    let Some(proc) = procedure_around(tree, at) else {
-        return Ok(());
-    };
-    let formal = first_named(proc.formals(), name);
-    push_first(out, text, formal.or(first_named(proc.locals(), name)))
-}
-
-/// The procedure in whose text this place is.
-fn procedure_at(tree: &Tree, at: usize) -> Part<'_> {
-    match procedure_around(tree, at) {
-        Some(proc) => Quoted(proc.name().text().as_bytes()),
-        None => Words(b"this procedure"),
+    /// Says that the name is declared twice, and where it is first, if that is known.
+    fn twice(&self, first: Option<&Name>, sentence: String) -> Result<String, AllocError> {
+        let alloc = self.alloc;
+        let Some(name) = first else {
+            return Ok(sentence);
+        };
+        let place = position_of(self.text, name.at() as usize);
+        format!(in alloc; "{sentence}, first at {}:{}", place.line, place.column)
     }
-}
 
-fn push_arity(
-    out: &mut Vec<u8>,
-    text: &[u8],
-    tree: &Tree,
-    name: &[u8],
-    at: usize,
-) -> Result<(), AllocError> {
-    let formals = match first_procedure(tree, name) {
-        Some(proc) => proc.formals().len(),
-        None => 0,
-    };
-    push_parts(
-        out,
-        &[
-            Quoted(name),
-            Words(b" is called with "),
-            Count(argument_count(text, at), b"argument"),
-            Words(b", but it has "),
-            Count(formals, b"formal"),
-        ],
-    )
-}
-
-fn push_lengths(out: &mut Vec<u8>, text: &[u8], at: usize) -> Result<(), AllocError> {
-    let (variables, values) = side_counts(text, at);
-    push_parts(
-        out,
-        &[
-            Count(variables, b"variable"),
-            Words(b" on the left side, but "),
-            Count(values, b"value"),
-            Words(b" on the right side"),
-        ],
-    )
-}
-
-fn push_limit(out: &mut Vec<u8>, tree: &Tree, at: usize) -> Result<(), AllocError> {
-    let of_program = Words(b"a program has at most ");
-    match role_at(tree, at) {
-        Role::Global => push_parts(out, &[of_program, Count(MAX_GLOBALS, b"global")]),
-        Role::Procedure => push_parts(out, &[of_program, Count(MAX_PROCEDURES, b"procedure")]),
-        Role::Own => push_parts(
-            out,
-            &[
-                Words(b"a procedure has at most "),
-                Number(MAX_OWN_NAMES),
-                Words(b" formals and locals together"),
-            ],
-        ),
-    }
-}
-
-fn push_twice_label<'a>(
-    out: &mut Vec<u8>,
-    tree: &'a Tree,
-    name: &'a [u8],
-    at: usize,
-) -> Result<(), AllocError> {
-    push_parts(
-        out,
-        &[
-            Words(b"the label "),
-            Quoted(name),
-            Words(b" appears twice in "),
-            procedure_at(tree, at),
-        ],
-    )
-}
-
-fn push_unknown_label<'a>(
-    out: &mut Vec<u8>,
-    text: &[u8],
-    tree: &'a Tree,
-    name: &'a [u8],
-    at: usize,
-) -> Result<(), AllocError> {
-    push_parts(
-        out,
-        &[
-            Words(b"there is no label "),
-            Quoted(name),
-            Words(b" in "),
-            procedure_at(tree, at),
-        ],
-    )?;
-    push_near_label(out, text, tree, name, at)
-}
-
-fn push_unknown_procedure(out: &mut Vec<u8>, tree: &Tree, name: &[u8]) -> Result<(), AllocError> {
-    push_about(out, b"there is no procedure ", name, b"")?;
-    push_near_procedure(out, tree, name)
-}
-
-fn push_unknown_variable<'a>(
-    out: &mut Vec<u8>,
-    tree: &'a Tree,
-    name: &'a [u8],
-    at: usize,
-) -> Result<(), AllocError> {
-    push_parts(
-        out,
-        &[
-            Words(b"there is no global "),
-            Quoted(name),
-            Words(b", and no formal or local in "),
-            procedure_at(tree, at),
-        ],
-    )?;
-    match name {
-        b"true" | b"True" | b"TRUE" | b"T" => push_all(out, &[b"; true is written '1'"]),
-        b"false" | b"False" | b"FALSE" | b"F" => push_all(out, &[b"; false is written '0'"]),
-        _ => push_near_variable(out, tree, name, at),
-    }
-}
-
-/// Adds what is wrong with the name at this place.
-fn push_sentence(
-    out: &mut Vec<u8>,
-    text: &[u8],
-    tree: &Tree,
-    fault: CheckFault,
-    at: usize,
-) -> Result<(), AllocError> {
-    let name = token_at(text, at);
-    match fault {
-        CheckFault::TwiceGlobal => push_twice_global(out, text, tree, name),
-        CheckFault::TwiceProcedure => push_twice_procedure(out, text, tree, name),
-        CheckFault::TwiceLocal => push_twice_local(out, text, tree, name, at),
-        CheckFault::TwiceLabel => push_twice_label(out, tree, name, at),
-        CheckFault::UnknownVariable => push_unknown_variable(out, tree, name, at),
-        CheckFault::UnknownProcedure => push_unknown_procedure(out, tree, name),
-        CheckFault::UnknownLabel => push_unknown_label(out, text, tree, name, at),
-        CheckFault::Arity => push_arity(out, text, tree, name, at),
-        CheckFault::Lengths => push_lengths(out, text, at),
-        CheckFault::TwiceTarget => {
-            push_about(out, b"", name, b" appears twice on this left side")
+    /// Names the procedure in whose text the name is.
+    fn own(&self) -> Result<String, AllocError> {
+        let alloc = self.alloc;
+        match procedure_around(self.tree, self.at) {
+            Some(proc) => format!(in alloc; "{}", Quoted(proc.name().text().as_bytes())),
+            None => format!(in alloc; "this procedure"),
         }
-        CheckFault::Limit => push_limit(out, tree, at),
-        CheckFault::Memory => Ok(()),
+    }
+
+    fn twice_local(&self) -> Result<String, AllocError> {
+        let (alloc, name) = (self.alloc, self.quoted());
+        let sentence = format!(in alloc;
+            "the variable {name} of this procedure is declared twice"
+        )?;
+        let Some(proc) = procedure_around(self.tree, self.at) else {
+            return Ok(sentence);
+        };
+        let formal = first_named(proc.formals(), self.name);
+        self.twice(formal.or(first_named(proc.locals(), self.name)), sentence)
+    }
+
+    fn unknown_variable(&self) -> Result<String, AllocError> {
+        let (alloc, name, own) = (self.alloc, self.quoted(), self.own()?);
+        let near = match self.name {
+            b"true" | b"True" | b"TRUE" | b"T" => format!(in alloc; "; true is written '1'")?,
+            b"false" | b"False" | b"FALSE" | b"F" => format!(in alloc; "; false is written '0'")?,
+            _ => self.near_variable()?,
+        };
+        format!(in alloc; "there is no global {name}, and no formal or local in {own}{near}")
+    }
+
+    /// Says that the call has another number of arguments than its procedure has formals.
+    fn arity(&self) -> Result<String, AllocError> {
+        let (alloc, name) = (self.alloc, self.quoted());
+        let proc = first_procedure(self.tree, self.name);
+        let formals = Count(proc.map_or(0, |proc| proc.formals().len()), "formal");
+        let arguments = Count(self.argument_count()?, "argument");
+        format!(in alloc; "{name} is called with {arguments}, but it has {formals}")
+    }
+
+    /// Says that the sides of the assignment have other sizes.
+    fn lengths(&self) -> Result<String, AllocError> {
+        let alloc = self.alloc;
+        let (variables, values) = self.side_counts()?;
+        let (variables, values) = (Count(variables, "variable"), Count(values, "value"));
+        format!(in alloc; "{variables} on the left side, but {values} on the right side")
+    }
+
+    /// Says how many names of its kind there may be.
+    fn limit(&self) -> Result<String, AllocError> {
+        let (alloc, tree) = (self.alloc, self.tree);
+        let is_here = |name: &Name| name.at() as usize == self.at;
+        if tree.globals().iter().any(is_here) {
+            format!(in alloc; "a program has at most {MAX_GLOBALS} globals")
+        } else if tree.procs().iter().any(|proc| is_here(proc.name())) {
+            format!(in alloc; "a program has at most {MAX_PROCEDURES} procedures")
+        } else {
+            format!(in alloc; "a procedure has at most {MAX_OWN_NAMES} formals and locals together")
+        }
+    }
+
+    /// Says what is wrong with the name.
+    fn sentence(&self, fault: CheckFault) -> Result<String, AllocError> {
+        let (alloc, name, tree) = (self.alloc, self.quoted(), self.tree);
+        match fault {
+            CheckFault::TwiceGlobal => {
+                let sentence = format!(in alloc; "the global {name} is declared twice")?;
+                self.twice(first_named(tree.globals(), self.name), sentence)
+            }
+            CheckFault::TwiceProcedure => {
+                let sentence = format!(in alloc; "there are two procedures {name}")?;
+                self.twice(
+                    first_procedure(tree, self.name).map(|proc| proc.name()),
+                    sentence,
+                )
+            }
+            CheckFault::TwiceLocal => self.twice_local(),
+            CheckFault::TwiceLabel => {
+                let own = self.own()?;
+                format!(in alloc; "the label {name} appears twice in {own}")
+            }
+            CheckFault::UnknownVariable => self.unknown_variable(),
+            CheckFault::UnknownProcedure => {
+                let near = self.near_procedure()?;
+                format!(in alloc; "there is no procedure {name}{near}")
+            }
+            CheckFault::UnknownLabel => {
+                let near = self.near_label()?;
+                let own = self.own()?;
+                format!(in alloc; "there is no label {name} in {own}{near}")
+            }
+            CheckFault::Arity => self.arity(),
+            CheckFault::Lengths => self.lengths(),
+            CheckFault::TwiceTarget => format!(in alloc; "{name} appears twice on this left side"),
+            CheckFault::Limit => self.limit(),
+            CheckFault::Memory => Ok(String::new(alloc)),
+        }
     }
 }
 
-/// The byte that the fault names, where it names one.
-fn place_of(fault: CheckFault, at: u32) -> Option<u32>
-    ensures { result ≡ check_fault_place fault at }
-{
-    match fault {
-        CheckFault::Memory => None,
-        _ => Some(at),
-    }
-}
-
-/// Explains why the program of a text is not lawful.
-pub(crate) fn explain_check<'a>(
+/// Says why the program of a text is not lawful.
+pub(crate) fn check_sentence(
     alloc: Global,
-    file: &'a str,
     text: &[u8],
     fault: CheckFault,
     at: u32,
-) -> Result<Explanation<'a>, AllocError>
-    ensures { IfOk result (λ e.
-        ExplainsPlace file.now text.now (check_fault_place fault at) e) }
-{
-    let mut sentence = Vec::new(alloc);
-    if let Some(tree) = &tree_of(alloc, text)? {
-        push_sentence(&mut sentence, text, tree, fault, at as usize)?;
+) -> Result<String, AllocError> {
+    let at = at as usize;
+    let name = token_at(text, at);
+    match &tree_of(alloc, text)? {
+        Some(tree) => RefusedName {
+            alloc,
+            text,
+            tree,
+            name,
+            at,
+        }
+        .sentence(fault),
+        None => Ok(String::new(alloc)),
     }
-    about_place(alloc, file, text, place_of(fault, at), sentence.as_slice())
 }

@@ -3,10 +3,11 @@
 //! excerpt. They have only characters that a terminal shows, and line ends.
 //! Explanations of the faults of programs.
 ghost use Rattle.std.specs.Prelude.{◌≡◌, IfOk, ◌++◌, map, OnOk};
+ghost use Rattle.bp_code.specs.LawfulTexts.{program_fault_place};
 ghost use Rattle.bp_advice.specs.Explanations.{ExplainsLine, ExplainsPlace, IsAt, place_of, after_colon, head_of, is_plain, lines_of, numbers_of, sentence_of, shown, IsPlain, IsExplanationOf, ExplainsProgram};
 
-use crate::check_sentences::explain_check;
-use crate::read_sentences::{explain_read, explain_syntax};
+use crate::check_sentences::check_sentence;
+use crate::read_sentences::{explain_syntax, read_sentence};
 use bp_code::ProgramFault;
 use bp_language::CheckFault;
 use bp_syntax::ReadFault;
@@ -39,17 +40,17 @@ pub struct Explanation<'a> {
 }
 
 /// The explanation of this place of a file, with this excerpt and the first line of this sentence.
-fn explained<'a>(
+pub fn explained<'a>(
     alloc: Global,
     file: &'a str,
     place: Place,
     excerpt: Vec<u8>,
-    words: &[u8],
+    words: &str,
 ) -> Result<Explanation<'a>, AllocError>
     ensures { IfOk result (λ e. IsAt file.now place e) }
 {
     let mut sentence = Vec::new(alloc);
-    sentence.extend_from_slice(first_line(words))?;
+    sentence.extend_from_slice(first_line(words.as_bytes()))?;
     Ok(Explanation {
         file,
         place,
@@ -74,25 +75,12 @@ pub(crate) fn about_place<'a>(
     file: &'a str,
     text: &[u8],
     at: Option<u32>,
-    sentence: &[u8],
+    sentence: &str,
 ) -> Result<Explanation<'a>, AllocError>
     ensures { IfOk result (λ e. ExplainsPlace file.now text.now at e) }
 {
     let excerpt = excerpt_of(alloc, text, at)?;
     explained(alloc, file, place_of(text, at), excerpt, sentence)
-}
-
-/// The explanation of a line of a text, which has this number and is shown with this excerpt.
-pub fn about_excerpt<'a>(
-    alloc: Global,
-    file: &'a str,
-    number: usize,
-    excerpt: Vec<u8>,
-    sentence: &[u8],
-) -> Result<Explanation<'a>, AllocError>
-    ensures { IfOk result (λ e. ExplainsLine file.now number e) }
-{
-    explained(alloc, file, Place::Line(number), excerpt, sentence)
 }
 
 /// The explanation of a line of a text, which has this number and is shown without a caret.
@@ -101,13 +89,13 @@ pub fn about_line<'a>(
     file: &'a str,
     text: &[u8],
     number: usize,
-    sentence: &[u8],
+    sentence: &str,
 ) -> Result<Explanation<'a>, AllocError>
     ensures { IfOk result (λ e. ExplainsLine file.now number e) }
 {
     let mut excerpt = Vec::new(alloc);
     push_line(&mut excerpt, text, number)?;
-    about_excerpt(alloc, file, number, excerpt, sentence)
+    explained(alloc, file, Place::Line(number), excerpt, sentence)
 }
 
 /// What stands between a place and a sentence on it.
@@ -121,7 +109,7 @@ fn is_plain(byte: u8) -> bool
 }
 
 /// How a byte is shown: a column stays a column.
-fn shown(byte: u8) -> u8
+pub(crate) fn shown(byte: u8) -> u8
     ensures { result ≡ shown byte }
 {
     if is_plain(byte) {
@@ -198,6 +186,17 @@ pub fn lines_of(alloc: Global, explanation: &Explanation<'_>) -> Result<Vec<u8>,
     shown_bytes(alloc, lines.as_slice())
 }
 
+/// The byte that the fault names, if it names one.
+fn place_in(fault: &ProgramFault) -> Option<u32>
+    ensures { result ≡ program_fault_place fault.now }
+{
+    match fault {
+        ProgramFault::Read(fault) => fault.place(),
+        ProgramFault::Check(CheckFault::Memory, _) => None,
+        ProgramFault::Check(_, at) => Some(*at),
+    }
+}
+
 /// Explains this fault of a program's text, at its line and column. A missing semicolon is placed
 /// at the end of the statement before. Nothing explains a text that is too long, or refused memory,
 /// which is also the only error.
@@ -210,12 +209,15 @@ pub fn explain_program<'a>(
     ensures { let Explains = ExplainsProgram file.now text.now fault.now in
         IfOk result (IsExplanationOf Explains) }
 {
-    let explanation = match fault {
+    let sentence = match fault {
         ProgramFault::Read(ReadFault::Memory | ReadFault::TooLong) => return Ok(None),
-        ProgramFault::Read(ReadFault::Syntax(at)) => explain_syntax(alloc, file, text, *at)?,
-        ProgramFault::Read(fault) => explain_read(alloc, file, text, fault)?,
         ProgramFault::Check(CheckFault::Memory, _) => return Ok(None),
-        ProgramFault::Check(fault, at) => explain_check(alloc, file, text, *fault, *at)?,
+        ProgramFault::Read(ReadFault::Syntax(at)) => {
+            return Ok(Some(explain_syntax(alloc, file, text, *at)?));
+        }
+        ProgramFault::Read(fault) => read_sentence(alloc, text, fault)?,
+        ProgramFault::Check(fault, at) => check_sentence(alloc, text, *fault, *at)?,
     };
-    Ok(Some(explanation))
+    let place = place_in(fault);
+    Ok(Some(about_place(alloc, file, text, place, sentence.as_str())?))
 }

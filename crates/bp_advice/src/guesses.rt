@@ -1,10 +1,11 @@
 //! The declared name that a misspelled one may stand for.
 
-use crate::declared::{procedure_around, text_of_procedure};
-use crate::sentences::Part::{Quoted, Words};
-use crate::sentences::push_parts;
+use crate::around::tokens_of;
+use crate::check_sentences::RefusedName;
+use crate::declared::procedure_around;
+use crate::sentences::Quoted;
 use bp_language::{Name, Proc};
-use bp_syntax::{Tree, take_lexeme};
+use bp_syntax::Tree;
 use std::alloc::{AllocError, Global};
 use strsim::osa_distance;
 
@@ -15,171 +16,113 @@ const MAX_EDITS: usize = 2;
 /// Longer names are not compared.
 const MAX_SIZE: usize = 60;
 
-/// A misspelled name, and the nearest of the names that it was compared with.
-#[derive(Clone, Copy)]
-struct Guess<'a> {
-    misspelled: &'a str,
-    nearest: Option<&'a str>,
-    /// How many edits lead to the nearest; more than are allowed where there is none.
-    edits: usize,
-}
-
-/// The guess before any name is compared. Text that is no UTF-8 has no name near it.
-fn no_guess(misspelled: &[u8]) -> Guess<'_> {
-    Guess {
-        misspelled: str::from_utf8(misspelled).unwrap_or(""),
-        nearest: None,
-        edits: MAX_EDITS + 1,
-    }
-}
-
-/// The guess after one more name. A name is near where at least half of its letters remain.
-fn weighed<'a>(alloc: Global, guess: Guess<'a>, name: &'a str) -> Result<Guess<'a>, AllocError> {
-    let size = name.len().max(guess.misspelled.len());
-    if size > MAX_SIZE {
-        return Ok(guess);
-    }
-    let edits = osa_distance(alloc, guess.misspelled, name)?;
-    if edits >= guess.edits || edits.saturating_mul(2) > size {
-        return Ok(guess);
-    }
-    Ok(Guess {
-        nearest: Some(name),
-        edits,
-        ..guess
-    })
-}
-
-fn weighed_names<'a>(
+/// The first of the names that has the fewest edits. At least half of the letters remain.
+fn nearest<'a>(
     alloc: Global,
-    guess: Guess<'a>,
-    names: &'a [Name],
-) -> Result<Guess<'a>, AllocError> {
-    let mut guess = guess;
+    misspelled: &str,
+    names: &[&'a str],
+) -> Result<Option<&'a str>, AllocError> {
+    let mut nearest = None;
+    let mut fewest = MAX_EDITS + 1;
     for name in names {
-        guess = weighed(alloc, guess, name.text())?;
-    }
-    Ok(guess)
-}
-
-/// The guess after the formals and the locals of a procedure.
-fn weighed_own_names<'a>(
-    alloc: Global,
-    guess: Guess<'a>,
-    proc: &'a Proc,
-) -> Result<Guess<'a>, AllocError> {
-    let guess = weighed_names(alloc, guess, proc.formals())?;
-    weighed_names(alloc, guess, proc.locals())
-}
-
-fn weighed_procedures<'a>(
-    alloc: Global,
-    guess: Guess<'a>,
-    procs: &'a [Proc],
-) -> Result<Guess<'a>, AllocError> {
-    let mut guess = guess;
-    for proc in procs {
-        guess = weighed(alloc, guess, proc.name().text())?;
-    }
-    Ok(guess)
-}
-
-/// The guess after the labels of the text of a procedure: the tokens before a colon.
-fn weighed_labels<'a>(
-    alloc: Global,
-    guess: Guess<'a>,
-    text: &'a [u8],
-) -> Result<Guess<'a>, AllocError> {
-    let mut guess = guess;
-    let mut rest = text;
-    let mut last = "";
-    while let Some(lexeme) = take_lexeme(&mut rest) {
-        if lexeme.text == b":".as_slice() {
-            guess = weighed(alloc, guess, last)?;
+        let size = name.len().max(misspelled.len());
+        if size > MAX_SIZE {
+            continue;
         }
-        if !lexeme.is_gap() {
-            last = str::from_utf8(lexeme.text).unwrap_or("");
+        let edits = osa_distance(alloc, misspelled, name)?;
+        if edits < fewest && edits.saturating_mul(2) <= size {
+            nearest = Some(*name);
+            fewest = edits;
         }
     }
-    Ok(guess)
+    Ok(nearest)
 }
 
-/// Adds the nearest name, where one is near.
-fn push_guess(out: &mut Vec<u8>, guess: Guess<'_>) -> Result<(), AllocError> {
-    let Some(nearest) = guess.nearest else {
-        return Ok(());
-    };
-    push_parts(
-        out,
-        &[
-            Words(b"; did you mean "),
-            Quoted(nearest.as_bytes()),
-            Words(b"?"),
-        ],
-    )
-}
-
-/// Adds the variable that a name at this place may stand for, where one is near.
-pub(crate) fn push_near_variable(
-    out: &mut Vec<u8>,
-    tree: &Tree,
-    name: &[u8],
-    at: usize,
-) -> Result<(), AllocError> {
-    let alloc = *out.allocator();
-    let mut guess = weighed_names(alloc, no_guess(name), tree.globals())?;
-    if let Some(proc) = procedure_around(tree, at) {
-        guess = weighed_own_names(alloc, guess, proc)?;
+/// Asks whether the nearest of these names was meant, if one is near. Text that is no UTF-8 has no
+/// name near it.
+fn question(alloc: Global, misspelled: &[u8], names: &[&str]) -> Result<String, AllocError> {
+    let misspelled = str::from_utf8(misspelled).unwrap_or("");
+    match nearest(alloc, misspelled, names)? {
+        Some(name) => format!(in alloc; "; did you mean {}?", Quoted(name.as_bytes())),
+        None => Ok(String::new(alloc)),
     }
-    push_guess(out, guess)
 }
 
-/// Adds the global that a name may stand for, where one is near.
-pub fn push_near_global(out: &mut Vec<u8>, tree: &Tree, name: &[u8]) -> Result<(), AllocError> {
-    let guess = weighed_names(*out.allocator(), no_guess(name), tree.globals())?;
-    push_guess(out, guess)
+fn add_names<'a>(texts: &mut Vec<&'a str>, names: &'a [Name]) -> Result<(), AllocError> {
+    for name in names {
+        texts.push(name.text())?;
+    }
+    Ok(())
 }
 
-/// Adds the variable of any procedure or of all that a name may stand for, where one is near.
-pub fn push_near_name(out: &mut Vec<u8>, tree: &Tree, name: &[u8]) -> Result<(), AllocError> {
-    let alloc = *out.allocator();
-    let mut guess = weighed_names(alloc, no_guess(name), tree.globals())?;
+/// Adds the formals and the locals of a procedure.
+fn add_own<'a>(texts: &mut Vec<&'a str>, proc: &'a Proc) -> Result<(), AllocError> {
+    add_names(texts, proc.formals())?;
+    add_names(texts, proc.locals())
+}
+
+fn globals_of(alloc: Global, tree: &Tree) -> Result<Vec<&str>, AllocError> {
+    let mut names = Vec::new(alloc);
+    add_names(&mut names, tree.globals())?;
+    Ok(names)
+}
+
+fn procedures_of(alloc: Global, tree: &Tree) -> Result<Vec<&str>, AllocError> {
+    let mut names = Vec::new(alloc);
     for proc in tree.procs() {
-        guess = weighed_own_names(alloc, guess, proc)?;
+        names.push(proc.name().text())?;
     }
-    push_guess(out, guess)
+    Ok(names)
 }
 
-/// Adds the procedure that the name of an entry may stand for, where one is near.
-pub fn push_near_entry(out: &mut Vec<u8>, tree: &Tree, name: &[u8]) -> Result<(), AllocError> {
-    let guess = weighed_procedures(*out.allocator(), no_guess(name), tree.procs())?;
-    push_guess(out, guess)
+/// Asks for the global that a name may stand for.
+pub fn near_global(alloc: Global, tree: &Tree, name: &[u8]) -> Result<String, AllocError> {
+    question(alloc, name, &globals_of(alloc, tree)?)
 }
 
-/// Adds the procedure that the name of a call may stand for, where one is near, or the word that is
-/// written as a call is.
-pub(crate) fn push_near_procedure(
-    out: &mut Vec<u8>,
-    tree: &Tree,
-    name: &[u8],
-) -> Result<(), AllocError> {
-    let alloc = *out.allocator();
-    let mut guess = weighed_procedures(alloc, no_guess(name), tree.procs())?;
-    for word in ["assert", "assume", "print"] {
-        guess = weighed(alloc, guess, word)?;
+/// Asks for the variable, of any procedure or of all, that a name may stand for.
+pub fn near_name(alloc: Global, tree: &Tree, name: &[u8]) -> Result<String, AllocError> {
+    let mut names = globals_of(alloc, tree)?;
+    for proc in tree.procs() {
+        add_own(&mut names, proc)?;
     }
-    push_guess(out, guess)
+    question(alloc, name, &names)
 }
 
-/// Adds the label that a name at this place may stand for, where one is near.
-pub(crate) fn push_near_label(
-    out: &mut Vec<u8>,
-    text: &[u8],
-    tree: &Tree,
-    name: &[u8],
-    at: usize,
-) -> Result<(), AllocError> {
-    let labelled = text_of_procedure(text, tree, at);
-    let guess = weighed_labels(*out.allocator(), no_guess(name), labelled)?;
-    push_guess(out, guess)
+/// Asks for the procedure that the name of an entry may stand for.
+pub fn near_entry(alloc: Global, tree: &Tree, name: &[u8]) -> Result<String, AllocError> {
+    question(alloc, name, &procedures_of(alloc, tree)?)
+}
+
+impl RefusedName<'_> {
+    /// Asks for the variable that the name may stand for.
+    pub(crate) fn near_variable(&self) -> Result<String, AllocError> {
+        let mut names = globals_of(self.alloc, self.tree)?;
+        if let Some(proc) = procedure_around(self.tree, self.at) {
+            add_own(&mut names, proc)?;
+        }
+        question(self.alloc, self.name, &names)
+    }
+
+    /// Asks for the procedure that the name may stand for, or for the word that is written as a
+    /// call is.
+    pub(crate) fn near_procedure(&self) -> Result<String, AllocError> {
+        let mut names = procedures_of(self.alloc, self.tree)?;
+        for word in ["assert", "assume", "print"] {
+            names.push(word)?;
+        }
+        question(self.alloc, self.name, &names)
+    }
+
+    /// Asks for the label that the name may stand for: a token before a colon.
+    pub(crate) fn near_label(&self) -> Result<String, AllocError> {
+        let tokens = tokens_of(self.alloc, self.text_of_procedure())?;
+        let mut labels = Vec::new(self.alloc);
+        for (label, colon) in tokens.iter().zip(tokens.iter().skip(1)) {
+            if *colon == b":".as_slice() {
+                labels.push(str::from_utf8(label).unwrap_or(""))?;
+            }
+        }
+        question(self.alloc, self.name, &labels)
+    }
 }

@@ -14,8 +14,8 @@ mod sentences;
 
 pub use declared::{first_procedure, tree_of};
 pub use explanations::{
-    Explanation, Place, about_excerpt, about_line, explain_program, lines_of, sentence_of,
+    Explanation, Place, about_line, explain_program, explained, lines_of, sentence_of,
 };
-pub use guesses::{push_near_entry, push_near_global, push_near_name};
+pub use guesses::{near_entry, near_global, near_name};
 pub use read_sentences::{ENDS_IN_CR_LF, ends_in_cr_lf};
-pub use sentences::{Part, number_at_front, push_all, push_parts};
+pub use sentences::{Count, Named, Plain, Quoted, between, cut_name, listed, number_at_front};

@@ -6,46 +6,27 @@ ghost use Rattle.bp_language.specs.declared.tokens.TokenKind.{TokenKind};
 ghost use Rattle.bp_syntax.specs.declared.faults.ReadFault.TheVariants.{Syntax, Memory};
 ghost use Rattle.bp_advice.specs.Explanations.{IsProgram, BeginsProgram, MayFollow, IsJudged};
 
-use crate::sentences::Part::{Quoted, Words};
-use crate::sentences::{Part, push_parts};
-use bp_language::TokenKind;
+use crate::sentences::between;
+use bp_language::TokenKind::{
+    self, Ampersand, Assert, Assume, Bang, Bar, Caret, Differ, Equal, Goto, If, Implies, Name, One,
+    Open, Print, Return, Skip, While, Zero,
+};
 use bp_syntax::{ReadFault, TOKEN_KINDS, has_one_refusal, read, spelling_of};
 use std::alloc::{AllocError, Global};
+use std::fmt;
+use std::fmt::Write;
 
 /// What begins a statement, where no limit is in the way.
-const STATEMENT: [TokenKind; 9] = [
-    TokenKind::Skip,
-    TokenKind::Goto,
-    TokenKind::Return,
-    TokenKind::If,
-    TokenKind::While,
-    TokenKind::Assert,
-    TokenKind::Assume,
-    TokenKind::Print,
-    TokenKind::Name,
-];
+const STATEMENT: [TokenKind; 9] = [Skip, Goto, Return, If, While, Assert, Assume, Print, Name];
 
 /// What begins an expression.
-const EXPRESSION: [TokenKind; 5] = [
-    TokenKind::Zero,
-    TokenKind::One,
-    TokenKind::Bang,
-    TokenKind::Open,
-    TokenKind::Name,
-];
+const EXPRESSION: [TokenKind; 5] = [Zero, One, Bang, Open, Name];
 
 /// What stands between the two sides of an expression.
-const OPERATOR: [TokenKind; 6] = [
-    TokenKind::Bar,
-    TokenKind::Caret,
-    TokenKind::Ampersand,
-    TokenKind::Equal,
-    TokenKind::Differ,
-    TokenKind::Implies,
-];
+const OPERATOR: [TokenKind; 6] = [Bar, Caret, Ampersand, Equal, Differ, Implies];
 
 /// One thing that a text may continue with.
-#[derive(Clone, Copy)]
+#[derive(Clone, Copy, PartialEq, Eq)]
 pub(crate) enum Offer {
     Statement,
     Expression,
@@ -57,14 +38,6 @@ pub(crate) enum Offer {
     Token(TokenKind),
 }
 
-fn has(kinds: &[TokenKind], kind: TokenKind) -> bool {
-    kinds.iter().any(|other| *other == kind)
-}
-
-fn has_all(kinds: &[TokenKind], group: &[TokenKind]) -> bool {
-    group.iter().all(|kind| has(kinds, *kind))
-}
-
 /// Offers the group by its name, in place of its tokens, where all of these are there.
 fn offer_group(
     kinds: &mut Vec<TokenKind>,
@@ -72,9 +45,9 @@ fn offer_group(
     offer: Offer,
     offers: &mut Vec<Offer>,
 ) -> Result<(), AllocError> {
-    if has_all(kinds.as_slice(), group) {
+    if group.iter().all(|kind| kinds.contains(kind)) {
         offers.push(offer)?;
-        kinds.retain(|kind| !has(group, *kind));
+        kinds.retain(|kind| !group.contains(kind));
     }
     Ok(())
 }
@@ -104,37 +77,27 @@ pub(crate) fn offers_after(alloc: Global, front: &[u8]) -> Result<Vec<Offer>, Al
     Ok(offers)
 }
 
-/// What separates an offer from the one before, where this many are still to come.
-fn separator(is_first: bool, is_last: bool) -> &'static [u8] {
-    if is_first {
-        b""
-    } else if is_last {
-        b" or "
-    } else {
-        b", "
+impl fmt::Display for Offer {
+    fn fmt<W: fmt::Write>(&self, f: &mut fmt::Formatter<W>) -> fmt::Result {
+        match self {
+            Offer::Statement => write!(f, "a statement"),
+            Offer::Expression => write!(f, "an expression"),
+            Offer::Operator => write!(f, "an operator"),
+            Offer::Name => write!(f, "a name"),
+            Offer::End => write!(f, "the end of the text"),
+            Offer::Token(kind) => write!(f, "'{}'", spelling_of(*kind)),
+        }
     }
 }
 
-/// An offer in words.
-fn part_of(offer: Offer) -> Part<'static> {
-    match offer {
-        Offer::Statement => Words(b"a statement"),
-        Offer::Expression => Words(b"an expression"),
-        Offer::Operator => Words(b"an operator"),
-        Offer::Name => Words(b"a name"),
-        Offer::End => Words(b"the end of the text"),
-        Offer::Token(kind) => Quoted(spelling_of(kind).as_bytes()),
+/// The offers, with commas and an `or` between them.
+pub(crate) fn list_of(alloc: Global, offers: &[Offer]) -> Result<String, AllocError> {
+    let mut list = String::new(alloc);
+    for (place, offer) in offers.iter().enumerate() {
+        let before = between(place, offers.len(), " or ");
+        write!(list, "{before}{offer}")?;
     }
-}
-
-/// Adds the offers, with commas and an `or` between them.
-pub(crate) fn push_offers(out: &mut Vec<u8>, offers: &[Offer]) -> Result<(), AllocError> {
-    let last = offers.len().saturating_sub(1);
-    for (index, offer) in offers.iter().enumerate() {
-        let before = separator(index == 0, index == last);
-        push_parts(out, &[Words(before), part_of(*offer)])?;
-    }
-    Ok(())
+    Ok(list)
 }
 
 /// Whether the fault is that of refused memory.

@@ -1,90 +1,88 @@
-//! The parts of sentences: words, numbers, and names in quotes.
+//! The words of sentences: numbers with a noun, and names, also in quotes.
 //! Numbers at the front of lines of traces and schedules.
+use crate::explanations::shown;
 use bp_text::{number_of, part_before, part_from};
-use itoa::Buffer;
-use std::alloc::AllocError;
+use std::alloc::{AllocError, Global};
+use std::fmt;
+use std::fmt::Write;
 
 /// The most bytes of a name that are shown.
 const MAX_NAME: usize = 60;
 
-/// What stands after a name that was cut.
-const CUT: &[u8] = b"..";
-
-/// A part of a sentence.
+/// Bytes as a terminal shows them, a column each.
 #[derive(Clone, Copy)]
-pub enum Part<'a> {
-    Words(&'a [u8]),
-    Number(usize),
-    /// A number and a noun, which has an `s` unless the number is 1.
-    Count(usize, &'a [u8]),
-    /// A line and a column.
-    Place(usize, usize),
-    /// A name, or its front and dots where it is long.
-    Name(&'a [u8]),
-    /// The same in quotes.
-    Quoted(&'a [u8]),
-}
+pub struct Plain<'a>(pub &'a [u8]);
 
-/// Adds these words one after the other.
-pub fn push_all(out: &mut Vec<u8>, words: &[&[u8]]) -> Result<(), AllocError> {
-    for some in words {
-        out.extend_from_slice(some)?;
-    }
-    Ok(())
-}
-
-/// Adds the parts one after the other.
-pub fn push_parts(out: &mut Vec<u8>, parts: &[Part<'_>]) -> Result<(), AllocError> {
-    for part in parts {
-        push_part(out, *part)?;
-    }
-    Ok(())
-}
-
-fn push_part(out: &mut Vec<u8>, part: Part<'_>) -> Result<(), AllocError> {
-    match part {
-        Part::Words(words) => out.extend_from_slice(words),
-        Part::Number(number) => push_number(out, number),
-        Part::Count(count, noun) => push_count(out, count, noun),
-        Part::Place(line, column) => push_place(out, line, column),
-        Part::Name(name) => push_name(out, name),
-        Part::Quoted(name) => push_quoted(out, name),
+impl fmt::Display for Plain<'_> {
+    fn fmt<W: fmt::Write>(&self, f: &mut fmt::Formatter<W>) -> fmt::Result {
+        for byte in self.0 {
+            f.write_char(char::from(shown(*byte)))?;
+        }
+        Ok(())
     }
 }
 
-fn push_place(out: &mut Vec<u8>, line: usize, column: usize) -> Result<(), AllocError> {
-    push_number(out, line)?;
-    push_all(out, &[b":"])?;
-    push_number(out, column)
+/// What is shown of a name: it, or its front and dots if it is long.
+pub fn cut_name(name: &[u8]) -> (&[u8], &'static str) {
+    let dots = if name.len() > MAX_NAME { ".." } else { "" };
+    (part_before(name, MAX_NAME), dots)
 }
 
-/// Adds the decimal of a number.
-fn push_number(out: &mut Vec<u8>, number: usize) -> Result<(), AllocError> {
-    let mut buffer = Buffer::new();
-    out.extend_from_slice(buffer.format(number).as_bytes())
-}
+/// A name, or its front and dots if it is long.
+#[derive(Clone, Copy)]
+pub struct Named<'a>(pub &'a [u8]);
 
-/// Adds a number and a noun, which has an `s` unless the number is 1.
-fn push_count(out: &mut Vec<u8>, count: usize, noun: &[u8]) -> Result<(), AllocError> {
-    let ending: &[u8] = if count == 1 { b"" } else { b"s" };
-    push_number(out, count)?;
-    push_all(out, &[b" ", noun, ending])
-}
-
-/// Adds a name, or its front and dots where it is long.
-fn push_name(out: &mut Vec<u8>, name: &[u8]) -> Result<(), AllocError> {
-    out.extend_from_slice(part_before(name, MAX_NAME))?;
-    if name.len() > MAX_NAME {
-        out.extend_from_slice(CUT)?;
+impl fmt::Display for Named<'_> {
+    fn fmt<W: fmt::Write>(&self, f: &mut fmt::Formatter<W>) -> fmt::Result {
+        let (front, dots) = cut_name(self.0);
+        write!(f, "{}{dots}", Plain(front))
     }
-    Ok(())
 }
 
-/// Adds a name in quotes.
-fn push_quoted(out: &mut Vec<u8>, name: &[u8]) -> Result<(), AllocError> {
-    push_all(out, &[b"'"])?;
-    push_name(out, name)?;
-    push_all(out, &[b"'"])
+/// The same in quotes.
+#[derive(Clone, Copy)]
+pub struct Quoted<'a>(pub &'a [u8]);
+
+impl fmt::Display for Quoted<'_> {
+    fn fmt<W: fmt::Write>(&self, f: &mut fmt::Formatter<W>) -> fmt::Result {
+        write!(f, "'{}'", Named(self.0))
+    }
+}
+
+/// A number and a noun, which has an `s` unless the number is 1.
+#[derive(Clone, Copy)]
+pub struct Count(pub usize, pub &'static str);
+
+impl fmt::Display for Count {
+    fn fmt<W: fmt::Write>(&self, f: &mut fmt::Formatter<W>) -> fmt::Result {
+        let ending = if self.0 == 1 { "" } else { "s" };
+        write!(f, "{} {}{ending}", self.0, self.1)
+    }
+}
+
+/// What stands before the item of this place in a list of so many: a comma, or this before the last.
+pub fn between(place: usize, count: usize, last: &'static str) -> &'static str {
+    match place {
+        0 => "",
+        _ if place.saturating_add(1) == count => last,
+        _ => ", ",
+    }
+}
+
+/// How many items are listed before dots.
+const MAX_LISTED: usize = 6;
+
+/// Lists the first of these items, with commas between them, and dots for the others.
+pub fn listed<T: fmt::Display>(alloc: Global, items: &[T]) -> Result<String, AllocError> {
+    let mut list = String::new(alloc);
+    for (place, item) in items.iter().take(MAX_LISTED).enumerate() {
+        let before = between(place, items.len(), ", ");
+        write!(list, "{before}{item}")?;
+    }
+    if items.len() > MAX_LISTED {
+        list.push_str(", ..")?;
+    }
+    Ok(list)
 }
 
 /// A greater number is no number of a thread, and too large for each limit.

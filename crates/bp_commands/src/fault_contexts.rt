@@ -11,7 +11,7 @@ use bp_run::limits::{MAX_RING, MAX_TURN};
 use bp_syntax::ReadFault;
 use bp_tasks::limits::MAX_JOBS;
 use bp_tasks::{NamedStart, RunOptions};
-use bp_text::{push_bytes, push_displayed};
+use bp_text::push_displayed;
 use bp_view::watched_names;
 use std::alloc::{AllocError, Global};
 
@@ -45,60 +45,30 @@ impl OptionNumbers {
     }
 }
 
-/// The bytes of a text that was made.
-fn bytes_of(alloc: Global, text: &str) -> Option<Vec<u8>> {
-    let mut bytes = Vec::new(alloc);
-    bytes.extend_from_slice(text.as_bytes()).ok()?;
-    Some(bytes)
-}
-
-/// The option of a setup whose number is out of its range, and that range.
-fn of_setup(alloc: Global, numbers: OptionNumbers) -> Option<String> {
+/// The option whose number is out of its range, and that range.
+fn of_numbers(alloc: Global, numbers: Option<OptionNumbers>) -> Option<String> {
     let OptionNumbers {
         contexts,
         calls,
-        ..
-    } = numbers;
-    if contexts > MAX_CONTEXTS {
-        return format!(in alloc; "--contexts {contexts}: at most {MAX_CONTEXTS} are allowed").ok();
-    }
-    if calls == 0 || calls > MAX_CALLS {
-        return format!(in alloc; "--calls {calls}: a thread has 1 to {MAX_CALLS} calls").ok();
-    }
-    None
-}
-
-/// The option of a run by workers whose number is out of its range, and that range.
-fn of_run(alloc: Global, numbers: OptionNumbers) -> Option<String> {
-    let (turn, ring) = (numbers.turn.unwrap_or(1), numbers.ring.unwrap_or(1));
-    if turn == 0 || turn > MAX_TURN {
-        return format!(in alloc; "--turn {turn}: a turn has 1 to {MAX_TURN} calls").ok();
-    }
-    if ring == 0 || ring > MAX_RING {
-        return format!(in alloc; "--ring {ring}: the ring holds 1 to {MAX_RING} calls").ok();
-    }
-    None
-}
-
-/// How many jobs a test has, if these are more than it may have.
-fn of_test(alloc: Global, numbers: OptionNumbers) -> Option<String> {
-    let jobs = numbers.jobs?;
-    if jobs > MAX_JOBS {
-        return format!(in alloc; "--jobs {jobs}: at most {MAX_JOBS} are allowed").ok();
-    }
-    None
-}
-
-/// The option whose number is out of its range, and that range.
-fn of_numbers(alloc: Global, numbers: Option<OptionNumbers>) -> Option<String> {
-    let numbers = numbers?;
-    if let Some(sentence) = of_setup(alloc, numbers) {
-        return Some(sentence);
-    }
-    match of_run(alloc, numbers) {
-        Some(sentence) => Some(sentence),
-        None => of_test(alloc, numbers),
-    }
+        turn,
+        ring,
+        jobs,
+    } = numbers?;
+    let (turn, ring, jobs) = (turn.unwrap_or(1), ring.unwrap_or(1), jobs.unwrap_or(0));
+    let sentence = if contexts > MAX_CONTEXTS {
+        format!(in alloc; "--contexts {contexts}: at most {MAX_CONTEXTS} are allowed")
+    } else if calls == 0 || calls > MAX_CALLS {
+        format!(in alloc; "--calls {calls}: a thread has 1 to {MAX_CALLS} calls")
+    } else if turn == 0 || turn > MAX_TURN {
+        format!(in alloc; "--turn {turn}: a turn has 1 to {MAX_TURN} calls")
+    } else if ring == 0 || ring > MAX_RING {
+        format!(in alloc; "--ring {ring}: the ring holds 1 to {MAX_RING} calls")
+    } else if jobs > MAX_JOBS {
+        format!(in alloc; "--jobs {jobs}: at most {MAX_JOBS} are allowed")
+    } else {
+        return None;
+    };
+    sentence.ok()
 }
 
 /// A file of a command, and why it could not be opened or read.
@@ -218,11 +188,11 @@ impl FaultContext<'_, '_> {
     /// What is said of a fault in place of its sentence, where there is more to say.
     pub(crate) fn sentence(&self, alloc: Global, fault: &Fault) -> Option<Vec<u8>> {
         if let Some(sentence) = self.of_files(alloc, fault) {
-            return bytes_of(alloc, sentence.as_str());
+            return Some(sentence.into_bytes());
         }
         match fault {
             Fault::Setup(_) if self.is_bundle && self.asked.program.is_empty() => {
-                bytes_of(alloc, EMPTY_BUNDLE)
+                Some(String::from_str(alloc, EMPTY_BUNDLE).ok()?.into_bytes())
             }
             Fault::Setup(fault) => of_start(alloc, self.asked, *fault),
             Fault::NoVariable(number) => of_name(alloc, self.asked, *number),
@@ -240,10 +210,8 @@ pub(crate) fn sentence(
     if let Some(sentence) = context.sentence(alloc, fault) {
         return Ok(sentence);
     }
-    let text = format!(in alloc; "{fault}")?;
-    let mut sentence = Vec::new(alloc);
-    push_bytes(&mut sentence, text.as_bytes())?;
-    Ok(sentence)
+    let sentence = format!(in alloc; "{fault}")?;
+    Ok(sentence.into_bytes())
 }
 
 /// The same sentence for a terminal, with `?` for each byte of a control character.

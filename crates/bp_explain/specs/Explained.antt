@@ -1,12 +1,15 @@
 -- What explains a fault of a trace, of a schedule and of reported steps.
-use Rattle.std.specs.Prelude.{if◌then◌else◌, ◌≡◌, ◌+◌, ◌==◌, nat_lt, ℕ, List, ◌++◌, length}
+use Rattle.std.specs.Prelude.{if◌then◌else◌, ◌≡◌, ◌+◌, ◌==◌, ◌≤◌, nat_lt, ℕ, List, ◌++◌, length, Option, IsSomeAnd}
 use Rattle.bp_text.specs.Lines.{position_at}
 use Rattle.bp_machine.specs.declared.limits.TheConstants.{MAX_THREADS, MAX_CONTEXTS}
 use Rattle.bp_machine.specs.declared.setup_faults.SetupFault.{SetupFault}
 use Rattle.bp_machine.specs.declared.setup_faults.SetupFault.TheVariants as setup
 use Rattle.bp_machine.specs.Setups.{SetupOf, threads}
+use Rattle.bp_trace.specs.declared.limits.TheConstants.{MAX_TRACE}
 use Rattle.bp_trace.specs.declared.traces.Version.{Version}
+use Rattle.bp_trace.specs.declared.heads.Head.{Head}
 use Rattle.bp_trace.specs.TraceText.{HasHead, head_text}
+use Rattle.bp_trace.specs.Reading.{setup_of_head}
 use Rattle.bp_trace.specs.declared.faults.DriveFault.{DriveFault}
 use Rattle.bp_trace.specs.declared.faults.DriveFault.TheVariants as drive
 use Rattle.bp_trace.specs.declared.faults.ReplayFault.{ReplayFault}
@@ -15,17 +18,23 @@ use Rattle.bp_advice.specs.declared.explanations.Explanation.{Explanation}
 use Rattle.bp_advice.specs.Explanations.{ExplainsLine}
 use Rattle.bp_confirm.specs.declared.confirming.ConfirmFault.{ConfirmFault}
 use Rattle.bp_confirm.specs.declared.confirming.ConfirmFault.TheVariants as confirm
-use Rattle.bp_explain.specs.declared.trace_heads.TheConstants.{FIRST_ENTRY}
+use Rattle.bp_explain.specs.declared.heads.TheConstants.{FIRST_ENTRY}
 
 -- The lines of a trace's head that the faults of a setup are about.
 
--- the trace begins with the head of a setup
+-- the trace begins with the head of a setup, and is no longer than a trace may be: of a longer one
+-- the head is not read
 pub record BeginsWithHead (trace : List ℕ) : Type 0 where
+  pub fits : length trace ≤ MAX_TRACE
   pub version : Version
   pub setup : SetupOf
   pub rest : List ℕ
   pub has : HasHead setup
   pub parts : trace ≡ head_text version setup ++ rest
+
+-- what is read of a trace: the head of each setup with whose head it begins
+abbrev pub IsReadHead : List ℕ → Option Head → Type 0
+IsReadHead trace head = (b : BeginsWithHead trace) → IsSomeAnd head (λ h. setup_of_head h ≡ b.setup)
 
 -- the line of the initial bits, that of the contexts and that of the calls of a thread
 module _ (s : SetupOf) where

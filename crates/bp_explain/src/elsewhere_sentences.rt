@@ -1,13 +1,13 @@
 //! Words for a step whose thread stands at another place: which other thread is there, and which
 //! steps of its own lead it there.
 
-use crate::sources::{Source, push_location, source_of};
-use crate::tried_steps::{Confirming, Tried, lines_before, try_steps};
-use bp_advice::Part::{Number, Place, Words};
-use bp_advice::{push_all, push_parts};
+use crate::sources::Located;
+use crate::tried_steps::{RefusedStep, Tried};
+use bp_advice::between;
 use bp_confirm::{Location, Stand, StepReason, StepRefusal};
 use bp_machine::limits::MAX_THREADS;
 use std::alloc::{AllocError, Global};
+use std::fmt::Write;
 
 /// How many steps that are left out are looked for.
 const MOST_MISSING: u32 = 6;
@@ -16,258 +16,146 @@ const MOST_MISSING: u32 = 6;
 const MOST_TRIED: usize = 262_144;
 
 /// Adds a line of steps without values.
-fn push_step(out: &mut Vec<u8>, thread: u32, location: Location) -> Result<(), AllocError> {
-    push_parts(out, &[Number(thread as usize), Words(b" ")])?;
-    match location {
-        Location::End => push_all(out, &[b"-"])?,
-        Location::Line(line) => push_parts(out, &[Number(line as usize)])?,
-        Location::Column(line, column) => {
-            push_parts(out, &[Place(line as usize, column as usize)])?
-        }
-    }
-    push_all(out, &[b"\n"])
-}
-
-/// What becomes of these steps with one more.
-fn try_with(
-    alloc: Global,
-    texts: Confirming<'_>,
-    steps: &[u8],
-    thread: u32,
-    location: Location,
-) -> Result<Tried, AllocError> {
-    let mut tried = Vec::new(alloc);
-    tried.extend_from_slice(steps)?;
-    push_step(&mut tried, thread, location)?;
-    try_steps(alloc, texts, tried.as_slice())
-}
-
-/// Whether a thread stands at the location of a refused step after the steps before it.
-fn stands_there(
-    alloc: Global,
-    texts: Confirming<'_>,
-    refusal: StepRefusal,
-    thread: u32,
-) -> Result<bool, AllocError> {
-    let steps = lines_before(texts.steps, refusal.line);
-    match try_with(alloc, texts, steps, thread, refusal.location)? {
-        Tried::Taken(_) => Ok(true),
-        Tried::Refused(found) => Ok(found.reason != StepReason::Elsewhere),
-        Tried::Unread => Ok(false),
-    }
-}
-
-/// The thread that stands at the location of a refused step, if one alone does.
-fn only_thread_there(
-    alloc: Global,
-    texts: Confirming<'_>,
-    refusal: StepRefusal,
-) -> Result<Option<u32>, AllocError> {
-    let start = texts.start;
-    let threads = start.entries.len().min(MAX_THREADS) as u32;
-    let mut only = None;
-    for thread in 0..threads {
-        if !stands_there(alloc, texts, refusal, thread)? {
-            continue;
-        }
-        if only.is_some() {
-            return Ok(None);
-        }
-        only = Some(thread);
-    }
-    Ok(only)
-}
-
-/// Adds which other thread stands at the location of a refused step, if one alone does.
-fn push_other_thread(
-    out: &mut Vec<u8>,
-    texts: Confirming<'_>,
-    refusal: StepRefusal,
-) -> Result<(), AllocError> {
-    let Some(thread) = only_thread_there(*out.allocator(), texts, refusal)? else {
-        return Ok(());
+fn push_step(steps: &mut Vec<u8>, thread: u32, location: Location) -> Result<(), AllocError> {
+    let alloc = *steps.allocator();
+    let line = match location {
+        Location::End => format!(in alloc; "{thread} -\n")?,
+        Location::Line(line) => format!(in alloc; "{thread} {line}\n")?,
+        Location::Column(line, column) => format!(in alloc; "{thread} {line}:{column}\n")?,
     };
-    let thread = Number(thread as usize);
-    push_parts(out, &[Words(b"; thread "), thread, Words(b" is at ")])?;
-    push_location(out, refusal.location)
+    steps.extend_from_slice(line.as_bytes())
 }
 
-/// Where a thread is after some steps of its own.
-enum Way {
-    /// At the location that it is led to.
-    There,
-    /// Not there yet: a step there is refused so.
-    On(StepRefusal),
-    /// It does not make these steps.
-    Nowhere,
-}
-
-/// Says where the thread of a refused step stands after these steps. The last of them are its own,
-/// and the refused step would come on the line with this number.
-fn way_after(
-    alloc: Global,
-    texts: Confirming<'_>,
-    refusal: StepRefusal,
-    steps: &[u8],
-    number: u32,
-) -> Result<Way, AllocError> {
-    match try_with(alloc, texts, steps, refusal.thread, refusal.location)? {
-        Tried::Taken(_) => Ok(Way::There),
-        Tried::Refused(found) if found.line != number => Ok(Way::Nowhere),
-        Tried::Refused(found) if found.reason == StepReason::Elsewhere => Ok(Way::On(found)),
-        Tried::Refused(_) => Ok(Way::There),
-        Tried::Unread => Ok(Way::Nowhere),
+/// The line of a statement.
+fn line_of(stand: Stand) -> Option<usize> {
+    match stand {
+        Stand::Statement(position) => Some(position.line),
+        Stand::End | Stand::Ended => None,
     }
-}
-
-/// Where a thread stands, as a step names it, if its next step does not depend on a choice.
-fn location_without_choice(source: &Source, refusal: StepRefusal) -> Option<Location> {
-    if source
-        .statements
-        .get(refusal.number? as usize)?
-        .excerpt
-        .reads_choice
-    {
-        return None;
-    }
-    match refusal.stand {
-        Stand::Ended => None,
-        Stand::End => Some(Location::End),
-        Stand::Statement(position) => Some(Location::Column(
-            u32::try_from(position.line).ok()?,
-            u32::try_from(position.column).ok()?,
-        )),
-    }
-}
-
-/// Where the thread of a refused step stands before each of the steps that lead it to the location
-/// of that step, if they do not depend on a choice and are few.
-fn missing_steps(
-    alloc: Global,
-    texts: Confirming<'_>,
-    refusal: StepRefusal,
-) -> Result<Option<Vec<Stand>>, AllocError> {
-    let Some(source) = &source_of(alloc, texts.program)? else {
-        return Ok(None);
-    };
-    let mut steps = Vec::new(alloc);
-    steps.extend_from_slice(lines_before(texts.steps, refusal.line))?;
-    let mut stands = Vec::new(alloc);
-    let mut here = refusal;
-    for made in 1..=MOST_MISSING {
-        let Some(location) = location_without_choice(source, here) else {
-            return Ok(None);
-        };
-        push_step(&mut steps, refusal.thread, location)?;
-        stands.push(here.stand)?;
-        let number = refusal.line.saturating_add(made);
-        match way_after(alloc, texts, refusal, steps.as_slice(), number)? {
-            Way::There => return Ok(Some(stands)),
-            Way::On(found) => here = found,
-            Way::Nowhere => return Ok(None),
-        }
-    }
-    Ok(None)
 }
 
 /// Whether two of these statements, one after the other, begin on one line.
 fn share_a_line(stands: &[Stand]) -> bool {
-    let mut before = 0;
-    for stand in stands {
-        let line = match stand {
-            Stand::Statement(position) => position.line,
-            Stand::End | Stand::Ended => 0,
-        };
-        if line != 0 && line == before {
-            return true;
+    let mut pairs = stands.iter().zip(stands.iter().skip(1));
+    pairs.any(|(stand, next)| line_of(*stand).is_some() && line_of(*stand) == line_of(*next))
+}
+
+/// The places of some steps as lines of steps name them, the last after an 'and'.
+fn places(alloc: Global, stands: &[Stand], by_column: bool) -> Result<String, AllocError> {
+    let mut list = String::new(alloc);
+    for (index, stand) in stands.iter().enumerate() {
+        let before = between(index, stands.len(), " and ");
+        match stand {
+            Stand::Ended | Stand::End => write!(list, "{before}'-'")?,
+            Stand::Statement(at) if by_column => write!(list, "{before}{}:{}", at.line, at.column)?,
+            Stand::Statement(at) => write!(list, "{before}{}", at.line)?,
         }
-        before = line;
     }
-    false
+    Ok(list)
 }
 
-/// How the places of steps are named.
-#[derive(Clone, Copy, PartialEq, Eq)]
-enum Names {
-    Lines,
-    Columns,
-}
+impl RefusedStep<'_> {
+    /// What becomes of these steps with one more, of this thread at the location of the refused
+    /// step.
+    fn try_with(&self, steps: &[u8], thread: u32) -> Result<Tried, AllocError> {
+        let mut tried = Vec::new(self.alloc);
+        tried.extend_from_slice(steps)?;
+        push_step(&mut tried, thread, self.refusal.location)?;
+        self.try_steps(tried.as_slice())
+    }
 
-/// Adds the place of a step as a line of steps names it.
-fn push_place(out: &mut Vec<u8>, stand: Stand, names: Names) -> Result<(), AllocError> {
-    match stand {
-        Stand::Ended | Stand::End => push_all(out, &[b"'-'"]),
-        Stand::Statement(position) if names == Names::Lines => {
-            push_parts(out, &[Number(position.line)])
+    /// The thread that stands at the location of the refused step, if one alone does.
+    fn only_thread_there(&self) -> Result<Option<u32>, AllocError> {
+        let start = self.start;
+        let mut only = None;
+        for thread in 0..start.entries.len().min(MAX_THREADS) as u32 {
+            let stands_there = match self.try_with(self.before(), thread)? {
+                Tried::Taken(_) => true,
+                Tried::Refused(found) => found.reason != StepReason::Elsewhere,
+                Tried::Unread => false,
+            };
+            if stands_there && only.is_some() {
+                return Ok(None);
+            }
+            if stands_there {
+                only = Some(thread);
+            }
         }
-        Stand::Statement(position) => push_parts(out, &[Place(position.line, position.column)]),
+        Ok(only)
     }
-}
 
-/// Adds the places of some steps, the last after an 'and'.
-fn push_places(out: &mut Vec<u8>, stands: &[Stand], names: Names) -> Result<(), AllocError> {
-    for (n, stand) in stands.iter().enumerate() {
-        let between: &[u8] = if n == 0 {
-            b""
-        } else if n.saturating_add(1) == stands.len() {
-            b" and "
-        } else {
-            b", "
+    /// Where a thread stands, as a step names it, if its next step does not depend on a choice.
+    fn location_without_choice(&self, here: StepRefusal) -> Option<Location> {
+        let statement = self.source.statements.get(here.number? as usize)?;
+        match here.stand {
+            _ if statement.excerpt.reads_choice => None,
+            Stand::Ended => None,
+            Stand::End => Some(Location::End),
+            Stand::Statement(position) => Some(Location::Column(
+                u32::try_from(position.line).ok()?,
+                u32::try_from(position.column).ok()?,
+            )),
+        }
+    }
+
+    /// Where the thread of the refused step stands before each of the steps that lead it to the
+    /// location of that step, if they do not depend on a choice and are few.
+    fn missing_steps(&self) -> Result<Option<Vec<Stand>>, AllocError> {
+        let mut steps = Vec::new(self.alloc);
+        steps.extend_from_slice(self.before())?;
+        let mut stands = Vec::new(self.alloc);
+        let (thread, mut here) = (self.refusal.thread, self.refusal);
+        for made in 1..=MOST_MISSING {
+            let Some(location) = self.location_without_choice(here) else {
+                return Ok(None);
+            };
+            push_step(&mut steps, thread, location)?;
+            stands.push(here.stand)?;
+            let number = self.refusal.line.saturating_add(made);
+            match self.try_with(steps.as_slice(), thread)? {
+                Tried::Unread => return Ok(None),
+                Tried::Refused(found) if found.line != number => return Ok(None),
+                Tried::Refused(found) if found.reason == StepReason::Elsewhere => here = found,
+                Tried::Taken(_) | Tried::Refused(_) => return Ok(Some(stands)),
+            }
+        }
+        Ok(None)
+    }
+
+    /// Says which steps of the thread of the refused step lead it to the location of that step, if
+    /// they do not depend on a choice and are few.
+    fn missing(&self) -> Result<String, AllocError> {
+        let alloc = self.alloc;
+        let Some(stands) = self.missing_steps()? else {
+            return Ok(String::new(alloc));
         };
-        push_all(out, &[between])?;
-        push_place(out, *stand, names)?;
+        let has_column = matches!(self.refusal.location, Location::Column(_, _));
+        let by_column = has_column || share_a_line(stands.as_slice());
+        let are_lines = !by_column && !stands.contains(&Stand::End);
+        let (lead, verb) = match (stands.len(), are_lines) {
+            (1, true) => ("line", "is"),
+            (_, true) => ("lines", "are"),
+            (1, false) => ("the step at", "is"),
+            (_, false) => ("the steps at", "are"),
+        };
+        let places = places(alloc, stands.as_slice(), by_column)?;
+        format!(in alloc; "; {lead} {places} {verb} missing")
     }
-    Ok(())
-}
 
-/// What begins the places of this many steps that are left out: all are lines, or not.
-fn lead_of(count: usize, are_lines: bool) -> &'static [u8] {
-    match (count, are_lines) {
-        (1, true) => b"; line ",
-        (_, true) => b"; lines ",
-        (1, false) => b"; the step at ",
-        (_, false) => b"; the steps at ",
+    /// Says what leads to the location of the refused step: another thread, or steps that are left
+    /// out. They are looked for after a list that is not too long.
+    pub(crate) fn ways_there(&self) -> Result<String, AllocError> {
+        let alloc = self.alloc;
+        if self.before().len() > MOST_TRIED {
+            return Ok(String::new(alloc));
+        }
+        let (other, missing) = (self.only_thread_there()?, self.missing()?);
+        let Some(thread) = other else {
+            return Ok(missing);
+        };
+        format!(in alloc;
+            "; thread {thread} is at {}{missing}",
+            Located(self.refusal.location)
+        )
     }
-}
-
-/// Adds which steps of the thread of a refused step lead it to the location of that step, if they
-/// do not depend on a choice and are few.
-fn push_missing_steps(
-    out: &mut Vec<u8>,
-    texts: Confirming<'_>,
-    refusal: StepRefusal,
-) -> Result<(), AllocError> {
-    let Some(stands) = missing_steps(*out.allocator(), texts, refusal)? else {
-        return Ok(());
-    };
-    let names = match refusal.location {
-        Location::Column(_, _) => Names::Columns,
-        _ if share_a_line(stands.as_slice()) => Names::Columns,
-        _ => Names::Lines,
-    };
-    let are_lines = names == Names::Lines && !stands.iter().any(|stand| *stand == Stand::End);
-    push_all(out, &[lead_of(stands.len(), are_lines)])?;
-    push_places(out, stands.as_slice(), names)?;
-    push_all(
-        out,
-        &[if stands.len() == 1 {
-            b" is missing".as_slice()
-        } else {
-            b" are missing"
-        }],
-    )
-}
-
-/// Adds what leads to the location of a refused step: another thread, or steps that are left out.
-/// They are looked for after a list that is not too long.
-pub(crate) fn push_ways_there(
-    out: &mut Vec<u8>,
-    texts: Confirming<'_>,
-    refusal: StepRefusal,
-) -> Result<(), AllocError> {
-    if lines_before(texts.steps, refusal.line).len() > MOST_TRIED {
-        return Ok(());
-    }
-    push_other_thread(out, texts, refusal)?;
-    push_missing_steps(out, texts, refusal)
 }

@@ -4,14 +4,12 @@
 
 mod call_sentences;
 mod elsewhere_sentences;
+mod heads;
 mod option_sentences;
-mod recorded_calls;
 mod schedules;
-mod setup_sentences;
 mod sources;
 mod step_sentences;
 mod steps;
-mod trace_heads;
 mod traces;
 mod tried_steps;
 mod value_sentences;

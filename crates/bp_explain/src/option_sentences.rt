@@ -1,120 +1,90 @@
 //! Sentences on words of the command line that do not fit the program: entries, initial bits, names
 //! of variables.
 
-use crate::setup_sentences::push_formals;
-use bp_advice::Part::{Count, Name as Named, Number, Quoted, Words};
-use bp_advice::{push_all, push_near_entry, push_near_global, push_near_name, push_parts, tree_of};
+use crate::heads::formals_of;
+use bp_advice::{Count, cut_name, listed, near_entry, near_global, near_name, tree_of};
 use bp_language::Name;
 use bp_machine::limits::DEFAULT_ENTRY;
 use bp_machine::{SetupFault, Start};
 use bp_syntax::Tree;
 use std::alloc::{AllocError, Global};
 
-/// How many names are listed before dots.
-const LISTED_NAMES: usize = 6;
-
-/// Adds the name of this place in a list, or dots after the last one that is listed.
-fn push_listed(out: &mut Vec<u8>, place: usize, name: &Name) -> Result<(), AllocError> {
-    if place > LISTED_NAMES {
-        return Ok(());
-    }
-    if place == LISTED_NAMES {
-        return push_all(out, &[b", .."]);
-    }
-    let between: &[u8] = if place == 0 { b"" } else { b", " };
-    push_parts(out, &[Words(between), Named(name.text().as_bytes())])
+/// The sentence that has a name in quotes between these words. A name of the command line may be
+/// any text.
+fn with_name(alloc: Global, before: &str, name: &[u8], after: &str) -> Result<Vec<u8>, AllocError> {
+    let (front, dots) = cut_name(name);
+    let (start, end) = (
+        format!(in alloc; "{before} '")?,
+        format!(in alloc; "{dots}'{after}")?,
+    );
+    let mut sentence = start.into_bytes();
+    sentence.extend_from_slice(front)?;
+    sentence.extend_from_slice(end.as_bytes())?;
+    Ok(sentence)
 }
 
-/// Adds the possible entries of a thread: the procedures without formals.
-fn push_possible_entries(out: &mut Vec<u8>, tree: &Tree) -> Result<(), AllocError> {
-    let mut place: usize = 0;
+/// Lists the possible entries of a thread: the procedures without formals.
+fn possible_entries(alloc: Global, tree: &Tree) -> Result<String, AllocError> {
+    let mut names = Vec::new(alloc);
     for proc in tree.procs() {
         if proc.formals().is_empty() {
-            push_listed(out, place, proc.name())?;
-            place = place.saturating_add(1);
+            names.push(proc.name().text())?;
         }
     }
-    Ok(())
-}
-
-/// Adds that the default entry does not exist, and lists the possible entries.
-fn push_no_default(out: &mut Vec<u8>, tree: &Tree) -> Result<(), AllocError> {
-    let parts = [
-        Words(b"there is no procedure "),
-        Quoted(DEFAULT_ENTRY.as_bytes()),
-    ];
-    push_parts(out, &parts)?;
-    if tree.procs().iter().all(|proc| !proc.formals().is_empty()) {
-        return push_all(out, &[b", and none without formals"]);
+    if names.is_empty() {
+        return format!(in alloc; ", and none without formals");
     }
-    push_all(out, &[b"; name an entry for each thread: "])?;
-    push_possible_entries(out, tree)
+    let list = listed(alloc, names.as_slice())?;
+    format!(in alloc; "; name an entry for each thread: {list}")
 }
 
-/// Adds that the entry of a thread is no procedure.
-fn push_unknown_entry(
-    out: &mut Vec<u8>,
+/// Says that the entry of a thread is no procedure.
+fn unknown_entry(
+    alloc: Global,
     tree: &Tree,
     start: &Start,
     thread: u32,
-) -> Result<(), AllocError> {
-    let Some(entry) = start.entries.get(thread as usize) else {
-        return Ok(());
-    };
-    if start.entries.len() == 1 && entry.as_str() == DEFAULT_ENTRY {
-        return push_no_default(out, tree);
+    entry: &str,
+) -> Result<Vec<u8>, AllocError> {
+    if start.entries.len() == 1 && entry == DEFAULT_ENTRY {
+        let others = possible_entries(alloc, tree)?;
+        return with_name(
+            alloc,
+            "there is no procedure",
+            entry.as_bytes(),
+            others.as_str(),
+        );
     }
-    push_parts(
-        out,
-        &[
-            Words(b"thread "),
-            Number(thread as usize),
-            Words(b": no procedure "),
-            Quoted(entry.as_bytes()),
-        ],
-    )?;
-    push_near_entry(out, tree, entry.as_bytes())
+    let before = format!(in alloc; "thread {thread}: no procedure")?;
+    let near = near_entry(alloc, tree, entry.as_bytes())?;
+    with_name(alloc, before.as_str(), entry.as_bytes(), near.as_str())
 }
 
-/// Adds that the entry of a thread has formals.
-fn push_entry_formals(
-    out: &mut Vec<u8>,
-    tree: &Tree,
-    start: &Start,
-    thread: u32,
-) -> Result<(), AllocError> {
-    match start.entries.get(thread as usize) {
-        Some(entry) => {
-            let thread = Number(thread as usize);
-            push_parts(out, &[Words(b"thread "), thread, Words(b": ")])?;
-            push_formals(out, tree, entry.as_bytes())
-        }
-        None => Ok(()),
+/// Says how many globals there are, and their names.
+fn globals_of(alloc: Global, globals: &[Name]) -> Result<String, AllocError> {
+    let mut names = Vec::new(alloc);
+    for name in globals {
+        names.push(name.text())?;
+    }
+    let (count, list) = (
+        Count(globals.len(), "global"),
+        listed(alloc, names.as_slice())?,
+    );
+    match globals.len() {
+        0 => format!(in alloc; "there are no globals"),
+        1 => format!(in alloc; "there is {count}: {list}"),
+        _ => format!(in alloc; "there are {count}: {list}"),
     }
 }
 
-/// Adds how many globals there are, and their names.
-fn push_globals(out: &mut Vec<u8>, globals: &[Name]) -> Result<(), AllocError> {
-    if globals.is_empty() {
-        return push_all(out, &[b"there are no globals"]);
-    }
-    let verb: &[u8] = if globals.len() == 1 { b"is " } else { b"are " };
-    let count = Count(globals.len(), b"global");
-    push_parts(out, &[Words(b"there "), Words(verb), count, Words(b": ")])?;
-    for (place, name) in globals.iter().enumerate() {
-        push_listed(out, place, name)?;
-    }
-    Ok(())
-}
-
-/// Adds that there are not as many initial bits as globals.
-fn push_init(out: &mut Vec<u8>, tree: &Tree, start: &Start) -> Result<(), AllocError> {
+/// Says that there are not as many initial bits as globals.
+fn init_length(alloc: Global, tree: &Tree, start: &Start) -> Result<Vec<u8>, AllocError> {
     let Some(bits) = &start.init else {
-        return Ok(());
+        return Ok(Vec::new(alloc));
     };
-    let count = Count(bits.len(), b"bit");
-    push_parts(out, &[Words(b"--init has "), count, Words(b", but ")])?;
-    push_globals(out, tree.globals())
+    let (count, globals) = (Count(bits.len(), "bit"), globals_of(alloc, tree.globals())?);
+    let sentence = format!(in alloc; "--init has {count}, but {globals}")?;
+    Ok(sentence.into_bytes())
 }
 
 /// The sentence on a fault of the setup that a run of the program of a text would start from. It is
@@ -125,21 +95,27 @@ pub fn start_sentence(
     start: &Start,
     fault: SetupFault,
 ) -> Result<Vec<u8>, AllocError> {
-    let mut sentence = Vec::new(alloc);
+    let nothing = Vec::new(alloc);
     let Some(tree) = &tree_of(alloc, program)? else {
-        return Ok(sentence);
+        return Ok(nothing);
     };
+    let entry_of = |thread: u32| start.entries.get(thread as usize);
     match fault {
-        SetupFault::UnknownEntry(thread) => {
-            push_unknown_entry(&mut sentence, tree, start, thread)?
-        }
-        SetupFault::EntryHasFormals(thread) => {
-            push_entry_formals(&mut sentence, tree, start, thread)?
-        }
-        SetupFault::InitLength => push_init(&mut sentence, tree, start)?,
-        _ => {}
+        SetupFault::UnknownEntry(thread) => match entry_of(thread) {
+            Some(entry) => unknown_entry(alloc, tree, start, thread, entry),
+            None => Ok(nothing),
+        },
+        SetupFault::EntryHasFormals(thread) => match entry_of(thread) {
+            Some(entry) => {
+                let before = format!(in alloc; "thread {thread}:")?;
+                let formals = formals_of(alloc, tree, entry.as_bytes())?;
+                with_name(alloc, before.as_str(), entry.as_bytes(), formals.as_str())
+            }
+            None => Ok(nothing),
+        },
+        SetupFault::InitLength => init_length(alloc, tree, start),
+        _ => Ok(nothing),
     }
-    Ok(sentence)
 }
 
 /// The sentence on a name that no variable of the program has. The only error is refused memory.
@@ -148,20 +124,18 @@ pub fn variable_sentence(
     program: &[u8],
     name: &[u8],
 ) -> Result<Vec<u8>, AllocError> {
-    let mut sentence = Vec::new(alloc);
-    push_parts(&mut sentence, &[Words(b"no variable "), Quoted(name)])?;
-    if let Some(tree) = &tree_of(alloc, program)? {
-        push_near_name(&mut sentence, tree, name)?;
-    }
-    Ok(sentence)
+    let near = match &tree_of(alloc, program)? {
+        Some(tree) => near_name(alloc, tree, name)?,
+        None => String::new(alloc),
+    };
+    with_name(alloc, "no variable", name, near.as_str())
 }
 
 /// The sentence on a name that no global of the program has. The only error is refused memory.
 pub fn global_sentence(alloc: Global, program: &[u8], name: &[u8]) -> Result<Vec<u8>, AllocError> {
-    let mut sentence = Vec::new(alloc);
-    push_parts(&mut sentence, &[Words(b"no global "), Quoted(name)])?;
-    if let Some(tree) = &tree_of(alloc, program)? {
-        push_near_global(&mut sentence, tree, name)?;
-    }
-    Ok(sentence)
+    let near = match &tree_of(alloc, program)? {
+        Some(tree) => near_global(alloc, tree, name)?,
+        None => String::new(alloc),
+    };
+    with_name(alloc, "no global", name, near.as_str())
 }

@@ -1,89 +1,137 @@
 //! The lawful program of a text, as explanations look at it.
 //! Names of files as words of a command for a shell.
 //! Words for the places at which threads stand.
-use bp_advice::Part::{Number, Place, Quoted, Words};
-use bp_advice::{push_all, push_parts};
+ghost use Rattle.std.specs.Prelude.{◌≡◌, None, IfOk, IfSome};
+ghost use Rattle.bp_machine.specs.Setups.{FitsCode};
+
+use bp_advice::{Named, Plain, Quoted};
 use bp_code::{Checked, ProgramFault, compile, lawful_program};
 use bp_confirm::{Location, Stand};
 use bp_flat::{Code, global_value, local_value};
 use bp_language::{CheckFault, Proc};
-use bp_machine::Session;
+use bp_machine::{Session, Setup, SetupFault, Start};
 use bp_source::{SourceStatement, procedure_at, source_statements_of};
 use bp_syntax::ReadFault;
-use bp_text::{Position, line_of, part_before, part_from};
+use bp_text::{Position, line_of, part_before, part_from, text_from_line};
 use std::alloc::{AllocError, Global};
+use std::fmt;
 
-/// The program of a text, if it is lawful.
-pub(crate) fn program_of(alloc: Global, text: &[u8]) -> Result<Option<Checked>, AllocError> {
-    match lawful_program(alloc, text) {
-        Ok(checked) => Ok(Some(checked)),
-        Err(ProgramFault::Read(ReadFault::Memory))
-        | Err(ProgramFault::Check(CheckFault::Memory, _)) => Err(AllocError),
-        Err(_) => Ok(None),
-    }
-}
-
-/// A lawful program, its code, and what is shown of its statements.
+/// A lawful program with its text, its code, and what is shown of its statements.
 #[derive(Drop)]
-pub(crate) struct Source {
+pub(crate) struct Source<'a> {
+    pub(crate) text: &'a [u8],
     pub(crate) checked: Checked,
     pub(crate) code: Code,
     /// By the numbers of their instructions.
     pub(crate) statements: Vec<SourceStatement>,
 }
 
-/// The same of a text, if its program is lawful.
-pub(crate) fn source_of(alloc: Global, text: &[u8]) -> Result<Option<Source>, AllocError> {
-    let Some(checked) = program_of(alloc, text)? else {
-        return Ok(None);
+/// The lawful program of a text, if it has one.
+pub(crate) fn source_of(alloc: Global, text: &[u8]) -> Result<Option<Source<'_>>, AllocError> {
+    let checked = match lawful_program(alloc, text) {
+        Ok(checked) => checked,
+        Err(ProgramFault::Read(ReadFault::Memory))
+        | Err(ProgramFault::Check(CheckFault::Memory, _)) => return Err(AllocError),
+        Err(_) => return Ok(None),
     };
     let code = compile(alloc, &checked)?;
     let statements = source_statements_of(alloc, text, &checked)?;
     Ok(Some(Source {
+        text,
         checked,
         code,
         statements,
     }))
 }
 
+/// The setup of a run from this start, if the code takes it.
+pub(crate) fn setup_of(
+    alloc: Global,
+    code: &Code,
+    start: &Start,
+) -> Result<Option<Setup>, AllocError>
+    ensures { IfOk result (λ o. IfSome o (λ s. FitsCode code.now s × (s.seed ≡ None))) }
+{
+    match start.setup(alloc, code, None) {
+        Ok(setup) => Ok(Some(setup)),
+        Err(SetupFault::Memory) => Err(AllocError),
+        Err(_) => Ok(None),
+    }
+}
+
+/// The lines of a text before the line of this number.
+pub(crate) fn lines_before(text: &[u8], number: usize) -> &[u8] {
+    let rest = text_from_line(text, number);
+    part_before(text, text.len().saturating_sub(rest.len()))
+}
+
 /// A variable as a thread sees it.
 #[derive(Clone, Copy)]
 pub(crate) struct Seen<'a> {
     /// The procedure of a local; none of a global.
-    pub(crate) owner: Option<&'a Proc>,
+    owner: Option<&'a Proc>,
+    name: &'a [u8],
     pub(crate) value: bool,
+}
+
+impl fmt::Display for Seen<'_> {
+    fn fmt<W: fmt::Write>(&self, f: &mut fmt::Formatter<W>) -> fmt::Result {
+        let name = Named(self.name);
+        match self.owner {
+            Some(proc) => write!(f, "{}.{name}", Named(proc.name().text().as_bytes())),
+            None => write!(f, "{name}"),
+        }
+    }
 }
 
 /// The local of this name of the topmost frame of a thread, if it has one.
 fn local_of<'a>(
-    source: &'a Source,
+    source: &'a Source<'_>,
     session: &Session,
     thread: u32,
-    name: &[u8],
+    name: &'a [u8],
 ) -> Option<Seen<'a>> {
     let top = session.top(thread)?;
     let procs = source.checked.tree().procs();
     let proc = procedure_at(source.statements.as_slice(), procs, top.number)?;
-    let value = local_value(proc, top.store.locals, name)?;
     Some(Seen {
         owner: Some(proc),
-        value,
+        name,
+        value: local_value(proc, top.store.locals, name)?,
     })
 }
 
 /// The variable of this name that a thread sees, if there is one: a local hides a global.
 pub(crate) fn variable_of<'a>(
-    source: &'a Source,
+    source: &'a Source<'_>,
     session: &Session,
     thread: u32,
-    name: &[u8],
+    name: &'a [u8],
 ) -> Option<Seen<'a>> {
     if let Some(local) = local_of(source, session, thread, name) {
         return Some(local);
     }
     let globals = source.checked.tree().globals();
-    let value = global_value(globals, session.globals(), name)?;
-    Some(Seen { owner: None, value })
+    Some(Seen {
+        owner: None,
+        name,
+        value: global_value(globals, session.globals(), name)?,
+    })
+}
+
+/// A file as a word of a shell: in quotes if a byte of its name needs them.
+#[derive(Clone, Copy)]
+pub(crate) struct Word<'a>(&'a [u8]);
+
+/// The word of this name, if a command can name the file by one. An option and `-`, which is
+/// standard input, begin with a hyphen.
+pub(crate) fn word_of(name: &str) -> Option<Word<'_>> {
+    let bytes = name.as_bytes();
+    let is_quotable = |byte: &u8| (b' '..=b'~').contains(byte) && *byte != b'\'';
+    if bytes.is_empty() || bytes.starts_with(b"-") || !bytes.iter().all(is_quotable) {
+        return None;
+    }
+    Some(Word(bytes))
 }
 
 /// Whether a byte stands for itself in a word of a shell.
@@ -91,35 +139,35 @@ fn is_bare(byte: u8) -> bool {
     byte.is_ascii_alphanumeric() || b"_./+:@%,=-".contains(&byte)
 }
 
-/// Whether a byte stands for itself between single quotes, and is shown as it is.
-fn is_quotable(byte: u8) -> bool {
-    (b' '..=b'~').contains(&byte) && byte != b'\''
-}
-
-/// Whether a command can name this file by one word. An option and `-`, which is standard input,
-/// begin with a hyphen.
-pub(crate) fn is_word(name: &[u8]) -> bool {
-    !name.is_empty() && !name.starts_with(b"-") && name.iter().all(|byte| is_quotable(*byte))
-}
-
-/// Adds the word of this name: in quotes if a byte of it needs them.
-pub(crate) fn push_word(out: &mut Vec<u8>, name: &[u8]) -> Result<(), AllocError> {
-    if name.iter().all(|byte| is_bare(*byte)) {
-        return push_all(out, &[name]);
-    }
-    push_all(out, &[b"'", name, b"'"])
-}
-
-/// Adds a place as a line of steps names it.
-pub(crate) fn push_location(out: &mut Vec<u8>, location: Location) -> Result<(), AllocError> {
-    match location {
-        Location::End => push_all(out, &[b"the end of a procedure"]),
-        Location::Line(line) => push_parts(out, &[Words(b"line "), Number(line as usize)]),
-        Location::Column(line, column) => {
-            push_parts(out, &[Place(line as usize, column as usize)])
+impl fmt::Display for Word<'_> {
+    fn fmt<W: fmt::Write>(&self, f: &mut fmt::Formatter<W>) -> fmt::Result {
+        let name = Plain(self.0);
+        if self.0.iter().all(|byte| is_bare(*byte)) {
+            write!(f, "{name}")
+        } else {
+            write!(f, "'{name}'")
         }
     }
 }
+
+/// A place as a line of steps names it, in words.
+#[derive(Clone, Copy)]
+pub(crate) struct Located(pub(crate) Location);
+
+impl fmt::Display for Located {
+    fn fmt<W: fmt::Write>(&self, f: &mut fmt::Formatter<W>) -> fmt::Result {
+        match self.0 {
+            Location::End => write!(f, "the end of a procedure"),
+            Location::Line(line) => write!(f, "line {line}"),
+            Location::Column(line, column) => write!(f, "{line}:{column}"),
+        }
+    }
+}
+
+/// Where a thread stands in the text of a program, in words: of a statement its position and its
+/// source on that line.
+#[derive(Clone, Copy)]
+pub(crate) struct Standing<'a>(pub(crate) &'a [u8], pub(crate) Stand);
 
 /// The source from a position up to a semicolon or the end of the line.
 fn source_at(program: &[u8], position: Position) -> &[u8] {
@@ -133,19 +181,15 @@ fn source_at(program: &[u8], position: Position) -> &[u8] {
     }
 }
 
-/// Adds where a thread stands: of a statement its position and its source on that line.
-pub(crate) fn push_stand(
-    out: &mut Vec<u8>,
-    program: &[u8],
-    stand: Stand,
-) -> Result<(), AllocError> {
-    match stand {
-        Stand::Ended => push_all(out, &[b"no statement"]),
-        Stand::End => push_all(out, &[b"the end of a procedure"]),
-        Stand::Statement(position) => {
-            let source = source_at(program, position).trim_ascii_end();
-            let place = Place(position.line, position.column);
-            push_parts(out, &[place, Words(b" "), Quoted(source)])
+impl fmt::Display for Standing<'_> {
+    fn fmt<W: fmt::Write>(&self, f: &mut fmt::Formatter<W>) -> fmt::Result {
+        match self.1 {
+            Stand::Ended => write!(f, "no statement"),
+            Stand::End => write!(f, "the end of a procedure"),
+            Stand::Statement(at) => {
+                let source = Quoted(source_at(self.0, at).trim_ascii_end());
+                write!(f, "{}:{} {source}", at.line, at.column)
+            }
         }
     }
 }

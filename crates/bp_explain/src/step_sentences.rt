@@ -1,308 +1,208 @@
 //! Sentences on a step that is not taken.
 
-use crate::elsewhere_sentences::push_ways_there;
-use crate::schedules::{LastCall, push_last_call};
-use crate::sources::{Source, is_word, push_location, push_stand, push_word, source_of};
-use crate::tried_steps::{
-    Confirming, next_line_of, push_context_lines, steps_before, trace_before,
-};
-use crate::value_sentences::{push_changes, push_values, session_after};
-use bp_advice::Part::{Count, Name, Number, Place, Quoted, Words};
-use bp_advice::{push_all, push_parts};
-use bp_confirm::{Difference, Stand, StepReason, StepRefusal, value_on_line};
+use crate::schedules::last_sentence;
+use crate::sources::{Located, Standing, word_of};
+use crate::tried_steps::{RefusedStep, Tried};
+use crate::value_sentences::{changes, session_after, values};
+use bp_advice::{Count, Named, Quoted, listed};
+use bp_confirm::{Difference, Stand, StepReason, value_on_line};
 use bp_machine::Reply;
 use bp_machine::limits::MAX_FRAMES;
 use bp_text::Position;
 use std::alloc::AllocError;
+use std::fmt::Write;
 
-/// Adds a thread and words on it.
-fn push_of_thread(out: &mut Vec<u8>, thread: u32, words: &[u8]) -> Result<(), AllocError> {
-    push_parts(
-        out,
-        &[Words(b"thread "), Number(thread as usize), Words(words)],
-    )
-}
-
-/// Adds where the thread is in place of the location of its line.
-fn push_other_place(
-    out: &mut Vec<u8>,
-    texts: Confirming<'_>,
-    refusal: StepRefusal,
-) -> Result<(), AllocError> {
-    if refusal.stand == Stand::Ended {
-        return push_of_thread(out, refusal.thread, b" has ended");
+impl RefusedStep<'_> {
+    /// Where the thread stands in place of the location of its line.
+    fn here(&self) -> Standing<'_> {
+        Standing(self.source.text, self.refusal.stand)
     }
-    push_of_thread(out, refusal.thread, b" is at ")?;
-    push_stand(out, texts.program, refusal.stand)?;
-    push_all(out, &[b", not at "])?;
-    push_location(out, refusal.location)
-}
 
-/// Adds the same, and what leads to that location: another thread, or steps that are left out.
-fn push_elsewhere(
-    out: &mut Vec<u8>,
-    texts: Confirming<'_>,
-    refusal: StepRefusal,
-) -> Result<(), AllocError> {
-    push_other_place(out, texts, refusal)?;
-    push_ways_there(out, texts, refusal)
-}
-
-/// Where the two ways of the instruction of this number begin, if that is on one line.
-fn ways_of(source: &Source, number: Option<u32>) -> Option<(Position, Position)> {
-    let instr = source.code.get(number?)?;
-    let taken = source.statements.get(instr.next()? as usize)?.position?;
-    let other = source.statements.get(instr.other()? as usize)?.position?;
-    if taken.line != other.line {
-        return None;
-    }
-    Some((taken, other))
-}
-
-/// Adds the two places that tell the ways of a `?` from each other, if they are on one line.
-fn push_ways(
-    out: &mut Vec<u8>,
-    texts: Confirming<'_>,
-    refusal: StepRefusal,
-) -> Result<(), AllocError> {
-    let Some(source) = &source_of(*out.allocator(), texts.program)? else {
-        return Ok(());
-    };
-    let Some((taken, other)) = ways_of(source, refusal.number) else {
-        return Ok(());
-    };
-    push_parts(
-        out,
-        &[
-            Words(b": write "),
-            Place(taken.line, taken.column),
-            Words(b" or "),
-            Place(other.line, other.column),
-        ],
-    )
-}
-
-/// Adds that the place of the thread's next line does not tell which way its `?` went.
-fn push_ambiguous(
-    out: &mut Vec<u8>,
-    texts: Confirming<'_>,
-    refusal: StepRefusal,
-) -> Result<(), AllocError> {
-    push_of_thread(out, refusal.thread, b" is at the '?' of ")?;
-    push_stand(out, texts.program, refusal.stand)?;
-    let (before, after) = (
-        Words(b", and both ways lead to the place of "),
-        Words(b", which wants a column"),
-    );
-    match next_line_of(texts.steps, refusal.thread, refusal.line as usize) {
-        Some(line) => push_parts(out, &[before, Words(b"line "), Number(line), after])?,
-        None => push_parts(out, &[before, Words(b"its next step"), after])?,
-    }
-    push_ways(out, texts, refusal)
-}
-
-/// Adds by which step a thread was finished, and why.
-fn push_finished(
-    out: &mut Vec<u8>,
-    texts: Confirming<'_>,
-    refusal: StepRefusal,
-) -> Result<(), AllocError> {
-    let start = texts.start;
-    let before = steps_before(texts.steps, refusal.thread, refusal.line as usize);
-    let reply = if before.made < start.calls as usize {
-        Reply::Failed
-    } else {
-        Reply::Stepped
-    };
-    let last = LastCall {
-        thread: refusal.thread,
-        line: before.last_line,
-        reply,
-    };
-    push_last_call(out, start, last)
-}
-
-/// Adds that the step begins a context that is not allowed. The steps before use all that are.
-fn push_no_contexts(
-    out: &mut Vec<u8>,
-    texts: Confirming<'_>,
-    refusal: StepRefusal,
-) -> Result<(), AllocError> {
-    let before = steps_before(texts.steps, refusal.thread, refusal.line as usize);
-    let allowed: &[u8] = match before.contexts {
-        0 => b" are allowed",
-        1 => b" is allowed; it begins at line",
-        _ => b" are allowed; they begin at lines",
-    };
-    push_parts(
-        out,
-        &[
-            Words(b"this step begins another context, and only "),
-            Count(before.contexts, b"context"),
-            Words(allowed),
-        ],
-    )?;
-    push_context_lines(out, texts.steps, refusal.line as usize)
-}
-
-/// Adds that the assumption at which the thread waits is false: the values that it reads, and which
-/// step changed each of them last.
-fn push_false(
-    out: &mut Vec<u8>,
-    texts: Confirming<'_>,
-    refusal: StepRefusal,
-) -> Result<(), AllocError> {
-    let is_false = b": its assumption is false".as_slice();
-    let alloc = *out.allocator();
-    let (Some(source), Some(trace)) = (
-        &source_of(alloc, texts.program)?,
-        &trace_before(alloc, texts, refusal.line)?,
-    ) else {
-        return push_all(out, &[is_false]);
-    };
-    let Some(session) = &session_after(alloc, source, trace)? else {
-        return push_all(out, &[is_false]);
-    };
-    push_values(out, source, session, refusal.thread)?;
-    push_all(out, &[is_false])?;
-    push_changes(out, source, trace, session, refusal.thread)
-}
-
-/// Adds why the machine does not grant the step.
-fn push_refused(
-    out: &mut Vec<u8>,
-    texts: Confirming<'_>,
-    refusal: StepRefusal,
-    reply: Reply,
-) -> Result<(), AllocError> {
-    match reply {
-        Reply::Stopped => push_parts(
-            out,
-            &[
-                Words(b"an assertion failed at line "),
-                Number((refusal.line as usize).saturating_sub(1)),
-                Words(b", and no thread makes a step after that"),
-            ],
-        ),
-        Reply::NoContexts => push_no_contexts(out, texts, refusal),
-        Reply::Full => push_parts(
-            out,
-            &[
-                Words(b"thread "),
-                Number(refusal.thread as usize),
-                Words(b" has no room for one more call: a stack has at most "),
-                Number(MAX_FRAMES),
-                Words(b" frames"),
-            ],
-        ),
-        Reply::Blocked => {
-            push_of_thread(out, refusal.thread, b" waits at ")?;
-            push_stand(out, texts.program, refusal.stand)?;
-            push_false(out, texts, refusal)
+    /// Says where the thread is in place of the location of its line, and what leads there.
+    fn elsewhere(&self) -> Result<String, AllocError> {
+        let (alloc, thread, ways) = (self.alloc, self.refusal.thread, self.ways_there()?);
+        if self.refusal.stand == Stand::Ended {
+            return format!(in alloc; "thread {thread} has ended{ways}");
         }
-        Reply::Ended | Reply::Failed | Reply::Stepped => {
-            push_of_thread(out, refusal.thread, b" does not make this step")
+        let (here, there) = (self.here(), Located(self.refusal.location));
+        format!(in alloc; "thread {thread} is at {here}, not at {there}{ways}")
+    }
+
+    /// Where the two ways of the instruction of the step begin, if that is on one line.
+    fn ways(&self) -> Option<(Position, Position)> {
+        let source = self.source;
+        let instr = source.code.get(self.refusal.number?)?;
+        let taken = source.statements.get(instr.next()? as usize)?.position?;
+        let other = source.statements.get(instr.other()? as usize)?.position?;
+        if taken.line != other.line {
+            return None;
+        }
+        Some((taken, other))
+    }
+
+    /// Says that the place of the thread's next line does not tell which way its `?` went, and
+    /// which two places do, if the ways begin on one line.
+    fn ambiguous(&self) -> Result<String, AllocError> {
+        let (alloc, thread, here) = (self.alloc, self.refusal.thread, self.here());
+        let threads = self.threads()?;
+        let mut later = threads.iter().enumerate().skip(self.refusal.line as usize);
+        let next = match later.find(|(_, other)| **other == thread) {
+            Some((index, _)) => format!(in alloc; "line {}", index.saturating_add(1))?,
+            None => format!(in alloc; "its next step")?,
+        };
+        let ways = match self.ways() {
+            Some((one, other)) => format!(in alloc;
+                ": write {}:{} or {}:{}",
+                one.line, one.column, other.line, other.column
+            )?,
+            None => String::new(alloc),
+        };
+        format!(in alloc;
+            "thread {thread} is at the '?' of {here}, \
+            and both ways lead to the place of {next}, which wants a column{ways}"
+        )
+    }
+
+    /// Says by which step the thread was finished, and why.
+    fn finished(&self) -> Result<String, AllocError> {
+        let (start, thread) = (self.start, self.refusal.thread);
+        let threads = self.threads_before()?;
+        let made = threads.iter().filter(|other| **other == thread).count();
+        let last = threads.iter().rposition(|other| *other == thread);
+        let line = last.map_or(0, |index| index.saturating_add(1));
+        let reply = if made < start.calls as usize {
+            Reply::Failed
+        } else {
+            Reply::Stepped
+        };
+        last_sentence(self.alloc, start, thread, (line, reply))
+    }
+
+    /// Says that the step begins a context that is not allowed. The steps before use all that are.
+    fn no_contexts(&self) -> Result<String, AllocError> {
+        let (alloc, lines) = (self.alloc, self.context_lines()?);
+        let allowed = match lines.len() {
+            0 => "are allowed",
+            1 => "is allowed; it begins at line ",
+            _ => "are allowed; they begin at lines ",
+        };
+        let (count, list) = (
+            Count(lines.len(), "context"),
+            listed(alloc, lines.as_slice())?,
+        );
+        format!(in alloc; "this step begins another context, and only {count} {allowed}{list}")
+    }
+
+    /// Says that the assumption at which the thread waits is false: the values that it reads, and
+    /// which step changed each of them last.
+    fn blocked(&self) -> Result<String, AllocError> {
+        let (alloc, source, thread) = (self.alloc, self.source, self.refusal.thread);
+        let (mut read, mut changed) = (String::new(alloc), String::new(alloc));
+        if let Tried::Taken(trace) = &self.try_steps(self.before())? {
+            if let Some(session) = &session_after(alloc, source, trace)? {
+                read = values(alloc, source, session, thread)?;
+                changed = changes(alloc, source, trace, session, thread)?;
+            }
+        }
+        let here = self.here();
+        format!(in alloc; "thread {thread} waits at {here}{read}: its assumption is false{changed}")
+    }
+
+    /// Says why the machine does not grant the step.
+    fn refused(&self, reply: Reply) -> Result<String, AllocError> {
+        let (alloc, thread) = (self.alloc, self.refusal.thread);
+        match reply {
+            Reply::Stopped => {
+                let before = self.refusal.line.saturating_sub(1);
+                format!(in alloc;
+                    "an assertion failed at line {before}, and no thread makes a step after that"
+                )
+            }
+            Reply::NoContexts => self.no_contexts(),
+            Reply::Full => format!(in alloc;
+                "thread {thread} has no room for one more call: \
+                a stack has at most {MAX_FRAMES} frames"
+            ),
+            Reply::Blocked => self.blocked(),
+            Reply::Ended | Reply::Failed | Reply::Stepped => format!(in alloc;
+                "thread {thread} does not make this step"
+            ),
         }
     }
-}
 
-fn digit_of(bit: bool) -> &'static [u8] {
-    if bit { b"1" } else { b"0" }
-}
-
-/// Adds which step changed last what the thread of this line sees.
-fn push_last_change(out: &mut Vec<u8>, line: u32, found: Difference) -> Result<(), AllocError> {
-    let (here, earlier, never): (&[u8], &[u8], &[u8]) = match found.seen {
-        Some(_) => (
-            b"; this step changed it",
-            b" changed it last",
-            b"; no step changed it",
-        ),
-        None => (
-            b"; this step left its scope",
-            b" left its scope",
-            b"; no step entered its scope",
-        ),
-    };
-    match found.changed {
-        None => push_all(out, &[never]),
-        Some(step) if step == line => push_all(out, &[here]),
-        Some(step) => push_parts(
-            out,
-            &[Words(b"; step "), Number(step as usize), Words(earlier)],
-        ),
+    /// Says which step changed last what the thread sees.
+    fn last_change(&self, found: Difference) -> Result<String, AllocError> {
+        let alloc = self.alloc;
+        let (verb, last, never) = match found.seen {
+            Some(_) => ("changed it", " last", "changed it"),
+            None => ("left its scope", "", "entered its scope"),
+        };
+        match found.changed {
+            None => format!(in alloc; "; no step {never}"),
+            Some(step) if step == self.refusal.line => format!(in alloc; "; this step {verb}"),
+            Some(step) => format!(in alloc; "; step {step} {verb}{last}"),
+        }
     }
-}
 
-/// Adds which value the thread sees in place of one of its line.
-fn push_differs(
-    out: &mut Vec<u8>,
-    texts: Confirming<'_>,
-    refusal: StepRefusal,
-    found: Difference,
-) -> Result<(), AllocError> {
-    let Some(value) = value_on_line(texts.steps, refusal.line, found.place) else {
-        return push_all(out, &[b"a value is another one after this step"]);
-    };
-    match found.seen {
-        Some(bit) => push_parts(
-            out,
-            &[
-                Name(value.name),
-                Words(b" is "),
-                Words(digit_of(bit)),
-                Words(b" after this step, not "),
-                Words(digit_of(value.bit)),
-            ],
-        )?,
-        None => push_parts(
-            out,
-            &[
-                Words(b"thread "),
-                Number(refusal.thread as usize),
-                Words(b" sees no variable "),
-                Quoted(value.name),
-                Words(b" after this step"),
-            ],
-        )?,
+    /// Says which value the thread sees in place of one of its line.
+    fn differs(&self, found: Difference) -> Result<String, AllocError> {
+        let (alloc, thread, change) = (self.alloc, self.refusal.thread, self.last_change(found)?);
+        let Some(value) = value_on_line(self.steps, self.refusal.line, found.place) else {
+            return format!(in alloc; "a value is another one after this step");
+        };
+        let Some(bit) = found.seen else {
+            let name = Quoted(value.name);
+            return format!(in alloc;
+                "thread {thread} sees no variable {name} after this step{change}"
+            );
+        };
+        let (name, bit, other) = (Named(value.name), u8::from(bit), u8::from(value.bit));
+        format!(in alloc; "{name} is {bit} after this step, not {other}{change}")
     }
-    push_last_change(out, refusal.line, found)
-}
 
-/// Adds why a step is not taken.
-pub(crate) fn push_refusal(
-    out: &mut Vec<u8>,
-    texts: Confirming<'_>,
-    refusal: StepRefusal,
-) -> Result<(), AllocError> {
-    match refusal.reason {
-        StepReason::Elsewhere => push_elsewhere(out, texts, refusal),
-        StepReason::Ambiguous => push_ambiguous(out, texts, refusal),
-        StepReason::Finished => push_finished(out, texts, refusal),
-        StepReason::Refused(reply) => push_refused(out, texts, refusal, reply),
-        StepReason::Differs(found) => push_differs(out, texts, refusal, found),
+    /// Says how to see the run that the steps before are, if there are any, and which command looks
+    /// for a run through all listed steps, if it may find one although `confirm` refuses them. A
+    /// shell has to be able to name both files.
+    fn commands(&self) -> Result<String, AllocError> {
+        let mut words = String::new(self.alloc);
+        let (Some(program), Some(steps)) = (word_of(self.program_file), word_of(self.file)) else {
+            return Ok(words);
+        };
+        let count = self.refusal.line.saturating_sub(1);
+        let run = if count == 1 {
+            "step before it is a run"
+        } else {
+            "steps before it are a run"
+        };
+        if count > 0 {
+            write!(
+                words,
+                "; the {run}: head -n {count} {steps} | btrun confirm {program} - .."
+            )?;
+        }
+        let when = match self.refusal.reason {
+            StepReason::Elsewhere => "if steps are left out",
+            StepReason::Ambiguous => "either way",
+            _ => return Ok(words),
+        };
+        write!(
+            words,
+            "; {when}: btrun explore {program} --through {steps} .."
+        )?;
+        Ok(words)
     }
-}
 
-/// Adds the command that looks for a run through all listed steps, if it may find one although
-/// `confirm` refuses them for this reason. A shell has to be able to name both files.
-pub(crate) fn push_exploration(
-    out: &mut Vec<u8>,
-    program_file: &[u8],
-    steps_file: &[u8],
-    reason: StepReason,
-) -> Result<(), AllocError> {
-    let before: &[u8] = match reason {
-        StepReason::Elsewhere => b"; if steps are left out: btrun explore ",
-        StepReason::Ambiguous => b"; either way: btrun explore ",
-        StepReason::Finished | StepReason::Refused(_) | StepReason::Differs(_) => return Ok(()),
-    };
-    if !is_word(program_file) || !is_word(steps_file) {
-        return Ok(());
+    /// Says why the step is not taken, how to see the run up to there, and how to look for a run
+    /// through all steps.
+    pub(crate) fn sentence(&self) -> Result<String, AllocError> {
+        let why = match self.refusal.reason {
+            StepReason::Elsewhere => self.elsewhere()?,
+            StepReason::Ambiguous => self.ambiguous()?,
+            StepReason::Finished => self.finished()?,
+            StepReason::Refused(reply) => self.refused(reply)?,
+            StepReason::Differs(found) => self.differs(found)?,
+        };
+        let (alloc, commands) = (self.alloc, self.commands()?);
+        format!(in alloc; "{why}{commands}")
     }
-    push_all(out, &[before])?;
-    push_word(out, program_file)?;
-    push_all(out, &[b" --through "])?;
-    push_word(out, steps_file)?;
-    push_all(out, &[b" .."])
 }

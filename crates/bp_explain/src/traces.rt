@@ -2,211 +2,186 @@
 //! How many calls of a refused trace are accepted.
 ghost use Rattle.std.specs.Prelude.{IfOk};
 ghost use Rattle.bp_advice.specs.Explanations.{ExplainsLine, IsExplanationOf};
-ghost use Rattle.bp_explain.specs.Explained.{ExplainsNoEnd, ExplainsSetup, ExplainsTrace};
+ghost use Rattle.bp_explain.specs.Explained.{ExplainsTrace};
 
-use crate::call_sentences::{
-    push_finished, push_no_end, push_other_bit, push_other_end, push_other_reply,
-};
-use crate::recorded_calls::excerpt_in_line;
-use crate::setup_sentences::{line_of_setup, push_setup};
-use crate::sources::program_of;
-use crate::trace_heads::{push_body_line, push_head};
-use bp_advice::Part::{Number, Words};
-use bp_advice::{Explanation, about_excerpt, about_line, push_all, push_parts, tree_of};
-use bp_code::compile;
+use crate::heads::{head_of, line_of_setup};
+use crate::sources::source_of;
+use bp_advice::{Explanation, Place, explained, number_at_front};
 use bp_flat::Code;
-use bp_machine::SetupFault;
-use bp_text::position_of;
-use bp_trace::{AcceptedTrace, EndCounts, ReplayFault, accepted_trace};
+use bp_text::{first_line, position_of, push_line, push_place, take_line, text_from_line};
+use bp_trace::{AcceptedTrace, EndCounts, Head, ReplayFault, Version, accepted_trace};
 use std::alloc::{AllocError, Global};
 
-/// Explains that the head of a trace says no setup of the program of a text.
-fn explain_setup<'a>(
-    alloc: Global,
-    program: &[u8],
-    file: &'a str,
-    trace: &[u8],
-    fault: SetupFault,
-) -> Result<Explanation<'a>, AllocError>
-    ensures { IfOk result (λ e. ExplainsSetup file.now trace.now fault e) }
-{
-    let mut sentence = Vec::new(alloc);
-    if let Some(tree) = &tree_of(alloc, program)? {
-        push_setup(&mut sentence, tree, trace, fault)?;
+/// A line of a trace of the program of a text, and the fault that is of this line.
+#[derive(Clone, Copy)]
+pub(crate) struct RefusedLine<'a, 't> {
+    pub(crate) alloc: Global,
+    pub(crate) program: &'a [u8],
+    pub(crate) trace: &'a [u8],
+    /// The head of the trace, if it has one.
+    pub(crate) head: Option<&'a Head<'t>>,
+    pub(crate) fault: &'a ReplayFault,
+    pub(crate) number: usize,
+}
+
+impl RefusedLine<'_, '_> {
+    /// Whether the trace is of version 2.
+    pub(crate) fn is_version_two(&self) -> bool {
+        self.head.is_some_and(|head| head.version == Version::Two)
     }
-    let number = line_of_setup(trace, fault);
-    about_line(alloc, file, trace, number, sentence.as_slice())
-}
 
-fn explain_no_end<'a>(
-    alloc: Global,
-    program: &[u8],
-    file: &'a str,
-    trace: &[u8],
-    counts: EndCounts,
-) -> Result<Explanation<'a>, AllocError>
-    ensures { IfOk result (λ e. ExplainsNoEnd file.now trace.now e) }
-{
-    let mut sentence = Vec::new(alloc);
-    push_no_end(&mut sentence, counts)?;
-    push_accepted(&mut sentence, program, trace, &ReplayFault::NoEnd(counts))?;
-    let last = position_of(trace, trace.len());
-    let nothing = Vec::new(alloc);
-    about_excerpt(alloc, file, last.line, nothing, sentence.as_slice())
-}
+    /// The places in the trace of the choice bit and of the reply's letter, of the call that the
+    /// fault names. In version 1 a space is between them.
+    pub(crate) fn call(&self) -> Option<(usize, usize)> {
+        let mut before = match self.fault {
+            ReplayFault::AfterFinish(_, made) => *made as usize,
+            ReplayFault::Bit(_, due) | ReplayFault::Reply(_, due) => due.calls as usize,
+            _ => return None,
+        };
+        let size: usize = if self.is_version_two() { 2 } else { 3 };
+        let first = (self.head?.lines as usize).saturating_add(1);
+        let mut rest = text_from_line(self.trace, first);
+        for _line in first..self.number {
+            let (_, symbols) = number_at_front(take_line(&mut rest)?.text)?;
+            before = before.saturating_sub(symbols.len() / size);
+        }
+        let line = first_line(rest);
+        let (_, symbols) = number_at_front(line)?;
+        let at = self
+            .trace
+            .len()
+            .saturating_sub(rest.len())
+            .saturating_add(line.len());
+        let bit_at = at
+            .saturating_sub(symbols.len())
+            .saturating_add(before.saturating_mul(size));
+        Some((bit_at, bit_at.saturating_add(size.saturating_sub(1))))
+    }
 
-/// Adds what is wrong with the line of a trace that the fault names.
-fn push_line_fault(out: &mut Vec<u8>, trace: &[u8], fault: &ReplayFault) -> Result<(), AllocError> {
-    match fault {
-        ReplayFault::Head(line) => push_head(out, trace, *line as usize),
-        ReplayFault::Line(line) => push_body_line(out, trace, *line as usize),
-        ReplayFault::EndCount(_, counts) => push_other_end(out, *counts),
-        _ => Ok(()),
+    /// The trace of the calls that are accepted, if it has the head of a setup that the program
+    /// takes.
+    pub(crate) fn accepted_part(&self, code: &Code) -> Result<Option<AcceptedTrace>, AllocError> {
+        match accepted_trace(self.alloc, code, self.trace) {
+            Ok(accepted) => Ok(accepted),
+            Err(ReplayFault::Memory) => Err(AllocError),
+            Err(_) => Ok(None),
+        }
+    }
+
+    /// How many calls of the trace are accepted, if any could be.
+    fn accepted_calls(&self) -> Result<Option<u64>, AllocError> {
+        match self.fault {
+            ReplayFault::AfterFinish(_, made) => Ok(Some(*made)),
+            ReplayFault::Bit(_, due) | ReplayFault::Reply(_, due) => Ok(Some(due.calls)),
+            ReplayFault::NoEnd(counts) | ReplayFault::EndCount(_, counts) => Ok(Some(counts.calls)),
+            ReplayFault::Line(_) => match &source_of(self.alloc, self.program)? {
+                Some(source) => Ok(self.accepted_part(&source.code)?.map(|part| part.calls)),
+                None => Ok(None),
+            },
+            _ => Ok(None),
+        }
+    }
+
+    /// Says what is wrong with the line.
+    fn line_sentence(&self) -> Result<String, AllocError> {
+        let alloc = self.alloc;
+        match self.fault {
+            ReplayFault::Head(_) => self.head_sentence(),
+            ReplayFault::Setup(fault) => self.setup_sentence(*fault),
+            ReplayFault::Line(_) => self.body_sentence(),
+            ReplayFault::AfterFinish(..) => self.finished(),
+            ReplayFault::Bit(_, due) => self.other_bit(*due),
+            ReplayFault::Reply(_, due) => self.other_reply(*due),
+            ReplayFault::NoEnd(EndCounts { calls, left_open }) => {
+                let more = if *left_open > 0 {
+                    " or another line of calls"
+                } else {
+                    ""
+                };
+                format!(in alloc; "the trace ends here; expected 'end {calls} {left_open}'{more}")
+            }
+            ReplayFault::EndCount(_, EndCounts { calls, left_open }) => format!(in alloc;
+                "expected 'end {calls} {left_open}': \
+                the number of calls, and of threads that may go on"
+            ),
+            ReplayFault::TooLong | ReplayFault::Memory => Ok(String::new(alloc)),
+        }
+    }
+
+    /// Says what is wrong with the line, and how many calls of the trace are accepted.
+    fn sentence(&self) -> Result<String, AllocError> {
+        let (alloc, line) = (self.alloc, self.line_sentence()?);
+        let Some(calls) = self.accepted_calls()? else {
+            return Ok(line);
+        };
+        let (before, after) = if line.ends_with('.') {
+            (" ", ".")
+        } else {
+            ("; ", "")
+        };
+        match calls {
+            0 => format!(in alloc; "{line}{before}no call of the trace was accepted{after}"),
+            1 => format!(in alloc; "{line}{before}1 call of the trace was accepted{after}"),
+            _ => format!(in alloc; "{line}{before}{calls} calls of the trace were accepted{after}"),
+        }
     }
 }
 
-/// Explains what is wrong with this line of a trace.
+/// Explains what is wrong with a line of a trace.
 fn explain_line<'a>(
-    alloc: Global,
-    program: &[u8],
     file: &'a str,
-    trace: &[u8],
-    fault: &ReplayFault,
-    number: u32,
+    line: &RefusedLine<'_, '_>,
 ) -> Result<Explanation<'a>, AllocError>
-    ensures { IfOk result (λ e. ExplainsLine file.now number e) }
+    ensures { IfOk result (λ e. ExplainsLine file.now line.now.number e) }
 {
-    let mut sentence = Vec::new(alloc);
-    push_line_fault(&mut sentence, trace, fault)?;
-    push_accepted(&mut sentence, program, trace, fault)?;
-    about_line(alloc, file, trace, number as usize, sentence.as_slice())
-}
-
-/// Adds what is wrong with the call of a trace that the fault names.
-fn push_call_fault(
-    out: &mut Vec<u8>,
-    program: &[u8],
-    trace: &[u8],
-    fault: &ReplayFault,
-) -> Result<(), AllocError> {
-    match fault {
-        ReplayFault::AfterFinish(_, made) => push_finished(out, trace, *made),
-        ReplayFault::Bit(_, due) => push_other_bit(out, trace, *due),
-        ReplayFault::Reply(_, due) => push_other_reply(out, program, trace, *due),
-        _ => Ok(()),
+    let sentence = line.sentence()?;
+    let mut excerpt = Vec::new(line.alloc);
+    match (line.fault, line.call()) {
+        (ReplayFault::Reply(..), Some((_, at))) => push_place(&mut excerpt, line.trace, at)?,
+        (_, Some((at, _))) => push_place(&mut excerpt, line.trace, at)?,
+        (_, None) => push_line(&mut excerpt, line.trace, line.number)?,
     }
-}
-
-/// Explains what is wrong with a call on this line of a trace.
-fn explain_call<'a>(
-    alloc: Global,
-    program: &[u8],
-    file: &'a str,
-    trace: &[u8],
-    fault: &ReplayFault,
-    number: u32,
-) -> Result<Explanation<'a>, AllocError>
-    ensures { IfOk result (λ e. ExplainsLine file.now number e) }
-{
-    let mut sentence = Vec::new(alloc);
-    push_call_fault(&mut sentence, program, trace, fault)?;
-    push_accepted(&mut sentence, program, trace, fault)?;
-    let excerpt = excerpt_in_line(alloc, trace, number as usize, fault)?;
-    about_excerpt(alloc, file, number as usize, excerpt, sentence.as_slice())
+    explained(
+        line.alloc,
+        file,
+        Place::Line(line.number),
+        excerpt,
+        sentence.as_str(),
+    )
 }
 
 /// Explains this fault of a trace of the program of a text, at its line, with a caret below the
 /// place in a call that is not the machine's own. Nothing explains a trace that is too long, or
 /// refused memory, which is also the only error.
-pub fn explain_trace<'a>(
+pub fn explain_trace<'a, 't>(
     alloc: Global,
-    program: &[u8],
+    program: &'t [u8],
     file: &'a str,
-    trace: &[u8],
-    fault: &ReplayFault,
+    trace: &'t [u8],
+    fault: &'t ReplayFault,
 ) -> Result<Option<Explanation<'a>>, AllocError>
     ensures { let Explains = ExplainsTrace file.now trace.now fault.now in
         IfOk result (IsExplanationOf Explains) }
 {
-    let explanation = match fault {
-        ReplayFault::Setup(fault) => explain_setup(alloc, program, file, trace, *fault)?,
-        ReplayFault::NoEnd(counts) => explain_no_end(alloc, program, file, trace, *counts)?,
-        ReplayFault::Head(line) | ReplayFault::Line(line) | ReplayFault::EndCount(line, _) => {
-            explain_line(alloc, program, file, trace, fault, *line)?
-        }
-        ReplayFault::AfterFinish(line, _)
+    let head = head_of(alloc, trace)?;
+    let number = match fault {
+        ReplayFault::Setup(setup) => line_of_setup(trace, &head, *setup),
+        ReplayFault::NoEnd(_) => position_of(trace, trace.len()).line,
+        ReplayFault::Head(line)
+        | ReplayFault::Line(line)
+        | ReplayFault::EndCount(line, _)
+        | ReplayFault::AfterFinish(line, _)
         | ReplayFault::Bit(line, _)
-        | ReplayFault::Reply(line, _) => explain_call(alloc, program, file, trace, fault, *line)?,
+        | ReplayFault::Reply(line, _) => *line as usize,
         ReplayFault::TooLong | ReplayFault::Memory => return Ok(None),
     };
-    Ok(Some(explanation))
-}
-
-/// The trace of the calls of a refused trace that are accepted, if it has the head of a setup that
-/// the program takes.
-pub(crate) fn accepted_part(
-    alloc: Global,
-    code: &Code,
-    trace: &[u8],
-) -> Result<Option<AcceptedTrace>, AllocError> {
-    match accepted_trace(alloc, code, trace) {
-        Ok(accepted) => Ok(accepted),
-        Err(ReplayFault::Memory) => Err(AllocError),
-        Err(_) => Ok(None),
-    }
-}
-
-/// How many calls of a trace with this fault are accepted, if any could be.
-fn accepted_calls(
-    alloc: Global,
-    program: &[u8],
-    trace: &[u8],
-    fault: &ReplayFault,
-) -> Result<Option<u64>, AllocError> {
-    match fault {
-        ReplayFault::AfterFinish(_, made) => Ok(Some(*made)),
-        ReplayFault::Bit(_, due) | ReplayFault::Reply(_, due) => Ok(Some(due.calls)),
-        ReplayFault::NoEnd(counts) | ReplayFault::EndCount(_, counts) => Ok(Some(counts.calls)),
-        ReplayFault::Line(_) => {
-            let Some(checked) = &program_of(alloc, program)? else {
-                return Ok(None);
-            };
-            let code = compile(alloc, checked)?;
-            match accepted_part(alloc, &code, trace)? {
-                Some(accepted) => Ok(Some(accepted.calls)),
-                None => Ok(None),
-            }
-        }
-        _ => Ok(None),
-    }
-}
-
-/// Adds how many calls of a trace with this fault are accepted to what is said of the fault.
-pub(crate) fn push_accepted(
-    out: &mut Vec<u8>,
-    program: &[u8],
-    trace: &[u8],
-    fault: &ReplayFault,
-) -> Result<(), AllocError> {
-    let alloc = *out.allocator();
-    let Some(calls) = accepted_calls(alloc, program, trace, fault)? else {
-        return Ok(());
+    let line = RefusedLine {
+        alloc,
+        program,
+        trace,
+        head: head.as_ref(),
+        fault,
+        number,
     };
-    let is_ended = out.last() == Some(&b'.');
-    push_all(out, &[if is_ended { b" " } else { b"; " }])?;
-    match calls {
-        0 => push_all(out, &[b"no call of the trace was accepted"])?,
-        1 => push_all(out, &[b"1 call of the trace was accepted"])?,
-        _ => push_parts(
-            out,
-            &[
-                Number(calls as usize),
-                Words(b" calls of the trace were accepted"),
-            ],
-        )?,
-    }
-    if is_ended {
-        push_all(out, &[b"."])?;
-    }
-    Ok(())
+    Ok(Some(explain_line(file, &line)?))
 }

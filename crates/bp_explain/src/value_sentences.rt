@@ -1,18 +1,16 @@
 //! Words for the values that an assertion or an assumption reads.
 
 use crate::sources::{Source, variable_of};
-use bp_advice::Part::{Name, Number, Words};
-use bp_advice::{push_all, push_parts};
-use bp_language::Proc;
 use bp_machine::{AskFault, Call, Session, Setup};
 use bp_source::{decider_at, variables_read};
 use bp_trace::{ReplayFault, Unwatched, Watcher, replay_watched};
 use std::alloc::{AllocError, Global};
+use std::fmt::Write;
 
 /// The names of the variables that the assertion or the assumption of a thread reads.
 fn names_read<'a>(
     alloc: Global,
-    source: &'a Source,
+    source: &'a Source<'_>,
     session: &Session,
     thread: u32,
 ) -> Result<Vec<&'a [u8]>, AllocError> {
@@ -25,44 +23,28 @@ fn names_read<'a>(
     }
 }
 
-/// Adds a variable: a local after the name of its procedure.
-fn push_variable(out: &mut Vec<u8>, owner: Option<&Proc>, name: &[u8]) -> Result<(), AllocError> {
-    if let Some(proc) = owner {
-        push_parts(out, &[Name(proc.name().text().as_bytes()), Words(b".")])?;
-    }
-    push_parts(out, &[Name(name)])
-}
-
-/// Adds the values that the assertion or the assumption of a thread reads.
-pub(crate) fn push_values(
-    out: &mut Vec<u8>,
-    source: &Source,
+/// Says the values that the assertion or the assumption of a thread reads.
+pub(crate) fn values(
+    alloc: Global,
+    source: &Source<'_>,
     session: &Session,
     thread: u32,
-) -> Result<(), AllocError> {
-    let names = names_read(*out.allocator(), source, session, thread)?;
-    for (place, name) in names.iter().enumerate() {
-        let Some(seen) = variable_of(source, session, thread, name) else {
-            continue;
-        };
-        push_all(
-            out,
-            &[if place == 0 {
-                b" with ".as_slice()
-            } else {
-                b" "
-            }],
-        )?;
-        push_variable(out, seen.owner, name)?;
-        push_all(out, &[if seen.value { b"=1".as_slice() } else { b"=0" }])?;
+) -> Result<String, AllocError> {
+    let mut words = String::new(alloc);
+    for name in &names_read(alloc, source, session, thread)? {
+        if let Some(seen) = variable_of(source, session, thread, name) {
+            let before = if words.is_empty() { " with " } else { " " };
+            let digit = u8::from(seen.value);
+            write!(words, "{before}{seen}={digit}")?;
+        }
     }
-    Ok(())
+    Ok(words)
 }
 
 /// Notes the last call of a replay that changed what a thread sees of a variable.
 #[derive(Drop)]
 struct ChangeWatcher<'a> {
-    source: &'a Source,
+    source: &'a Source<'a>,
     thread: u32,
     name: &'a [u8],
     /// How many calls were made.
@@ -87,9 +69,8 @@ impl Watcher for ChangeWatcher<'_> {
     fn make(&mut self, session: &mut Session, recorded: &Call) -> Result<Call, AskFault> {
         let before = self.value(session);
         let call = session.ask_as_recorded(recorded.thread, recorded.bit)?;
-        let after = self.value(session);
         self.made = self.made.saturating_add(1);
-        if before != after {
+        if before != self.value(session) {
             self.changed = Some(self.made);
         }
         Ok(call)
@@ -99,7 +80,7 @@ impl Watcher for ChangeWatcher<'_> {
 /// The last call of a trace that changed what a thread sees of a variable, from 1.
 fn last_change(
     alloc: Global,
-    source: &Source,
+    source: &Source<'_>,
     trace: &[u8],
     thread: u32,
     name: &[u8],
@@ -118,42 +99,32 @@ fn last_change(
     }
 }
 
-/// Adds which step of a trace changed last each of the values that the assertion or the assumption
+/// Says which step of a trace changed last each of the values that the assertion or the assumption
 /// of a thread reads. The session stands after the trace.
-pub(crate) fn push_changes(
-    out: &mut Vec<u8>,
-    source: &Source,
+pub(crate) fn changes(
+    alloc: Global,
+    source: &Source<'_>,
     trace: &[u8],
     session: &Session,
     thread: u32,
-) -> Result<(), AllocError> {
-    let alloc = *out.allocator();
+) -> Result<String, AllocError> {
+    let mut words = String::new(alloc);
     for name in &names_read(alloc, source, session, thread)? {
         let Some(seen) = variable_of(source, session, thread, name) else {
             continue;
         };
-        let changed = last_change(alloc, source, trace, thread, name)?;
-        match changed {
-            Some(step) => push_parts(out, &[Words(b"; step "), Number(step), Words(b" changed ")])?,
-            None => push_all(out, &[b"; no step changed "])?,
+        match last_change(alloc, source, trace, thread, name)? {
+            Some(step) => write!(words, "; step {step} changed {seen} last")?,
+            None => write!(words, "; no step changed {seen}")?,
         }
-        push_variable(out, seen.owner, name)?;
-        push_all(
-            out,
-            &[if changed.is_some() {
-                b" last".as_slice()
-            } else {
-                b""
-            }],
-        )?;
     }
-    Ok(())
+    Ok(words)
 }
 
 /// The session after a trace.
 pub(crate) fn session_after(
     alloc: Global,
-    source: &Source,
+    source: &Source<'_>,
     trace: &[u8],
 ) -> Result<Option<Session>, AllocError> {
     match replay_watched(alloc, &source.code, trace, Unwatched) {

@@ -1,4 +1,4 @@
-mod HeadsRead
+pub mod HeadsRead
 mod EndLineAt
 mod OneText
 mod PiecesAreFewest

@@ -1,4 +1,4 @@
--- Devices: how the lines of traces are read and written. No public clause names them.
+-- How the lines of traces are read and written: devices, but for what is read of a head.
 use Rattle.std.proofs.Common.{refl}
 use Rattle.std.specs.Prelude.{if◌then◌else◌, ◌==◌, ℕ, Bool, true, false, List, [], ◌∷◌, ◌++◌, Option, None, Some, codes, decimal, ◌≡◌, ◌≢◌, ◌<◌, length, map, flat_map, ◌⊎◌, ◌+◌}
 use Rattle.bp_machine.specs.declared.calls.Call.{Call}
@@ -67,7 +67,7 @@ IsCallAt n text x = (more : List ℕ) × (x.thread < n) × (text ≡ call_line x
 abbrev pub HasNoCall : ℕ → List ℕ → Type 0
 HasNoCall n text = (x : Call) (more : List ℕ) → x.thread < n → text ≢ call_line x ++ more
 
--- How the head of a trace is read: a device of the reader, which no public clause names.
+-- How the head of a trace is read.
 
 -- the setup that a head says
 abbrev pub setup_of_head : Head → SetupOf

@@ -13,18 +13,18 @@ use std::alloc::{AllocError, Global};
 
 /// What the head of a trace says.
 #[derive(Drop)]
-pub(crate) struct Head<'a> {
-    pub(crate) version: Version,
+pub struct Head<'a> {
+    pub version: Version,
     /// The names of the procedures that the threads enter, which need be no UTF-8.
-    pub(crate) entries: Vec<&'a [u8]>,
-    pub(crate) init: Vec<bool>,
-    pub(crate) contexts: u64,
-    pub(crate) calls: u64,
-    pub(crate) seed: Option<u64>,
+    pub entries: Vec<&'a [u8]>,
+    pub init: Vec<bool>,
+    pub contexts: u64,
+    pub calls: u64,
+    pub seed: Option<u64>,
     /// How many bytes the head has.
-    pub(crate) size: usize,
+    pub size: usize,
     /// How many lines it has.
-    pub(crate) lines: u32,
+    pub lines: u32,
 }
 
 /// Whether the name of an entry has a byte.
@@ -203,8 +203,8 @@ fn seed_at(text: &[u8]) -> Option<(Option<u64>, &[u8])>
     }
 }
 
-/// Reads the head that begins the text.
-pub(crate) fn read_head<'a>(alloc: Global, text: &'a [u8]) -> Result<Head<'a>, ReplayFault>
+/// Reads the head that begins the text, which may be no trace.
+pub fn read_head<'a>(alloc: Global, text: &'a [u8]) -> Result<Head<'a>, ReplayFault>
     requires { length text.now ≤ MAX_TRACE }
     ensures { MatchResult result (IsHeadOf text.now) (IsHeadRefusal text.now) }
 {

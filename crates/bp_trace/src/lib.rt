@@ -16,7 +16,7 @@ mod traces;
 
 pub use driving::{ScheduleLine, drive};
 pub use faults::{DriveFault, Due, EndCounts, MigrateFault, ReplayFault};
-pub use heads::EntryState;
+pub use heads::{EntryState, Head, read_head};
 pub use judging::Printed;
 pub use laws::{
     lines_drive_again, no_two_have_one_text, pieces_are_fewest, refusals_are_single,

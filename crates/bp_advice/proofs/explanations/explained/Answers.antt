@@ -5,6 +5,6 @@ use Rattle.bp_advice.proofs.explanations.explained.Goals as goal
 
 pub returns : goal.returns
 returns c =
-    let line : IsOneLine c.first_line.result.now = rw c.first_line.ensures (first_on_one_line c.args.words.now) in
+    let line : IsOneLine c.first_line.result.now = rw c.first_line.ensures (first_on_one_line c.as_bytes.result.now) in
     let one_line : IsOneLine c.extend_from_slice.new.self.items = rw (c.in_ok-extend_from_slice.ensures.items, c.new-sentence.ensures.items) line in
     record { file_is = refl; place_is = refl; one_line = one_line }

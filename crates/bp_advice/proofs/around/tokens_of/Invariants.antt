@@ -1,5 +1,5 @@
 use Rattle.std.proofs.Common.{length}
-use Rattle.bp_advice.proofs.guesses.weighed_labels.Given as goal
+use Rattle.bp_advice.proofs.around.tokens_of.Given as goal
 
 abbrev pub decreases-loop-lexeme : goal.decreases-loop-lexeme
 decreases-loop-lexeme l = length l.rest

@@ -1,0 +1,217 @@
+//! The head of a trace, and the line of it that a fault of its setup is about.
+//! Sentences on a line of a trace that is not as expected.
+ghost use Rattle.std.specs.Prelude.{◌≡◌, ◌<◌, ◌+◌, ◌^◌, nat_lt, IfOk};
+ghost use Rattle.bp_machine.specs.declared.limits.TheConstants.{MAX_CONTEXTS};
+ghost use Rattle.bp_machine.specs.Setups.{threads};
+ghost use Rattle.bp_explain.specs.Explained.{BeginsWithHead, IsReadHead, IsSetupLine, init_line_number, threads_line_number};
+
+use crate::traces::RefusedLine;
+use bp_advice::{
+    Count, ENDS_IN_CR_LF, Quoted, ends_in_cr_lf, first_procedure, near_entry, number_at_front,
+    tree_of,
+};
+use bp_machine::SetupFault;
+use bp_machine::limits::{MAX_CALLS, MAX_CONTEXTS, MAX_THREADS};
+use bp_syntax::Tree;
+use bp_text::{line_of, part_from};
+use bp_trace::limits::MAX_TRACE;
+use bp_trace::{Head, ReplayFault, read_head};
+use std::alloc::{AllocError, Global};
+
+/// The line on which the first entry is due.
+pub(crate) const FIRST_ENTRY: usize = 2;
+
+/// The head of a trace, if it has one.
+pub(crate) fn head_of(alloc: Global, trace: &[u8]) -> Result<Option<Head<'_>>, AllocError>
+    ensures { IfOk result (IsReadHead trace.now) }
+{
+    if trace.len() > MAX_TRACE {
+        return Ok(None);
+    }
+    let fault = match read_head(alloc, trace) {
+        Ok(head) => return Ok(Some(head)),
+        Err(fault) => fault,
+    };
+    match fault {
+        ReplayFault::Head(_) => Ok(None),
+        _ => Err(AllocError),
+    }
+}
+
+/// How many threads the head of a trace says.
+fn thread_count(trace: &[u8], head: &Option<Head<'_>>) -> usize
+    requires { IsReadHead trace.now head.now }
+    ensures is { (b : BeginsWithHead trace.now) → result ≡ threads b.setup }
+    ensures few { result < 2 ^ 63 }
+{
+    match head {
+        Some(head) => head.entries.len(),
+        None => 0,
+    }
+}
+
+/// Whether the contexts that the head of a trace says are too many.
+fn has_many_contexts(trace: &[u8], head: &Option<Head<'_>>) -> bool
+    requires { IsReadHead trace.now head.now }
+    ensures { (b : BeginsWithHead trace.now) → result ≡ nat_lt MAX_CONTEXTS b.setup.contexts }
+{
+    match head {
+        Some(head) => head.contexts > u64::from(MAX_CONTEXTS),
+        None => false,
+    }
+}
+
+/// The line of the first entry that is not there, or is one too many.
+fn line_of_threads(trace: &[u8], head: &Option<Head<'_>>) -> usize
+    requires { IsReadHead trace.now head.now }
+    ensures { (b : BeginsWithHead trace.now) → result ≡ threads_line_number b.setup }
+{
+    if thread_count(trace, head) == 0 {
+        FIRST_ENTRY
+    } else {
+        FIRST_ENTRY + MAX_THREADS
+    }
+}
+
+/// The number of the line on which the initial bits are due.
+fn init_line(trace: &[u8], head: &Option<Head<'_>>) -> usize
+    requires { IsReadHead trace.now head.now }
+    ensures is { (b : BeginsWithHead trace.now) → result ≡ init_line_number b.setup }
+    ensures few { result < 2 ^ 63 + FIRST_ENTRY }
+{
+    thread_count(trace, head) + FIRST_ENTRY
+}
+
+/// The line of a trace with this head that a fault of its setup is about.
+pub(crate) fn line_of_setup(trace: &[u8], head: &Option<Head<'_>>, fault: SetupFault) -> usize
+    requires { IsReadHead trace.now head.now }
+    ensures { IsSetupLine trace.now fault result }
+{
+    match fault {
+        SetupFault::Threads | SetupFault::Memory => line_of_threads(trace, head),
+        SetupFault::UnknownEntry(thread) | SetupFault::EntryHasFormals(thread) => {
+            FIRST_ENTRY + thread as usize
+        }
+        SetupFault::InitLength => init_line(trace, head),
+        SetupFault::OutOfRange if has_many_contexts(trace, head) => init_line(trace, head) + 1,
+        SetupFault::OutOfRange => init_line(trace, head) + 2,
+    }
+}
+
+/// Says how many formals a procedure has, which is to be an entry.
+pub(crate) fn formals_of(alloc: Global, tree: &Tree, entry: &[u8]) -> Result<String, AllocError> {
+    let formals = first_procedure(tree, entry).map_or(0, |proc| proc.formals().len());
+    let count = Count(formals, "formal");
+    format!(in alloc; " has {count}; a thread begins with a procedure that has none")
+}
+
+impl RefusedLine<'_, '_> {
+    /// Says what is wrong with the setup that the head says, which is none of the program.
+    pub(crate) fn setup_sentence(&self, fault: SetupFault) -> Result<String, AllocError> {
+        let alloc = self.alloc;
+        let Some(tree) = &tree_of(alloc, self.program)? else {
+            return Ok(String::new(alloc));
+        };
+        let text = self.text_of(self.number);
+        let entry = part_from(text, b"entry ".len());
+        match fault {
+            SetupFault::Threads => format!(in alloc;
+                "there must be 1 to {MAX_THREADS} threads, each with a line 'entry NAME'"
+            ),
+            SetupFault::UnknownEntry(_) => {
+                let near = near_entry(alloc, tree, entry)?;
+                format!(in alloc; "there is no procedure {}{near}", Quoted(entry))
+            }
+            SetupFault::EntryHasFormals(_) => {
+                let formals = formals_of(alloc, tree, entry)?;
+                format!(in alloc; "{}{formals}", Quoted(entry))
+            }
+            SetupFault::InitLength => {
+                let count = Count(tree.globals().len(), "global");
+                format!(in alloc;
+                    "expected one initial bit for each global; the program has {count}"
+                )
+            }
+            SetupFault::OutOfRange if text.starts_with(b"contexts ") => {
+                format!(in alloc; "the contexts are at most {MAX_CONTEXTS}")
+            }
+            SetupFault::OutOfRange => {
+                format!(in alloc; "the calls of a thread are 1 to {MAX_CALLS}")
+            }
+            SetupFault::Memory => Ok(String::new(alloc)),
+        }
+    }
+
+    /// The text of the line of this number.
+    fn text_of(&self, number: usize) -> &[u8] {
+        match line_of(self.trace, number) {
+            Some(line) => line.text,
+            None => b"",
+        }
+    }
+
+    /// What is due on the line, which is of the head. The lines before are as expected.
+    fn due_in_head(&self) -> &'static str {
+        let before = self.text_of(self.number.saturating_sub(1));
+        if self.number == 1 {
+            "'btrace 1' or 'btrace 2'"
+        } else if before.starts_with(b"init ") {
+            "'contexts N', with a decimal without leading zeros"
+        } else if before.starts_with(b"contexts ") {
+            "'calls N', with a decimal without leading zeros"
+        } else if before.starts_with(b"calls ") {
+            "'seed N', with a decimal without leading zeros, or 'seed none'"
+        } else {
+            "'entry NAME', or 'init BITS' with a digit 0 or 1 for each global, \
+            or 'init -' without globals"
+        }
+    }
+
+    /// Says what is due in place of the line, which is of the head.
+    pub(crate) fn head_sentence(&self) -> Result<String, AllocError> {
+        let (alloc, due) = (self.alloc, self.due_in_head());
+        match line_of(self.trace, self.number) {
+            None => format!(in alloc; "the trace ends here; expected {due}"),
+            Some(line) if ends_in_cr_lf(line) => String::from_str(alloc, ENDS_IN_CR_LF),
+            Some(line) if line.is_ended => format!(in alloc; "expected {due}"),
+            Some(_) => format!(in alloc; "expected {due}, and a line feed after it"),
+        }
+    }
+
+    /// Says what the line should have been, which is no line of calls and no end.
+    pub(crate) fn body_sentence(&self) -> Result<String, AllocError> {
+        let alloc = self.alloc;
+        let before = self.text_of(self.number.saturating_sub(1));
+        let (Some(line), Some(head)) = (line_of(self.trace, self.number), self.head) else {
+            return Ok(String::new(alloc));
+        };
+        if before.starts_with(b"end ") {
+            return format!(in alloc; "nothing may follow the end line");
+        }
+        let thread_of = |text| number_at_front(text).map(|(thread, _)| thread);
+        let threads = head.entries.len();
+        match thread_of(line.text) {
+            Some(thread) if thread as usize >= threads => {
+                let has = Count(threads, "thread");
+                format!(in alloc;
+                    "there is no thread {thread}: the trace has {has}, counted from 0"
+                )
+            }
+            Some(thread) if self.is_version_two() && thread_of(before) == Some(thread) => {
+                format!(in alloc;
+                    "the line before is of thread {thread} too, and has all its successive calls"
+                )
+            }
+            _ if !line.is_ended => format!(in alloc; "there is no line feed after this line"),
+            _ if ends_in_cr_lf(line) => String::from_str(alloc, ENDS_IN_CR_LF),
+            _ if self.is_version_two() => format!(in alloc;
+                "expected a line as '0 1s0s', a thread and then the choice bit \
+                and the letter of the reply of each call, or 'end CALLS OPEN'"
+            ),
+            _ => format!(in alloc;
+                "expected a line as '0 1 s', a thread, a choice bit and the letter of the reply, \
+                or 'end CALLS OPEN'"
+            ),
+        }
+    }
+}
