@@ -60,7 +60,8 @@ impl fmt::Display for Count {
     }
 }
 
-/// What stands before the item of this place in a list of so many: a comma, or this before the last.
+/// What stands before the item of this place in a list of so many: a comma, or these words before
+/// the last one.
 pub fn between(place: usize, count: usize, last: &'static str) -> &'static str {
     match place {
         0 => "",

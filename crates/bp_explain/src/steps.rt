@@ -50,7 +50,7 @@ fn after_values(text: &[u8]) -> &[u8] {
     rest
 }
 
-/// The thread of a line that is no step, its place, and what follows the values that are well formed.
+/// The thread of a line that is no step, its place, and what follows its well-formed values.
 fn fields_of(line: &[u8]) -> (&[u8], &[u8], &[u8]) {
     let thread = word_at(line);
     let others = part_from(line, thread.len().saturating_add(1));

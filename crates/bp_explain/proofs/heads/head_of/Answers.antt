@@ -11,4 +11,4 @@ returns-in-Ok c = λ b.
 pub returns-in-Head : goal.returns-in-Head
 returns-in-Head c = λ b.
     let breaks = subst (λ f. IsHeadRefusal c.args.trace.now f) c.in-Head.is c.in-Err.ensures in
-    no_break b.version b.setup c.args.trace.now b.rest _ b.has b.parts breaks
+    no_break b.version b.setup c.args.trace.now b.rest c.in-Head.field-0 b.has b.parts breaks
