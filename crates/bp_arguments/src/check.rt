@@ -4,7 +4,7 @@ ghost use Rattle.bp_arguments.specs.CommandArguments.{IsCheckArgumentsOf};
 
 use crate::arguments::{Row, Takes};
 use crate::files::explaining;
-use crate::values::is_given;
+use crate::values::{is_given, text};
 use bp_tasks::CheckTask;
 use clap::ArgMatches;
 
@@ -29,9 +29,8 @@ pub static ROWS: [Row<'static>; 1] = [Row {
 pub fn check_arguments<'a>(arguments: &ArgMatches<'a>) -> CheckTask<'a>
     ensures { IsCheckArgumentsOf (rows_of (found_of arguments.now)) result }
 {
-    // FILE is required, so it is there.
     CheckTask {
-        program: arguments.get_str("FILE").unwrap_or(""),
+        program: text(arguments, "FILE"),
         json: is_given(arguments, "json"),
         explain: explaining(arguments),
     }

@@ -4,7 +4,7 @@ ghost use Rattle.bp_arguments.specs.CodeArguments.{IsCodeArgumentsOf, IsFormOf};
 
 use crate::arguments::{Row, Takes};
 use crate::files::explaining;
-use crate::values::is_given;
+use crate::values::{is_given, text};
 use bp_tasks::{CodeTask, ListingForm};
 use clap::ArgMatches;
 
@@ -51,9 +51,8 @@ fn listing_form(arguments: &ArgMatches<'_>) -> ListingForm
 pub fn code_arguments<'a>(arguments: &ArgMatches<'a>) -> CodeTask<'a>
     ensures { IsCodeArgumentsOf (rows_of (found_of arguments.now)) result }
 {
-    // FILE is required, so it is there.
     CodeTask {
-        program: arguments.get_str("FILE").unwrap_or(""),
+        program: text(arguments, "FILE"),
         form: listing_form(arguments),
         explain: explaining(arguments),
     }

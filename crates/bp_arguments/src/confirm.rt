@@ -5,7 +5,7 @@ ghost use Rattle.bp_arguments.specs.CommandArguments.{IsBoundOf, IsConfirmOf};
 
 use crate::arguments::{Row, Takes};
 use crate::files::{CALLS, ENTRY, INIT, explaining};
-use crate::values::{entries, expected_verdict, given_number, init, is_given, named, number};
+use crate::values::{entries, expected_verdict, given_number, init, is_given, named, number, text};
 use bp_machine::Start;
 use bp_machine::limits::{DEFAULT_CALLS, DEFAULT_CONTEXTS};
 use bp_tasks::{ConfirmTask, ContextBound};
@@ -73,10 +73,9 @@ pub fn confirm_arguments<'a>(
 ) -> Result<ConfirmTask<'a>, AllocError>
     ensures { IfOk result (IsConfirmOf (rows_of (found_of arguments.now))) }
 {
-    // FILE and STEPS are required, so they are there.
     Ok(ConfirmTask {
-        program: arguments.get_str("FILE").unwrap_or(""),
-        steps: arguments.get_str("STEPS").unwrap_or(""),
+        program: text(arguments, "FILE"),
+        steps: text(arguments, "STEPS"),
         json: is_given(arguments, "json"),
         explain: explaining(arguments),
         bound: context_bound(arguments),

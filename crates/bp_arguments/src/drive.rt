@@ -5,7 +5,7 @@ ghost use Rattle.bp_arguments.specs.CommandArguments.{IsDriveOf};
 
 use crate::arguments::{Row, Takes};
 use crate::files::{CALLS, CONTEXTS, ENTRY, INIT, explaining};
-use crate::values::{entries, init, named, number};
+use crate::values::{entries, init, named, number, text};
 use bp_machine::Start;
 use bp_machine::limits::{DEFAULT_CALLS, DEFAULT_CONTEXTS};
 use bp_tasks::DriveTask;
@@ -44,10 +44,9 @@ pub fn drive_arguments<'a>(
 ) -> Result<DriveTask<'a>, AllocError>
     ensures { IfOk result (IsDriveOf (rows_of (found_of arguments.now))) }
 {
-    // FILE and SCHEDULE are required, so they are there.
     Ok(DriveTask {
-        program: arguments.get_str("FILE").unwrap_or(""),
-        schedule: arguments.get_str("SCHEDULE").unwrap_or(""),
+        program: text(arguments, "FILE"),
+        schedule: text(arguments, "SCHEDULE"),
         explain: explaining(arguments),
         start: Start {
             entries: entries(alloc, arguments)?,

@@ -6,7 +6,9 @@ ghost use Rattle.bp_arguments.specs.CommandArguments.{IsExploreOf};
 use crate::arguments::{Row, Takes};
 use crate::confirm::context_bound;
 use crate::files::{ENTRY, INIT, explaining};
-use crate::values::{entries, given_long_number, init, is_given, long_number, named, number};
+use crate::values::{
+    entries, given_long_number, given_text, init, is_given, long_number, named, number, text,
+};
 use bp_machine::Start;
 use bp_machine::limits::{DEFAULT_CALLS, DEFAULT_CONTEXTS};
 use bp_tasks::limits::DEFAULT_STATES;
@@ -79,9 +81,8 @@ pub fn explore_arguments<'a>(
 ) -> Result<ExploreTask<'a>, AllocError>
     ensures { IfOk result (IsExploreOf (rows_of (found_of arguments.now))) }
 {
-    // FILE is required, so it is there.
     Ok(ExploreTask {
-        program: arguments.get_str("FILE").unwrap_or(""),
+        program: text(arguments, "FILE"),
         explain: explaining(arguments),
         start: Start {
             entries: entries(alloc, arguments)?,
@@ -90,7 +91,7 @@ pub fn explore_arguments<'a>(
             calls: DEFAULT_CALLS,
         },
         named: named(alloc, arguments)?,
-        through: arguments.get_str("through"),
+        through: given_text(arguments, "through"),
         options: ExploreOptions {
             bound: context_bound(arguments),
             states: long_number(arguments, "states", DEFAULT_STATES),

@@ -5,7 +5,7 @@ ghost use Rattle.bp_arguments.specs.CommandArguments.{IsRunOf};
 
 use crate::arguments::{Row, Takes};
 use crate::files::{CALLS, CONTEXTS, ENTRY, INIT, explaining};
-use crate::values::{entries, init, is_given, long_number, named, number};
+use crate::values::{entries, init, is_given, long_number, named, number, text};
 use bp_machine::Start;
 use bp_machine::limits::{DEFAULT_CALLS, DEFAULT_CONTEXTS};
 use bp_tasks::limits::{DEFAULT_RING, DEFAULT_SEED, DEFAULT_TURN};
@@ -66,9 +66,8 @@ pub fn run_arguments<'a>(
 ) -> Result<RunTask<'a>, AllocError>
     ensures { IfOk result (IsRunOf (rows_of (found_of arguments.now))) }
 {
-    // FILE is required, so it is there.
     Ok(RunTask {
-        program: arguments.get_str("FILE").unwrap_or(""),
+        program: text(arguments, "FILE"),
         spread: is_given(arguments, "spread"),
         explain: explaining(arguments),
         options: RunOptions {

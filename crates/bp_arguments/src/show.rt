@@ -4,7 +4,7 @@ ghost use Rattle.bp_arguments.specs.CommandArguments.{IsShowOf, IsViewFormatOf, 
 
 use crate::arguments::{Row, Takes};
 use crate::files::{TRACE, explaining};
-use crate::values::{given_long_number, given_number, is_given};
+use crate::values::{given_long_number, given_number, given_text, is_given, text};
 use bp_tasks::{ShowTask, ViewFormat, ViewOptions};
 use clap::ArgMatches;
 
@@ -114,7 +114,7 @@ fn view_options<'a>(arguments: &ArgMatches<'a>) -> ViewOptions<'a>
         last: given_long_number(arguments, "last"),
         from: given_long_number(arguments, "from"),
         to: given_long_number(arguments, "to"),
-        watch: arguments.get_str("watch"),
+        watch: given_text(arguments, "watch"),
         fold: is_given(arguments, "fold"),
         has_state: is_given(arguments, "state"),
         is_brief: is_given(arguments, "brief"),
@@ -128,10 +128,9 @@ fn view_options<'a>(arguments: &ArgMatches<'a>) -> ViewOptions<'a>
 pub fn show_arguments<'a>(arguments: &ArgMatches<'a>) -> ShowTask<'a>
     ensures { IsShowOf (rows_of (found_of arguments.now)) result }
 {
-    // FILE and TRACE are required, so they are there.
     ShowTask {
-        program: arguments.get_str("FILE").unwrap_or(""),
-        trace: arguments.get_str("TRACE").unwrap_or(""),
+        program: text(arguments, "FILE"),
+        trace: text(arguments, "TRACE"),
         at: given_long_number(arguments, "at"),
         contexts: is_given(arguments, "contexts"),
         steps: is_given(arguments, "steps"),

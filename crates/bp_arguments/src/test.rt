@@ -5,7 +5,7 @@ ghost use Rattle.bp_arguments.specs.CommandArguments.{contexts_for, runs_within,
 
 use crate::arguments::{Row, Takes};
 use crate::files::{CALLS, ENTRY, INIT, explaining};
-use crate::values::{entries, given_long_number, init, is_given, long_number, named, number};
+use crate::values::{entries, given_long_number, init, is_given, long_number, named, number, text};
 use bp_machine::Start;
 use bp_machine::limits::{DEFAULT_CALLS, MAX_THREADS};
 use bp_tasks::limits::{DEFAULT_JOBS, DEFAULT_RUNS, DEFAULT_SEED};
@@ -111,9 +111,8 @@ pub fn test_arguments<'a>(
     let contexts = default_contexts(entries.as_slice());
     let seconds = given_long_number(arguments, "time");
     let runs = default_runs(seconds);
-    // FILE is required, so it is there.
     Ok(TestTask {
-        program: arguments.get_str("FILE").unwrap_or(""),
+        program: text(arguments, "FILE"),
         explain: explaining(arguments),
         start: Start {
             entries,

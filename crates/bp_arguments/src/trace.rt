@@ -4,6 +4,7 @@ ghost use Rattle.bp_arguments.specs.CommandArguments.{IsTraceArgumentsOf};
 
 use crate::arguments::Row;
 use crate::files::{TRACE, explaining};
+use crate::values::text;
 use bp_tasks::TraceTask;
 use clap::ArgMatches;
 
@@ -50,10 +51,9 @@ pub static ROWS: [Row<'static>; 1] = [TRACE];
 pub fn trace_arguments<'a>(arguments: &ArgMatches<'a>) -> TraceTask<'a>
     ensures { IsTraceArgumentsOf (rows_of (found_of arguments.now)) result }
 {
-    // FILE and TRACE are required, so they are there.
     TraceTask {
-        program: arguments.get_str("FILE").unwrap_or(""),
-        trace: arguments.get_str("TRACE").unwrap_or(""),
+        program: text(arguments, "FILE"),
+        trace: text(arguments, "TRACE"),
         explain: explaining(arguments),
     }
 }

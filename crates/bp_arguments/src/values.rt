@@ -1,12 +1,27 @@
 //! The values of arguments.
 ghost use Rattle.std.specs.Prelude.{◌≡◌, codes, map, string_bytes, option_map, IfOk};
 ghost use Rattle.clap.specs.Words.{first_of, found_of, one_of, rows_of};
-ghost use Rattle.bp_arguments.specs.Values.{bits_given, bits_in, entries_in, expected_in, has_bad_init, has_bad_verdict, init_in, is_bits, is_init, named_in, names_given, verdict_named, IsFlagOf, IsNumberIn, IsNumberOf};
+ghost use Rattle.bp_arguments.specs.Values.{bits_given, bits_in, entries_in, expected_in, has_bad_init, has_bad_verdict, init_in, is_bits, is_init, named_in, names_given, value_of, verdict_named, IsFlagOf, IsNumberIn, IsNumberOf};
 
 use bp_machine::limits::DEFAULT_ENTRY;
 use bp_tasks::{NamedBits, Verdict, are_named_bits, gives_names, named_bits};
 use clap::ArgMatches;
 use std::alloc::{AllocError, Global};
+
+/// The text of an argument, if one is given.
+pub fn given_text<'a>(arguments: &ArgMatches<'a>, name: &str) -> Option<&'a str>
+    ensures { let given = first_of name.now (rows_of (found_of arguments.now)) in
+        option_map (λ s. s.now) result ≡ given }
+{
+    arguments.get_str(name)
+}
+
+/// The text of an argument that has to be there; an empty one if it is not.
+pub fn text<'a>(arguments: &ArgMatches<'a>, name: &str) -> &'a str
+    ensures { result.now ≡ value_of name.now (rows_of (found_of arguments.now)) }
+{
+    given_text(arguments, name).unwrap_or("")
+}
 
 fn copies(alloc: Global, names: &[&str]) -> Result<Vec<String>, AllocError>
     ensures { IfOk result (λ v. map string_bytes v.items ≡ map (λ n. n.now) names.now) }
@@ -62,7 +77,7 @@ pub fn init(alloc: Global, arguments: &ArgMatches<'_>) -> Result<Option<Vec<bool
     ensures { IfOk result
         (λ o. option_map (λ v. v.items) o ≡ init_in (rows_of (found_of arguments.now))) }
 {
-    match arguments.get_str("init") {
+    match given_text(arguments, "init") {
         Some(text) => bits_given(alloc, text),
         None => Ok(None),
     }
@@ -82,7 +97,7 @@ fn names_given(alloc: Global, text: &str) -> Result<NamedBits<'_>, AllocError>
 pub fn named<'a>(alloc: Global, arguments: &ArgMatches<'a>) -> Result<NamedBits<'a>, AllocError>
     ensures { IfOk result (λ n. n ≡ named_in (rows_of (found_of arguments.now))) }
 {
-    match arguments.get_str("init") {
+    match given_text(arguments, "init") {
         Some(text) => names_given(alloc, text),
         None => Ok(NamedBits::none(alloc)),
     }
@@ -104,7 +119,7 @@ fn verdict_named(text: &str) -> Option<Verdict>
 pub fn expected_verdict(arguments: &ArgMatches<'_>) -> Option<Verdict>
     ensures { result ≡ expected_in (rows_of (found_of arguments.now)) }
 {
-    match arguments.get_str("expect") {
+    match given_text(arguments, "expect") {
         Some(text) => verdict_named(text),
         None => None,
     }
@@ -114,7 +129,7 @@ pub fn expected_verdict(arguments: &ArgMatches<'_>) -> Option<Verdict>
 pub fn has_bad_verdict(arguments: &ArgMatches<'_>) -> bool
     ensures { result ≡ has_bad_verdict (rows_of (found_of arguments.now)) }
 {
-    match arguments.get_str("expect") {
+    match given_text(arguments, "expect") {
         Some(text) => verdict_named(text).is_none(),
         None => false,
     }
@@ -168,7 +183,7 @@ fn is_init(text: &str) -> bool
 pub fn has_bad_init(arguments: &ArgMatches<'_>) -> bool
     ensures { result ≡ has_bad_init (rows_of (found_of arguments.now)) }
 {
-    match arguments.get_str("init") {
+    match given_text(arguments, "init") {
         Some(text) => !is_init(text),
         None => false,
     }

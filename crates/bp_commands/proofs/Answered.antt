@@ -26,47 +26,47 @@ module _ {X R : Type 0} (command : Command X R) (given : X) (old : Option (List 
 
 -- A command answers as it does from the start with the bits of the globals that are named.
 
-module _ {X R : Type 0} (text_of : X → List ℕ) (start : StartOf) (command : StartOf → Command X R) (given : X) (old new : Option (List ℕ)) where
+module _ {R : Type 0} (start : StartOf) (command : StartOf → Command (List ℕ) R) (text : List ℕ) (old new : Option (List ℕ)) where
   -- where none is named
-  pub answers_start : (named : List NamedBitOf) → named ≡ [] → (r : Result R Fault) → AnswersOf (command start) given old new r
-      → AnswersOf (by_names text_of start named command) given old new r
-  answers_start named none r answer = subst (λ n. AnswersOf (by_names text_of start n command) given old new r) (sym none) answer
+  pub answers_start : (named : List NamedBitOf) → named ≡ [] → (r : Result R Fault) → AnswersOf (command start) text old new r
+      → AnswersOf (by_names start named command) text old new r
+  answers_start named none r answer = subst (λ n. AnswersOf (by_names start n command) text old new r) (sym none) answer
 
   -- where some are
-  pub answers_found : (named : List NamedBitOf) → named ≢ [] → (s : StartOf) → OfNames start named (text_of given) (λ found. s ≡ found)
-      → (r : Result R Fault) → AnswersOf (command s) given old new r → AnswersOf (by_names text_of start named command) given old new r
+  pub answers_found : (named : List NamedBitOf) → named ≢ [] → (s : StartOf) → OfNames start named text (λ found. s ≡ found)
+      → (r : Result R Fault) → AnswersOf (command s) text old new r → AnswersOf (by_names start named command) text old new r
   answers_found [] some s found r answer = absurd (some refl)
   answers_found (n ∷ ns) some s found r answer = by_answer r answer
     where
-      of : (Holds : StartOf → Type 0) → Holds s → OfNames start (n ∷ ns) (text_of given) Holds
-      of Holds holds = record { program = found.program; lawful = found.lawful; known = found.known; holds = subst Holds found.holds holds }
+      of : (Holds : StartOf → Type 0) → Holds s → OfNames start (n ∷ ns) text Holds
+      of Holds holds = record { program = found.program; of = found.of; holds = subst Holds found.holds holds }
 
-      by_answer : (r : Result R Fault) → AnswersOf (command s) given old new r → AnswersOf (by_names text_of start (n ∷ ns) command) given old new r
+      by_answer : (r : Result R Fault) → AnswersOf (command s) text old new r → AnswersOf (by_names start (n ∷ ns) command) text old new r
       by_answer (Ok report) done = record {
         text = done.text;
-        reports = of (λ s. (command s).Reports given done.text report) done.reports;
+        reports = of (λ s. (command s).Reports text done.text report) done.reports;
         written = done.written;
       }
-      by_answer (Err f) (inl (kept, why)) = inl (kept, inr (of (λ s. (command s).Refuses given f) why))
+      by_answer (Err f) (inl (kept, why)) = inl (kept, inr (of (λ s. (command s).Refuses text f) why))
       by_answer (Err f) (inr (inl (is, cut))) =
           inr (inl (
             is,
             record {
               text = cut.text;
-              writes = of (λ s. (command s).Writes given cut.text) cut.writes;
+              writes = of (λ s. (command s).Writes text cut.text) cut.writes;
               written = cut.written;
             },
           ))
       by_answer (Err f) (inr (inr spoilt)) =
           inr (inr (record {
             text = spoilt.text;
-            spoils = of (λ s. (command s).Spoils given spoilt.text f) spoilt.spoils;
+            spoils = of (λ s. (command s).Spoils text spoilt.text f) spoilt.spoils;
             written = spoilt.written;
           }))
 
 -- a start is not found, and nothing is written
-module _ {X R : Type 0} (text_of : X → List ℕ) (start : StartOf) (command : StartOf → Command X R) (given : X) (old : Option (List ℕ)) where
-  pub names_refused : (named : List NamedBitOf) → named ≢ [] → (f : Fault) → AreNamesRefused start named (text_of given) f
-      → IsRefusedWith (by_names text_of start named command) old old given f
-  names_refused [] some f why = absurd (some refl)
-  names_refused (n ∷ ns) some f why = inl (Keeps-refl old, inl why)
+pub names_refused : {R : Type 0} (start : StartOf) (command : StartOf → Command (List ℕ) R) (text : List ℕ) (old : Option (List ℕ))
+    (named : List NamedBitOf) → named ≢ [] → (f : Fault) → AreNamesRefused start named text f
+    → IsRefusedWith (by_names start named command) old old text f
+names_refused start command text old [] some f why = absurd (some refl)
+names_refused start command text old (n ∷ ns) some f why = inl (Keeps-refl old, inl why)

@@ -1,14 +1,15 @@
 -- What driving a program says of the command `drive`.
-use Rattle.std.proofs.Common.{◌≡◌, refl, sym, subst, inl, inr, List, ℕ, Option, None, arith, [], ◌∷◌, ◌∙◌, ap, ◌+◌, ◌-◌, ◌<◌, ◌≤◌, ◌==◌, true, false, ◌++◌, length, take, drop, get_or, add-one, take-suc, take-append-drop, length-take-le}
+use Rattle.std.proofs.Common.{◌≡◌, refl, sym, subst, inl, inr, List, ℕ, Option, arith, [], ◌∷◌, ◌∙◌, ap, ◌+◌, ◌-◌, ◌<◌, ◌≤◌, ◌==◌, true, false, ◌++◌, length, take, drop, get_or, add-one, take-suc, take-append-drop, length-take-le}
 use Rattle.std.specs.Io.KnownBytes.{Keeps}
 use Rattle.std.proofs.KnownBytes.{Keeps-refl}
 use Rattle.std.proofs.Math.Seq.{take-append_seam, drop-append_seam}
 use Rattle.std.proofs.lemmas.Bool.{cases_lt, true≢false}
 use Rattle.bp_text.proofs.Givings.{all_from}
-use Rattle.bp_flat.specs.Flat.{Flat}
+use Rattle.bp_language.specs.Ast.{Program}
+use Rattle.bp_code.specs.LawfulTexts.{IsLawfulText}
 use Rattle.bp_machine.specs.declared.calls.Report.{Report}
-use Rattle.bp_machine.specs.declared.setup_faults.SetupFault.{SetupFault}
-use Rattle.bp_machine.specs.Setups.{SetupOf, setup_fault, IsSetupRefusal, StartOf, setup_from}
+use Rattle.bp_machine.specs.Setups.{SetupOf, StartOf}
+use Rattle.bp_tasks.specs.NamedBits.{NamedBitOf}
 use Rattle.bp_trace.specs.declared.faults.DriveFault.{DriveFault}
 use Rattle.bp_trace.specs.declared.faults.DriveFault.TheVariants.{TooLong, Line, AfterFinish, Memory, Write}
 use Rattle.bp_trace.specs.Drives.{DrivesTo, IsRefusal, IsScheduleRefusal}
@@ -16,61 +17,49 @@ use Rattle.bp_trace.specs.TraceText.{trace_text, trace_text_2}
 use Rattle.bp_trace.specs.declared.faults.MigrateFault.{MigrateFault}
 use Rattle.bp_trace.specs.declared.faults.MigrateFault.TheVariants as migrate
 use Rattle.bp_trace.specs.Replays.{IsMigrated, IsMigrateRefusal}
-use Rattle.bp_code.specs.LawfulTexts.{IsProgramCode}
-use Rattle.bp_messages.specs.FaultTable.{fault_of_schedule, fault_of_setup, fault_of_migration}
+use Rattle.bp_messages.specs.FaultTable.{fault_of_schedule, fault_of_migration}
 use Rattle.bp_commands.specs.Commands.{IsDoneWith, IsRefusedWith, Pair}
-use Rattle.bp_commands.specs.Traces.{drives, IsDriveRefused, migrates, IsSeparated, HasNoSeparator, ends_line, HasNoneBefore, IsSplit}
+use Rattle.bp_commands.specs.Programs.{IsOpened}
+use Rattle.bp_commands.specs.Traces.{drives, migrates, ends_line, HasNoSeparator, HasNoneBefore, IsScheduleRefused, IsSeparated, IsSplit}
 
-module _ (start : StartOf) (given : Pair) (c : Flat) (code : IsProgramCode given.text c) (s : SetupOf)
-    (setup : s ≡ setup_from start None code.program)
-    (fine : setup_fault code.program (setup_from start None code.program) ≡ None) (old new : Option (List ℕ)) where
-  pub driven : (r : Report) → DrivesTo code.program s given.input old new r → IsDoneWith (drives start) old new given r
-  driven r found =
-      let played = subst (λ x. DrivesTo code.program x given.input old new r) setup found in
-      record {
-        text = trace_text (setup_from start None code.program) played.history;
-        reports = record {
-          trace = record {
-            program = code.program;
-            lawful = code.of;
-            fine = fine;
-            history = played.history;
-            driven = played.driven;
-            is = refl;
-          };
-          reported = played.report;
-        };
-        written = played.written;
-      }
+module _ (start : StartOf) (named : List NamedBitOf) (given : Pair) (t : Program) (s : SetupOf) (opened : IsOpened start named given.text t s)
+    (old new : Option (List ℕ)) where
+  pub driven : (r : Report) → DrivesTo t s given.input old new r → IsDoneWith (drives start named) old new given r
+  driven r played = record {
+    text = trace_text s played.history;
+    reports = record {
+      trace = record {
+        program = t;
+        setup = s;
+        opened = opened;
+        history = played.history;
+        driven = played.driven;
+        is = refl;
+      };
+      reported = played.report;
+    };
+    written = played.written;
+  }
 
-  unplayed : (f : DriveFault) → IsScheduleRefusal code.program (setup_from start None code.program) given.input f
-      → IsDriveRefused start given (fault_of_schedule f)
-  unplayed f why = inr (inr (record {
-    program = code.program;
-    lawful = code.of;
-    fine = fine;
-    cause = f;
-    why = why;
-    is = refl;
-  }))
+  unplayed : (f : DriveFault) → IsScheduleRefusal t s given.input f → IsScheduleRefused start named given (fault_of_schedule f)
+  unplayed f why = record { program = t; setup = s; opened = opened; cause = f; why = why; is = refl }
 
   kept : new ≡ old → Keeps old new
   kept same = subst (Keeps old) (sym same) (Keeps-refl old)
 
-  refused : (f : DriveFault) → IsRefusal code.program (setup_from start None code.program) given.input old new f
-      → IsRefusedWith (drives start) old new given (fault_of_schedule f)
-  refused TooLong found = inl (kept found.0, unplayed TooLong found.1)
-  refused (Line n) found = inl (kept found.0, unplayed (Line n) found.1)
-  refused (AfterFinish n) found = inl (kept found.0, unplayed (AfterFinish n) found.1)
-  refused Memory found = inl (kept found.0, unplayed Memory found.1)
-  refused Write (history, is, part) = inr (inl (
+  pub not_driven : (f : DriveFault) → IsRefusal t s given.input old new f → IsRefusedWith (drives start named) old new given (fault_of_schedule f)
+  not_driven TooLong found = inl (kept found.0, inr (unplayed TooLong found.1))
+  not_driven (Line n) found = inl (kept found.0, inr (unplayed (Line n) found.1))
+  not_driven (AfterFinish n) found = inl (kept found.0, inr (unplayed (AfterFinish n) found.1))
+  not_driven Memory found = inl (kept found.0, inr (unplayed Memory found.1))
+  not_driven Write (history, is, part) = inr (inl (
     refl,
     record {
-      text = trace_text (setup_from start None code.program) history;
+      text = trace_text s history;
       writes = record {
-        program = code.program;
-        lawful = code.of;
-        fine = fine;
+        program = t;
+        setup = s;
+        opened = opened;
         history = history;
         driven = is;
         is = refl;
@@ -79,36 +68,18 @@ module _ (start : StartOf) (given : Pair) (c : Flat) (code : IsProgramCode given
     },
   ))
 
-  pub not_driven : (f : DriveFault) → IsRefusal code.program s given.input old new f → IsRefusedWith (drives start) old new given (fault_of_schedule f)
-  not_driven f found = refused f (subst (λ x. IsRefusal code.program x given.input old new f) setup found)
-
--- the program does not take the setup, and nothing is written
-pub setup_refused : (start : StartOf) (given : Pair) (c : Flat) (code : IsProgramCode given.text c) (out : Option (List ℕ)) (cause : SetupFault)
-    → IsSetupRefusal code.program (setup_from start None code.program) cause
-    → IsRefusedWith (drives start) out out given (fault_of_setup cause)
-setup_refused start given c code out cause why = inl (
-  Keeps-refl out,
-  inr (inl (record {
-    program = code.program;
-    lawful = code.of;
-    cause = cause;
-    why = why;
-    is = refl;
-  })),
-)
-
 -- What migrating a trace says of the command `migrate`.
 
-module _ (given : Pair) (c : Flat) (code : IsProgramCode given.text c) (old new : Option (List ℕ)) where
-  pub migrated : (r : Report) → IsMigrated code.program given.input old new r → IsDoneWith migrates old new given r
+module _ (given : Pair) (t : Program) (of : IsLawfulText given.text t) (old new : Option (List ℕ)) where
+  pub migrated : (r : Report) → IsMigrated t given.input old new r → IsDoneWith migrates old new given r
   migrated r is = record {
     text = trace_text_2 is.setup is.history;
     reports = record {
       trace = record {
-        program = code.program;
+        program = t;
         setup = is.setup;
         history = is.history;
-        legal = record { of = code.of; version = is.version; is = is.trace };
+        legal = record { of = of; version = is.version; is = is.trace };
         is = refl;
       };
       reported = is.report;
@@ -116,12 +87,12 @@ module _ (given : Pair) (c : Flat) (code : IsProgramCode given.text c) (old new 
     written = is.written;
   }
 
-  pub not_migrated : (f : MigrateFault) → IsMigrateRefusal code.program given.input old new f → IsRefusedWith migrates old new given (fault_of_migration f)
+  pub not_migrated : (f : MigrateFault) → IsMigrateRefusal t given.input old new f → IsRefusedWith migrates old new given (fault_of_migration f)
   not_migrated (migrate.Replay f) found = inl (
     subst (Keeps old) (sym (found.0)) (Keeps-refl old),
     inr (record {
-      program = code.program;
-      lawful = code.of;
+      program = t;
+      lawful = of;
       cause = f;
       why = found.1;
       is = refl;
@@ -132,10 +103,10 @@ module _ (given : Pair) (c : Flat) (code : IsProgramCode given.text c) (old new 
     record {
       text = trace_text_2 found.setup found.history;
       writes = record {
-        program = code.program;
+        program = t;
         setup = found.setup;
         history = found.history;
-        legal = record { of = code.of; version = found.version; is = found.trace };
+        legal = record { of = of; version = found.version; is = found.trace };
         is = refl;
       };
       written = found.written;

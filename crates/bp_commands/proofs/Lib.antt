@@ -4,7 +4,5 @@ mod Driven
 mod RunAnswers
 mod ShrunkTraces
 mod TestAnswers
-mod ConfirmedSteps
-mod ExploredPrograms
-mod ThroughPrograms
 mod ViewedTraces
+mod OnTraces

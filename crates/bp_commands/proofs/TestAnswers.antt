@@ -1,21 +1,20 @@
 -- What testing a program says of the command `test`.
-use Rattle.std.proofs.Common.{◌≡◌, ◌∙◌, refl, sym, subst, inl, inr, ℕ, ◌<◌, ◌≤◌, ◌^◌, length, Bool, List, [], ◌∷◌, ◌++◌, Option, None, Some, map}
+use Rattle.std.proofs.Common.{◌≡◌, refl, sym, subst, inl, inr, ℕ, ◌<◌, ◌≤◌, ◌^◌, length, List, [], ◌∷◌, ◌++◌, Option, None, Some, map}
 use Rattle.std.specs.Io.KnownBytes.{Appends, Keeps}
 use Rattle.std.proofs.KnownBytes.{Appends-nil, Keeps-refl}
 use Rattle.bp_language.specs.Ast.{Program}
-use Rattle.bp_code.specs.LawfulTexts.{IsLawfulText}
 use Rattle.bp_flat.specs.StandsFor.{places_of}
 use Rattle.bp_text.specs.Writing.{AppendsAll}
 use Rattle.bp_machine.specs.declared.calls.Call.{Call}
 use Rattle.bp_machine.specs.declared.calls.Report.{Report}
-use Rattle.bp_machine.specs.declared.setup_faults.SetupFault.{SetupFault}
 use Rattle.bp_machine.specs.declared.setup_faults.SetupFault.TheVariants.{OutOfRange}
-use Rattle.bp_machine.specs.Setups.{SetupOf, setup_fault, IsSetupRefusal, StartOf, setup_from}
+use Rattle.bp_machine.specs.Setups.{SetupOf}
 use Rattle.bp_trace.specs.TraceText.{trace_text}
 use Rattle.bp_test.specs.declared.testing.TestFault.{TestFault}
 use Rattle.bp_test.specs.declared.testing.TestFault.TheVariants as fault
 use Rattle.bp_tasks.specs.declared.limits.TheConstants.{MAX_JOBS}
 use Rattle.bp_tasks.specs.declared.options.TestOptions.{TestOptions}
+use Rattle.bp_tasks.specs.declared.tasks.TestTask.{TestTask}
 use Rattle.bp_test.specs.declared.testing.Found.{Found}
 use Rattle.bp_test.specs.declared.testing.Found.TheVariants.{Nothing, Failed, Deadlock}
 use Rattle.bp_test.specs.declared.testing.Tested.{Tested as Made}
@@ -23,6 +22,7 @@ use Rattle.bp_test.specs.declared.waiting.Waiting.{Waiting}
 use Rattle.bp_test.specs.Tallies.{AreCounts, AreDistinct, MadeRun, made as made_of, HasReached, IsCounted}
 use Rattle.bp_test.specs.Tests.{setup_of_run, IsFound, IsTest, IsTestRefusal, IsWrittenRun}
 use Rattle.bp_commands.specs.Commands.{IsDoneWith, IsRefusedWith}
+use Rattle.bp_commands.specs.Programs.{IsOpened}
 use Rattle.bp_messages.specs.FaultTable.{fault_of_setup, fault_of_test}
 use Rattle.bp_messages.specs.declared.faults.Fault.TheVariants.{Memory}
 use Rattle.bp_messages.specs.declared.summaries.TestReport.{TestReport}
@@ -30,14 +30,14 @@ use Rattle.bp_commands.specs.Tests.{tests, AreListed, IsTestable}
 use Rattle.bp_source.specs.SourceStatements.{AreStatements}
 use Rattle.bp_source.specs.StatementLines.{positions_of}
 
-module _ (start : StartOf) (x : TestOptions) (file : List ℕ) (unreached json : Bool) (text : List ℕ) (t : Program) (lawful : IsLawfulText text t) where
-  -- the program takes this setup
-  module _ (s : SetupOf) (setup : s ≡ setup_from start None t) (fine : setup_fault t (setup_from start None t) ≡ None) (few : x.jobs ≤ MAX_JOBS) (old new : Option (List ℕ)) where
-    abbrev taken : SetupOf
-    taken = setup_from start None t
+-- the program takes this setup
+module _ (task : TestTask) (text : List ℕ) (t : Program) (taken : SetupOf) (opened : IsOpened task.start task.named text t taken) where
+  abbrev x : TestOptions
+  x = task.options
 
-    abbrev testable : IsTestable start x file unreached json text
-    testable = record { program = t; lawful = lawful; fine = fine; few = few }
+  module _ (few : x.jobs ≤ MAX_JOBS) (old new : Option (List ℕ)) where
+    abbrev testable : IsTestable task text
+    testable = record { program = t; setup = taken; opened = opened; few = few }
 
     written_alone : (Holds : SetupOf → List Call → Type 0) (run : ℕ) (r : Report) (runs : List MadeRun) (is : IsWrittenRun t taken x old new Holds run r runs)
         → IsWrittenRun t taken x (Some []) (Some (trace_text (setup_of_run taken x.seed run) is.history)) Holds run r runs
@@ -78,45 +78,45 @@ module _ (start : StartOf) (x : TestOptions) (file : List ℕ) (unreached json :
       written = is.written;
     }
 
-    pub done : (made : Made) → IsTest t s x old new made → (tested : TestReport) → tested.found ≡ made.found
+    pub done : (made : Made) → IsTest t taken x old new made → (tested : TestReport) → tested.found ≡ made.found
         → tested.failed ≡ made.failed → tested.waiting ≡ made.waiting → tested.positions.items ≡ positions_of text t
         → AreStatements text (places_of t.procedures) (map (λ v. v.items) tested.statements.items)
         → tested.reached ≡ made.tally.reached
         → AreDistinct made.tally.keys.items tested.distinct
         → ((z : SetupOf) (runs : List MadeRun) → length runs < 2 ^ 64 → IsCounted z runs made.tally → AreCounts z runs tested.counts)
-        → tested.file.items ≡ file → tested.options ≡ x → tested.setup ≡ s → tested.json ≡ json → AreListed unreached json file text t (map (λ v. v.items) tested.lines.items)
-        → IsDoneWith (tests start x file unreached json) old new text tested
+        → tested.file.items ≡ task.program.now → tested.options ≡ x → tested.setup ≡ taken → tested.json ≡ task.json
+        → AreListed task text t (map (λ v. v.items) tested.lines.items)
+        → IsDoneWith (tests task) old new text tested
     done made test tested found_is failed_is waiting_is positions statements reached_is distinct counts file_is options setup_is form lines =
-        let of_setup = subst (λ y. IsTest t y x old new made) setup test in
-        let found = alone tested.found tested.failed tested.waiting.items of_setup.runs
-        (subst (λ v. IsFound t taken x old new tested.found tested.failed v.items of_setup.runs) (sym waiting_is)
-        (subst (λ n. IsFound t taken x old new tested.found n made.waiting.items of_setup.runs) (sym failed_is)
-        (subst (λ f. IsFound t taken x old new f made.failed made.waiting.items of_setup.runs)
-        (sym found_is) of_setup.found))) in
+        let found = alone tested.found tested.failed tested.waiting.items test.runs
+        (subst (λ v. IsFound t taken x old new tested.found tested.failed v.items test.runs) (sym waiting_is)
+        (subst (λ n. IsFound t taken x old new tested.found n made.waiting.items test.runs) (sym failed_is)
+        (subst (λ f. IsFound t taken x old new f made.failed made.waiting.items test.runs)
+        (sym found_is) test.found))) in
         record {
           text = found.text_is;
           reports = record {
             testable = testable;
-            runs = of_setup.runs;
+            runs = test.runs;
             found = found.found;
-            counted = counts taken of_setup.runs of_setup.few of_setup.tallied.counted;
-            reached = subst (λ v. HasReached t taken of_setup.runs v.items) (sym reached_is) of_setup.tallied.reached;
-            distinct = record { keys = made.tally.keys.items; are = of_setup.tallied.keys; distinct = distinct };
+            counted = counts taken test.runs test.few test.tallied.counted;
+            reached = subst (λ v. HasReached t taken test.runs v.items) (sym reached_is) test.tallied.reached;
+            distinct = record { keys = made.tally.keys.items; are = test.tallied.keys; distinct = distinct };
             positions_are = positions;
             statements_are = statements;
             file_is = file_is;
             options_are = options;
-            setup_is = setup_is ∙ setup;
+            setup_is = setup_is;
             json_is = form;
             lines = lines;
           };
           written = found.written;
         }
 
-    refused_of : (f : TestFault) → IsTestRefusal t taken x old new f → IsRefusedWith (tests start x file unreached json) old new text (fault_of_test f)
-    refused_of fault.Memory same =
-        inl (subst (Keeps old) (sym same) (Keeps-refl old), inr (inr (inr (refl, testable))))
-    refused_of fault.Write cut = inr (inl (
+    pub refused : (f : TestFault) → IsTestRefusal t taken x old new f → IsRefusedWith (tests task) old new text (fault_of_test f)
+    refused fault.Memory same =
+        inl (subst (Keeps old) (sym same) (Keeps-refl old), inr (inr (refl, testable)))
+    refused fault.Write cut = inr (inl (
       refl,
       record {
         text = trace_text (setup_of_run taken x.seed cut.run) cut.history;
@@ -143,36 +143,12 @@ module _ (start : StartOf) (x : TestOptions) (file : List ℕ) (unreached json :
       },
     ))
 
-    pub refused : (f : TestFault) → IsTestRefusal t s x old new f → IsRefusedWith (tests start x file unreached json) old new text (fault_of_test f)
-    refused f is = refused_of f (subst (λ y. IsTestRefusal t y x old new f) setup is)
+    pub lacks_memory : (out : Option (List ℕ)) → IsRefusedWith (tests task) out out text Memory
+    lacks_memory out = inl (Keeps-refl out, inr (inr (refl, testable)))
 
-    pub lacks_memory : (out : Option (List ℕ)) → IsRefusedWith (tests start x file unreached json) out out text Memory
-    lacks_memory out = inl (Keeps-refl out, inr (inr (inr (refl, testable))))
-
-  -- the program takes the setup, but there may not be so many jobs
-  pub many_jobs : (out : Option (List ℕ)) → setup_fault t (setup_from start None t) ≡ None → MAX_JOBS < x.jobs
-      → IsRefusedWith (tests start x file unreached json) out out text (fault_of_setup OutOfRange)
-  many_jobs out fine many = inl (
+  -- there may not be so many jobs
+  pub many_jobs : (out : Option (List ℕ)) → MAX_JOBS < x.jobs → IsRefusedWith (tests task) out out text (fault_of_setup OutOfRange)
+  many_jobs out many = inl (
     Keeps-refl out,
-    inr (inr (inl (record {
-      program = t;
-      lawful = lawful;
-      fine = fine;
-      many = many;
-      is = refl;
-    }))),
-  )
-
-  -- the program does not take the setup, and nothing is written
-  pub setup_refused : (out : Option (List ℕ)) (cause : SetupFault) → IsSetupRefusal t (setup_from start None t) cause
-      → IsRefusedWith (tests start x file unreached json) out out text (fault_of_setup cause)
-  setup_refused out cause why = inl (
-    Keeps-refl out,
-    inr (inl (record {
-      program = t;
-      lawful = lawful;
-      cause = cause;
-      why = why;
-      is = refl;
-    })),
+    inr (inl (record { program = t; setup = taken; opened = opened; many = many; is = refl })),
   )

@@ -3,17 +3,15 @@ use Rattle.std.specs.Prelude.{if◌then◌else◌, ◌≡◌, ◌⊎◌, ◌∷�
 use Rattle.std.specs.List.{concat}
 use Rattle.bp_text.specs.Pieces.{bit_text}
 use Rattle.bp_language.specs.Ast.{Program}
-use Rattle.bp_code.specs.LawfulTexts.{IsLawfulText}
 use Rattle.bp_machine.specs.declared.calls.Call.{Call}
 use Rattle.bp_machine.specs.Histories.{IsReport}
-use Rattle.bp_machine.specs.Setups.{SetupOf, setup_fault, StartOf, setup_from}
+use Rattle.bp_machine.specs.Setups.{SetupOf}
 use Rattle.bp_trace.specs.TraceText.{trace_text}
 use Rattle.bp_confirm.specs.declared.confirming.ConfirmFault.{ConfirmFault}
 use Rattle.bp_confirm.specs.declared.choices.LastChoice.{LastChoice}
 use Rattle.bp_confirm.specs.ConfirmedTexts.{IsConfirmedText, IsStepsRefusal}
 use Rattle.bp_view.specs.FootFacts.{AreFootFacts, ShownFoot}
-use Rattle.bp_tasks.specs.NamedBits.{NamedBitOf}
-use Rattle.bp_tasks.specs.declared.tasks.ContextBound.{ContextBound}
+use Rattle.bp_tasks.specs.declared.tasks.ConfirmTask.{ConfirmTask}
 use Rattle.bp_tasks.specs.declared.tasks.Verdict.{Verdict}
 use Rattle.bp_tasks.specs.declared.tasks.Verdict.TheVariants.{Failure, Deadlock, Run}
 use Rattle.bp_tasks.specs.declared.options.ViewFormat.TheVariants.{Json}
@@ -22,10 +20,9 @@ use Rattle.bp_messages.specs.declared.faults.Fault.{Fault}
 use Rattle.bp_messages.specs.FaultTable.{exit_status, fault_of_steps}
 use Rattle.bp_messages.specs.FaultObjects.{verdict_object, ShownVerdict}
 use Rattle.bp_commands.specs.Commands.{Command, Pair}
-use Rattle.bp_commands.specs.Programs.{HasNoCode, by_names, IsSetupRefused}
+use Rattle.bp_commands.specs.Programs.{IsNotOpened, IsOpened}
 use Rattle.bp_commands.specs.FaultReports.{AnswerRule}
 use Rattle.bp_commands.specs.declared.confirming.Confirmation.{Confirmation}
-use Rattle.bp_commands.specs.declared.confirming.VerdictForm.{VerdictForm}
 
 -- how a run ends, by the facts of its end
 abbrev pub verdict_of : ShownFoot → Verdict
@@ -97,78 +94,65 @@ confirmation_shown x = record {
 
 abbrev pub confirm_summary : Confirmation → List ℕ
 confirm_summary x =
-    if x.form.json then verdict_object (confirmation_shown x)
-    else line_as x.form.expected x.choices.items x.verdict
+    if x.json then verdict_object (confirmation_shown x)
+    else line_as x.expected x.choices.items x.verdict
 
 abbrev pub of_confirm : AnswerRule Confirmation
 of_confirm = record {
-  status = λ x. status_of_verdict x.form.expected x.verdict;
+  status = λ x. status_of_verdict x.expected x.verdict;
   summary = confirm_summary;
 }
 
--- this is the verdict on the steps of a program, which the history takes, in this form; its
--- deadlock depends on these last bits
+-- this is the verdict on the steps of a program, which the history takes, as is asked for;
+-- its deadlock depends on these last bits
 pub record IsConfirmation
     (text : List ℕ) (t : Program) (s : SetupOf) (h : List Call) (choices : List LastChoice)
-    (form : VerdictForm) (x : Confirmation)
+    (task : ConfirmTask) (x : Confirmation)
     : Type 0 where
+  pub expected_is : x.expected ≡ task.expected
+  pub json_is : x.json ≡ task.json
   pub reported : IsReport s h x.report
   pub facts : ShownFoot
   pub facts_are : AreFootFacts t text s h x.report facts
   pub verdict : x.verdict ≡ verdict_of facts
   pub failure : x.failure.items ≡ outcome_text Json [] facts.deadlocked facts.failure
   pub waits : x.waits.items ≡ waits_text Json [] facts.waits
-  pub choices_are : x.choices.items ≡ choices_text form.json choices
-  pub form_is : x.form ≡ form
+  pub choices_are : x.choices.items ≡ choices_text task.json choices
 
--- Reported steps of the program of a text are confirmed from this start, within this bound of
--- contexts, and the verdict has this form.
-module _ (start : StartOf) (bound : ContextBound) (form : VerdictForm) (given : Pair) where
+-- Reported steps of the program of a text are confirmed, as is asked for.
+module _ (x : ConfirmTask) (given : Pair) where
   -- a history takes the steps, and its trace is written
   pub record IsOfSteps (written : List ℕ) : Type 0 where
     pub program : Program
-    pub lawful : IsLawfulText given.text program
-    pub fine : setup_fault program (setup_from start None program) ≡ None
+    pub start : SetupOf
+    pub opened : IsOpened x.start x.named given.text program start
     pub setup : SetupOf
     pub history : List Call
     pub choices : List LastChoice
     pub confirmed :
-        IsConfirmedText program (setup_from start None program) given.input given.text bound setup
-        history choices
+        IsConfirmedText program start given.input given.text x.bound setup history choices
     pub is : written ≡ trace_text setup history
 
   -- and this is the verdict
   pub record IsStepsReport (written : List ℕ) (answer : Confirmation) : Type 0 where
     pub trace : IsOfSteps written
     pub verdict :
-        IsConfirmation given.text trace.program trace.setup trace.history trace.choices form answer
+        IsConfirmation given.text trace.program trace.setup trace.history trace.choices x answer
 
   -- the program takes the setup, and no history is written that takes the steps
   pub record AreStepsRefused (f : Fault) : Type 0 where
     pub program : Program
-    pub lawful : IsLawfulText given.text program
-    pub fine : setup_fault program (setup_from start None program) ≡ None
+    pub start : SetupOf
+    pub opened : IsOpened x.start x.named given.text program start
     pub cause : ConfirmFault
-    pub why :
-        IsStepsRefusal program (setup_from start None program) given.input given.text bound cause
+    pub why : IsStepsRefusal program start given.input given.text x.bound cause
     pub is : f ≡ fault_of_steps cause
 
-  abbrev pub IsConfirmRefused : Fault → Type 0
-  IsConfirmRefused f =
-      HasNoCode given.text f
-      ⊎ (IsSetupRefused start given.text f ⊎ AreStepsRefused f)
-
 -- it writes the trace of the history that takes the steps
-abbrev pub confirms : StartOf → ContextBound → VerdictForm → Command Pair Confirmation
-confirms start bound form = record {
-  Writes = IsOfSteps start bound form;
-  Reports = IsStepsReport start bound form;
-  Refuses = IsConfirmRefused start bound form;
+abbrev pub confirms : ConfirmTask → Command Pair Confirmation
+confirms x = record {
+  Writes = IsOfSteps x;
+  Reports = IsStepsReport x;
+  Refuses = λ given f. IsNotOpened x.start x.named given.text f ⊎ AreStepsRefused x given f;
   Spoils = λ _ _ _. ⊥;
 }
-
--- the same from a start in which these globals have their bits by name
-abbrev pub confirms_by_names
-    : StartOf → List NamedBitOf → ContextBound → VerdictForm → Command Pair Confirmation
-confirms_by_names start named bound form =
-    by_names (λ given. given.text) start named (λ s. confirms s bound form)

@@ -1,16 +1,16 @@
 -- What is said of an exploration on standard error.
-use Rattle.std.specs.Prelude.{if◌then◌else◌, ◌==◌, ◌+◌, ◌-◌, ◌/◌, ◌%◌, ℕ, nat_le, nat_lt, Bool, true, false, List, [], ◌∷◌, ◌++◌, codes, decimal}
+use Rattle.std.specs.Prelude.{if◌then◌else◌, ◌==◌, ◌+◌, ◌-◌, ◌/◌, ◌%◌, ℕ, nat_le, nat_lt, Bool, true, false, List, [], ◌∷◌, ◌++◌, Option, None, Some, codes, decimal, option_map}
 use Rattle.std.specs.List.{concat}
-use Rattle.bp_text.specs.Pieces.{displayed, key_text, list_text}
-use Rattle.bp_explore.specs.declared.explorations.Ending.{Ending}
-use Rattle.bp_explore.specs.declared.explorations.Ending.TheVariants.{Nothing, NothingWithin, Found, Unplayed, Unfinished}
-use Rattle.bp_explore.specs.declared.explorations.Explored.{Explored}
-use Rattle.bp_explore.specs.declared.explorations.Finding.{Finding}
-use Rattle.bp_explore.specs.declared.explorations.Finding.TheVariants.{Failure, Deadlock}
+use Rattle.bp_text.specs.Pieces.{displayed, key_text, list_text, number_or_null, string_or_null, string_text, truth_text}
 use Rattle.bp_explore.specs.declared.explorations.Reason.{Reason}
 use Rattle.bp_explore.specs.declared.explorations.Reason.TheVariants.{States, Stopped, Memory}
-use Rattle.bp_commands.specs.declared.exploration_texts.ExplorationForm.{ExplorationForm}
-use Rattle.bp_commands.specs.EndFacts.{end_object, facts_of_ending}
+use Rattle.bp_commands.specs.declared.exploration_ends.EndFacts.{EndFacts}
+use Rattle.bp_commands.specs.declared.exploration_ends.Exploration.{Exploration}
+use Rattle.bp_commands.specs.declared.exploration_ends.FoundKind.{FoundKind}
+use Rattle.bp_commands.specs.declared.exploration_ends.FoundKind.TheVariants.{Nothing, Failure, Deadlock, Steps}
+use Rattle.bp_commands.specs.declared.exploration_ends.ListedSteps.{ListedSteps}
+
+-- For people: numbers, and the steps that are listed.
 
 abbrev pub digit : ℕ → ℕ
 digit n = 48 + n % 10
@@ -44,29 +44,159 @@ states_text n = count_of n (codes "state")
 abbrev pub contexts_text : ℕ → List ℕ
 contexts_text n = count_of n (codes "context")
 
--- what no run does where nothing is found
-abbrev pub sought_text : (with_deadlock : Bool) → List ℕ
-sought_text false = codes "fails"
-sought_text true = codes "fails or ends in a deadlock"
+-- the n steps that are listed
+abbrev pub steps_text : ℕ → List ℕ
+steps_text n =
+    concat (codes "makes the " ∷ count_of n (codes "listed step") ∷ codes " in this order" ∷ [])
 
--- what is known of runs within fewer contexts than k; nothing if k is 1 or 0
-abbrev pub below_text : (with_deadlock : Bool) → ℕ → List ℕ
-below_text with_deadlock k =
-    if nat_le k 1 then []
+-- the first steps that no run makes, where the first m are made
+abbrev pub first_text : (m : ℕ) → List ℕ
+first_text m =
+    if m == 0 then codes "makes the first listed step"
     else
     concat (
-    codes "no run within " ∷ contexts_text (k - 1)
-    ∷ codes " " ∷ sought_text with_deadlock ∷ codes "\n" ∷ [])
+    codes "makes the first " ∷ grouped (m + 1)
+    ∷ codes " listed steps in this order; a run makes " ∷ grouped m
+    ∷ codes " of them" ∷ [])
 
-abbrev pub finding_text : Finding → List ℕ
-finding_text Failure = codes "an assertion fails"
-finding_text Deadlock = codes "deadlock"
+-- What no run does that was looked through.
+
+-- it makes no more of n listed steps, where so many of them are made, if that is known
+abbrev pub unmade_text : (n : ℕ) → (made : Option ℕ) → List ℕ
+unmade_text n None = steps_text n
+unmade_text n (Some m) = first_text m
+
+abbrev pub end_text : (with_deadlock : Bool) → List ℕ
+end_text false = codes "fails"
+end_text true = codes "fails or ends in a deadlock"
+
+-- what is looked for: an end, or listed steps
+abbrev pub sought_by : Option ListedSteps → (with_deadlock : Bool) → List ℕ
+sought_by None with_deadlock = end_text with_deadlock
+sought_by (Some steps) with_deadlock = unmade_text steps.count steps.made
+
+abbrev pub sought_text : Exploration → List ℕ
+sought_text x = sought_by x.steps x.task.now.options.with_deadlock
 
 -- why not all was seen, and what helps
 abbrev pub reason_text : Reason → List ℕ
 reason_text States = codes "note: no more states are kept; raise --states\n"
 reason_text Stopped = codes "note: the time was over; raise --time\n"
 reason_text Memory = codes "note: memory was refused\n"
+
+abbrev pub were_text : ℕ → List ℕ
+were_text n = if n == 1 then codes " was" else codes " were"
+
+-- runs of k contexts were not looked through
+abbrev pub unfinished_text : Exploration → Reason → List ℕ
+unfinished_text x reason =
+    let k = x.facts.contexts in
+    concat (
+    codes " within " ∷ contexts_text (k - 1)
+    ∷ codes " " ∷ sought_text x
+    ∷ codes "; " ∷ contexts_text k
+    ∷ were_text k ∷ codes " not looked through: " ∷ states_text x.states
+    ∷ codes "\n" ∷ reason_text reason
+    ∷ [])
+
+-- no run does so, of any number of contexts
+abbrev pub anywhere_by : Option ListedSteps → Exploration → List ℕ
+anywhere_by None x =
+    concat (
+    codes " of " ∷ displayed x.task.now.program.now
+    ∷ codes " " ∷ sought_text x
+    ∷ codes ", within any number of contexts" ∷ [])
+anywhere_by (Some steps) x = codes ", within any number of contexts, " ++ sought_text x
+
+abbrev pub anywhere_text : Exploration → List ℕ
+anywhere_text x =
+    concat (
+    anywhere_by x.steps x
+    ∷ codes ": " ∷ states_text x.states
+    ∷ codes ", the last new one within " ∷ decimal x.facts.contexts
+    ∷ codes "\n" ∷ [])
+
+-- the program whose runs are meant, unless steps are listed
+abbrev pub of_program : Option ListedSteps → (file : List ℕ) → List ℕ
+of_program None file = concat (codes " of " ∷ displayed file ∷ [])
+of_program (Some steps) file = []
+
+-- no run does so within as many contexts
+abbrev pub within_text : Exploration → List ℕ
+within_text x =
+    concat (
+    of_program x.steps x.task.now.program.now
+    ∷ codes " within " ∷ contexts_text x.facts.contexts
+    ∷ codes " " ∷ sought_text x
+    ∷ codes ": " ∷ states_text x.states
+    ∷ codes "\n" ∷ [])
+
+abbrev pub missed_by : Option Reason → (complete : Bool) → Exploration → List ℕ
+missed_by (Some reason) complete x = unfinished_text x reason
+missed_by None true x = anywhere_text x
+missed_by None false x = within_text x
+
+-- nothing was found
+abbrev pub missed_text : Exploration → List ℕ
+missed_text x = codes "no run" ++ missed_by x.facts.reason x.facts.complete x
+
+-- What was found.
+
+abbrev pub finding_text : FoundKind → List ℕ
+finding_text Failure = codes "an assertion fails"
+finding_text other = codes "deadlock"
+
+-- what is said of the last step if an assertion fails in it
+abbrev pub made_end : (failed : Bool) → (outcome : List ℕ) → List ℕ
+made_end failed outcome = if failed then codes "\n" ++ outcome else []
+
+-- a run that ends in what was found, and a run that makes listed steps
+abbrev pub run_by : Option ListedSteps → (trace : Bool) → Exploration → List ℕ
+run_by None true x = x.outcome.items ++ x.waits.items
+run_by None false x = finding_text x.facts.found
+run_by (Some steps) trace x =
+    codes "a run " ++ (steps_text steps.count ++ made_end x.failed x.outcome.items)
+
+-- the run has no trace
+abbrev pub it_text : Option ListedSteps → List ℕ
+it_text None = codes "the run"
+it_text (Some steps) = codes "it"
+
+abbrev pub traceless_by : (trace : Bool) → (calls : Option ℕ) → Option ListedSteps → List ℕ
+traceless_by false (Some n) steps =
+    codes ", but no trace can hold "
+    ++ (it_text steps ++ (codes ": a thread makes " ++ count_of n (codes "call")))
+traceless_by trace calls steps = []
+
+-- what no run within fewer contexts does
+abbrev pub less_by : Option ListedSteps → (with_deadlock : Bool) → List ℕ
+less_by None with_deadlock = end_text with_deadlock
+less_by (Some steps) with_deadlock = codes "makes them"
+
+-- what is known of runs within fewer contexts than k; nothing if k is 1 or 0
+abbrev pub below_text : Exploration → (k : ℕ) → List ℕ
+below_text x k =
+    if nat_le k 1 then []
+    else
+    concat (
+    codes "no run within " ∷ contexts_text (k - 1)
+    ∷ codes " " ∷ less_by x.steps x.task.now.options.with_deadlock ∷ codes "\n" ∷ [])
+
+-- it was found within as many contexts, and no fewer
+abbrev pub found_text : Exploration → List ℕ
+found_text x =
+    codes "within "
+    ++ (contexts_text x.facts.contexts
+    ++ (codes ": "
+    ++ (run_by x.steps x.facts.trace x
+    ++ (traceless_by x.facts.trace x.facts.calls x.steps
+    ++ (codes "\n" ++ below_text x x.facts.contexts)))))
+
+-- What is said of an exploration.
+
+abbrev pub ending_by : FoundKind → Exploration → List ℕ
+ending_by Nothing x = missed_text x
+ending_by other x = found_text x
 
 -- how many states were cut off at a full stack
 abbrev pub cut_text : ℕ → List ℕ
@@ -79,78 +209,47 @@ cut_text n =
     ∷ codes "what follows it was not looked through\n"
     ∷ [])
 
-abbrev pub were_text : ℕ → List ℕ
-were_text n = if n == 1 then codes " was" else codes " were"
+-- for people: lines
+abbrev pub exploration_lines : Exploration → List ℕ
+exploration_lines x = ending_by x.facts.found x ++ cut_text x.full_stacks
 
--- for people: no run does so, of any number of contexts
-abbrev pub nothing_text : ExplorationForm → (states last : ℕ) → List ℕ
-nothing_text x states last =
-    concat (
-    codes "no run of " ∷ displayed x.file.now
-    ∷ codes " " ∷ sought_text x.with_deadlock
-    ∷ codes ", within any number of contexts: " ∷ states_text states
-    ∷ codes ", the last new one within " ∷ decimal last
-    ∷ codes "\n" ∷ [])
+abbrev pub found_word : FoundKind → List ℕ
+found_word Nothing = codes "nothing"
+found_word Failure = codes "failed"
+found_word Deadlock = codes "deadlock"
+found_word Steps = codes "steps"
 
--- no run within k contexts does so
-abbrev pub bound_text : ExplorationForm → (states k : ℕ) → List ℕ
-bound_text x states k =
-    concat (
-    codes "no run of " ∷ displayed x.file.now
-    ∷ codes " within " ∷ contexts_text k
-    ∷ codes " " ∷ sought_text x.with_deadlock
-    ∷ codes ": " ∷ states_text states
-    ∷ codes "\n" ∷ [])
+abbrev pub reason_word : Reason → List ℕ
+reason_word States = codes "states"
+reason_word Stopped = codes "time"
+reason_word Memory = codes "memory"
 
--- what was found within k contexts, and no fewer, has these texts
-abbrev pub found_text : ExplorationForm → (k : ℕ) → (outcome waits : List ℕ) → List ℕ
-found_text x k outcome waits =
+-- the last members of the object: the threads that wait in a deadlock, or the listed steps
+abbrev pub last_members : Option ListedSteps → (waits : List ℕ) → List ℕ
+last_members None waits = concat (key_text (codes "deadlock") ∷ list_text waits ∷ [])
+last_members (Some steps) waits =
     concat (
-    codes "within " ∷ contexts_text k
-    ∷ codes ": " ∷ outcome ∷ waits
-    ∷ codes "\n" ∷ below_text x.with_deadlock k
+    key_text (codes "steps") ∷ decimal steps.count
+    ∷ key_text (codes "made") ∷ number_or_null steps.made ∷ [])
+
+-- for programs: an object
+abbrev pub exploration_object : Exploration → List ℕ
+exploration_object x =
+    concat (
+    codes "{\"kind\":\"explore\",\"version\":1"
+    ∷ key_text (codes "found") ∷ string_text (found_word x.facts.found)
+    ∷ key_text (codes "contexts") ∷ decimal x.facts.contexts
+    ∷ key_text (codes "complete") ∷ truth_text x.facts.complete
+    ∷ key_text (codes "states") ∷ decimal x.states
+    ∷ key_text (codes "full_stacks") ∷ decimal x.full_stacks
+    ∷ key_text (codes "reason") ∷ string_or_null (option_map reason_word x.facts.reason)
+    ∷ key_text (codes "calls") ∷ number_or_null x.facts.calls
+    ∷ key_text (codes "trace") ∷ truth_text x.facts.trace
+    ∷ key_text (codes "failure") ∷ x.outcome.items
     ∷ [])
+    ++ (last_members x.steps x.waits.items ++ codes "}\n")
 
--- what was found within k contexts has no trace
-abbrev pub unplayed_text : ExplorationForm → (k : ℕ) → Finding → (calls : ℕ) → List ℕ
-unplayed_text x k f calls =
-    concat (
-    codes "within " ∷ contexts_text k
-    ∷ codes ": " ∷ finding_text f
-    ∷ codes ", but no trace can hold the run: a thread makes " ∷ count_of calls (codes "call")
-    ∷ codes "\n" ∷ below_text x.with_deadlock k
-    ∷ [])
-
--- runs of k contexts were not looked through
-abbrev pub unfinished_text : ExplorationForm → (states k : ℕ) → Reason → List ℕ
-unfinished_text x states k reason =
-    concat (
-    codes "no run within " ∷ contexts_text (k - 1)
-    ∷ codes " " ∷ sought_text x.with_deadlock
-    ∷ codes "; " ∷ contexts_text k
-    ∷ were_text k ∷ codes " not looked through: " ∷ states_text states
-    ∷ codes "\n" ∷ reason_text reason
-    ∷ [])
-
--- how an exploration with so many states ends; what was found has these texts
-abbrev pub ending_text
-    : ExplorationForm → (states : ℕ) → (outcome waits : List ℕ) → Ending → List ℕ
-ending_text x states outcome waits (Nothing last) = nothing_text x states last
-ending_text x states outcome waits (NothingWithin k) = bound_text x states k
-ending_text x states outcome waits (Found r) = found_text x r.contexts outcome waits
-ending_text x states outcome waits (Unplayed k f calls) = unplayed_text x k f calls
-ending_text x states outcome waits (Unfinished k reason) = unfinished_text x states k reason
-
--- for programs: the same as an object
-abbrev pub exploration_object : Explored → (outcome waits : List ℕ) → List ℕ
-exploration_object e outcome waits =
-    concat (
-    end_object (facts_of_ending e.ending) e.states e.full_stacks outcome
-    ∷ key_text (codes "deadlock") ∷ list_text waits
-    ∷ codes "}\n" ∷ [])
-
--- what is said of an exploration, as JSON or not; what was found has these texts
-abbrev pub exploration_text : ExplorationForm → Explored → (outcome waits : List ℕ) → List ℕ
-exploration_text x e outcome waits =
-    if x.json then exploration_object e outcome waits
-    else ending_text x e.states outcome waits e.ending ++ cut_text e.full_stacks
+-- as JSON or not
+abbrev pub exploration_text : Exploration → List ℕ
+exploration_text x =
+    if x.task.now.json then exploration_object x else exploration_lines x

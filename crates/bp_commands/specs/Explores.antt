@@ -1,48 +1,34 @@
 -- The command `explore`.
 use Rattle.std.specs.Prelude.{◌≡◌, ◌⊎◌, ℕ, Bool, true, false, List, [], Option, None, Some}
 use Rattle.bp_language.specs.Ast.{Program}
-use Rattle.bp_code.specs.LawfulTexts.{IsLawfulText}
 use Rattle.bp_explore.specs.declared.explorations.Ending.{Ending}
-use Rattle.bp_explore.specs.declared.explorations.Ending.TheVariants.{Nothing, NothingWithin, Found, Unplayed, Unfinished}
+use Rattle.bp_explore.specs.declared.explorations.Ending.TheVariants.{Found}
 use Rattle.bp_explore.specs.Explorations.{IsExploration}
 use Rattle.bp_view.specs.FootFacts.{AreFootFacts, ShownFoot}
 use Rattle.bp_flat.specs.Flat.{Flat}
 use Rattle.bp_flat.specs.StandsFor.{StandsFor}
-use Rattle.bp_tasks.specs.NamedBits.{NamedBitOf}
 use Rattle.bp_machine.specs.declared.calls.Call.{Call}
 use Rattle.bp_machine.specs.declared.calls.Report.{Report}
 use Rattle.bp_machine.specs.Histories.{IsReport}
-use Rattle.bp_machine.specs.Setups.{SetupOf, setup_fault, StartOf, setup_from}
+use Rattle.bp_machine.specs.Setups.{SetupOf}
 use Rattle.bp_tasks.specs.declared.tasks.ContextBound.{ContextBound}
 use Rattle.bp_tasks.specs.declared.tasks.ContextBound.TheVariants.{AsUsed, Kept}
-use Rattle.bp_tasks.specs.declared.options.ExploreOptions.{ExploreOptions}
+use Rattle.bp_tasks.specs.declared.tasks.ExploreTask.{ExploreTask}
 use Rattle.bp_tasks.specs.declared.options.ViewFormat.{ViewFormat}
 use Rattle.bp_tasks.specs.declared.options.ViewFormat.TheVariants.{Columns, Json}
 use Rattle.bp_trace.specs.TraceText.{trace_text}
 use Rattle.bp_view.specs.Views.{clean_text, outcome_text, waits_text}
 use Rattle.bp_messages.specs.declared.faults.Fault.{Fault}
 use Rattle.bp_messages.specs.declared.faults.Fault.TheVariants.{Memory}
-use Rattle.bp_messages.specs.FaultTable.{exit_status}
 use Rattle.bp_commands.specs.Commands.{Command}
-use Rattle.bp_commands.specs.Programs.{HasNoCode, by_names, IsSetupRefused}
+use Rattle.bp_commands.specs.Programs.{IsNotOpened, IsOpened}
 use Rattle.bp_commands.specs.FaultReports.{AnswerRule, report_failed}
-use Rattle.bp_commands.specs.declared.exploration_texts.ExplorationForm.{ExplorationForm}
-use Rattle.bp_commands.specs.declared.exploring.Exploration.{Exploration}
+use Rattle.bp_commands.specs.ExplorationEnds.{facts_of_ending, status_of}
 use Rattle.bp_commands.specs.ExplorationTexts.{exploration_text}
-
--- the exit status: 1 for what was found, and 5 if not all was seen
-abbrev pub status_of_ending : Ending → ℕ
-status_of_ending (Nothing last) = exit_status false None
-status_of_ending (NothingWithin k) = exit_status false None
-status_of_ending (Found r) = exit_status true None
-status_of_ending (Unplayed k f calls) = exit_status true None
-status_of_ending (Unfinished k reason) = 5
+use Rattle.bp_commands.specs.declared.exploration_ends.Exploration.{Exploration}
 
 abbrev pub of_exploration : AnswerRule Exploration
-of_exploration = record {
-  status = λ x. status_of_ending x.explored.ending;
-  summary = λ x. x.summary.items;
-}
+of_exploration = record { status = status_of; summary = exploration_text }
 
 -- the trace of the run that was found, if there is one
 abbrev pub trace_of : Ending → List ℕ
@@ -58,13 +44,13 @@ abbrev pub bound_of : ContextBound → (contexts : ℕ) → Option ℕ
 bound_of Kept k = Some k
 bound_of AsUsed k = None
 
--- what is said if there is no run
-abbrev pub IsNothingSaid : ExplorationForm → (outcome waits : List ℕ) → Type 0
-IsNothingSaid form outcome waits =
-    (outcome ≡ clean_text (format_of form.json) false) × (waits ≡ [])
+-- there is no run
+abbrev pub IsNothingSaid : ExploreTask → (outcome waits : List ℕ) → (failed : Bool) → Type 0
+IsNothingSaid x outcome waits failed =
+    (failed ≡ false) × (outcome ≡ clean_text (format_of x.json) false) × (waits ≡ [])
 
--- of the program of a text: what was found has these texts, in this form
-module _ (text : List ℕ) (t : Program) (form : ExplorationForm) (outcome waits : List ℕ) where
+-- Of the program of a text: what was found has this outcome and these waits, as is asked for.
+module _ (text : List ℕ) (t : Program) (x : ExploreTask) (outcome waits : List ℕ) where
   -- they say how a history ends: which assertion failed, if one did, or which threads wait in a
   -- deadlock
   pub record IsEndSaid (s : SetupOf) (h : List Call) (failed : Bool) : Type 0 where
@@ -74,59 +60,50 @@ module _ (text : List ℕ) (t : Program) (form : ExplorationForm) (outcome waits
     pub facts : ShownFoot
     pub facts_are : AreFootFacts t text s h report facts
     pub outcome_is :
-        let format = format_of form.json in
-        outcome ≡ outcome_text format form.file.now facts.deadlocked facts.failure
-    pub waits_are : waits ≡ waits_text (format_of form.json) form.file.now facts.waits
+        outcome ≡ outcome_text (format_of x.json) x.program.now facts.deadlocked facts.failure
+    pub waits_are : waits ≡ waits_text (format_of x.json) x.program.now facts.waits
 
   abbrev pub IsFindingSaid : (failed : Bool) → Ending → Type 0
   IsFindingSaid failed (Found r) = IsEndSaid r.session.setup r.history.items failed
-  IsFindingSaid failed other = (failed ≡ false) × IsNothingSaid form outcome waits
+  IsFindingSaid failed other = IsNothingSaid x outcome waits failed
 
--- The runs of the program of a text from this start are looked through, as these options ask.
-module _ (start : StartOf) (x : ExploreOptions) (form : ExplorationForm) (text : List ℕ) where
-  -- this is what they come to, and what is written and said of it
-  pub record IsOfExploration (written : List ℕ) (answer : Exploration) : Type 0 where
+-- The runs of the program of a text are looked through, as is asked for.
+module _ (x : ExploreTask) (text : List ℕ) where
+  -- this is what they come to, and what is written of it
+  pub record IsExplorationTrace (written : List ℕ) : Type 0 where
     pub program : Program
-    pub lawful : IsLawfulText text program
-    pub fine : setup_fault program (setup_from start None program) ≡ None
+    pub setup : SetupOf
+    pub opened : IsOpened x.start x.named text program setup
     pub code : Flat
     pub stands_for : StandsFor code program
+    pub ending : Ending
     pub explored :
-        let bound = bound_of x.bound start.contexts in
-        let setup = setup_from start None program in
-        IsExploration code program setup bound x.with_deadlock answer.explored.ending
-    pub written_is : written ≡ trace_of answer.explored.ending
-    pub outcome : List ℕ
-    pub waits : List ℕ
-    pub failed : Bool
-    pub said : IsFindingSaid text program form outcome waits failed answer.explored.ending
-    pub summary : answer.summary.items ≡ exploration_text form answer.explored outcome waits
+        let bound = bound_of x.options.bound setup.contexts in
+        IsExploration code program setup bound x.options.with_deadlock ending
+    pub is : written ≡ trace_of ending
 
-  abbrev pub IsExplorationTrace : (written : List ℕ) → Type 0
-  IsExplorationTrace written = (answer : Exploration) × IsOfExploration written answer
+  -- and what is said of it
+  pub record IsOfExploration (written : List ℕ) (answer : Exploration) : Type 0 where
+    pub trace : IsExplorationTrace written
+    pub task : answer.task.now ≡ x
+    pub facts : answer.facts ≡ facts_of_ending trace.ending
+    pub steps : answer.steps ≡ None
+    pub said :
+        let outcome = answer.outcome.items in
+        IsFindingSaid text trace.program x outcome answer.waits.items answer.failed trace.ending
 
   -- the program takes the setup, and memory was refused
   pub record LacksMemory (f : Fault) : Type 0 where
     pub program : Program
-    pub lawful : IsLawfulText text program
-    pub fine : setup_fault program (setup_from start None program) ≡ None
+    pub setup : SetupOf
+    pub opened : IsOpened x.start x.named text program setup
     pub is : f ≡ Memory
 
-  abbrev pub IsExploreRefused : Fault → Type 0
-  IsExploreRefused f = HasNoCode text f ⊎ (IsSetupRefused start text f ⊎ LacksMemory f)
-
 -- it writes the trace of the run that was found, or nothing
-abbrev pub explores
-    : StartOf → ExploreOptions → ExplorationForm → Command (List ℕ) Exploration
-explores start x form = record {
-  Writes = IsExplorationTrace start x form;
-  Reports = IsOfExploration start x form;
-  Refuses = IsExploreRefused start x form;
+abbrev pub explores : ExploreTask → Command (List ℕ) Exploration
+explores x = record {
+  Writes = IsExplorationTrace x;
+  Reports = IsOfExploration x;
+  Refuses = λ text f. IsNotOpened x.start x.named text f ⊎ LacksMemory x text f;
   Spoils = λ _ _ _. ⊥;
 }
-
--- the same from a start in which these globals have their bits by name
-abbrev pub explores_by_names
-    : StartOf → List NamedBitOf → ExploreOptions → ExplorationForm → Command (List ℕ) Exploration
-explores_by_names start named x form =
-    by_names (λ text. text) start named (λ s. explores s x form)

@@ -6,9 +6,8 @@ pub mod Jobs
 pub mod Runs
 pub mod Tests
 pub mod Confirms
-pub mod EndFacts
+pub mod ExplorationEnds
 pub mod ExplorationTexts
 pub mod Explores
 pub mod Shows
-pub mod ThroughTexts
 pub mod Throughs

@@ -3,7 +3,7 @@ use Rattle.std.specs.Prelude.{if◌then◌else◌, ◌≡◌, ℕ, Bool, List, [
 use Rattle.std.specs.List.{concat}
 use Rattle.bp_language.specs.Ast.{Program}
 use Rattle.bp_machine.specs.declared.setup_faults.SetupFault.{SetupFault}
-use Rattle.bp_machine.specs.Setups.{IsSetupRefusal, StartOf, setup_from}
+use Rattle.bp_machine.specs.Setups.{IsSetupRefusal, SetupOf, StartOf, setup_fault, setup_from}
 use Rattle.bp_code.specs.LawfulTexts.{IsLawfulText, IsProgramRefusal, IsCodeRefusal}
 use Rattle.bp_code.specs.declared.texts.ProgramFault.{ProgramFault}
 use Rattle.bp_code.specs.Compiled.{flat_of}
@@ -86,25 +86,33 @@ lists form = record {
   Spoils = λ _ _ _. ⊥;
 }
 
--- Commands from a start whose globals may have their initial bits by name.
+-- The start of a run, in which globals may have their initial bits by name.
 
--- the text is that of a lawful program, which does not take the setup of this start
-pub record IsSetupRefused (start : StartOf) (text : List ℕ) (f : Fault) : Type 0 where
-  pub program : Program
-  pub lawful : IsLawfulText text program
-  pub cause : SetupFault
-  pub why : IsSetupRefusal program (setup_from start None program) cause
-  pub is : f ≡ fault_of_setup cause
+-- the start in which these globals have their bits, where any are named
+abbrev pub start_asked : StartOf → List NamedBitOf → Program → StartOf
+start_asked start [] t = start
+start_asked start (n ∷ ns) t = start_by_names start (n ∷ ns) t
 
--- the program of a text is run from this start, in which these globals have their bits by name
+-- The program of a text is run from this start, in which these globals have their bits by name.
 module _ (start : StartOf) (named : List NamedBitOf) (text : List ℕ) where
-  -- the text is that of a lawful program that has these globals, and this holds of the start with
-  -- their bits
-  pub record OfNames (Holds : StartOf → Type 0) : Type 0 where
+  -- the text is that of this lawful program, which has these globals
+  pub record IsProgramWith (t : Program) : Type 0 where
+    pub lawful : IsLawfulText text t
+    pub known : AreGlobals t named
+
+  -- the program takes this setup
+  pub record IsOpened (t : Program) (s : SetupOf) : Type 0 where
+    pub of : IsProgramWith t
+    pub setup : s ≡ setup_from (start_asked start named t) None t
+    pub fine : setup_fault t s ≡ None
+
+  -- it does not take its setup
+  pub record IsSetupRefused (f : Fault) : Type 0 where
     pub program : Program
-    pub lawful : IsLawfulText text program
-    pub known : AreGlobals program named
-    pub holds : Holds (start_by_names start named program)
+    pub of : IsProgramWith program
+    pub cause : SetupFault
+    pub why : IsSetupRefusal program (setup_from (start_asked start named program) None program) cause
+    pub is : f ≡ fault_of_setup cause
 
   -- the text is that of a lawful program, and the name of this number is the first of no global
   pub record HasNoGlobal (f : Fault) : Type 0 where
@@ -120,6 +128,19 @@ module _ (start : StartOf) (named : List NamedBitOf) (text : List ℕ) where
     pub lawful : IsLawfulText text program
     pub is : f ≡ Memory
 
+  -- why there is no such setup
+  abbrev pub IsNotOpened : Fault → Type 0
+  IsNotOpened f = HasNoCode text f ⊎ (HasNoGlobal f ⊎ (IsSetupRefused f ⊎ LacksMemory f))
+
+  -- What the command `run` needs, which reads the program itself.
+
+  -- the text is that of a lawful program that has these globals, and this holds of the start with
+  -- their bits
+  pub record OfNames (Holds : StartOf → Type 0) : Type 0 where
+    pub program : Program
+    pub of : IsProgramWith program
+    pub holds : Holds (start_by_names start named program)
+
   -- why there is no start with these bits
   abbrev pub AreNamesRefused : Fault → Type 0
   AreNamesRefused f = IsUnlawful text f ⊎ (HasNoGlobal f ⊎ LacksMemory f)
@@ -131,19 +152,17 @@ module _ (start : StartOf) (named : List NamedBitOf) (text : List ℕ) where
 
 -- a command from the start, or else, where globals are named, from that with their bits
 abbrev pub by_names
-    : {X R : Type 0}
-    → (text_of : X → List ℕ) → StartOf → List NamedBitOf → (StartOf → Command X R) → Command X R
-by_names text_of start [] command = command start
-by_names text_of start (n ∷ ns) command =
+    : {R : Type 0} → StartOf → List NamedBitOf → (StartOf → Command (List ℕ) R) → Command (List ℕ) R
+by_names start [] command = command start
+by_names start (n ∷ ns) command =
     let named = n ∷ ns in
     record {
-      Writes = λ x written.
-          OfNames start named (text_of x) (λ s. (command s).Writes x written);
-      Reports = λ x written r.
-          OfNames start named (text_of x) (λ s. (command s).Reports x written r);
-      Refuses = λ x f.
-          AreNamesRefused start named (text_of x) f
-          ⊎ OfNames start named (text_of x) (λ s. (command s).Refuses x f);
-      Spoils = λ x written f.
-          OfNames start named (text_of x) (λ s. (command s).Spoils x written f);
+      Writes = λ text written. OfNames start named text (λ s. (command s).Writes text written);
+      Reports = λ text written r.
+          OfNames start named text (λ s. (command s).Reports text written r);
+      Refuses = λ text f.
+          AreNamesRefused start named text f
+          ⊎ OfNames start named text (λ s. (command s).Refuses text f);
+      Spoils = λ text written f.
+          OfNames start named text (λ s. (command s).Spoils text written f);
     }

@@ -74,4 +74,4 @@ runs o = record {
 -- the same under options in whose start these globals have their bits by name
 abbrev pub runs_by_names : OptionsOf → List NamedBitOf → Command (List ℕ) RunReport
 runs_by_names o named =
-    by_names (λ text. text) o.start named (λ s. runs (options_of s o.turn o.seed o.ring))
+    by_names o.start named (λ s. runs (options_of s o.turn o.seed o.ring))

@@ -10,6 +10,7 @@ use Rattle.bp_trace.specs.Replays.{HasNoCalls, IsAcceptedTrace, IsSomeTrace, IsR
 use Rattle.bp_trace.specs.declared.replaying.AcceptedTrace.{AcceptedTrace}
 use Rattle.bp_trace.specs.declared.faults.ReplayFault.{ReplayFault}
 use Rattle.bp_code.specs.LawfulTexts.{IsLawfulText}
+use Rattle.bp_tasks.specs.declared.tasks.ShowTask.{ShowTask}
 use Rattle.bp_tasks.specs.declared.options.ViewFormat.{ViewFormat}
 use Rattle.bp_tasks.specs.declared.options.ViewOptions.{ViewOptions}
 use Rattle.bp_tasks.specs.declared.options.ViewFormat.TheVariants.{Columns, Json}
@@ -23,7 +24,10 @@ use Rattle.bp_messages.specs.declared.faults.Fault.TheVariants.{NoThread, NoVari
 use Rattle.bp_messages.specs.FaultTable.{fault_of_trace}
 use Rattle.bp_commands.specs.Commands.{Command, Pair}
 use Rattle.bp_commands.specs.Programs.{HasNoCode}
-use Rattle.bp_commands.specs.Traces.{on_trace, IsBegun, IsNoTrace, IsOfTrace, IsTraceOf, IsTraceReport, TextRule}
+use Rattle.bp_commands.specs.Traces.{migrates, on_trace, replays, shrinks, IsBegun, IsNoTrace, IsOfTrace, IsTraceOf, IsTraceReport, TextRule}
+use Rattle.bp_commands.specs.declared.shows.Screen.{Screen}
+use Rattle.bp_commands.specs.declared.trace_commands.TraceCommand.{TraceCommand}
+use Rattle.bp_commands.specs.declared.trace_commands.TraceCommand.TheVariants.{Replay, Migrate, Shrink, Show}
 
 -- the view of a history with these options, whose foot says its report
 pub record IsViewText
@@ -102,6 +106,19 @@ shows_as o file contexts steps (Some n) = states o.format n
 shows_as o file true steps None = lists_contexts o.format
 shows_as o file false true None = lists_steps
 shows_as o file false false None = shows o file
+
+-- the options of a view on this screen
+abbrev pub on_screen : ViewOptions → Screen → ViewOptions
+on_screen options screen =
+    record options {
+      has_colour = screen.has_colour;
+      columns = screen.columns;
+    }
+
+-- what a task asks for, of a trace that is accepted
+abbrev pub shows_part : ShowTask → Screen → Command Pair Report
+shows_part x screen =
+    shows_as (on_screen x.options screen) x.program.now x.contexts x.steps x.at
 
 -- `show --valid`: what is shown of the accepted calls of a trace.
 
@@ -187,3 +204,19 @@ module _ (format : ViewFormat) (command : Command Pair Report) where
     Spoils = λ given text f. OfPart given (λ part refusal.
         command.Spoils part text f ⊎ IsRefusedAfter text f part refusal);
   }
+
+-- a command on a trace, or on its accepted calls
+abbrev pub valid_if : (valid : Bool) → ViewFormat → Command Pair Report → Command Pair Report
+valid_if true format command = on_valid_calls format command
+valid_if false format command = command
+
+-- the trace is shown as a task asks
+abbrev pub shows_task : ShowTask → Screen → Command Pair Report
+shows_task x screen = valid_if x.valid x.options.format (shows_part x screen)
+
+-- what is done with a trace
+abbrev pub trace_command : TraceCommand → Command Pair Report
+trace_command Replay = replays
+trace_command Migrate = migrates
+trace_command Shrink = shrinks
+trace_command (Show asked) = shows_task asked.task.now asked.screen

@@ -1,11 +1,11 @@
 -- The commands on a trace or a schedule of a program, and on a bundle.
-use Rattle.std.specs.Prelude.{◌≡◌, ◌⊎◌, ◌++◌, ℕ, List, ◌≤◌, ◌==◌, Bool, true, [], ◌∷◌, length, None}
+use Rattle.std.specs.Prelude.{◌≡◌, ◌⊎◌, ◌++◌, ℕ, List, ◌≤◌, ◌==◌, Bool, true, [], ◌∷◌, length, Option, Result}
 use Rattle.bp_language.specs.Ast.{Program}
 use Rattle.bp_machine.specs.declared.calls.Call.{Call}
 use Rattle.bp_machine.specs.declared.calls.Report.{Report}
 use Rattle.bp_machine.specs.Runs.{printed_rows}
 use Rattle.bp_machine.specs.Histories.{outcome_of, IsReport, IsLeastWithin, granted_calls, granted_threads, is_failure}
-use Rattle.bp_machine.specs.Setups.{SetupOf, setup_fault, StartOf, setup_from, default_start}
+use Rattle.bp_machine.specs.Setups.{SetupOf, StartOf, default_start}
 use Rattle.bp_trace.specs.declared.faults.ReplayFault.{ReplayFault}
 use Rattle.bp_trace.specs.declared.traces.Version.{Version}
 use Rattle.bp_trace.specs.Replays.{IsTrace, IsReplayRefusal}
@@ -22,8 +22,10 @@ use Rattle.bp_messages.specs.declared.faults.Fault.{Fault}
 use Rattle.bp_messages.specs.declared.faults.Fault.TheVariants.{Memory, NoFailure}
 use Rattle.bp_messages.specs.FaultTable.{fault_of_trace, fault_of_schedule}
 use Rattle.bp_messages.specs.ReplayLines.{shown_text}
-use Rattle.bp_commands.specs.Commands.{Command, Pair}
-use Rattle.bp_commands.specs.Programs.{HasNoCode, by_names, IsSetupRefused}
+use Rattle.bp_flat.specs.Flat.{Flat}
+use Rattle.bp_flat.specs.StandsFor.{StandsFor}
+use Rattle.bp_commands.specs.Commands.{AnswersOf, Command, Pair}
+use Rattle.bp_commands.specs.Programs.{HasNoCode, IsNotOpened, IsOpened}
 
 -- The commands on a trace of a program, `replay` and `migrate` among them.
 
@@ -92,6 +94,16 @@ replays = on_trace IsReplayText
 abbrev pub migrates : Command Pair Report
 migrates = on_trace IsMigrationText
 
+-- a command on a trace of each program of this code is answered so
+abbrev pub AnswersByCode
+    : Command Pair Report → Flat → (trace : List ℕ) → Option (List ℕ) → Option (List ℕ)
+    → Result Report Fault → Type 0
+AnswersByCode command code trace old new r =
+    (text : List ℕ) (t : Program)
+    → IsLawfulText text t
+    → StandsFor code t
+    → AnswersOf command (record { text = text; input = trace }) old new r
+
 -- The parts of a bundle: a program text, a line that is exactly `%`, and a schedule.
 
 -- a line `%` begins the bytes; it ends with its line feed or with the bytes
@@ -135,48 +147,41 @@ IsParted input text schedule = IsSplit input text schedule ⊎ IsAllText input t
 
 -- The command `drive`.
 
--- The program of a text is driven by a schedule from this start, with the schedule's choice bits.
-module _ (start : StartOf) (given : Pair) where
+-- The program of a text is driven by a schedule from this start, in which these globals have their
+-- bits by name, with the schedule's choice bits.
+module _ (start : StartOf) (named : List NamedBitOf) (given : Pair) where
   -- the schedule drives the program to a history, whose trace is written
   pub record IsOfSchedule (written : List ℕ) : Type 0 where
     pub program : Program
-    pub lawful : IsLawfulText given.text program
-    pub fine : setup_fault program (setup_from start None program) ≡ None
+    pub setup : SetupOf
+    pub opened : IsOpened start named given.text program setup
     pub history : List Call
-    pub driven : IsDriven program (setup_from start None program) given.input history
-    pub is : written ≡ trace_text (setup_from start None program) history
+    pub driven : IsDriven program setup given.input history
+    pub is : written ≡ trace_text setup history
 
   -- and this is its report
   pub record IsScheduleReport (written : List ℕ) (report : Report) : Type 0 where
     pub trace : IsOfSchedule written
-    pub reported : IsReport (setup_from start None trace.program) trace.history report
+    pub reported : IsReport trace.setup trace.history report
 
   -- the program takes the setup, and the schedule does not drive it
   pub record IsScheduleRefused (f : Fault) : Type 0 where
     pub program : Program
-    pub lawful : IsLawfulText given.text program
-    pub fine : setup_fault program (setup_from start None program) ≡ None
+    pub setup : SetupOf
+    pub opened : IsOpened start named given.text program setup
     pub cause : DriveFault
-    pub why : IsScheduleRefusal program (setup_from start None program) given.input cause
+    pub why : IsScheduleRefusal program setup given.input cause
     pub is : f ≡ fault_of_schedule cause
 
-  abbrev pub IsDriveRefused : Fault → Type 0
-  IsDriveRefused f =
-      HasNoCode given.text f
-      ⊎ (IsSetupRefused start given.text f ⊎ IsScheduleRefused f)
-
 -- it writes the trace of the history to which the schedule drives the program
-abbrev pub drives : StartOf → Command Pair Report
-drives start = record {
-  Writes = IsOfSchedule start;
-  Reports = IsScheduleReport start;
-  Refuses = IsDriveRefused start;
+abbrev pub drives : StartOf → List NamedBitOf → Command Pair Report
+drives start named = record {
+  Writes = IsOfSchedule start named;
+  Reports = IsScheduleReport start named;
+  Refuses = λ given f.
+      IsNotOpened start named given.text f ⊎ IsScheduleRefused start named given f;
   Spoils = λ _ _ _. ⊥;
 }
-
--- the same from a start in which these globals have their bits by name
-abbrev pub drives_by_names : StartOf → List NamedBitOf → Command Pair Report
-drives_by_names start named = by_names (λ given. given.text) start named drives
 
 -- The command without a name, which drives a bundle.
 
@@ -189,7 +194,7 @@ pub record OfBundle (Holds : Pair → Type 0) (bytes : List ℕ) : Type 0 where
 -- it drives the program of the bundle by its schedule, from the defaults
 abbrev pub bundles : Command (List ℕ) Report
 bundles =
-    let drives = drives default_start in
+    let drives = drives default_start [] in
     record {
       Writes = λ bytes written. OfBundle (λ parts. drives.Writes parts written) bytes;
       Reports = λ bytes written r. OfBundle (λ parts. drives.Reports parts written r) bytes;

@@ -13,7 +13,7 @@ use bp_code::{Checked, compile, lawful_program, list};
 use bp_flat::Code;
 use bp_messages::Fault;
 use bp_source::{code_objects, program_object, sourced_listing};
-use bp_tasks::ListingForm;
+use bp_tasks::{CheckTask, CodeTask, ListingForm};
 use bp_text::Piece::{Bytes, Number};
 use bp_text::{WriteFault, put, put_pieces};
 use std::alloc::{AllocError, Global};
@@ -39,13 +39,7 @@ pub fn show_check<W: Write>(checked: &Checked, out: &mut W) -> Result<(), WriteF
 
 /// `check`: writes `ok P G` with the numbers of a program's procedures and globals, or an object
 /// with their names.
-#[derive(Clone, Copy)]
-pub struct Check {
-    /// Whether the names are written, as a JSON object.
-    pub json: bool,
-}
-
-impl ProgramCommand for Check {
+impl ProgramCommand for CheckTask<'_> {
     ghost use Rattle.bp_commands.specs.Programs.{checks};
 
     type Answer = ();
@@ -111,12 +105,7 @@ fn listing_in(
 }
 
 /// `code`: writes the listing of a program's code, with the source of each instruction or without.
-#[derive(Clone, Copy)]
-pub struct ListCode {
-    pub form: ListingForm,
-}
-
-impl ProgramCommand for ListCode {
+impl ProgramCommand for CodeTask<'_> {
     ghost use Rattle.bp_commands.specs.Programs.{lists};
 
     type Answer = ();

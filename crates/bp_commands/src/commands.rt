@@ -3,16 +3,12 @@ ghost use Rattle.std.specs.Prelude.{◌≡◌, List, ℕ};
 ghost use Rattle.bp_commands.specs.Commands.{Answers, AnswersOf, Command, text_alone, text_and, Pair};
 ghost use Rattle.bp_commands.specs.declared.explanations.SecondInput.{SecondInput};
 ghost use Rattle.bp_commands.specs.FaultReports.{AreReadOr};
-ghost use Rattle.bp_machine.specs.declared.calls.Report.{Report};
-ghost use Rattle.bp_trace.specs.declared.limits.TheConstants.{MAX_TRACE};
 
 use crate::explanations::SecondInput;
 use crate::inputs::{Source, read_pair, read_text};
 use crate::run_ends::CommandAnswer;
-use bp_machine::Report;
 use bp_messages::Fault;
 use bp_tasks::NamedStart;
-use bp_trace::limits::MAX_TRACE;
 use std::alloc::Global;
 use std::io::{Read, Write};
 
@@ -85,60 +81,6 @@ pub trait PairCommand {
     /// The names of variables that are watched, with commas between them.
     fn watch(&self) -> Option<&str> {
         None
-    }
-}
-
-/// A command on a program and a trace of it.
-pub trait TraceCommand {
-    ghost command: { Self → Command Pair Report };
-
-    /// Does the command on the text of a program and a trace, and answers the trace's report.
-    fn apply_to_trace<W: Write>(
-        &self,
-        alloc: Global,
-        text: &[u8],
-        trace: &[u8],
-        out: &mut W,
-    ) -> Result<Report, Fault>
-        ensures { let given : Pair = record { text = text.now; input = trace.now } in
-            AnswersOf (command self.now) given (W.contents out.old) (W.contents out.new) result };
-
-    /// The names of variables that are watched, with commas between them.
-    fn watched(&self) -> Option<&str> {
-        None
-    }
-}
-
-/// The input beside the program is the trace.
-impl<C: TraceCommand> PairCommand for C {
-    type Answer = Report;
-
-    ghost command = { λ c. C.command c };
-
-    ghost limit = { λ _. MAX_TRACE };
-
-    ghost second_input = { λ _. SecondInput.Trace };
-
-    fn limit(&self) -> usize {
-        MAX_TRACE
-    }
-
-    fn apply<W: Write>(
-        &self,
-        alloc: Global,
-        text: &[u8],
-        trace: &[u8],
-        out: &mut W,
-    ) -> Result<Report, Fault> {
-        self.apply_to_trace(alloc, text, trace, out)
-    }
-
-    fn second_input(&self) -> SecondInput {
-        SecondInput::Trace
-    }
-
-    fn watch(&self) -> Option<&str> {
-        self.watched()
     }
 }
 

@@ -1,22 +1,21 @@
 //! The command `confirm`.
 ghost use Rattle.std.specs.Prelude.{◌≡◌, ◌++◌, IfOk, OnOk};
-ghost use Rattle.bp_commands.specs.Commands.{AnswersOf, Pair};
 ghost use Rattle.bp_view.specs.FootFacts.{foot_in};
 ghost use Rattle.bp_flat.specs.StandsFor.{StandsFor};
 ghost use Rattle.bp_machine.specs.Sessions.{Stands};
-ghost use Rattle.bp_commands.specs.Confirms.{choice_text, choices_text, confirms, deadlock_lead, deadlock_line, of_confirm, status_of_verdict, verdict_line, verdict_of, verdict_word, IsConfirmation};
+ghost use Rattle.bp_commands.specs.Confirms.{choice_text, choices_text, deadlock_lead, deadlock_line, of_confirm, status_of_verdict, verdict_line, verdict_of, verdict_word, IsConfirmation};
 ghost use Rattle.bp_text.specs.Writing.{Writes};
 
 use crate::commands::PairCommand;
 use crate::explanations::SecondInput;
-use crate::programs::{program_of, start_by_names};
+use crate::programs::open;
 use crate::run_ends::CommandAnswer;
 use bp_code::Checked;
 use bp_confirm::{Confirmed, LastChoice, confirm};
-use bp_machine::{Report, Start};
+use bp_machine::Report;
 use bp_messages::{Fault, VerdictFacts, exit_status, put_verdict};
 use bp_source::source_statements_of;
-use bp_tasks::{ContextBound, NamedStart, Verdict, ViewFormat};
+use bp_tasks::{ConfirmTask, NamedStart, Verdict, ViewFormat};
 use bp_text::Piece::{Bit, Bytes, Number};
 use bp_text::{WriteFault, part_from, push_pieces, put, put_pieces};
 use bp_trace::limits::MAX_SCHEDULE;
@@ -29,26 +28,6 @@ use std::io::Write;
 /// steps.
 const UNEXPECTED: u8 = 4;
 
-/// `confirm`: takes the steps that a model checker reports, and writes the trace.
-#[derive(Clone, Copy)]
-pub struct Confirm<'a> {
-    /// What the steps start from.
-    pub start: NamedStart<'a>,
-    /// How many contexts are allowed to them.
-    pub bound: ContextBound,
-    /// How the verdict is told.
-    pub form: VerdictForm,
-}
-
-/// How the verdict on reported steps is told.
-#[derive(Clone, Copy)]
-pub struct VerdictForm {
-    /// The verdict that is expected, if the exit status says whether it is this one.
-    pub expected: Option<Verdict>,
-    /// Whether it is a JSON object.
-    pub json: bool,
-}
-
 /// The verdict on steps that are a run, and how it is told.
 #[derive(Drop)]
 pub struct Confirmation {
@@ -60,7 +39,10 @@ pub struct Confirmation {
     pub waits: Vec<u8>,
     /// The last bits on which the deadlock depends, each as an object after a comma or in words.
     pub choices: Vec<u8>,
-    pub form: VerdictForm,
+    /// The verdict that is expected, if the exit status says whether it is this one.
+    pub expected: Option<Verdict>,
+    /// Whether it is told as a JSON object.
+    pub json: bool,
 }
 
 /// The verdict on steps whose run ends with these facts.
@@ -182,11 +164,11 @@ impl CommandAnswer for Confirmation {
     ghost rule = { of_confirm };
 
     fn status(&self) -> u8 {
-        status_of_verdict(self.form.expected, self.verdict)
+        status_of_verdict(self.expected, self.verdict)
     }
 
     fn summarize<E: Write>(&self, errors: &mut E) -> Result<(), WriteFault> {
-        if self.form.json {
+        if self.json {
             return put_verdict(
                 VerdictFacts {
                     verdict: verdict_word(self.verdict),
@@ -200,7 +182,7 @@ impl CommandAnswer for Confirmation {
             );
         }
         // A failure needs no line: its trace and the status say it.
-        if self.form.expected.is_none() && matches!(self.verdict, Verdict::Failure) {
+        if self.expected.is_none() && matches!(self.verdict, Verdict::Failure) {
             return Ok(());
         }
         put_line(&self.choices, self.verdict, errors)
@@ -213,14 +195,14 @@ fn confirmation_of(
     text: &[u8],
     checked: &Checked,
     confirmed: &Confirmed,
-    form: VerdictForm,
+    task: &ConfirmTask<'_>,
 ) -> Result<Confirmation, AllocError>
     requires { StandsFor confirmed.now.session.code checked.now }
     ensures { Stands checked.now confirmed.now.session confirmed.now.history.items
         → let setup = confirmed.now.session.setup in
         let history = confirmed.now.history.items in
         let choices = confirmed.now.choices.items in
-        IfOk result (IsConfirmation text.now checked.now setup history choices form) }
+        IfOk result (IsConfirmation text.now checked.now setup history choices task.now) }
 {
     let statements = source_statements_of(alloc, text, checked)?;
     let program = facts_of_program(statements.as_slice(), checked);
@@ -229,47 +211,27 @@ fn confirmation_of(
     let format = ViewFormat::Json;
     let failure = outcome_text(alloc, format, "", foot.deadlocked, foot.failure.as_ref())?;
     let waits = waits_text(alloc, format, "", foot.waits.as_slice())?;
-    let choices = choices_text(alloc, form.json, confirmed.choices.as_slice())?;
+    let choices = choices_text(alloc, task.json, confirmed.choices.as_slice())?;
     Ok(Confirmation {
         verdict: verdict_of(&foot),
         report,
         failure,
         waits,
         choices,
-        form,
+        expected: task.expected,
+        json: task.json,
     })
 }
 
-/// Takes the steps that a model checker reports from a start, and writes the trace.
-fn confirm_from<W: Write>(
-    alloc: Global,
-    start: &Start,
-    asked: Confirm<'_>,
-    text: &[u8],
-    steps: &[u8],
-    out: &mut W,
-) -> Result<Confirmation, Fault>
-    ensures { let given : Pair = record { text = text.now; input = steps.now } in
-        AnswersOf (confirms start.now asked.entry.bound asked.entry.form) given
-        (W.contents out.old) (W.contents out.new) result }
-{
-    let (checked, code) = program_of(alloc, text)?;
-    let setup = start.setup(alloc, &code, None)?;
-    let confirmed = confirm(alloc, text, &checked, &code, &setup, asked.bound, steps)?;
-    let answer = confirmation_of(alloc, text, &checked, &confirmed, asked.form)?;
-    let (setup, left_open) = (confirmed.session.setup(), answer.report.left_open);
-    write_with_open_lines(Version::One, setup, &confirmed.history, left_open, out)?;
-    Ok(answer)
-}
-
-impl PairCommand for Confirm<'_> {
+/// `confirm`: takes the steps that a model checker reports, and writes the trace.
+impl PairCommand for ConfirmTask<'_> {
     ghost use Rattle.bp_commands.specs.declared.explanations.SecondInput.{SecondInput};
     ghost use Rattle.bp_trace.specs.declared.limits.TheConstants.{MAX_SCHEDULE};
-    ghost use Rattle.bp_commands.specs.Confirms.{confirms_by_names};
+    ghost use Rattle.bp_commands.specs.Confirms.{confirms};
 
     type Answer = Confirmation;
 
-    ghost command = { λ c. confirms_by_names c.start.start.now c.start.named.now c.bound c.form };
+    ghost command = { λ x. confirms x };
 
     ghost limit = { λ _. MAX_SCHEDULE };
 
@@ -286,11 +248,13 @@ impl PairCommand for Confirm<'_> {
         steps: &[u8],
         out: &mut W,
     ) -> Result<Confirmation, Fault> {
-        let found = start_by_names(alloc, text, self.start)?;
-        match found {
-            Some(start) => confirm_from(alloc, &start, *self, text, steps, out),
-            None => confirm_from(alloc, self.start.start, *self, text, steps, out),
-        }
+        let opened = open(alloc, text, &self.start, &self.named)?;
+        let (checked, code, setup) = (&opened.checked, &opened.code, &opened.setup);
+        let confirmed = confirm(alloc, text, checked, code, setup, self.bound, steps)?;
+        let answer = confirmation_of(alloc, text, checked, &confirmed, self)?;
+        let (setup, left_open) = (confirmed.session.setup(), answer.report.left_open);
+        write_with_open_lines(Version::One, setup, &confirmed.history, left_open, out)?;
+        Ok(answer)
     }
 
     fn second_input(&self) -> SecondInput {
@@ -298,6 +262,9 @@ impl PairCommand for Confirm<'_> {
     }
 
     fn start(&self) -> Option<NamedStart<'_>> {
-        Some(self.start)
+        Some(NamedStart {
+            start: &self.start,
+            named: &self.named,
+        })
     }
 }

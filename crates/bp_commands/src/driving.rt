@@ -10,47 +10,42 @@ use crate::commands::PairCommand;
 use crate::explanations::SecondInput;
 use crate::inputs::{Source, read_input};
 use crate::limits::MAX_BUNDLE;
-use crate::programs::start_by_names;
-use bp_code::code_of;
+use crate::programs::open;
 use bp_machine::{Report, Start};
 use bp_messages::Fault;
-use bp_tasks::NamedStart;
+use bp_tasks::{DriveTask, NamedBits, NamedStart};
 use bp_trace::drive;
 use bp_trace::limits::MAX_SCHEDULE;
 use std::alloc::Global;
 use std::io::{Read, Write};
 
-/// `drive`: drives a program by a schedule, and writes the trace.
-#[derive(Clone, Copy)]
-pub struct Drive<'a> {
-    /// What the run starts from.
-    pub start: NamedStart<'a>,
-}
-
-/// Drives a program by a schedule from a start, and writes the trace.
-pub(crate) fn drive_from<W: Write>(
+/// Drives a program by a schedule from a start, in which the globals that are named have their
+/// bits, and writes the trace.
+fn drive_from<W: Write>(
     alloc: Global,
     start: &Start,
+    named: &NamedBits<'_>,
     text: &[u8],
     schedule: &[u8],
     out: &mut W,
 ) -> Result<Report, Fault>
     ensures { let given : Pair = record { text = text.now; input = schedule.now } in
-        AnswersOf (drives start.now) given (W.contents out.old) (W.contents out.new) result }
+        let command = drives start.now named.now in
+        AnswersOf command given (W.contents out.old) (W.contents out.new) result }
 {
-    let code = code_of(alloc, text)?;
-    let setup = start.setup(alloc, &code, None)?;
-    Ok(drive(alloc, &code, &setup, schedule, out)?)
+    let opened = open(alloc, text, start, named)?;
+    Ok(drive(alloc, &opened.code, &opened.setup, schedule, out)?)
 }
 
-impl PairCommand for Drive<'_> {
+/// `drive`: drives a program by a schedule, and writes the trace.
+impl PairCommand for DriveTask<'_> {
     ghost use Rattle.bp_commands.specs.declared.explanations.SecondInput.{SecondInput};
     ghost use Rattle.bp_trace.specs.declared.limits.TheConstants.{MAX_SCHEDULE};
-    ghost use Rattle.bp_commands.specs.Traces.{drives_by_names};
+    ghost use Rattle.bp_commands.specs.Traces.{drives};
 
     type Answer = Report;
 
-    ghost command = { λ d. drives_by_names d.start.start.now d.start.named.now };
+    ghost command = { λ d. drives d.start d.named };
 
     ghost limit = { λ _. MAX_SCHEDULE };
 
@@ -67,11 +62,7 @@ impl PairCommand for Drive<'_> {
         schedule: &[u8],
         out: &mut W,
     ) -> Result<Report, Fault> {
-        let found = start_by_names(alloc, text, self.start)?;
-        match found {
-            Some(start) => drive_from(alloc, &start, text, schedule, out),
-            None => drive_from(alloc, self.start.start, text, schedule, out),
-        }
+        drive_from(alloc, &self.start, &self.named, text, schedule, out)
     }
 
     fn second_input(&self) -> SecondInput {
@@ -79,7 +70,10 @@ impl PairCommand for Drive<'_> {
     }
 
     fn start(&self) -> Option<NamedStart<'_>> {
-        Some(self.start)
+        Some(NamedStart {
+            start: &self.start,
+            named: &self.named,
+        })
     }
 }
 
@@ -104,7 +98,7 @@ pub fn drive_bundle<R: Read, W: Write>(
     read_input(alloc, MAX_BUNDLE, bundle)?;
     let start = Start::defaults(alloc)?;
     let (text, schedule) = parts(&bundle.bytes);
-    drive_from(alloc, &start, text, schedule, out)
+    drive_from(alloc, &start, &NamedBits::none(alloc), text, schedule, out)
 }
 
 /// What follows a line that is exactly `%`, where the bytes begin with one.

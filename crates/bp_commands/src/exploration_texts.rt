@@ -1,23 +1,13 @@
 //! What is said of an exploration on standard error: lines for people, or one JSON object.
-ghost use Rattle.std.specs.Prelude.{◌≡◌, ◌++◌, IfOk, OnOk};
-ghost use Rattle.bp_commands.specs.ExplorationTexts.{below_text, bound_text, count_of, cut_text, digit, ending_text, exploration_object, exploration_text, finding_text, found_text, grouped, last_three, nothing_text, plural, reason_text, sought_text, unfinished_text, unplayed_text, were_text};
+ghost use Rattle.std.specs.Prelude.{◌≡◌, option_map};
+ghost use Rattle.bp_text.specs.Writing.{Given, Writes};
+ghost use Rattle.bp_commands.specs.ExplorationTexts.{anywhere_by, anywhere_text, below_text, count_of, cut_text, digit, end_text, ending_by, exploration_lines, exploration_object, exploration_text, finding_text, first_text, found_text, found_word, grouped, it_text, last_members, last_three, less_by, made_end, missed_text, of_program, plural, reason_text, reason_word, run_by, sought_text, steps_text, traceless_by, unfinished_text, unmade_text, were_text, within_text};
 
-use crate::end_facts::{facts_of_ending, push_end};
-use bp_explore::{Ending, Explored, Finding, Reason};
-use bp_text::Piece::{Bytes, Displayed, Key, List, Number};
-use bp_text::{push_piece, push_pieces};
-use std::alloc::{AllocError, Global};
-
-/// How an exploration is told.
-#[derive(Clone, Copy)]
-pub struct ExplorationForm<'a> {
-    /// The name of the program's text.
-    pub file: &'a str,
-    /// Whether deadlocks are looked for too.
-    pub with_deadlock: bool,
-    /// Whether it is a JSON object.
-    pub json: bool,
-}
+use crate::exploration_ends::{Exploration, FoundKind, ListedSteps};
+use bp_explore::Reason;
+use bp_text::Piece::{Bytes, Displayed, Key, List, Number, NumberOrNull, Text, TextOrNull, Truth};
+use bp_text::{Sink, WriteFault};
+use std::io::Write;
 
 /// The last digit of a number.
 fn digit(number: u64) -> u8
@@ -26,38 +16,33 @@ fn digit(number: u64) -> u8
     b'0' + (number % 10) as u8
 }
 
-/// Adds a comma and the last three digits of a number.
-fn push_last_three(line: &mut Vec<u8>, number: u64) -> Result<(), AllocError>
-    ensures { OnOk result (line.new.items ≡ line.old.items ++ last_three number) }
+/// Writes a comma and the last three digits of a number.
+fn put_last_three<W: Write>(number: u64, sink: &mut Sink<'_, W>)
+    ensures { Given W.contents sink.old sink.new (last_three number) }
 {
-    line.push(b',')?;
-    line.push(digit(number / 100))?;
-    line.push(digit(number / 10))?;
-    line.push(digit(number))?;
-    Ok(())
+    sink.put(&[b',', digit(number / 100), digit(number / 10), digit(number)])
 }
 
-/// Adds a number with a comma before each three of its last nine digits.
-pub(crate) fn push_grouped(line: &mut Vec<u8>, number: u64) -> Result<(), AllocError>
-    ensures { OnOk result (line.new.items ≡ line.old.items ++ grouped number) }
+/// Writes a number with a comma before each three of its last nine digits.
+fn put_grouped<W: Write>(number: u64, sink: &mut Sink<'_, W>)
+    ensures { Given W.contents sink.old sink.new (grouped number) }
 {
     if number < 1_000 {
-        return push_piece(line, Number(number));
+        return sink.put_pieces(&[Number(number)]);
     }
     if number < 1_000_000 {
-        push_piece(line, Number(number / 1_000))?;
-        return push_last_three(line, number);
+        sink.put_pieces(&[Number(number / 1_000)]);
+        return put_last_three(number, sink);
     }
     if number < 1_000_000_000 {
-        push_piece(line, Number(number / 1_000_000))?;
-        push_last_three(line, number / 1_000)?;
-        return push_last_three(line, number);
+        sink.put_pieces(&[Number(number / 1_000_000)]);
+        put_last_three(number / 1_000, sink);
+        return put_last_three(number, sink);
     }
-    push_piece(line, Number(number / 1_000_000_000))?;
-    push_last_three(line, number / 1_000_000)?;
-    push_last_three(line, number / 1_000)?;
-    push_last_three(line, number)?;
-    Ok(())
+    sink.put_pieces(&[Number(number / 1_000_000_000)]);
+    put_last_three(number / 1_000_000, sink);
+    put_last_three(number / 1_000, sink);
+    put_last_three(number, sink)
 }
 
 /// The ending of a noun after this number.
@@ -67,20 +52,40 @@ fn plural(number: u64) -> &'static [u8]
     if number == 1 { b"" } else { b"s" }
 }
 
-/// Adds a number of these, as `1 state` and `2 states`.
-pub(crate) fn push_count(text: &mut Vec<u8>, number: u64, noun: &[u8]) -> Result<(), AllocError>
-    ensures { OnOk result (text.new.items ≡ text.old.items ++ count_of number noun.now) }
+/// Writes a number of these, as `1 state` and `2 states`.
+fn put_count<W: Write>(number: u64, noun: &[u8], sink: &mut Sink<'_, W>)
+    ensures { Given W.contents sink.old sink.new (count_of number noun.now) }
 {
-    push_grouped(text, number)?;
-    push_piece(text, Bytes(b" "))?;
-    push_piece(text, Bytes(noun))?;
-    push_piece(text, Bytes(plural(number)))?;
-    Ok(())
+    put_grouped(number, sink);
+    sink.put_pieces(&[Bytes(b" "), Bytes(noun), Bytes(plural(number))])
+}
+
+/// Writes the steps that are listed.
+fn put_steps<W: Write>(count: u32, sink: &mut Sink<'_, W>)
+    ensures { Given W.contents sink.old sink.new (steps_text count) }
+{
+    sink.put(b"makes the ");
+    put_count(count as u64, b"listed step", sink);
+    sink.put(b" in this order")
+}
+
+/// Writes the first steps that no run makes, and how many of them a run makes.
+fn put_first<W: Write>(made: u32, sink: &mut Sink<'_, W>)
+    ensures { Given W.contents sink.old sink.new (first_text made) }
+{
+    if made == 0 {
+        return sink.put(b"makes the first listed step");
+    }
+    sink.put(b"makes the first ");
+    put_grouped(made as u64 + 1, sink);
+    sink.put(b" listed steps in this order; a run makes ");
+    put_grouped(made as u64, sink);
+    sink.put(b" of them")
 }
 
 /// What no run does if nothing is found.
-fn sought_text(with_deadlock: bool) -> &'static [u8]
-    ensures { result.now ≡ sought_text with_deadlock }
+fn end_text(with_deadlock: bool) -> &'static [u8]
+    ensures { result.now ≡ end_text with_deadlock }
 {
     if with_deadlock {
         b"fails or ends in a deadlock"
@@ -89,32 +94,24 @@ fn sought_text(with_deadlock: bool) -> &'static [u8]
     }
 }
 
-/// Adds what is known of runs within fewer contexts than these.
-fn push_below(text: &mut Vec<u8>, with_deadlock: bool, contexts: u64) -> Result<(), AllocError>
-    ensures { OnOk result (text.new.items ≡ text.old.items ++ below_text with_deadlock contexts) }
+/// Writes what an exploration looks for.
+fn put_sought<W: Write>(x: &Exploration<'_>, sink: &mut Sink<'_, W>)
+    ensures { Given W.contents sink.old sink.new (sought_text x.now) }
 {
-    if contexts <= 1 {
-        return Ok(());
-    }
-    push_piece(text, Bytes(b"no run within "))?;
-    push_count(text, contexts - 1, b"context")?;
-    push_piece(text, Bytes(b" "))?;
-    push_piece(text, Bytes(sought_text(with_deadlock)))?;
-    push_piece(text, Bytes(b"\n"))?;
-    Ok(())
-}
-
-fn finding_text(finding: Finding) -> &'static [u8]
-    ensures { result.now ≡ finding_text finding }
-{
-    match finding {
-        Finding::Failure => b"an assertion fails",
-        Finding::Deadlock => b"deadlock",
+    match x.steps {
+        None => sink.put(end_text(x.task.options.with_deadlock)),
+        Some(
+            ListedSteps {
+                made: Some(made),
+                ..
+            },
+        ) => put_first(made, sink),
+        Some(steps) => put_steps(steps.count, sink),
     }
 }
 
 /// Why not all was seen, and what helps.
-pub(crate) fn reason_text(reason: Reason) -> &'static [u8]
+fn reason_text(reason: Reason) -> &'static [u8]
     ensures { result.now ≡ reason_text reason }
 {
     match reason {
@@ -124,214 +121,312 @@ pub(crate) fn reason_text(reason: Reason) -> &'static [u8]
     }
 }
 
-/// Adds how many states were cut off at a full stack.
-pub(crate) fn push_cut(text: &mut Vec<u8>, states: u64) -> Result<(), AllocError>
-    ensures { OnOk result (text.new.items ≡ text.old.items ++ cut_text states) }
-{
-    if states == 0 {
-        return Ok(());
-    }
-    push_piece(text, Bytes(b"note: in "))?;
-    push_count(text, states, b"state")?;
-    push_piece(
-        text,
-        Bytes(b" a call had no room on a stack of 1,024 frames; "),
-    )?;
-    push_piece(text, Bytes(b"what follows it was not looked through\n"))?;
-    Ok(())
-}
-
-pub(crate) fn were_text(number: u64) -> &'static [u8]
+fn were_text(number: u64) -> &'static [u8]
     ensures { result.now ≡ were_text number }
 {
     if number == 1 { b" was" } else { b" were" }
 }
 
-/// Adds that no run does what is looked for, of any number of contexts.
-fn push_nothing(
-    text: &mut Vec<u8>,
-    form: ExplorationForm<'_>,
-    states: u64,
-    last: u64,
-) -> Result<(), AllocError>
-    ensures { OnOk result
-        (text.new.items ≡ text.old.items ++ nothing_text form.entry states last) }
+/// Writes that runs of so many contexts were not looked through, and why.
+fn put_unfinished<W: Write>(x: &Exploration<'_>, reason: Reason, sink: &mut Sink<'_, W>)
+    ensures { Given W.contents sink.old sink.new (unfinished_text x.now reason) }
 {
-    push_piece(text, Bytes(b"no run of "))?;
-    push_piece(text, Displayed(form.file.as_bytes()))?;
-    push_piece(text, Bytes(b" "))?;
-    push_piece(text, Bytes(sought_text(form.with_deadlock)))?;
-    push_piece(text, Bytes(b", within any number of contexts: "))?;
-    push_count(text, states, b"state")?;
-    push_piece(text, Bytes(b", the last new one within "))?;
-    push_piece(text, Number(last))?;
-    push_piece(text, Bytes(b"\n"))?;
-    Ok(())
+    let contexts = x.facts.contexts as u64;
+    sink.put(b" within ");
+    put_count(contexts.saturating_sub(1), b"context", sink);
+    sink.put(b" ");
+    put_sought(x, sink);
+    sink.put(b"; ");
+    put_count(contexts, b"context", sink);
+    sink.put(were_text(contexts));
+    sink.put(b" not looked through: ");
+    put_count(x.states as u64, b"state", sink);
+    sink.put_pieces(&[Bytes(b"\n"), Bytes(reason_text(reason))])
 }
 
-/// Adds that no run within this many contexts does what is looked for.
-fn push_bound(
-    text: &mut Vec<u8>,
-    form: ExplorationForm<'_>,
-    states: u64,
-    contexts: u64,
-) -> Result<(), AllocError>
-    ensures { OnOk result
-        (text.new.items ≡ text.old.items ++ bound_text form.entry states contexts) }
+/// Writes that no run does what is looked for, of any number of contexts.
+fn put_anywhere<W: Write>(x: &Exploration<'_>, sink: &mut Sink<'_, W>)
+    ensures { Given W.contents sink.old sink.new (anywhere_by x.now.steps x.now) }
 {
-    push_piece(text, Bytes(b"no run of "))?;
-    push_piece(text, Displayed(form.file.as_bytes()))?;
-    push_piece(text, Bytes(b" within "))?;
-    push_count(text, contexts, b"context")?;
-    push_piece(text, Bytes(b" "))?;
-    push_piece(text, Bytes(sought_text(form.with_deadlock)))?;
-    push_piece(text, Bytes(b": "))?;
-    push_count(text, states, b"state")?;
-    push_piece(text, Bytes(b"\n"))?;
-    Ok(())
-}
-
-/// Adds what was found within this many contexts, which these texts say.
-fn push_found(
-    text: &mut Vec<u8>,
-    form: ExplorationForm<'_>,
-    contexts: u64,
-    outcome: &[u8],
-    waits: &[u8],
-) -> Result<(), AllocError>
-    ensures { let found = found_text form.entry contexts outcome.now waits.now in
-        OnOk result (text.new.items ≡ text.old.items ++ found) }
-{
-    push_piece(text, Bytes(b"within "))?;
-    push_count(text, contexts, b"context")?;
-    push_piece(text, Bytes(b": "))?;
-    push_piece(text, Bytes(outcome))?;
-    push_piece(text, Bytes(waits))?;
-    push_piece(text, Bytes(b"\n"))?;
-    push_below(text, form.with_deadlock, contexts)?;
-    Ok(())
-}
-
-/// Adds what was found within this many contexts, if no trace can hold its run.
-fn push_unplayed(
-    text: &mut Vec<u8>,
-    form: ExplorationForm<'_>,
-    contexts: u64,
-    finding: Finding,
-    calls: u64,
-) -> Result<(), AllocError>
-    ensures { OnOk result
-        (text.new.items ≡ text.old.items ++ unplayed_text form.entry contexts finding calls) }
-{
-    push_piece(text, Bytes(b"within "))?;
-    push_count(text, contexts, b"context")?;
-    push_piece(text, Bytes(b": "))?;
-    push_piece(text, Bytes(finding_text(finding)))?;
-    push_piece(
-        text,
-        Bytes(b", but no trace can hold the run: a thread makes "),
-    )?;
-    push_count(text, calls, b"call")?;
-    push_piece(text, Bytes(b"\n"))?;
-    push_below(text, form.with_deadlock, contexts)?;
-    Ok(())
-}
-
-/// Adds that runs of this many contexts were not looked through, and why.
-fn push_unfinished(
-    text: &mut Vec<u8>,
-    form: ExplorationForm<'_>,
-    states: u64,
-    contexts: u64,
-    reason: Reason,
-) -> Result<(), AllocError>
-    ensures { OnOk result
-        (text.new.items ≡ text.old.items ++ unfinished_text form.entry states contexts reason) }
-{
-    push_piece(text, Bytes(b"no run within "))?;
-    push_count(text, contexts.saturating_sub(1), b"context")?;
-    push_piece(text, Bytes(b" "))?;
-    push_piece(text, Bytes(sought_text(form.with_deadlock)))?;
-    push_piece(text, Bytes(b"; "))?;
-    push_count(text, contexts, b"context")?;
-    push_piece(text, Bytes(were_text(contexts)))?;
-    push_piece(text, Bytes(b" not looked through: "))?;
-    push_count(text, states, b"state")?;
-    push_piece(text, Bytes(b"\n"))?;
-    push_piece(text, Bytes(reason_text(reason)))?;
-    Ok(())
-}
-
-/// Adds how an exploration ends. What was found has these texts.
-fn push_ending(
-    text: &mut Vec<u8>,
-    form: ExplorationForm<'_>,
-    explored: &Explored,
-    outcome: &[u8],
-    waits: &[u8],
-) -> Result<(), AllocError>
-    ensures { let x = explored.now in
-        let ending = ending_text form.entry x.states outcome.now waits.now x.ending in
-        OnOk result (text.new.items ≡ text.old.items ++ ending) }
-{
-    let states = explored.states as u64;
-    match &explored.ending {
-        Ending::Nothing { last } => push_nothing(text, form, states, u64::from(*last)),
-        Ending::NothingWithin { contexts } => {
-            push_bound(text, form, states, u64::from(*contexts))
+    match x.steps {
+        None => {
+            sink.put(b" of ");
+            sink.put_pieces(&[Displayed(x.task.program.as_bytes())]);
+            sink.put(b" ");
+            put_sought(x, sink);
+            sink.put(b", within any number of contexts")
         }
-        Ending::Found(run) => push_found(text, form, u64::from(run.contexts), outcome, waits),
-        Ending::Unplayed {
-            contexts,
-            finding,
-            calls,
-        } => push_unplayed(text, form, u64::from(*contexts), *finding, *calls as u64),
-        Ending::Unfinished { contexts, reason } => {
-            push_unfinished(text, form, states, u64::from(*contexts), *reason)
+        Some(_) => {
+            sink.put(b", within any number of contexts, ");
+            put_sought(x, sink)
         }
     }
 }
 
-/// Returns the object of an exploration. What was found has these texts.
-fn exploration_object<'a>(
-    alloc: Global,
-    explored: &'a Explored,
-    outcome: &'a [u8],
-    waits: &'a [u8],
-) -> Result<Vec<u8>, AllocError>
-    ensures { let text = exploration_object explored.entry.now outcome.entry.now waits.entry.now in
-        IfOk result (λ v. v.items ≡ text) }
+/// Writes the same with the states that there are.
+fn put_complete<W: Write>(x: &Exploration<'_>, sink: &mut Sink<'_, W>)
+    ensures { Given W.contents sink.old sink.new (anywhere_text x.now) }
 {
-    let facts = facts_of_ending(&explored.ending);
-    let mut object = Vec::new(alloc);
-    push_end(
-        &mut object,
-        facts,
-        explored.states,
-        explored.full_stacks,
-        outcome,
-    )?;
-    push_pieces(&mut object, &[Key(b"deadlock"), List(waits), Bytes(b"}\n")])?;
-    Ok(object)
+    put_anywhere(x, sink);
+    sink.put(b": ");
+    put_count(x.states as u64, b"state", sink);
+    sink.put_pieces(&[
+        Bytes(b", the last new one within "),
+        Number(x.facts.contexts as u64),
+        Bytes(b"\n"),
+    ])
 }
 
-/// Returns what is said of an exploration: lines for people, or an object. What was found has these
-/// texts.
-pub(crate) fn exploration_text(
-    alloc: Global,
-    form: ExplorationForm<'_>,
-    explored: &Explored,
-    outcome: &[u8],
-    waits: &[u8],
-) -> Result<Vec<u8>, AllocError>
-    ensures { let text = exploration_text form.entry explored.now outcome.now waits.now in
-        IfOk result (λ v. v.items ≡ text) }
+/// Writes the file of the program whose runs are meant, unless steps are listed.
+fn put_program<W: Write>(steps: Option<ListedSteps>, file: &str, sink: &mut Sink<'_, W>)
+    ensures { Given W.contents sink.old sink.new (of_program steps file.now) }
 {
-    if form.json {
-        return exploration_object(alloc, explored, outcome, waits);
+    match steps {
+        None => sink.put_pieces(&[Bytes(b" of "), Displayed(file.as_bytes())]),
+        Some(_) => sink.put(b""),
     }
-    let mut text = Vec::new(alloc);
-    push_ending(&mut text, form, explored, outcome, waits)?;
-    push_cut(&mut text, explored.full_stacks as u64)?;
-    Ok(text)
+}
+
+/// Writes that no run within the bound does what is looked for.
+fn put_within<W: Write>(x: &Exploration<'_>, sink: &mut Sink<'_, W>)
+    ensures { Given W.contents sink.old sink.new (within_text x.now) }
+{
+    put_program(x.steps, x.task.program, sink);
+    sink.put(b" within ");
+    put_count(x.facts.contexts as u64, b"context", sink);
+    sink.put(b" ");
+    put_sought(x, sink);
+    sink.put(b": ");
+    put_count(x.states as u64, b"state", sink);
+    sink.put(b"\n")
+}
+
+/// Writes that nothing was found.
+fn put_missed<W: Write>(x: &Exploration<'_>, sink: &mut Sink<'_, W>)
+    ensures { Given W.contents sink.old sink.new (missed_text x.now) }
+{
+    sink.put(b"no run");
+    match (x.facts.reason, x.facts.complete) {
+        (Some(reason), _) => put_unfinished(x, reason, sink),
+        (None, true) => put_complete(x, sink),
+        (None, false) => put_within(x, sink),
+    }
+}
+
+fn finding_text(found: FoundKind) -> &'static [u8]
+    ensures { result.now ≡ finding_text found }
+{
+    match found {
+        FoundKind::Failure => b"an assertion fails",
+        _ => b"deadlock",
+    }
+}
+
+/// Writes what is said of the last step if an assertion fails in it.
+fn put_made_end<W: Write>(failed: bool, outcome: &[u8], sink: &mut Sink<'_, W>)
+    ensures { Given W.contents sink.old sink.new (made_end failed outcome.now) }
+{
+    if failed {
+        sink.put(b"\n");
+        return sink.put(outcome);
+    }
+    sink.put(b"")
+}
+
+/// Writes the run that was found: its end, or the steps that it makes.
+fn put_run<W: Write>(x: &Exploration<'_>, sink: &mut Sink<'_, W>)
+    ensures { Given W.contents sink.old sink.new (run_by x.now.steps x.now.facts.trace x.now) }
+{
+    match (x.steps, x.facts.trace) {
+        (None, true) => {
+            sink.put(x.outcome.as_slice());
+            sink.put(x.waits.as_slice())
+        }
+        (None, false) => sink.put(finding_text(x.facts.found)),
+        (Some(steps), _) => {
+            sink.put(b"a run ");
+            put_steps(steps.count, sink);
+            put_made_end(x.failed, x.outcome.as_slice(), sink)
+        }
+    }
+}
+
+fn it_text(steps: Option<ListedSteps>) -> &'static [u8]
+    ensures { result.now ≡ it_text steps }
+{
+    match steps {
+        None => b"the run",
+        Some(_) => b"it",
+    }
+}
+
+/// Writes why there is no trace of the run, if there is none.
+fn put_traceless<W: Write>(
+    trace: bool,
+    calls: Option<u64>,
+    steps: Option<ListedSteps>,
+    sink: &mut Sink<'_, W>,
+)
+    ensures { Given W.contents sink.old sink.new (traceless_by trace calls steps) }
+{
+    match (trace, calls) {
+        (false, Some(calls)) => {
+            sink.put(b", but no trace can hold ");
+            sink.put(it_text(steps));
+            sink.put(b": a thread makes ");
+            put_count(calls, b"call", sink)
+        }
+        _ => sink.put(b""),
+    }
+}
+
+/// What no run within fewer contexts does.
+fn less_text(steps: Option<ListedSteps>, with_deadlock: bool) -> &'static [u8]
+    ensures { result.now ≡ less_by steps with_deadlock }
+{
+    match steps {
+        None => end_text(with_deadlock),
+        Some(_) => b"makes them",
+    }
+}
+
+/// Writes what is known of runs within fewer contexts than these.
+fn put_below<W: Write>(x: &Exploration<'_>, contexts: u64, sink: &mut Sink<'_, W>)
+    ensures { Given W.contents sink.old sink.new (below_text x.now contexts) }
+{
+    if contexts <= 1 {
+        return sink.put(b"");
+    }
+    sink.put(b"no run within ");
+    put_count(contexts - 1, b"context", sink);
+    sink.put(b" ");
+    sink.put(less_text(x.steps, x.task.options.with_deadlock));
+    sink.put(b"\n")
+}
+
+/// Writes what was found.
+fn put_found<W: Write>(x: &Exploration<'_>, sink: &mut Sink<'_, W>)
+    ensures { Given W.contents sink.old sink.new (found_text x.now) }
+{
+    let contexts = x.facts.contexts as u64;
+    sink.put(b"within ");
+    put_count(contexts, b"context", sink);
+    sink.put(b": ");
+    put_run(x, sink);
+    put_traceless(x.facts.trace, x.facts.calls, x.steps, sink);
+    sink.put(b"\n");
+    put_below(x, contexts, sink)
+}
+
+/// Writes how an exploration ended.
+fn put_ending<W: Write>(x: &Exploration<'_>, sink: &mut Sink<'_, W>)
+    ensures { Given W.contents sink.old sink.new (ending_by x.now.facts.found x.now) }
+{
+    match x.facts.found {
+        FoundKind::Nothing => put_missed(x, sink),
+        FoundKind::Failure | FoundKind::Deadlock | FoundKind::Steps => put_found(x, sink),
+    }
+}
+
+/// Writes how many states were cut off at a full stack.
+fn put_cut<W: Write>(states: u64, sink: &mut Sink<'_, W>)
+    ensures { Given W.contents sink.old sink.new (cut_text states) }
+{
+    if states == 0 {
+        return sink.put(b"");
+    }
+    sink.put(b"note: in ");
+    put_count(states, b"state", sink);
+    sink.put(b" a call had no room on a stack of 1,024 frames; ");
+    sink.put(b"what follows it was not looked through\n")
+}
+
+/// Writes lines for people.
+fn put_lines<W: Write>(x: &Exploration<'_>, sink: &mut Sink<'_, W>)
+    ensures { Given W.contents sink.old sink.new (exploration_lines x.now) }
+{
+    put_ending(x, sink);
+    put_cut(x.full_stacks as u64, sink)
+}
+
+fn found_word(found: FoundKind) -> &'static [u8]
+    ensures { result.now ≡ found_word found }
+{
+    match found {
+        FoundKind::Nothing => b"nothing",
+        FoundKind::Failure => b"failed",
+        FoundKind::Deadlock => b"deadlock",
+        FoundKind::Steps => b"steps",
+    }
+}
+
+fn reason_word(reason: Option<Reason>) -> Option<&'static [u8]>
+    ensures { option_map (λ s. s.now) result ≡ option_map reason_word reason }
+{
+    match reason? {
+        Reason::States => Some(b"states"),
+        Reason::Stopped => Some(b"time"),
+        Reason::Memory => Some(b"memory"),
+    }
+}
+
+/// Writes the last members of the object: the threads that wait, or the listed steps.
+fn put_last_members<W: Write>(steps: Option<ListedSteps>, waits: &[u8], sink: &mut Sink<'_, W>)
+    ensures { Given W.contents sink.old sink.new (last_members steps waits.now) }
+{
+    match steps {
+        None => sink.put_pieces(&[Key(b"deadlock"), List(waits)]),
+        Some(ListedSteps { count, made }) => sink.put_pieces(&[
+            Key(b"steps"),
+            Number(count as u64),
+            Key(b"made"),
+            NumberOrNull(match made {
+                Some(made) => Some(made as u64),
+                None => None,
+            }),
+        ]),
+    }
+}
+
+/// Writes the object.
+fn put_object<W: Write>(x: &Exploration<'_>, sink: &mut Sink<'_, W>)
+    ensures { Given W.contents sink.old sink.new (exploration_object x.now) }
+{
+    let facts = x.facts;
+    sink.put_pieces(&[
+        Bytes(b"{\"kind\":\"explore\",\"version\":1"),
+        Key(b"found"),
+        Text(found_word(facts.found)),
+        Key(b"contexts"),
+        Number(facts.contexts as u64),
+        Key(b"complete"),
+        Truth(facts.complete),
+        Key(b"states"),
+        Number(x.states as u64),
+        Key(b"full_stacks"),
+        Number(x.full_stacks as u64),
+        Key(b"reason"),
+        TextOrNull(reason_word(facts.reason)),
+        Key(b"calls"),
+        NumberOrNull(facts.calls),
+        Key(b"trace"),
+        Truth(facts.trace),
+        Key(b"failure"),
+        Bytes(x.outcome.as_slice()),
+    ]);
+    put_last_members(x.steps, x.waits.as_slice(), sink);
+    sink.put(b"}\n")
+}
+
+/// Writes what is said of an exploration: lines for people, or an object.
+pub(crate) fn put_exploration<W: Write>(x: &Exploration<'_>, out: &mut W) -> Result<(), WriteFault>
+    ensures { Writes (W.contents out.old) (W.contents out.new) (exploration_text x.now) result }
+{
+    let mut sink = Sink::new(out);
+    if x.task.json {
+        put_object(x, &mut sink);
+        return sink.finish();
+    }
+    put_lines(x, &mut sink);
+    sink.finish()
 }

@@ -1,79 +1,49 @@
 //! The command `explore`.
-ghost use Rattle.std.specs.Prelude.{◌≡◌, false, List, IfOk, MatchResult};
+ghost use Rattle.std.specs.Prelude.{◌≡◌, List, IfOk};
 ghost use Rattle.bp_text.specs.Writing.{Writes};
-ghost use Rattle.bp_commands.specs.Commands.{AnswersOf};
 ghost use Rattle.bp_flat.specs.StandsFor.{StandsFor};
 ghost use Rattle.bp_machine.specs.declared.calls.Call.{Call};
 ghost use Rattle.bp_machine.specs.Sessions.{Stands};
 ghost use Rattle.bp_commands.specs.FaultReports.{report_failed};
 ghost use Rattle.bp_explore.specs.declared.explorations.FoundRun.{FoundRun};
 ghost use Rattle.bp_explore.specs.declared.explorations.Ending.TheVariants as endings;
-ghost use Rattle.bp_commands.specs.ExplorationTexts.{exploration_text};
-ghost use Rattle.bp_commands.specs.Explores.{bound_of, explores, format_of, of_exploration, status_of_ending, trace_of, IsEndSaid, IsExploreRefused, IsFindingSaid, IsNothingSaid, IsOfExploration};
+ghost use Rattle.bp_commands.specs.Explores.{bound_of, format_of, of_exploration, trace_of, IsEndSaid, IsFindingSaid, IsNothingSaid};
 
 use crate::commands::ProgramCommand;
-use crate::exploration_texts::{ExplorationForm, exploration_text};
-use crate::programs::{program_of, start_by_names};
+use crate::exploration_ends::{Exploration, facts_of_ending, status_found};
+use crate::exploration_texts::put_exploration;
+use crate::programs::open;
 use crate::run_ends::CommandAnswer;
 use bp_code::Checked;
-use bp_explore::{Ending, Explored, Watcher, explore};
-use bp_machine::{Outcome, Report, Session, Start};
-use bp_messages::{Fault, exit_status};
+use bp_explore::{Ending, Watcher, explore};
+use bp_machine::{Outcome, Report, Session};
+use bp_messages::Fault;
 use bp_source::source_statements_of;
-use bp_tasks::{ContextBound, ExploreOptions, NamedStart, ViewFormat};
-use bp_text::{WriteFault, put};
+use bp_tasks::{ContextBound, ExploreTask, NamedStart, ViewFormat};
+use bp_text::WriteFault;
 use bp_trace::write_trace;
 use bp_view::{facts_of_foot, facts_of_program, outcome_text, waits_text};
 use std::alloc::{AllocError, Global};
 use std::io::Write;
 
-/// The exit status if not all runs were looked through, and nothing was found.
-pub(crate) const UNFINISHED: u8 = 5;
-
 /// `explore`: looks through all runs of a program, and writes the trace of one that fails, or ends
 /// in a deadlock, within the fewest contexts.
 #[derive(Drop)]
 pub struct Explore<'a, P> {
-    /// What each run starts from.
-    pub start: NamedStart<'a>,
-    /// What is looked for, and how far.
-    pub options: ExploreOptions,
-    /// How the exploration is told.
-    pub form: ExplorationForm<'a>,
+    pub task: &'a ExploreTask<'a>,
     /// Who is told how far it is, and says whether it continues.
     pub watcher: &'a P,
 }
 
-/// What an exploration saw, and what is said of it on standard error.
-#[derive(Drop)]
-pub struct Exploration {
-    pub explored: Explored,
-    pub summary: Vec<u8>,
-}
-
-/// The exit status of an exploration that ends so.
-fn status_of_ending(ending: &Ending) -> u8
-    ensures { result ≡ status_of_ending ending.now }
-{
-    match ending {
-        Ending::Nothing { .. } | Ending::NothingWithin { .. } => exit_status(false, None),
-        Ending::Found(_) | Ending::Unplayed { .. } => exit_status(true, None),
-        Ending::Unfinished { .. } => UNFINISHED,
-    }
-}
-
-impl CommandAnswer for Exploration {
+impl CommandAnswer for Exploration<'_> {
     ghost rule = { of_exploration };
 
     fn status(&self) -> u8 {
-        status_of_ending(&self.explored.ending)
+        status_found(self.facts.found, self.facts.reason, self.steps, self.failed)
     }
 
     fn summarize<E: Write>(&self, errors: &mut E) -> Result<(), WriteFault> {
-        if self.summary.is_empty() {
-            return Ok(());
-        }
-        put(errors, &self.summary)
+        put_exploration(self, errors)
     }
 }
 
@@ -99,7 +69,7 @@ fn format_of(json: bool) -> ViewFormat
 
 /// What is said of the end of a run: its outcome, and the threads that wait.
 #[derive(Drop)]
-pub(crate) struct FindingTexts {
+pub(crate) struct EndTexts {
     pub(crate) outcome: Vec<u8>,
     pub(crate) waits: Vec<u8>,
     /// Whether an assertion failed.
@@ -117,24 +87,24 @@ pub(crate) fn texts_of_run(
     alloc: Global,
     text: &[u8],
     checked: &Checked,
-    form: ExplorationForm<'_>,
+    task: &ExploreTask<'_>,
     session: &Session,
-) -> Result<FindingTexts, AllocError>
+) -> Result<EndTexts, AllocError>
     requires { StandsFor session.now.code checked.now }
     ensures { (h : List Call)
         → Stands checked.now session.now h
         → IfOk result (λ x.
-        IsEndSaid text.now checked.now form.entry x.outcome.items x.waits.items
+        IsEndSaid text.now checked.now task.now x.outcome.items x.waits.items
         session.now.setup h x.failed) }
 {
     let statements = source_statements_of(alloc, text, checked)?;
     let program = facts_of_program(statements.as_slice(), checked);
     let report = session.report();
     let foot = facts_of_foot(alloc, &program, session, report)?;
-    let (format, file) = (format_of(form.json), form.file);
+    let (format, file) = (format_of(task.json), task.program);
     let outcome = outcome_text(alloc, format, file, foot.deadlocked, foot.failure.as_ref())?;
     let waits = waits_text(alloc, format, file, foot.waits.as_slice())?;
-    Ok(FindingTexts {
+    Ok(EndTexts {
         outcome,
         waits,
         failed: has_failed(report),
@@ -142,13 +112,12 @@ pub(crate) fn texts_of_run(
 }
 
 /// What is said if there is no run.
-pub(crate) fn no_texts(alloc: Global, form: ExplorationForm<'_>) -> Result<FindingTexts, AllocError>
-    ensures { IfOk result (λ x.
-        (x.failed ≡ false) × IsNothingSaid form.entry x.outcome.items x.waits.items) }
+pub(crate) fn no_texts(alloc: Global, task: &ExploreTask<'_>) -> Result<EndTexts, AllocError>
+    ensures { IfOk result (λ x. IsNothingSaid task.now x.outcome.items x.waits.items x.failed) }
 {
-    let outcome = outcome_text(alloc, format_of(form.json), form.file, false, None)?;
+    let outcome = outcome_text(alloc, format_of(task.json), task.program, false, None)?;
     let waits = Vec::new(alloc);
-    Ok(FindingTexts {
+    Ok(EndTexts {
         outcome,
         waits,
         failed: false,
@@ -160,20 +129,20 @@ fn finding_texts(
     alloc: Global,
     text: &[u8],
     checked: &Checked,
-    form: ExplorationForm<'_>,
+    task: &ExploreTask<'_>,
     ending: &Ending,
-) -> Result<FindingTexts, AllocError>
+) -> Result<EndTexts, AllocError>
     requires { (r : FoundRun)
         → ending.now ≡ endings.Found r
         → StandsFor r.session.code checked.now × Stands checked.now r.session r.history.items }
     ensures { IfOk result (λ x.
-        IsFindingSaid text.now checked.now form.entry x.outcome.items x.waits.items x.failed
+        IsFindingSaid text.now checked.now task.now x.outcome.items x.waits.items x.failed
         ending.now) }
 {
     if let Ending::Found(run) = ending {
-        return texts_of_run(alloc, text, checked, form, &run.session);
+        return texts_of_run(alloc, text, checked, task, &run.session);
     }
-    no_texts(alloc, form)
+    no_texts(alloc, task)
 }
 
 /// Writes the trace of the run that an exploration found, if it found one.
@@ -186,54 +155,12 @@ fn write_found<W: Write>(ending: &Ending, out: &mut W) -> Result<(), WriteFault>
     }
 }
 
-/// Explores a program as it is asked, from a start.
-fn explored_from<P: Watcher>(
-    alloc: Global,
-    asked: &Explore<'_, P>,
-    start: &Start,
-    text: &[u8],
-) -> Result<Exploration, Fault>
-    ensures { let options = asked.now.options in
-        let form = asked.now.form in
-        MatchResult result
-        (λ x. IsOfExploration start.now options form text.now (trace_of x.explored.ending) x)
-        (IsExploreRefused start.now options form text.now) }
-{
-    let (checked, code) = program_of(alloc, text)?;
-    let setup = start.setup(alloc, &code, None)?;
-    let (options, form) = (asked.options, asked.form);
-    let bound = bound_of(options.bound, setup.contexts());
-    let states = usize::try_from(options.states).unwrap_or(usize::MAX);
-    let with_deadlock = options.with_deadlock;
-    let watcher = asked.watcher;
-    let explored = explore(alloc, &code, &setup, bound, states, with_deadlock, watcher)?;
-    let said = finding_texts(alloc, text, &checked, form, &explored.ending)?;
-    let summary = exploration_text(alloc, form, &explored, &said.outcome, &said.waits)?;
-    Ok(Exploration { explored, summary })
-}
+impl<'a, P: Watcher> ProgramCommand for Explore<'a, P> {
+    ghost use Rattle.bp_commands.specs.Explores.{explores};
 
-/// Explores a program as it is asked, and writes the trace of the run that was found.
-fn explore_from<P: Watcher, W: Write>(
-    alloc: Global,
-    asked: &Explore<'_, P>,
-    start: &Start,
-    text: &[u8],
-    out: &mut W,
-) -> Result<Exploration, Fault>
-    ensures { let command = explores start.now asked.now.options asked.now.form in
-        AnswersOf command text.now (W.contents out.old) (W.contents out.new) result }
-{
-    let exploration = explored_from(alloc, asked, start, text)?;
-    write_found(&exploration.explored.ending, out)?;
-    Ok(exploration)
-}
+    type Answer = Exploration<'a>;
 
-impl<P: Watcher> ProgramCommand for Explore<'_, P> {
-    ghost use Rattle.bp_commands.specs.Explores.{explores_by_names};
-
-    type Answer = Exploration;
-
-    ghost command = { λ x. explores_by_names x.start.start.now x.start.named.now x.options x.form };
+    ghost command = { λ x. explores x.task.now };
 
     ghost allowed = { λ _. Unit {0} };
 
@@ -242,15 +169,39 @@ impl<P: Watcher> ProgramCommand for Explore<'_, P> {
         alloc: Global,
         text: &[u8],
         out: &mut W,
-    ) -> Result<Exploration, Fault> {
-        let found = start_by_names(alloc, text, self.start)?;
-        match found {
-            Some(start) => explore_from(alloc, self, &start, text, out),
-            None => explore_from(alloc, self, self.start.start, text, out),
-        }
+    ) -> Result<Exploration<'a>, Fault> {
+        let task = self.task;
+        let opened = open(alloc, text, &task.start, &task.named)?;
+        let options = task.options;
+        let bound = bound_of(options.bound, opened.setup.contexts());
+        let states = usize::try_from(options.states).unwrap_or(usize::MAX);
+        let explored = explore(
+            alloc,
+            &opened.code,
+            &opened.setup,
+            bound,
+            states,
+            options.with_deadlock,
+            self.watcher,
+        )?;
+        let said = finding_texts(alloc, text, &opened.checked, task, &explored.ending)?;
+        write_found(&explored.ending, out)?;
+        Ok(Exploration {
+            task,
+            facts: facts_of_ending(&explored.ending),
+            steps: None,
+            states: explored.states,
+            full_stacks: explored.full_stacks,
+            outcome: said.outcome,
+            waits: said.waits,
+            failed: said.failed,
+        })
     }
 
     fn start(&self) -> Option<NamedStart<'_>> {
-        Some(self.start)
+        Some(NamedStart {
+            start: &self.task.start,
+            named: &self.task.named,
+        })
     }
 }

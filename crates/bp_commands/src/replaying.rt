@@ -1,16 +1,13 @@
-//! The command `replay`.
-//! The command `migrate`.
-//! The command `shrink`.
+//! The commands `replay`, `migrate` and `shrink`.
 ghost use Rattle.std.specs.Prelude.{◌≡◌, List, MatchResult};
 ghost use Rattle.bp_language.specs.Ast.{Program};
 ghost use Rattle.bp_flat.specs.StandsFor.{StandsFor};
 ghost use Rattle.bp_machine.specs.declared.calls.Call.{Call as Answered};
 ghost use Rattle.bp_machine.specs.Sessions.{Stands};
 ghost use Rattle.bp_test.specs.Shrinks.{EndsIn};
-ghost use Rattle.bp_commands.specs.Traces.{IsEndRefusal};
+ghost use Rattle.bp_commands.specs.Traces.{migrates, replays, shrinks, AnswersByCode, IsEndRefusal};
 
-use crate::commands::TraceCommand;
-use bp_code::code_of;
+use bp_flat::Code;
 use bp_machine::{Report, Session};
 use bp_messages::{Fault, show_replay};
 use bp_test::{HistoryEnd, history_end, shrink};
@@ -19,47 +16,31 @@ use std::alloc::Global;
 use std::io::Write;
 
 /// `replay`: replays a trace of a program, and writes what its steps printed, and the outcome.
-#[derive(Clone, Copy)]
-pub struct Replay;
-
-impl TraceCommand for Replay {
-    ghost use Rattle.bp_commands.specs.Traces.{replays};
-
-    ghost command = { λ _. replays };
-
-    fn apply_to_trace<W: Write>(
-        &self,
-        alloc: Global,
-        text: &[u8],
-        trace: &[u8],
-        out: &mut W,
-    ) -> Result<Report, Fault> {
-        let code = code_of(alloc, text)?;
-        let replayed = replay(alloc, &code, trace)?;
-        show_replay(&replayed, out)?;
-        Ok(replayed.report)
-    }
+pub(crate) fn replay_trace<W: Write>(
+    alloc: Global,
+    code: &Code,
+    trace: &[u8],
+    out: &mut W,
+) -> Result<Report, Fault>
+    ensures { AnswersByCode replays code.now trace.now
+        (W.contents out.old) (W.contents out.new) result }
+{
+    let replayed = replay(alloc, code, trace)?;
+    show_replay(&replayed, out)?;
+    Ok(replayed.report)
 }
 
 /// `migrate`: writes the trace of version 2 of the history of a trace, which is in either version.
-#[derive(Clone, Copy)]
-pub struct Migrate;
-
-impl TraceCommand for Migrate {
-    ghost use Rattle.bp_commands.specs.Traces.{migrates};
-
-    ghost command = { λ _. migrates };
-
-    fn apply_to_trace<W: Write>(
-        &self,
-        alloc: Global,
-        text: &[u8],
-        trace: &[u8],
-        out: &mut W,
-    ) -> Result<Report, Fault> {
-        let code = code_of(alloc, text)?;
-        Ok(migrate(alloc, &code, trace, out)?)
-    }
+pub(crate) fn migrate_trace<W: Write>(
+    alloc: Global,
+    code: &Code,
+    trace: &[u8],
+    out: &mut W,
+) -> Result<Report, Fault>
+    ensures { AnswersByCode migrates code.now trace.now
+        (W.contents out.old) (W.contents out.new) result }
+{
+    Ok(migrate(alloc, code, trace, out)?)
 }
 
 /// The end that a history of a session is to keep: a failure or a deadlock.
@@ -81,28 +62,20 @@ fn kept_end(alloc: Global, session: &Session) -> Result<HistoryEnd, Fault>
 
 /// `shrink`: writes the trace of a history that fails where that of a trace does, or ends in the
 /// same deadlock, by no more calls and no more contexts.
-#[derive(Clone, Copy)]
-pub struct Shrink;
-
-impl TraceCommand for Shrink {
-    ghost use Rattle.bp_commands.specs.Traces.{shrinks};
-
-    ghost command = { λ _. shrinks };
-
-    fn apply_to_trace<W: Write>(
-        &self,
-        alloc: Global,
-        text: &[u8],
-        trace: &[u8],
-        out: &mut W,
-    ) -> Result<Report, Fault> {
-        let code = code_of(alloc, text)?;
-        let watched = replay_watched(alloc, &code, trace, Unwatched)?;
-        let replayed = &watched.replayed;
-        let end = kept_end(alloc, &watched.session)?;
-        let (history, report) = (replayed.history.as_slice(), replayed.report);
-        let shrunk = shrink(alloc, &code, &replayed.setup, history, &report, end)?;
-        write_trace(&shrunk.setup, shrunk.history.as_slice(), out)?;
-        Ok(report)
-    }
+pub(crate) fn shrink_trace<W: Write>(
+    alloc: Global,
+    code: &Code,
+    trace: &[u8],
+    out: &mut W,
+) -> Result<Report, Fault>
+    ensures { AnswersByCode shrinks code.now trace.now
+        (W.contents out.old) (W.contents out.new) result }
+{
+    let watched = replay_watched(alloc, code, trace, Unwatched)?;
+    let replayed = &watched.replayed;
+    let end = kept_end(alloc, &watched.session)?;
+    let (history, report) = (replayed.history.as_slice(), replayed.report);
+    let shrunk = shrink(alloc, code, &replayed.setup, history, &report, end)?;
+    write_trace(&shrunk.setup, shrunk.history.as_slice(), out)?;
+    Ok(report)
 }

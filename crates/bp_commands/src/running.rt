@@ -8,7 +8,7 @@ use crate::inputs::{Source, read_text};
 use crate::programs::start_by_names;
 use bp_messages::Fault;
 use bp_run::{Gate, RunReport, run};
-use bp_tasks::{NamedBits, NamedStart, RunOptions};
+use bp_tasks::{NamedStart, RunOptions, RunTask};
 use std::alloc::Global;
 use std::io::{Read, Write};
 use std::sync::Wait;
@@ -22,9 +22,7 @@ pub struct Run<'a, T, G> {
     pub threads: &'a T,
     /// The gate at which they wait.
     pub gate: &'a G,
-    pub options: &'a RunOptions,
-    /// The globals in the start of the options that have their bits by name.
-    pub named: &'a NamedBits<'a>,
+    pub task: &'a RunTask<'a>,
 }
 
 /// Runs the program of a text under these options, and writes the trace of the history that the
@@ -50,10 +48,10 @@ fn run_text<T: Threads + Wait + Clock + Sync, G: Gate, W: Write>(
     text: &[u8],
     out: &mut W,
 ) -> Result<RunReport, Fault>
-    ensures { AnswersOf (runs_by_names asked.now.options.now asked.now.named.now) text.now
+    ensures { AnswersOf (runs_by_names asked.now.task.now.options asked.now.task.now.named) text.now
         (W.contents out.old) (W.contents out.new) result }
 {
-    let (options, named) = (asked.options, asked.named);
+    let (options, named) = (&asked.task.options, &asked.task.named);
     let start = &options.start;
     let found = start_by_names(alloc, text, NamedStart { start, named })?;
     match found {
@@ -80,7 +78,7 @@ pub fn run_program<T: Threads + Wait + Clock + Sync, G: Gate, R: Read, W: Write>
 ) -> Result<RunReport, Fault>
     ensures answers { let inputs = text_alone
         (R.remaining program.old.reader) (R.remaining program.new.reader) in
-        Answers (runs_by_names asked.now.options.now asked.now.named.now) inputs
+        Answers (runs_by_names asked.now.task.now.options asked.now.task.now.named) inputs
         (W.contents out.old) (W.contents out.new) result }
     ensures holds { let inputs = text_alone
         (R.remaining program.old.reader) (R.remaining program.new.reader) in

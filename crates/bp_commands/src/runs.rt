@@ -113,7 +113,8 @@ pub fn run_by_workers<
     ensures { let before =
         held (writer_contents W.contents streams.output) (E.contents streams.errors) in
         let after = held (W.contents result.1.output) (E.contents result.1.errors) in
-        let command = runs_by_names asked.now.options.now asked.now.named.now in
+        let task = asked.now.task.now in
+        let command = runs_by_names task.options task.named in
         let job = on_file (F.bytes io.entry.files.now) io.entry.format command of_run path.now in
         IsRun job before after result.0 }
 {
@@ -129,7 +130,7 @@ pub fn run_by_workers<
         name: path,
         text: &program.bytes,
     };
-    let (options, named) = (asked.options, asked.named);
+    let (options, named) = (&asked.task.options, &asked.task.named);
     let start = &options.start;
     let start = Some(NamedStart { start, named });
     let context = hints_on(given, unread, Some(OptionNumbers::of_run(options)), start);

@@ -1,17 +1,18 @@
-//! The command `show`.
-//! The command `show --at`.
-//! The command `show --contexts`.
-//! The command `show --steps`.
-//! `show --valid`: what is shown of the accepted calls of a trace.
+//! The command `show`: the calls of a trace, a state, its contexts or its steps, also of the
+//! accepted calls of a trace that is refused.
+ghost use Rattle.std.specs.Prelude.{◌≡◌};
 ghost use Rattle.bp_text.specs.Writing.{Writes};
-ghost use Rattle.bp_commands.specs.Shows.{refusal_text};
+ghost use Rattle.bp_flat.specs.StandsFor.{StandsFor};
+ghost use Rattle.bp_code.specs.LawfulTexts.{IsLawfulText};
+ghost use Rattle.bp_commands.specs.Commands.{AnswersOf, Pair};
+ghost use Rattle.bp_commands.specs.Shows.{lists_contexts, lists_steps, on_screen, refusal_text, shows_part, shows_task, states};
 
-use crate::commands::TraceCommand;
-use crate::programs::program_of;
+use bp_code::Checked;
 use bp_confirm::{own_steps, put_steps};
+use bp_flat::Code;
 use bp_machine::Report;
 use bp_messages::Fault;
-use bp_tasks::{ViewFormat, ViewOptions};
+use bp_tasks::{ShowTask, ViewFormat, ViewOptions};
 use bp_text::Piece::{Bytes, Number};
 use bp_text::{WriteFault, put, put_pieces};
 use bp_trace::accepted_trace;
@@ -19,129 +20,136 @@ use bp_view::{contexts_of, state_at, view};
 use std::alloc::Global;
 use std::io::Write;
 
-/// `show`: replays a trace of a program, and writes a view of its history, for people: the setup, a
-/// line for each call that is shown, and the outcome.
+/// How lines are shown on standard output.
+#[derive(Clone, Copy)]
+pub struct Screen {
+    /// Whether colours are wanted.
+    pub has_colour: bool,
+    /// The most columns of a line; none where it has as many as it needs.
+    pub columns: Option<usize>,
+}
+
+/// What `show` is asked for, on a screen.
 #[derive(Clone, Copy)]
 pub struct Show<'a> {
-    /// Which calls are shown, and how.
-    pub options: ViewOptions<'a>,
-    /// The name of the program's text.
-    pub file: &'a str,
+    pub task: &'a ShowTask<'a>,
+    pub screen: Screen,
 }
 
-impl TraceCommand for Show<'_> {
-    ghost use Rattle.bp_commands.specs.Shows.{shows};
-
-    ghost command = { λ s. shows s.options s.file.now };
-
-    fn apply_to_trace<W: Write>(
-        &self,
-        alloc: Global,
-        text: &[u8],
-        trace: &[u8],
-        out: &mut W,
-    ) -> Result<Report, Fault> {
-        let (checked, code) = program_of(alloc, text)?;
-        let (options, file) = (self.options, self.file);
-        let report = view(alloc, text, &checked, &code, trace, options, file, out)?;
-        Ok(report)
-    }
-
-    fn watched(&self) -> Option<&str> {
-        self.options.watch
+/// The options of a view on this screen.
+fn on_screen<'a>(options: ViewOptions<'a>, screen: Screen) -> ViewOptions<'a>
+    ensures { result ≡ on_screen options.entry screen }
+{
+    ViewOptions {
+        has_colour: screen.has_colour,
+        columns: screen.columns,
+        ..options
     }
 }
 
-/// `show --at`: replays a trace of a program, and writes the state after one of its calls: the
-/// values of the globals, and for each thread how it stands and the frames of its stack.
-#[derive(Clone, Copy)]
-pub struct ShowState {
-    /// The number of the call after which the state is shown; 0 is the start.
-    pub number: u64,
-    /// How the state is written.
-    pub format: ViewFormat,
+/// `show --at`: writes the state after one of the calls of a trace: the values of the globals, and
+/// for each thread how it stands and the frames of its stack.
+fn show_state<W: Write>(
+    alloc: Global,
+    text: &[u8],
+    checked: &Checked,
+    code: &Code,
+    trace: &[u8],
+    format: ViewFormat,
+    number: u64,
+    out: &mut W,
+) -> Result<Report, Fault>
+    requires lawful { IsLawfulText text.now checked.now }
+    requires stands { StandsFor code.now checked.now }
+    ensures { let given : Pair = record { text = text.now; input = trace.now } in
+        AnswersOf (states format number) given (W.contents out.old) (W.contents out.new) result }
+{
+    let (state, report) = state_at(alloc, text, checked, code, trace, format, number)?;
+    put(out, &state)?;
+    Ok(report)
 }
 
-impl TraceCommand for ShowState {
-    ghost use Rattle.bp_commands.specs.Shows.{states};
+/// `show --contexts`: writes a line for each context of a trace: its thread, its first and its last
+/// call, where they begin and end, and the globals that it changed.
+fn show_contexts<W: Write>(
+    alloc: Global,
+    text: &[u8],
+    checked: &Checked,
+    code: &Code,
+    trace: &[u8],
+    format: ViewFormat,
+    out: &mut W,
+) -> Result<Report, Fault>
+    requires lawful { IsLawfulText text.now checked.now }
+    requires stands { StandsFor code.now checked.now }
+    ensures { let given : Pair = record { text = text.now; input = trace.now } in
+        AnswersOf (lists_contexts format) given (W.contents out.old) (W.contents out.new) result }
+{
+    let (lines, report) = contexts_of(alloc, text, checked, code, trace, format)?;
+    put(out, &lines)?;
+    Ok(report)
+}
 
-    ghost command = { λ s. states s.format s.number };
+/// `show --steps`: writes a line for each step of a trace, as `confirm` takes them: the thread, and
+/// the line and column at which it stands.
+fn show_steps<W: Write>(
+    alloc: Global,
+    text: &[u8],
+    checked: &Checked,
+    code: &Code,
+    trace: &[u8],
+    out: &mut W,
+) -> Result<Report, Fault>
+    requires lawful { IsLawfulText text.now checked.now }
+    requires stands { StandsFor code.now checked.now }
+    ensures { let given : Pair = record { text = text.now; input = trace.now } in
+        AnswersOf lists_steps given (W.contents out.old) (W.contents out.new) result }
+{
+    let found = own_steps(alloc, text, checked, code, trace)?;
+    put_steps(found.steps.as_slice(), out)?;
+    Ok(found.report)
+}
 
-    fn apply_to_trace<W: Write>(
-        &self,
-        alloc: Global,
-        text: &[u8],
-        trace: &[u8],
-        out: &mut W,
-    ) -> Result<Report, Fault> {
-        let (checked, code) = program_of(alloc, text)?;
-        let (format, number) = (self.format, self.number);
-        let (state, report) = state_at(alloc, text, &checked, &code, trace, format, number)?;
-        put(out, &state)?;
-        Ok(report)
+/// Shows a trace: the state after a number of calls, its contexts, its steps, or its calls, by the
+/// first of these that is asked for.
+fn show_part<W: Write>(
+    alloc: Global,
+    text: &[u8],
+    checked: &Checked,
+    code: &Code,
+    trace: &[u8],
+    asked: Show<'_>,
+    out: &mut W,
+) -> Result<Report, Fault>
+    requires lawful { IsLawfulText text.now checked.now }
+    requires stands { StandsFor code.now checked.now }
+    ensures { let given : Pair = record { text = text.now; input = trace.now } in
+        let command = shows_part asked.entry.task.now asked.entry.screen in
+        AnswersOf command given (W.contents out.old) (W.contents out.new) result }
+{
+    let task = asked.task;
+    let format = task.options.format;
+    if let Some(number) = task.at {
+        return show_state(alloc, text, checked, code, trace, format, number, out);
     }
-}
-
-/// `show --contexts`: replays a trace of a program, and writes a line for each of its contexts: its
-/// thread, its first and its last call, where they begin and end, and the globals that it changed.
-#[derive(Clone, Copy)]
-pub struct ShowContexts {
-    /// How the contexts are written.
-    pub format: ViewFormat,
-}
-
-impl TraceCommand for ShowContexts {
-    ghost use Rattle.bp_commands.specs.Shows.{lists_contexts};
-
-    ghost command = { λ s. lists_contexts s.format };
-
-    fn apply_to_trace<W: Write>(
-        &self,
-        alloc: Global,
-        text: &[u8],
-        trace: &[u8],
-        out: &mut W,
-    ) -> Result<Report, Fault> {
-        let (checked, code) = program_of(alloc, text)?;
-        let (lines, report) = contexts_of(alloc, text, &checked, &code, trace, self.format)?;
-        put(out, &lines)?;
-        Ok(report)
+    if task.contexts {
+        return show_contexts(alloc, text, checked, code, trace, format, out);
     }
-}
-
-/// `show --steps`: replays a trace of a program, and writes a line for each step of its history, as
-/// `confirm` takes them: the thread, and the line and column at which it stands.
-#[derive(Clone, Copy)]
-pub struct ShowSteps;
-
-impl TraceCommand for ShowSteps {
-    ghost use Rattle.bp_commands.specs.Shows.{lists_steps};
-
-    ghost command = { λ _. lists_steps };
-
-    fn apply_to_trace<W: Write>(
-        &self,
-        alloc: Global,
-        text: &[u8],
-        trace: &[u8],
-        out: &mut W,
-    ) -> Result<Report, Fault> {
-        let (checked, code) = program_of(alloc, text)?;
-        let found = own_steps(alloc, text, &checked, &code, trace)?;
-        put_steps(found.steps.as_slice(), out)?;
-        Ok(found.report)
+    if task.steps {
+        return show_steps(alloc, text, checked, code, trace, out);
     }
-}
-
-/// `show --valid`: a command on the accepted calls of a trace. If the trace is refused after some
-/// calls, the command is done on the trace of these, a last line says how many they are, and then
-/// the trace is refused.
-#[derive(Clone, Copy)]
-pub struct ShowValid<'a, C> {
-    /// What is done with the accepted calls.
-    pub command: &'a C,
-    /// How the last line is written.
-    pub format: ViewFormat,
+    let options = on_screen(task.options, asked.screen);
+    let report = view(
+        alloc,
+        text,
+        checked,
+        code,
+        trace,
+        options,
+        task.program,
+        out,
+    )?;
+    Ok(report)
 }
 
 /// Writes that a trace is refused after this many calls.
@@ -168,29 +176,32 @@ fn put_refusal<W: Write>(format: ViewFormat, calls: u64, out: &mut W) -> Result<
     }
 }
 
-impl<C: TraceCommand> TraceCommand for ShowValid<'_, C> {
-    ghost use Rattle.bp_commands.specs.Shows.{on_valid_calls};
-
-    ghost command = { λ s. on_valid_calls s.format (C.command s.command.now) };
-
-    fn apply_to_trace<W: Write>(
-        &self,
-        alloc: Global,
-        text: &[u8],
-        trace: &[u8],
-        out: &mut W,
-    ) -> Result<Report, Fault> {
-        let (_, code) = program_of(alloc, text)?;
-        let Some(accepted) = accepted_trace(alloc, &code, trace)? else {
-            return self.command.apply_to_trace(alloc, text, trace, out);
-        };
-        self.command
-            .apply_to_trace(alloc, text, accepted.trace.as_slice(), out)?;
-        put_refusal(self.format, accepted.calls, out)?;
-        Err(Fault::from(accepted.fault))
+/// `show`: shows a trace, or with `--valid` its accepted calls. If the trace is refused after some
+/// calls, the trace of these is shown, a last line says how many they are, and then the trace is
+/// refused.
+pub(crate) fn show_trace<W: Write>(
+    alloc: Global,
+    text: &[u8],
+    checked: &Checked,
+    code: &Code,
+    trace: &[u8],
+    asked: Show<'_>,
+    out: &mut W,
+) -> Result<Report, Fault>
+    requires lawful { IsLawfulText text.now checked.now }
+    requires stands { StandsFor code.now checked.now }
+    ensures { let given : Pair = record { text = text.now; input = trace.now } in
+        let command = shows_task asked.entry.task.now asked.entry.screen in
+        AnswersOf command given (W.contents out.old) (W.contents out.new) result }
+{
+    if !asked.task.valid {
+        return show_part(alloc, text, checked, code, trace, asked, out);
     }
-
-    fn watched(&self) -> Option<&str> {
-        self.command.watched()
-    }
+    let Some(accepted) = accepted_trace(alloc, code, trace)? else {
+        return show_part(alloc, text, checked, code, trace, asked, out);
+    };
+    let valid = accepted.trace.as_slice();
+    show_part(alloc, text, checked, code, valid, asked, out)?;
+    put_refusal(asked.task.options.format, accepted.calls, out)?;
+    Err(Fault::from(accepted.fault))
 }

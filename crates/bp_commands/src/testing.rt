@@ -1,25 +1,18 @@
 //! The command `test`.
 ghost use Rattle.std.specs.Prelude.{◌≡◌, map, IfOk};
-ghost use Rattle.bp_flat.specs.StandsFor.{places_of};
-ghost use Rattle.bp_source.specs.SourceStatements.{AreStatements};
-ghost use Rattle.bp_source.specs.StatementLines.{positions_of};
-ghost use Rattle.std.specs.Thread.{IsSync};
-ghost use Rattle.bp_commands.specs.Commands.{AnswersOf};
-ghost use Rattle.bp_commands.specs.Tests.{tests, AreListed};
+ghost use Rattle.bp_commands.specs.Tests.{AreListed};
 
 use crate::commands::ProgramCommand;
-use crate::programs::{program_of, start_by_names};
+use crate::programs::{Opened, open};
 use crate::run_ends::CommandAnswer;
 use bp_code::Checked;
-use bp_machine::{SetupFault, Start};
+use bp_machine::SetupFault;
 use bp_messages::{Fault, TestReport, exit_status, put_summary, put_summary_objects};
 use bp_source::{statement_lines, statement_positions, statement_texts, unreached_objects};
-use bp_tasks::NamedStart;
 use bp_tasks::limits::MAX_JOBS;
-use bp_test::{
-    Counts, Distinct, Found, Progress, Runtimes, Tally, TestOptions, Waiting, distinct_of, test,
-};
-use bp_text::{Position, WriteFault};
+use bp_tasks::{NamedStart, TestTask};
+use bp_test::{Progress, Runtimes, Tally, distinct_of, test};
+use bp_text::WriteFault;
 use std::alloc::{AllocError, Global};
 use std::io::Write;
 use std::thread::Threads;
@@ -34,16 +27,7 @@ pub struct Test<'a, R, P> {
     pub clock: &'a HostRuntime,
     /// Who is told how far the test is.
     pub progress: &'a P,
-    /// What each run starts from.
-    pub start: NamedStart<'a>,
-    /// What the test looks for, and among how many runs.
-    pub options: TestOptions,
-    /// The name of the program's text.
-    pub file: &'a str,
-    /// Whether the statements that no run reached are listed.
-    pub unreached: bool,
-    /// Whether the summary is JSON objects.
-    pub json: bool,
+    pub task: &'a TestTask<'a>,
 }
 
 impl CommandAnswer for TestReport {
@@ -67,126 +51,27 @@ impl CommandAnswer for TestReport {
 /// The lines of the statements of a program, where they are to be listed.
 fn lines_of(
     alloc: Global,
-    unreached: bool,
-    json: bool,
-    file: &str,
+    task: &TestTask<'_>,
     text: &[u8],
     checked: &Checked,
 ) -> Result<Vec<Vec<u8>>, AllocError>
     ensures { IfOk result (λ v.
-        AreListed unreached json file.now text.now checked.now (map (λ line. line.items) v.items)) }
+        AreListed task.now text.now checked.now (map (λ line. line.items) v.items)) }
 {
-    match (unreached, json) {
+    match (task.unreached, task.json) {
         (false, _) => Ok(Vec::new(alloc)),
-        (true, false) => statement_lines(alloc, file, text, checked),
-        (true, true) => unreached_objects(alloc, file, text, checked),
+        (true, false) => statement_lines(alloc, task.program, text, checked),
+        (true, true) => unreached_objects(alloc, task.program, text, checked),
     }
-}
-
-/// What the summary of a test says of the program's text.
-#[derive(Drop)]
-struct Description {
-    /// The name of the text.
-    file: Vec<u8>,
-    /// The lines of the statements, where these are to be listed.
-    lines: Vec<Vec<u8>>,
-    /// Where the statement of each instruction begins.
-    positions: Vec<Option<Position>>,
-    /// The statement of each instruction.
-    statements: Vec<Vec<u8>>,
-}
-
-/// The name of a program's text, its statements, and their lines where they are to be listed.
-fn description_of(
-    alloc: Global,
-    unreached: bool,
-    json: bool,
-    file: &str,
-    text: &[u8],
-    checked: &Checked,
-) -> Result<Description, AllocError>
-    ensures file { IfOk result (λ d. d.file.items ≡ file.now) }
-    ensures lines { IfOk result (λ d.
-        let lines = map (λ line. line.items) d.lines.items in
-        AreListed unreached json file.now text.now checked.now lines) }
-    ensures positions { IfOk result (λ d.
-        d.positions.items ≡ positions_of text.now checked.now) }
-    ensures statements { IfOk result (λ d.
-        let statements = map (λ v. v.items) d.statements.items in
-        AreStatements text.now (places_of checked.now.procedures) statements) }
-{
-    let name = Vec::from_slice(alloc, file.as_bytes())?;
-    let lines = lines_of(alloc, unreached, json, file, text, checked)?;
-    let positions = statement_positions(alloc, text, checked)?;
-    let statements = statement_texts(alloc, text, checked)?;
-    Ok(Description {
-        file: name,
-        lines,
-        positions,
-        statements,
-    })
-}
-
-/// Tests a program as it is asked, from a start.
-fn test_from<R: Threads + Sync, P: Progress, W: Write>(
-    alloc: Global,
-    asked: &Test<'_, R, P>,
-    start: &Start,
-    text: &[u8],
-    out: &mut W,
-) -> Result<TestReport, Fault>
-    requires { IsSync R.row }
-    ensures { let asked = asked.now in
-        let command = tests start.now asked.options asked.file.now asked.unreached asked.json in
-        AnswersOf command text.now (W.contents out.old) (W.contents out.new) result }
-{
-    let (checked, code) = program_of(alloc, text)?;
-    let setup = start.setup(alloc, &code, None)?;
-    if asked.options.jobs > MAX_JOBS {
-        return Err(Fault::Setup(SetupFault::OutOfRange));
-    }
-    let (unreached, json) = (asked.unreached, asked.json);
-    let described = description_of(alloc, unreached, json, asked.file, text, &checked)?;
-    let options = asked.options;
-    let runtimes = Runtimes {
-        threads: asked.threads,
-        clock: asked.clock,
-    };
-    let progress = asked.progress;
-    let tested = test(&runtimes, alloc, &code, &setup, &options, progress, out)?;
-    let counts = tested.tally.counts(&code);
-    let bp_test::Tested {
-        found,
-        failed,
-        waiting,
-        tally,
-    } = tested;
-    let Tally { reached, keys, .. } = tally;
-    Ok(TestReport {
-        file: described.file,
-        options,
-        setup,
-        found,
-        failed,
-        waiting,
-        positions: described.positions,
-        statements: described.statements,
-        counts,
-        distinct: distinct_of(keys),
-        lines: described.lines,
-        reached,
-        json,
-    })
 }
 
 impl<R: Threads + Sync, P: Progress> ProgramCommand for Test<'_, R, P> {
     ghost use Rattle.std.specs.Thread.{IsSync};
-    ghost use Rattle.bp_commands.specs.Tests.{tests_by_names};
+    ghost use Rattle.bp_commands.specs.Tests.{tests};
 
     type Answer = TestReport;
 
-    ghost command = { λ x. tests_by_names x.start.start.now x.start.named.now
-        x.options x.file.now x.unreached x.json };
+    ghost command = { λ x. tests x.task.now };
 
     ghost allowed = { λ _. IsSync R.row };
 
@@ -196,18 +81,60 @@ impl<R: Threads + Sync, P: Progress> ProgramCommand for Test<'_, R, P> {
         text: &[u8],
         out: &mut W,
     ) -> Result<TestReport, Fault> {
-        let found = start_by_names(alloc, text, self.start)?;
-        match found {
-            Some(start) => test_from(alloc, self, &start, text, out),
-            None => test_from(alloc, self, self.start.start, text, out),
+        let task = self.task;
+        let opened = open(alloc, text, &task.start, &task.named)?;
+        let options = task.options;
+        if options.jobs > MAX_JOBS {
+            return Err(Fault::Setup(SetupFault::OutOfRange));
         }
+        let Opened {
+            checked,
+            code,
+            setup,
+        } = opened;
+        let file = Vec::from_slice(alloc, task.program.as_bytes())?;
+        let lines = lines_of(alloc, task, text, &checked)?;
+        let positions = statement_positions(alloc, text, &checked)?;
+        let statements = statement_texts(alloc, text, &checked)?;
+        let runtimes = Runtimes {
+            threads: self.threads,
+            clock: self.clock,
+        };
+        let progress = self.progress;
+        let tested = test(&runtimes, alloc, &code, &setup, &options, progress, out)?;
+        let counts = tested.tally.counts(&code);
+        let bp_test::Tested {
+            found,
+            failed,
+            waiting,
+            tally,
+        } = tested;
+        let Tally { reached, keys, .. } = tally;
+        Ok(TestReport {
+            file,
+            options,
+            setup,
+            found,
+            failed,
+            waiting,
+            positions,
+            statements,
+            counts,
+            distinct: distinct_of(keys),
+            lines,
+            reached,
+            json: task.json,
+        })
     }
 
     fn start(&self) -> Option<NamedStart<'_>> {
-        Some(self.start)
+        Some(NamedStart {
+            start: &self.task.start,
+            named: &self.task.named,
+        })
     }
 
     fn jobs(&self) -> Option<u32> {
-        Some(self.options.jobs)
+        Some(self.task.options.jobs)
     }
 }

@@ -2,10 +2,10 @@
 
 use crate::host_files::HostFiles;
 use crate::progress_lines::ProgressLine;
-use crate::tasks::{Host, Screen, carry_out};
+use crate::tasks::{Host, carry_out};
 use crate::usage::{end_without_task, refuse_memory, unread};
 use bp_arguments::{NoTask, asks_for_json, read_arguments};
-use bp_commands::Streams;
+use bp_commands::{Screen, Streams};
 use bp_tasks::{FaultFormat, Task};
 use bp_text::{number_of, put};
 use std::env;

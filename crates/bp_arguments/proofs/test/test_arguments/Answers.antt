@@ -1,12 +1,10 @@
-use Rattle.std.proofs.Common.{◌∙◌, ap, codes, length, refl, subst, sym, string_bytes}
+use Rattle.std.proofs.Common.{◌∙◌, ap, codes, length, subst, sym, string_bytes}
 use Rattle.std.proofs.lemmas.List.{length-map}
-use Rattle.clap.proofs.WalkLemmas.{first_value-rows}
 use Rattle.clap.specs.Matches.{found_of}
 use Rattle.clap.specs.Walk.{one_of}
 use Rattle.clap.specs.Words.{rows_of}
 use Rattle.bp_arguments.specs.CommandArguments.{contexts_for}
 use Rattle.bp_arguments.specs.Values.{IsNumberOf}
-use Rattle.bp_arguments.proofs.GivenArguments.{value_read}
 use Rattle.bp_arguments.proofs.test.test_arguments.Goals as goal
 
 pub returns : goal.returns
@@ -17,9 +15,7 @@ returns c =
     ∙ ap (λ es. contexts_for (length es)) c.as_slice.ensures.value
     ∙ ap contexts_for (sym (length-map entries string_bytes)) in
     record {
-      program =
-          value_read _ _ (c.get_str.ensures ∙ first_value-rows (found_of c.args.arguments.now) (codes "FILE"))
-          c.unwrap_or.result _ c.unwrap_or.ensures refl;
+      program = c.text.ensures;
       entries = c.in_ok-entries.ensures;
       init = c.in_ok-init.ensures;
       named = c.in_ok-named.ensures;

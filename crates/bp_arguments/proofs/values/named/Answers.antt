@@ -1,6 +1,4 @@
-use Rattle.std.proofs.Common.{◌≡◌, ◌∙◌, [], ap, codes, subst, sym, IfOk}
-use Rattle.clap.proofs.WalkLemmas.{first_value-rows}
-use Rattle.clap.specs.Matches.{found_of}
+use Rattle.std.proofs.Common.{◌≡◌, ◌∙◌, [], ap, subst, sym, IfOk}
 use Rattle.bp_arguments.proofs.GivenArguments.{no_text_read, text_read}
 use Rattle.std.specs.Option.{option_map_or}
 use Rattle.bp_arguments.specs.Values.{names_given}
@@ -8,10 +6,10 @@ use Rattle.bp_arguments.proofs.values.named.Goals as goal
 
 pub returns-in-Some : goal.returns-in-Some
 returns-in-Some c =
-    let first = text_read _ _ (c.get_str.ensures ∙ first_value-rows (found_of c.args.arguments.now) (codes "init")) c.in-Some.text c.in-Some.is in
+    let first = text_read _ _ c.given_text.ensures c.in-Some.text c.in-Some.is in
     subst (λ o. IfOk c.names_given.result (λ n. n ≡ option_map_or names_given o [])) (sym first) c.names_given.ensures
 
 pub returns-in-None : goal.returns-in-None
 returns-in-None c =
     c.none.ensures ∙ ap (λ o. option_map_or names_given o [])
-    (sym (no_text_read _ _ (c.get_str.ensures ∙ first_value-rows (found_of c.args.arguments.now) (codes "init")) c.in-None.is))
+    (sym (no_text_read _ _ c.given_text.ensures c.in-None.is))

@@ -28,6 +28,7 @@ returns c = λ stands.
       verdict = c.verdict_of.ensures;
       failure = c.in_ok-failure.ensures ∙ ap (outcome_text Json [] foot.deadlocked) failed;
       waits = c.in_ok-waits.ensures ∙ ap (λ x. waits_text Json [] (map condition_in x)) c.as_slice-2.ensures.value;
-      choices_are = c.in_ok-choices.ensures ∙ ap (choices_text c.args.form.json) c.as_slice-3.ensures.value;
-      form_is = refl;
+      choices_are = c.in_ok-choices.ensures ∙ ap (choices_text c.args.task.now.json) c.as_slice-3.ensures.value;
+      expected_is = refl;
+      json_is = refl;
     }

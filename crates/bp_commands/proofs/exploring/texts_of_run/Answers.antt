@@ -19,7 +19,7 @@ returns c = λ h stands.
     let foot = c.in_ok-foot.foot in
     let failed = copied condition_in c.as_ref.result ∙ ap (option_map condition_in) c.as_ref.ensures.value in
     let format = c.format_of-format.ensures in
-    let file = c.args.form.file.now in
+    let file = c.args.task.now.program.now in
     record {
       report = c.report-report.result;
       reported = reported;

@@ -7,6 +7,6 @@ pub returns-clause-answers : goal.returns-clause-answers
 returns-clause-answers g c =
     let old = g.R.Read.remaining c.args.program.now.reader in
     let new = g.R.Read.remaining c.read_text.new.program.reader in
-    answered (runs_by_names c.args.asked.now.options.now c.args.asked.now.named.now) c.deref.result.now _
+    answered (runs_by_names c.args.asked.now.task.now.options c.args.asked.now.task.now.named) c.deref.result.now _
     (text_alone old new) (rw c.deref.ensures.value c.in_ok-read_text.ensures) _
     c.run_text.result c.run_text.ensures

@@ -32,5 +32,5 @@ returns-then-self g c =
     c.deref-then-self.ensures.value failed in
     let whole = subst (λ v. Writes old new (verdict_object (shown (verdict_word x.verdict) (Some x.report.contexts) x.failure.items x.waits.items v)) told)
     c.deref-then-self-2.ensures.value written in
-    subst (λ b. HasSummary (if b then verdict_object (confirmation_shown x) else line_as x.form.expected x.choices.items x.verdict) old new told)
+    subst (λ b. HasSummary (if b then verdict_object (confirmation_shown x) else line_as x.expected x.choices.items x.verdict) old new told)
     (sym c.if-self.true) whole

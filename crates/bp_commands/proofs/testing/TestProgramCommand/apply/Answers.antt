@@ -1,26 +1,63 @@
+use Rattle.std.proofs.Common.{◌<◌, ◌≤◌, ◌∙◌, arith, inl, refl}
+use Rattle.std.proofs.lemmas.Bool.Decides.{nat_tests}
 use Rattle.std.proofs.lemmas.Result.{err_from_is_err_and}
+use Rattle.bp_tasks.specs.declared.limits.TheConstants.{MAX_JOBS}
 use Rattle.bp_commands.specs.Tests.{tests}
-use Rattle.bp_commands.proofs.Answered.{answers_found, answers_start, names_refused}
+use Rattle.bp_commands.proofs.Answered.{refused_with}
+use Rattle.bp_commands.proofs.TestAnswers.{done, lacks_memory, many_jobs, refused}
 use Rattle.bp_commands.proofs.testing.TestProgramCommand.apply.Goals as goal
 
-pub returns-in_err-found : goal.returns-in_err-found
-returns-in_err-found g c =
+pub returns-in_err-opened : goal.returns-in_err-opened
+returns-in_err-opened g c =
     let p = err_from_is_err_and c.from_residual.result c.from_residual.ensures.1 in
-    let why = c.in_err-found.ensures in
-    rw (p.1, p.2) (names_refused (λ text. text) c.args.self.now.start.start.now
-    (λ s. tests s c.args.self.now.options c.args.self.now.file.now c.args.self.now.unreached c.args.self.now.json) c.args.text.now _
-    c.args.self.now.start.named.now why.0 c.in_err-found.field-0.0 why.1)
+    rw (p.1, p.2) (refused_with (tests c.args.self.now.task.now) c.args.text.now _ _ (inl c.in_err-opened.ensures.answer))
 
-pub returns-in-Some : goal.returns-in-Some
-returns-in-Some g c =
-    let found = rw c.in-Some.is at c.in_ok-found.ensures in
-    answers_found (λ text. text) c.args.self.now.start.start.now
-    (λ s. tests s c.args.self.now.options c.args.self.now.file.now c.args.self.now.unreached c.args.self.now.json) c.args.text.now _ _
-    c.args.self.now.start.named.now found.0 _ found.1 c.test_from.result c.test_from.ensures
+pub returns-then-options-gt-MAX_JOBS : goal.returns-then-options-gt-MAX_JOBS
+returns-then-options-gt-MAX_JOBS g c =
+    let many : MAX_JOBS < c.args.self.now.task.now.options.jobs = grind (arith, nat_tests) in
+    many_jobs c.args.self.now.task.now c.args.text.now _ _ c.in_ok-opened.ensures.answer _ many
 
-pub returns-in-None : goal.returns-in-None
-returns-in-None g c =
-    let none = rw c.in-None.is at c.in_ok-found.ensures in
-    answers_start (λ text. text) c.args.self.now.start.start.now
-    (λ s. tests s c.args.self.now.options c.args.self.now.file.now c.args.self.now.unreached c.args.self.now.json) c.args.text.now _ _
-    c.args.self.now.start.named.now none c.test_from-in-None.result c.test_from-in-None.ensures
+pub returns-in_err-file : goal.returns-in_err-file
+returns-in_err-file g c =
+    let p = err_from_is_err_and c.from_residual-in_err-file.result c.from_residual-in_err-file.ensures.1 in
+    let few : c.args.self.now.task.now.options.jobs ≤ MAX_JOBS = grind (arith, nat_tests) in
+    let out = g.W.Write.contents c.args.out.now in
+    rw (p.1, p.2) (lacks_memory c.args.self.now.task.now c.args.text.now _ _ c.in_ok-opened.ensures.answer few out out out)
+
+pub returns-in_err-lines : goal.returns-in_err-lines
+returns-in_err-lines g c =
+    let p = err_from_is_err_and c.from_residual-in_err-lines.result c.from_residual-in_err-lines.ensures.1 in
+    let few : c.args.self.now.task.now.options.jobs ≤ MAX_JOBS = grind (arith, nat_tests) in
+    let out = g.W.Write.contents c.args.out.now in
+    rw (p.1, p.2) (lacks_memory c.args.self.now.task.now c.args.text.now _ _ c.in_ok-opened.ensures.answer few out out out)
+
+pub returns-in_err-positions : goal.returns-in_err-positions
+returns-in_err-positions g c =
+    let p = err_from_is_err_and c.from_residual-in_err-positions.result c.from_residual-in_err-positions.ensures.1 in
+    let few : c.args.self.now.task.now.options.jobs ≤ MAX_JOBS = grind (arith, nat_tests) in
+    let out = g.W.Write.contents c.args.out.now in
+    rw (p.1, p.2) (lacks_memory c.args.self.now.task.now c.args.text.now _ _ c.in_ok-opened.ensures.answer few out out out)
+
+pub returns-in_err-statements : goal.returns-in_err-statements
+returns-in_err-statements g c =
+    let p = err_from_is_err_and c.from_residual-in_err-statements.result c.from_residual-in_err-statements.ensures.1 in
+    let few : c.args.self.now.task.now.options.jobs ≤ MAX_JOBS = grind (arith, nat_tests) in
+    let out = g.W.Write.contents c.args.out.now in
+    rw (p.1, p.2) (lacks_memory c.args.self.now.task.now c.args.text.now _ _ c.in_ok-opened.ensures.answer few out out out)
+
+pub returns-in_err-tested : goal.returns-in_err-tested
+returns-in_err-tested g c =
+    let p = err_from_is_err_and c.from_residual-in_err-tested.result c.from_residual-in_err-tested.ensures.1 in
+    let x = c.in_ok-opened.opened in
+    let few : c.args.self.now.task.now.options.jobs ≤ MAX_JOBS = grind (arith, nat_tests) in
+    rw (p.1, p.2) (refused c.args.self.now.task.now c.args.text.now x.checked x.setup c.in_ok-opened.ensures.answer few _ _
+    c.in_err-tested.field-0.0 (c.in_err-tested.ensures x.checked c.in_ok-opened.ensures.code))
+
+pub returns : goal.returns
+returns g c =
+    let x = c.in_ok-opened.opened in
+    let few : c.args.self.now.task.now.options.jobs ≤ MAX_JOBS = grind (arith, nat_tests) in
+    done c.args.self.now.task.now c.args.text.now x.checked x.setup c.in_ok-opened.ensures.answer few _ _
+    c.in_ok-tested.tested (c.in_ok-tested.ensures x.checked c.in_ok-opened.ensures.code) _ refl refl refl
+    c.in_ok-positions.ensures c.in_ok-statements.ensures refl c.distinct_of.ensures
+    c.counts-counts.ensures (c.in_ok-file.ensures.items ∙ c.as_bytes.ensures.value) refl refl refl c.in_ok-lines.ensures

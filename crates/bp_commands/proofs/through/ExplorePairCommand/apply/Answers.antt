@@ -1,27 +1,141 @@
+use Rattle.std.proofs.Common.{◌≡◌, ◌<◌, ◌+◌, ◌∙◌, ap, arith, inl, inr, length, refl, subst, sym, List, ℕ, [], ◌∷◌, Some}
 use Rattle.std.proofs.lemmas.Result.{err_from_is_err_and}
+use Rattle.bp_language.specs.Ast.{Program}
+use Rattle.bp_confirm.specs.ConfirmedTexts.{AreTold}
+use Rattle.bp_confirm.specs.OwnSteps.{listed_steps}
+use Rattle.bp_confirm.specs.Steps.{StepLineOf}
+use Rattle.bp_explore.specs.ThroughExplorations.{IsThrough}
+use Rattle.bp_flat.specs.StandsFor.{StandsFor}
+use Rattle.bp_machine.specs.Setups.{SetupOf}
 use Rattle.bp_commands.specs.Commands.{Pair}
-use Rattle.bp_commands.proofs.Answered.{answers_found, answers_start, names_refused}
-use Rattle.bp_commands.specs.Throughs.{explores_through}
+use Rattle.bp_commands.specs.Explores.{bound_of}
+use Rattle.bp_commands.specs.Throughs.{explores_through, trace_through, IsThroughTrace}
+use Rattle.bp_commands.proofs.Answered.{cut_short, refused_with}
 use Rattle.bp_commands.proofs.through.ExplorePairCommand.apply.Goals as goal
 
-pub returns-in_err-found : goal.returns-in_err-found
-returns-in_err-found g c =
+-- a text that is told has a line
+some_lines : (t : Program) (s : SetupOf) (steps : List ℕ) (lines : List StepLineOf) → AreTold t s steps lines → 0 < length lines
+some_lines t s steps [] told =
+    let none : length steps ≡ 0 = ap length told.read.has.is in
+    absurd (omega (arith, none, told.read.fit.0))
+some_lines t s steps (x ∷ xs) told = omega arith
+
+pub returns-in_err-opened : goal.returns-in_err-opened
+returns-in_err-opened g c =
     let p = err_from_is_err_and c.from_residual.result c.from_residual.ensures.1 in
-    let why = c.in_err-found.ensures in
-    rw (p.1, p.2) (names_refused (λ (p : Pair). p.text) c.args.self.now.start.start.now
-    (λ s. explores_through s c.args.self.now.options c.args.self.now.form) (record { text = c.args.text.now; input = c.args.steps.now }) _
-    c.args.self.now.start.named.now why.0 c.in_err-found.field-0.0 why.1)
+    let given : Pair = record { text = c.args.text.now; input = c.args.steps.now } in
+    rw (p.1, p.2) (refused_with (explores_through c.args.self.now.task.now) given _ _ (inl c.in_err-opened.ensures.answer))
 
-pub returns-in-Some : goal.returns-in-Some
-returns-in-Some g c =
-    let found = rw c.in-Some.is at c.in_ok-found.ensures in
-    answers_found (λ (p : Pair). p.text) c.args.self.now.start.start.now (λ s. explores_through s c.args.self.now.options c.args.self.now.form)
-    (record { text = c.args.text.now; input = c.args.steps.now }) _ _ c.args.self.now.start.named.now found.0 _
-    found.1 c.explore_steps.result c.explore_steps.ensures
+pub returns-in_err-lines : goal.returns-in_err-lines
+returns-in_err-lines g c =
+    let p = err_from_is_err_and c.from_residual-in_err-lines.result c.from_residual-in_err-lines.ensures.1 in
+    let given : Pair = record { text = c.args.text.now; input = c.args.steps.now } in
+    let x = c.in_ok-opened.opened in
+    rw (p.1, p.2) (refused_with (explores_through c.args.self.now.task.now) given _ _ (inr (inl (record {
+      program = x.checked;
+      setup = x.setup;
+      opened = c.in_ok-opened.ensures.answer;
+      cause = c.in_err-lines.field-0.0;
+      why = c.in_err-lines.ensures.told;
+      is = refl;
+    }))))
 
-pub returns-in-None : goal.returns-in-None
-returns-in-None g c =
-    let none = rw c.in-None.is at c.in_ok-found.ensures in
-    answers_start (λ (p : Pair). p.text) c.args.self.now.start.start.now (λ s. explores_through s c.args.self.now.options c.args.self.now.form)
-    (record { text = c.args.text.now; input = c.args.steps.now }) _ _ c.args.self.now.start.named.now none
-    c.explore_steps-in-None.result c.explore_steps-in-None.ensures
+pub explore_through-requires-clause-some : goal.explore_through-requires-clause-some
+explore_through-requires-clause-some g c =
+    some_lines c.in_ok-opened.opened.checked c.in_ok-opened.opened.setup c.args.steps.now c.in_ok-lines.lines.lines c.in_ok-lines.ensures.told
+
+pub returns-in_err-explored : goal.returns-in_err-explored
+returns-in_err-explored g c =
+    let p = err_from_is_err_and c.from_residual-in_err-explored.result c.from_residual-in_err-explored.ensures.1 in
+    let given : Pair = record { text = c.args.text.now; input = c.args.steps.now } in
+    let x = c.in_ok-opened.opened in
+    rw (p.1, p.2) (refused_with (explores_through c.args.self.now.task.now) given _ _ (inr (inr (record {
+      program = x.checked;
+      setup = x.setup;
+      lines = c.in_ok-lines.lines.lines;
+      listed = record { opened = c.in_ok-opened.ensures.answer; told = c.in_ok-lines.ensures.told };
+      is = refl;
+    }))))
+
+pub run_texts-requires : goal.run_texts-requires
+run_texts-requires g c = λ r is.
+    let t = c.in_ok-opened.opened.checked in
+    let stands = c.in_ok-opened.ensures.code in
+    let lines = c.in_ok-lines.ensures.of in
+    let found = subst (IsThrough _ t _ _ _) is (c.in_ok-explored.ensures t stands (sym lines.0)) in
+    (subst (λ x. StandsFor x t) (sym found.2.code) stands, found.2.stands)
+
+pub returns-in_err-said : goal.returns-in_err-said
+returns-in_err-said g c =
+    let p = err_from_is_err_and c.from_residual-in_err-said.result c.from_residual-in_err-said.ensures.1 in
+    let given : Pair = record { text = c.args.text.now; input = c.args.steps.now } in
+    let x = c.in_ok-opened.opened in
+    rw (p.1, p.2) (refused_with (explores_through c.args.self.now.task.now) given _ _ (inr (inr (record {
+      program = x.checked;
+      setup = x.setup;
+      lines = c.in_ok-lines.lines.lines;
+      listed = record { opened = c.in_ok-opened.ensures.answer; told = c.in_ok-lines.ensures.told };
+      is = refl;
+    }))))
+
+pub returns-in_err-write_through : goal.returns-in_err-write_through
+returns-in_err-write_through g c =
+    let p = err_from_is_err_and c.from_residual-in_err-write_through.result c.from_residual-in_err-write_through.ensures.1 in
+    let given : Pair = record { text = c.args.text.now; input = c.args.steps.now } in
+    let task = c.args.self.now.task.now in
+    let x = c.in_ok-opened.opened in
+    let stands = c.in_ok-opened.ensures.code in
+    let lines = c.in_ok-lines.lines in
+    let read = c.in_ok-lines.ensures in
+    let e = c.in_ok-explored.explored in
+    let bound = c.bound_of-bound.ensures ∙ ap (bound_of task.options.bound) c.contexts.ensures in
+    let through = c.in_ok-explored.ensures x.checked stands (sym read.of.0) in
+    let of_program = subst (λ t. IsThrough x.code x.checked x.setup (listed_steps t lines.text.now lines.lines) c.bound_of-bound.result e.ending) read.of.0 through in
+    let of_text = subst (λ w. IsThrough x.code x.checked x.setup (listed_steps x.checked w lines.lines) c.bound_of-bound.result e.ending) read.of.1 of_program in
+    let trace : IsThroughTrace task given (trace_through e.ending) = record {
+      program = x.checked;
+      setup = x.setup;
+      lines = lines.lines;
+      listed = record { opened = c.in_ok-opened.ensures.answer; told = read.told };
+      code = x.code;
+      stands_for = stands;
+      ending = e.ending;
+      through = subst (λ b. IsThrough x.code x.checked x.setup (listed_steps x.checked given.text lines.lines) b e.ending) bound of_text;
+      is = refl;
+    } in
+    rw (p.1, p.2) (cut_short (explores_through task) given _ _ (trace_through e.ending) trace c.in_err-write_through.ensures)
+
+pub returns : goal.returns
+returns g c =
+    let given : Pair = record { text = c.args.text.now; input = c.args.steps.now } in
+    let task = c.args.self.now.task.now in
+    let x = c.in_ok-opened.opened in
+    let stands = c.in_ok-opened.ensures.code in
+    let lines = c.in_ok-lines.lines in
+    let read = c.in_ok-lines.ensures in
+    let e = c.in_ok-explored.explored in
+    let bound = c.bound_of-bound.ensures ∙ ap (bound_of task.options.bound) c.contexts.ensures in
+    let through = c.in_ok-explored.ensures x.checked stands (sym read.of.0) in
+    let of_program = subst (λ t. IsThrough x.code x.checked x.setup (listed_steps t lines.text.now lines.lines) c.bound_of-bound.result e.ending) read.of.0 through in
+    let of_text = subst (λ w. IsThrough x.code x.checked x.setup (listed_steps x.checked w lines.lines) c.bound_of-bound.result e.ending) read.of.1 of_program in
+    record {
+      text = trace_through e.ending;
+      reports = record {
+        trace = record {
+          program = x.checked;
+          setup = x.setup;
+          lines = lines.lines;
+          listed = record { opened = c.in_ok-opened.ensures.answer; told = read.told };
+          code = x.code;
+          stands_for = stands;
+          ending = e.ending;
+          through = subst (λ b. IsThrough x.code x.checked x.setup (listed_steps x.checked given.text lines.lines) b e.ending) bound of_text;
+          is = refl;
+        };
+        task = refl;
+        facts = c.facts_through.ensures;
+        steps = rw (c.made_through-made.ensures, c.count-count.ensures) refl;
+        said = c.in_ok-said.ensures;
+      };
+      written = c.in_ok-write_through.ensures;
+    }

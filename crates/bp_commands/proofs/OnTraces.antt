@@ -1,0 +1,44 @@
+-- What a text of a history says of a command on its trace.
+use Rattle.std.proofs.Common.{ℕ, List, Option, inr, refl}
+use Rattle.bp_text.specs.Writing.{AppendsAll, AppendsPart}
+use Rattle.bp_language.specs.Ast.{Program}
+use Rattle.bp_code.specs.LawfulTexts.{IsLawfulText}
+use Rattle.bp_machine.specs.declared.calls.Call.{Call}
+use Rattle.bp_machine.specs.declared.calls.Report.{Report}
+use Rattle.bp_machine.specs.Histories.{IsReport}
+use Rattle.bp_machine.specs.Setups.{SetupOf}
+use Rattle.bp_trace.specs.declared.faults.ReplayFault.{ReplayFault}
+use Rattle.bp_trace.specs.declared.traces.Version.{Version}
+use Rattle.bp_trace.specs.Replays.{IsReplayRefusal, IsTrace}
+use Rattle.bp_messages.specs.FaultTable.{fault_of_trace}
+use Rattle.bp_messages.specs.declared.faults.Fault.TheVariants.{Write}
+use Rattle.bp_commands.specs.Commands.{IsDoneWith, IsRefusedWith, Pair}
+use Rattle.bp_commands.specs.Traces.{on_trace, IsOfTrace, TextRule}
+use Rattle.bp_commands.proofs.Answered.{cut_short, refused_with}
+
+module _ (rule : TextRule) (given : Pair) (t : Program) (of : IsLawfulText given.text t) where
+  -- the text is no trace of the program
+  pub no_trace : (old : Option (List ℕ)) (f : ReplayFault) → IsReplayRefusal t given.input f
+      → IsRefusedWith (on_trace rule) old old given (fault_of_trace f)
+  no_trace old f why =
+      refused_with (on_trace rule) given old (fault_of_trace f)
+      (inr (record { program = t; lawful = of; cause = f; why = why; is = refl }))
+
+  -- it is the trace of a history, which has this text
+  module _ (version : Version) (s : SetupOf) (h : List Call) (is : IsTrace t version s h given.input)
+      (text : List ℕ) (is_text : rule given.text t s h text) (old new : Option (List ℕ)) where
+    trace : IsOfTrace rule given text
+    trace = record {
+      program = t;
+      setup = s;
+      history = h;
+      legal = record { of = of; version = version; is = is };
+      is = is_text;
+    }
+
+    pub cut : AppendsPart old new text → IsRefusedWith (on_trace rule) old new given Write
+    cut part = cut_short (on_trace rule) given old new text trace part
+
+    pub done : AppendsAll old new text → (r : Report) → IsReport s h r → IsDoneWith (on_trace rule) old new given r
+    unfolding trace
+    done all r reported = record { text = text; reports = record { trace = trace; reported = reported }; written = all }

@@ -1,0 +1,12 @@
+use Rattle.std.proofs.Common.{refl}
+use Rattle.std.proofs.lemmas.Result.{err_from_is_err_and}
+use Rattle.bp_code.specs.declared.texts.CodeFault.TheVariants as code
+use Rattle.bp_commands.specs.Programs.{lists}
+use Rattle.bp_commands.proofs.Answered.{refused_with}
+use Rattle.bp_commands.proofs.checking.CodeTaskProgramCommand.apply.Goals as goal
+
+pub returns-in_err-checked : goal.returns-in_err-checked
+returns-in_err-checked g c =
+    let p = err_from_is_err_and c.from_residual.result c.from_residual.ensures.1 in
+    rw (p.1, p.2) (refused_with (lists c.args.self.now.form) c.args.text.now _ _
+    (record { cause = code.Program c.in_err-checked.field-0.0; why = c.in_err-checked.ensures; is = refl }))

@@ -1,0 +1,7 @@
+use Rattle.bp_text.proofs.Givings.{and_then}
+use Rattle.bp_commands.proofs.exploration_texts.put_within.Goals as goal
+
+pub returns : goal.returns
+returns g c =
+    let sought = and_then c.put_sought.ensures (and_then c.put-3.ensures (and_then c.put_count-2.ensures c.put-4.ensures)) in
+    and_then c.put_program.ensures (and_then c.put.ensures (and_then c.put_count.ensures (and_then c.put-2.ensures sought)))

@@ -1,0 +1,28 @@
+use Rattle.std.proofs.Common.{◌≡◌, ◌≢◌, ◌∙◌, [], ◌∷◌, inl, inr, List, None, refl, subst}
+use Rattle.std.proofs.lemmas.Result.{err_from_is_err_and}
+use Rattle.bp_language.specs.Ast.{Program}
+use Rattle.bp_machine.specs.Setups.{IsSetupRefusal, StartOf, setup_from}
+use Rattle.bp_tasks.specs.NamedBits.{NamedBitOf, start_by_names}
+use Rattle.bp_commands.specs.Programs.{start_asked}
+use Rattle.bp_commands.proofs.programs.open.Goals as goal
+
+-- where globals are named, the start is that with their bits
+asked : (start : StartOf) (named : List NamedBitOf) (t : Program) → named ≢ [] → start_by_names start named t ≡ start_asked start named t
+asked start [] t some = absurd (some refl)
+asked start (n ∷ ns) t some = refl
+
+pub returns-in_err-setup-2-clause-answer : goal.returns-in_err-setup-2-clause-answer
+returns-in_err-setup-2-clause-answer c =
+    let p = err_from_is_err_and c.from_residual-in_err-setup-2.result c.from_residual-in_err-setup-2.ensures.1 in
+    let t = c.in_ok-checked.checked in
+    let of = c.in_ok-checked.ensures in
+    let f = c.in_err-setup-2.field-0.0 in
+    let start = c.in_ok-start.ensures ∙ asked c.args.start.now c.args.named.now t (λ none. let empty = c.if-is_empty.ensures.1 none in cc) in
+    let why = subst (λ s. IsSetupRefusal t (setup_from s None t) f) start (c.in_err-setup-2.ensures.answer t of.1) in
+    rw (p.1, p.2) (inr (inr (inl (record {
+      program = t;
+      of = record { lawful = of.0; known = c.in_default.ensures };
+      cause = f;
+      why = why;
+      is = refl;
+    }))))

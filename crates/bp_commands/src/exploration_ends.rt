@@ -1,0 +1,192 @@
+//! How an exploration ends, and the exit status of its run.
+ghost use Rattle.std.specs.Prelude.{◌≡◌};
+ghost use Rattle.bp_commands.specs.ExplorationEnds.{facts_of_ending, facts_through, found_end, kind_of, made_through, missed_end, status_found, status_missed};
+
+use bp_explore::{Ending, Finding, Reason, ThroughEnding};
+use bp_messages::exit_status;
+use bp_tasks::ExploreTask;
+
+/// The exit status if no run makes the steps.
+const NOT_MADE: u8 = 4;
+
+/// The exit status if not all runs were looked through, and nothing was found.
+const UNFINISHED: u8 = 5;
+
+/// What an exploration finds.
+#[derive(Clone, Copy, PartialEq, Eq, Debug)]
+pub enum FoundKind {
+    Nothing,
+    Failure,
+    Deadlock,
+    Steps,
+}
+
+/// How an exploration ends.
+#[derive(Clone, Copy)]
+pub struct EndFacts {
+    pub found: FoundKind,
+    /// The contexts of the last new state, of the bound, of what was found, or those that were not
+    /// looked through.
+    pub contexts: u32,
+    /// Whether all runs were looked through, of any number of contexts.
+    pub complete: bool,
+    /// Why not all was seen, if so.
+    pub reason: Option<Reason>,
+    /// The calls of the trace, or of the thread that makes too many for one.
+    pub calls: Option<u64>,
+    /// Whether a trace of what was found is written.
+    pub trace: bool,
+}
+
+/// The steps of a list, for which an exploration looks.
+#[derive(Clone, Copy)]
+pub struct ListedSteps {
+    /// How many they are.
+    pub count: u32,
+    /// How many of them are made, if that is known.
+    pub made: Option<u32>,
+}
+
+/// How an exploration ended, and what is said of the run that it found.
+#[derive(Drop)]
+pub struct Exploration<'a> {
+    pub task: &'a ExploreTask<'a>,
+    pub facts: EndFacts,
+    /// The steps that a run is looked for that makes them, if any are.
+    pub steps: Option<ListedSteps>,
+    /// How many states were seen.
+    pub states: usize,
+    /// In how many of them a call had no room on its stack.
+    pub full_stacks: usize,
+    /// The outcome of the run that was found.
+    pub outcome: Vec<u8>,
+    /// The threads that wait at its end.
+    pub waits: Vec<u8>,
+    /// Whether an assertion failed in it.
+    pub failed: bool,
+}
+
+/// An end at which nothing was found.
+fn missed_end(contexts: u32, complete: bool, reason: Option<Reason>) -> EndFacts
+    ensures { result ≡ missed_end contexts complete reason }
+{
+    EndFacts {
+        found: FoundKind::Nothing,
+        contexts,
+        complete,
+        reason,
+        calls: None,
+        trace: false,
+    }
+}
+
+/// An end at which something was found.
+fn found_end(found: FoundKind, contexts: u32, calls: u64, trace: bool) -> EndFacts
+    ensures { result ≡ found_end found contexts calls trace }
+{
+    EndFacts {
+        found,
+        contexts,
+        complete: false,
+        reason: None,
+        calls: Some(calls),
+        trace,
+    }
+}
+
+fn kind_of(finding: Finding) -> FoundKind
+    ensures { result ≡ kind_of finding }
+{
+    match finding {
+        Finding::Failure => FoundKind::Failure,
+        Finding::Deadlock => FoundKind::Deadlock,
+    }
+}
+
+/// The facts of the end of an exploration.
+pub(crate) fn facts_of_ending(ending: &Ending) -> EndFacts
+    ensures { result ≡ facts_of_ending ending.now }
+{
+    match ending {
+        Ending::Nothing { last } => missed_end(*last, true, None),
+        Ending::NothingWithin { contexts } => missed_end(*contexts, false, None),
+        Ending::Found(run) => {
+            found_end(
+                kind_of(run.finding),
+                run.contexts,
+                run.history.len() as u64,
+                true,
+            )
+        }
+        Ending::Unplayed {
+            contexts,
+            finding,
+            calls,
+        } => found_end(kind_of(*finding), *contexts, *calls as u64, false),
+        Ending::Unfinished { contexts, reason } => missed_end(*contexts, false, Some(*reason)),
+    }
+}
+
+/// The facts of the end of an exploration through steps.
+pub(crate) fn facts_through(ending: &ThroughEnding) -> EndFacts
+    ensures { result ≡ facts_through ending.now }
+{
+    match ending {
+        ThroughEnding::Found(run) => {
+            found_end(
+                FoundKind::Steps,
+                run.contexts,
+                run.history.len() as u64,
+                true,
+            )
+        }
+        ThroughEnding::Unplayed { contexts, calls } => {
+            found_end(FoundKind::Steps, *contexts, *calls as u64, false)
+        }
+        ThroughEnding::Missing { last, .. } => missed_end(*last, true, None),
+        ThroughEnding::MissingWithin { contexts, .. } => missed_end(*contexts, false, None),
+        ThroughEnding::Unfinished { contexts, reason } => {
+            missed_end(*contexts, false, Some(*reason))
+        }
+    }
+}
+
+/// How many of the steps are made, if that is known.
+pub(crate) fn made_through(steps: u32, ending: &ThroughEnding) -> Option<u32>
+    ensures { result ≡ made_through steps ending.now }
+{
+    match ending {
+        ThroughEnding::Found(_) | ThroughEnding::Unplayed { .. } => Some(steps),
+        ThroughEnding::Missing { made, .. } | ThroughEnding::MissingWithin { made, .. } => {
+            Some(*made)
+        }
+        ThroughEnding::Unfinished { .. } => None,
+    }
+}
+
+/// The exit status if nothing was found.
+fn status_missed(reason: Option<Reason>, steps: Option<ListedSteps>) -> u8
+    ensures { result ≡ status_missed reason steps }
+{
+    match (reason, steps) {
+        (Some(_), _) => UNFINISHED,
+        (None, Some(_)) => NOT_MADE,
+        (None, None) => exit_status(false, None),
+    }
+}
+
+/// The exit status of an exploration that ends so.
+pub(crate) fn status_found(
+    found: FoundKind,
+    reason: Option<Reason>,
+    steps: Option<ListedSteps>,
+    failed: bool,
+) -> u8
+    ensures { result ≡ status_found found reason steps failed }
+{
+    match found {
+        FoundKind::Nothing => status_missed(reason, steps),
+        FoundKind::Failure | FoundKind::Deadlock => exit_status(true, None),
+        FoundKind::Steps => exit_status(failed, None),
+    }
+}

@@ -1,0 +1,68 @@
+//! The commands on a program and a trace of it.
+ghost use Rattle.bp_commands.specs.Shows.{trace_command};
+
+use crate::commands::PairCommand;
+use crate::explanations::SecondInput;
+use crate::programs::program_of;
+use crate::replaying::{migrate_trace, replay_trace, shrink_trace};
+use crate::shows::{Show, show_trace};
+use bp_machine::Report;
+use bp_messages::Fault;
+use bp_trace::limits::MAX_TRACE;
+use std::alloc::Global;
+use std::io::Write;
+
+/// What is done with a program and a trace of it.
+#[derive(Clone, Copy)]
+pub enum TraceCommand<'a> {
+    Replay,
+    Migrate,
+    Shrink,
+    Show(Show<'a>),
+}
+
+impl PairCommand for TraceCommand<'_> {
+    ghost use Rattle.bp_commands.specs.declared.explanations.SecondInput.{SecondInput};
+    ghost use Rattle.bp_trace.specs.declared.limits.TheConstants.{MAX_TRACE};
+
+    type Answer = Report;
+
+    ghost command = { trace_command };
+
+    ghost limit = { λ _. MAX_TRACE };
+
+    ghost second_input = { λ _. SecondInput.Trace };
+
+    fn limit(&self) -> usize {
+        MAX_TRACE
+    }
+
+    fn apply<W: Write>(
+        &self,
+        alloc: Global,
+        text: &[u8],
+        trace: &[u8],
+        out: &mut W,
+    ) -> Result<Report, Fault> {
+        let (checked, code) = program_of(alloc, text)?;
+        match self {
+            TraceCommand::Replay => replay_trace(alloc, &code, trace, out),
+            TraceCommand::Migrate => migrate_trace(alloc, &code, trace, out),
+            TraceCommand::Shrink => shrink_trace(alloc, &code, trace, out),
+            TraceCommand::Show(asked) => {
+                show_trace(alloc, text, &checked, &code, trace, *asked, out)
+            }
+        }
+    }
+
+    fn second_input(&self) -> SecondInput {
+        SecondInput::Trace
+    }
+
+    fn watch(&self) -> Option<&str> {
+        match self {
+            TraceCommand::Show(asked) => asked.task.options.watch,
+            TraceCommand::Replay | TraceCommand::Migrate | TraceCommand::Shrink => None,
+        }
+    }
+}
