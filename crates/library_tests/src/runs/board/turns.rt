@@ -191,7 +191,11 @@ fn is_played_at<C: Calls, O: Ledger, R: Wait + Runtime>(
     let Some(mut seat) = seats.pop() else {
         return Ok(false);
     };
+    let thread = seat.thread();
     let is_answered = turns_are_answered(rt, &board, &mut seat, play.turns) && !seat.is_open();
+    if seat.thread() != thread {
+        return Ok(false);
+    }
     seats.push(seat)?;
     Ok(is_answered && is_gathered(board, seats, tap, play))
 }
