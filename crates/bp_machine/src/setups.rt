@@ -3,7 +3,6 @@ ghost use Rattle.std.specs.Prelude.{◌≡◌, ◌↔◌, IsTrue, None, map, sli
 ghost use Rattle.bp_flat.specs.StandsFor.{InEach};
 ghost use Rattle.bp_machine.specs.Setups.{setup_of, threads, setup_fault, IsSetupRefusal, Fits, FitsCode, IsInRange};
 
-
 use crate::setup_faults::{SetupFault, fault_of_entries, fault_of_setup};
 use bp_flat::Code;
 use std::alloc::{AllocError, Global};

@@ -16,7 +16,7 @@ use Rattle.bp_commands.proofs.through.ExplorePairCommand.apply.Goals as goal
 -- a text that is told has a line
 some_lines : (t : Program) (s : SetupOf) (steps : List ℕ) (lines : List StepLineOf) → AreTold t s steps lines → 0 < length lines
 some_lines t s steps [] told =
-    let none : length steps ≡ 0 = ap length told.read.has.is in
+    let none : length steps ≡ 0 = ap length told.read.has.parts in
     absurd (omega (arith, none, told.read.fit.0))
 some_lines t s steps (x ∷ xs) told = omega arith
 
