@@ -135,7 +135,7 @@ pub trait Machine: Copy {
         ensures { result ≡ may_end self };
 }
 
-/// The bytes at the front of a text that the machine takes, if the span may end after them, and what
+/// The bytes at the front of a text that the machine takes, if a span may end after them, and what
 /// is after them.
 #[inline(always)]
 pub fn span_at<M: Machine>(first: M, text: &[u8]) -> Option<(&[u8], &[u8])>

@@ -53,7 +53,8 @@ pub(crate) fn has_byte(byte: u8, text: &[u8], place: usize) -> bool
     text.get(place) == Some(&byte)
 }
 
-/// The thread below this number that begins the text, with a space after it, and what is after that.
+/// Reads the thread at the front of a text, which is below this number, and the space after it;
+/// returns it with the rest.
 #[inline(always)]
 pub(crate) fn thread_at(threads: u32, text: &[u8]) -> Option<(u32, &[u8])>
     ensures { Finds (thread_field threads) text.now result }
