@@ -19,7 +19,6 @@ enum Taking {
     Read,
     Check,
     Compile,
-    CopyCode,
     MakeSetup,
     CopySetup,
     Drive,
@@ -27,11 +26,10 @@ enum Taking {
     Migrate,
 }
 
-const TAKING: [Taking; 9] = [
+const TAKING: [Taking; 8] = [
     Taking::Read,
     Taking::Check,
     Taking::Compile,
-    Taking::CopyCode,
     Taking::MakeSetup,
     Taking::CopySetup,
     Taking::Drive,
@@ -85,7 +83,6 @@ fn succeeds(
         Taking::Read => read(alloc, program()).is_ok(),
         Taking::Check => checks(alloc, tree),
         Taking::Compile => compile(alloc, checked).is_ok(),
-        Taking::CopyCode => code.try_copy().is_ok(),
         Taking::MakeSetup => makes_a_setup(alloc, code),
         Taking::CopySetup => own.try_copy().is_ok(),
         Taking::Drive => drive(alloc, code, own, SCHEDULE, out).is_ok(),

@@ -32,12 +32,14 @@ fn tells_frames(session: &Session) -> bool {
         && session.top_below(1, 1).is_none()
 }
 
-/// Makes a call of thread 1. The session has this code and setup, and stands after the call.
+/// Makes a call of thread 1, and copies the code. The session has this code and setup, and stands
+/// after the call.
 fn makes(rt: &HostRuntime, session: &mut Session, code: &Code, setup: &Setup) -> Result<(), Fail> {
     begin(rt)?;
     let call = session.ask(1)?;
+    let copy = code.try_copy()?;
     wants(
-        session.code().len() == code.len()
+        session.code().len() == copy.len()
             && session.setup().seed() == setup.seed()
             && stands_after_a_step(session)
             && tells_frames(session)
