@@ -60,8 +60,8 @@ impl fmt::Display for Count {
     }
 }
 
-/// What stands before the item of this place in a list of so many: a comma, or these words before
-/// the last one.
+/// Returns the separator before an item of a list with `count` items: nothing before the first,
+/// `last` before the last one, and a comma before each other.
 pub fn between(place: usize, count: usize, last: &'static str) -> &'static str {
     match place {
         0 => "",

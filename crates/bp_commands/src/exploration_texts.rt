@@ -127,7 +127,7 @@ fn were_text(number: u64) -> &'static [u8]
     if number == 1 { b" was" } else { b" were" }
 }
 
-/// Writes that runs of so many contexts were not looked through, and why.
+/// Writes within how many contexts no such run was found, and why the search ended there.
 fn put_unfinished<W: Write>(x: &Exploration<'_>, reason: Reason, sink: &mut Sink<'_, W>)
     ensures { Given W.contents sink.old sink.new (unfinished_text x.now reason) }
 {
@@ -144,7 +144,7 @@ fn put_unfinished<W: Write>(x: &Exploration<'_>, reason: Reason, sink: &mut Sink
     sink.put_pieces(&[Bytes(b"\n"), Bytes(reason_text(reason))])
 }
 
-/// Writes that no run does what is looked for, of any number of contexts.
+/// Writes that no run of any number of contexts does what is looked for.
 fn put_anywhere<W: Write>(x: &Exploration<'_>, sink: &mut Sink<'_, W>)
     ensures { Given W.contents sink.old sink.new (anywhere_by x.now.steps x.now) }
 {

@@ -77,7 +77,7 @@ fn location_at(text: &[u8]) -> Option<(Location, &[u8])>
         return Some((Location::Line(line), rest));
     };
     let Some((column, rest)) = short_at(digits) else {
-        // A colon of which no column follows is not the location's.
+        // Without a column after it, the colon is not part of the location.
         return Some((Location::Line(line), rest));
     };
     Some((Location::Column(line, column), rest))

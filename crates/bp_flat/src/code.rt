@@ -38,7 +38,8 @@ impl Model for Code {
     ghost use Rattle.bp_flat.specs.StandsFor.{IsOfProgram};
     ghost use Rattle.std.specs.Arc.{arc_value};
 
-    ghost view = { λ c. let p = arc_value c.parts in flat p.headings.items p.globals p.instrs.items };
+    ghost view = { λ c. let p = arc_value c.parts in
+        flat p.headings.items p.globals p.instrs.items };
 
     ghost invariant = { λ c. let p = arc_value c.parts in
         IsOfProgram (flat p.headings.items p.globals p.instrs.items) };
