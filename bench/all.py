@@ -3,7 +3,7 @@
 
 Usage: bench/all.py [PROGRAM [ASKING [RUNS]]]
 
-PROGRAM and ASKING are the built programs, crates/btrun/out/btrun and crates/asking/out/asking if left out. Each bench
+PROGRAM and ASKING are the built programs, crates/btrun/out/btrun and crates/tools/out/tools if left out. Each bench
 is run with few rounds, 5 if RUNS is left out: what it measures, and how, its own page says. Processor seconds, but for
 'by the clock'. The ratio is that of the program to its yardstick: a plain program, a replay for 'show', a session for
 a desk, and a desk for a board. An aim is the most that the ratio may be. The machine should have nothing else to do.
@@ -70,7 +70,7 @@ def print_asks(program, runs):
 
 def main():
     program = os.path.abspath(sys.argv[1] if len(sys.argv) > 1 else os.path.join(TOP, "crates/btrun/out/btrun"))
-    asker = os.path.abspath(sys.argv[2] if len(sys.argv) > 2 else os.path.join(TOP, "crates/asking/out/asking"))
+    asker = os.path.abspath(sys.argv[2] if len(sys.argv) > 2 else os.path.join(TOP, "crates/tools/out/tools"))
     runs = int(sys.argv[3]) if len(sys.argv) > 3 else 5
     print("%s, seconds where nothing else is said" % datetime.date.today())
     print("%-34s %9s %9s %6s %6s %6s" % ("work", "yardstick", "btrun", "ratio", "aim", "MB"))

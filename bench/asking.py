@@ -3,7 +3,7 @@
 
 Usage: bench/asking.py [PROGRAM [RUNS]]
 
-PROGRAM is the built program, crates/asking/out/asking if left out; 'rt run' in crates/asking makes it.
+PROGRAM is the built program, crates/tools/out/tools if left out; 'rt run' in crates/tools makes it.
 
 The only guest thread is in a loop without an end, with contexts 1000, calls 100000 and seed 42. A round opens a new
 session, desk or board and fills a ring of 1,024 calls 97 times; the tap, on the same thread, empties it each time.
@@ -34,7 +34,7 @@ def medians(results, case):
 
 
 def main():
-    program = sys.argv[1] if len(sys.argv) > 1 else os.path.join(TOP, "crates/asking/out/asking")
+    program = sys.argv[1] if len(sys.argv) > 1 else os.path.join(TOP, "crates/tools/out/tools")
     runs = int(sys.argv[2]) if len(sys.argv) > 2 else 5
     results = [run(program) for _ in range(runs)]
     print("%-16s %23s %7s %7s %15s" % ("", "million asks a second", "least", "most", "asked and taken"))

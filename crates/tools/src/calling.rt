@@ -1,14 +1,10 @@
-//! `calling`: the calls of docs/calling.md as one program. It prints a line for each part, about a
-//! race of two threads.
-#![tactic(auto)]
+//! The calls of docs/calling.md, on a race of two threads.
 
-mod drives;
-mod runs;
-mod sessions;
-mod starts;
-mod texts;
-
+use crate::{drives, runs, sessions, texts};
 use std::io;
+use std::sync::Wait;
+use std::thread::Threads;
+use std::time::Clock;
 
 /// A race: the writer says that the data is ready before it is.
 const TEXT: &[u8] = b"decl ready, data;\n\
@@ -23,7 +19,8 @@ fn unexpected() -> io::Error {
     io::Error::other("an answer is missing")
 }
 
-fn main(rt: HostRuntime) -> io::Result<()> {
+/// Makes the calls, and prints a line for each part of the page.
+pub fn call<R: Threads + Wait + Clock + Sync>(rt: &HostRuntime, threads: &R) -> io::Result<()> {
     let alloc = rt.alloc();
     match texts::code_or_fault(alloc, TEXT) {
         Ok(code) => println!(rt; "code: {} instructions", code.len())?,
@@ -38,7 +35,7 @@ fn main(rt: HostRuntime) -> io::Result<()> {
         None => return Err(unexpected()),
     }
     let mut trace = Vec::new(alloc);
-    match runs::turns_of(&rt, alloc, TEXT, &mut trace) {
+    match runs::turns_of(threads, alloc, TEXT, &mut trace) {
         Some(others) => println!(rt; "run: some turns made no step: {}", others > 0)?,
         None => return Err(unexpected()),
     }

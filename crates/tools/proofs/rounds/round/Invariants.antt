@@ -1,4 +1,4 @@
-use Rattle.asking.proofs.rounds.round.Given as goal
+use Rattle.tools.proofs.rounds.round.Given as goal
 
 abbrev pub ghosts-round_at-C-Calls : goal.ghosts-round_at-C-Calls
 ghosts-round_at-C-Calls g a = record { ring = a.kit.ring; code = a.code.now; setup = a.setup.now }

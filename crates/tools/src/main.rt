@@ -1,0 +1,42 @@
+//! `tools`: what the scripts run of the libraries. Without a word it makes a few asks, the calls of
+//! docs/calling.md, and reads the texts of one byte and of up to two tokens. With `times` it measures
+//! the asks, for `bench/asking.py`. With `bytes` it reads the texts of up to three bytes, with
+//! `tokens` those of up to five tokens, for `.ci/texts`.
+#![tactic(auto)]
+
+mod asking;
+mod calling;
+mod cases;
+mod drives;
+mod pieces;
+mod rounds;
+mod runs;
+mod sessions;
+mod short_texts;
+mod starts;
+mod texts;
+
+use std::sync::Wait;
+use std::thread::Threads;
+use std::time::Clock;
+use std::{env, io};
+
+/// Runs each tool, so that one run takes a second.
+fn run_each<R: Threads + Wait + Clock + Sync>(rt: &HostRuntime, threads: &R) -> io::Result<()> {
+    asking::ask(rt, threads, 1, false)?;
+    calling::call(rt, threads)?;
+    short_texts::print(rt.stdout(), rt.alloc(), 1, 2)
+}
+
+fn main(rt: HostRuntime) -> io::Result<()> {
+    let words: Vec<String> = env::args(&rt)?.collect(rt.alloc())?;
+    match words.get(1) {
+        None => run_each(&rt, &rt),
+        Some(word) if word.as_str() == "times" => asking::ask(&rt, &rt, 100, true),
+        Some(word) if word.as_str() == "bytes" => short_texts::print(rt.stdout(), rt.alloc(), 3, 0),
+        Some(word) if word.as_str() == "tokens" => {
+            short_texts::print(rt.stdout(), rt.alloc(), 0, 5)
+        }
+        Some(_) => Ok(()),
+    }
+}
