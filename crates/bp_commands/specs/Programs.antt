@@ -111,7 +111,9 @@ module _ (start : StartOf) (named : List NamedBitOf) (text : List ℕ) where
     pub program : Program
     pub of : IsProgramWith program
     pub cause : SetupFault
-    pub why : IsSetupRefusal program (setup_from (start_asked start named program) None program) cause
+    pub why :
+        let asked = start_asked start named program in
+        IsSetupRefusal program (setup_from asked None program) cause
     pub is : f ≡ fault_of_setup cause
 
   -- the text is that of a lawful program, and the name of this number is the first of no global

@@ -32,14 +32,12 @@ fn tells_frames(session: &Session) -> bool {
         && session.top_below(1, 1).is_none()
 }
 
-/// Makes a call of thread 1, and copies the code. The session has this code and setup, and stands
-/// after the call.
+/// Makes a call of thread 1. The session has this code and setup, and stands after the call.
 fn makes(rt: &HostRuntime, session: &mut Session, code: &Code, setup: &Setup) -> Result<(), Fail> {
     begin(rt)?;
     let call = session.ask(1)?;
-    let copy = code.try_copy()?;
     wants(
-        session.code().len() == copy.len()
+        session.code().len() == code.len()
             && session.setup().seed() == setup.seed()
             && stands_after_a_step(session)
             && tells_frames(session)
@@ -88,7 +86,7 @@ fn has_choices(code: &Code, setup: &Setup) -> bool {
         && first == [true, true, true, false]
 }
 
-/// What is written of a code, and of two calls of a setup.
+/// What is written of a copy of a code, and of two calls of a setup.
 const WRITTEN: &[u8] = b"proc main 0 0\n0 call 2 1\n1 return\n\
     proc f 1 0\n2 call 2 3\n3 return\n\
     -\n\
@@ -118,7 +116,8 @@ fn writers_and_accessors(rt: HostRuntime) -> Result<(), Fail> {
     let setup = setup(rt.alloc(), &code, 1, Some(42))?;
     let mut out = Vec::with_capacity(rt.alloc(), 4096)?;
     begin(&rt)?;
+    let copy = code.try_copy()?;
     let is_right = has_parts(&code) && has_choices(&code, &setup);
-    let done = writes(&code, &setup, &mut out);
+    let done = writes(&copy, &setup, &mut out);
     wants(is_right && done.is_ok() && out.as_slice() == WRITTEN)
 }
