@@ -1,13 +1,12 @@
 -- What was written of a view, call by call, is the beginning of a whole one.
-use Rattle.std.proofs.Common.{◌≡◌, ◌∙◌, ◌<◌, ◌≤◌, ◌++◌, ◌-◌, ℕ, zero, suc, Bool, true, false, cond, List, [], ◌∷◌, codes, take, length, length-append, length-take, get_or, map, max, min, ap, refl, arith, slice_get, Some, ◌+◌, Option, drop, add-one, sym, subst, drop-cons, take-append-drop, ◌&&◌, ◌⊎◌, inl, inr, None, nat_le, unwrap_or, decimal, append-nil, add-zero, Bor, nat_lt, option_map}
+use Rattle.std.proofs.Common.{◌≡◌, ◌∙◌, ◌<◌, ◌≤◌, ◌++◌, ◌-◌, ℕ, zero, suc, Bool, true, false, cond, List, [], ◌∷◌, codes, take, length, length-append, length-take, get_or, map, max, min, ap, refl, arith, slice_get, Some, ◌+◌, Option, drop, add-one, sym, subst, drop-cons, take-append-drop, ◌&&◌, ◌⊎◌, inl, inr, None, nat_le, unwrap_or, append-nil, add-zero, Bor, nat_lt, option_map}
 use Rattle.std.proofs.lemmas.Bool.Decides.{nat_tests}
 use Rattle.std.proofs.lemmas.List.{take_all, take_more, length-take-le}
 use Rattle.std.proofs.lemmas.Option.{slice_get-get_or}
 use Rattle.std.proofs.KnownBytes.{Appends-nil}
-use Rattle.std.specs.List.{concat}
 use Rattle.std.specs.Option.{option_copied}
 use Rattle.bp_text.specs.Writing.{AppendsAll}
-use Rattle.bp_text.proofs.PartsOfTexts.{part_of_each, both_added, regrouped}
+use Rattle.bp_text.proofs.PartsOfTexts.{part_of_each, both_added}
 use Rattle.bp_text.proofs.Givings.{HasParts, IsKind, part_written}
 use Rattle.bp_language.specs.Ast.{Procedure, Program, Name}
 use Rattle.bp_flat.specs.StandsFor.{Place, start_of_block, StandsFor, places_of}
@@ -271,12 +270,6 @@ module _ (t : Program) (text : List ℕ) (s : SetupOf) (x : ViewContext) where
         part_written (none_before m (omega (arith, few)) (omega (arith, before))) (no_line m (omega (arith, few)) before) (record { grown = Appends-nil b })
 
 -- One thread more, and the line of globals where there are some.
-
-five_parts : (a b c d e : List ℕ) → concat (a ∷ b ∷ c ∷ d ∷ e ∷ []) ≡ a ++ b ++ c ++ d ++ e
-five_parts a b c d e = simp regrouped
-
-pub line_of_pieces : (i : ℕ) (entry : List ℕ) → concat (codes "thread " ∷ decimal i ∷ codes " begins in " ∷ entry ∷ codes "\n" ∷ []) ≡ thread_line i entry
-line_of_pieces i entry = five_parts (codes "thread ") (decimal i) (codes " begins in ") entry (codes "\n")
 
 pub thread_more : (i n : ℕ) (es : List (List ℕ)) → n < length es
     → thread_lines i (take (suc n) es) ≡ thread_lines i (take n es) ++ thread_line (i + n) (unwrap_or (slice_get es n) [])

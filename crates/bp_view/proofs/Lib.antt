@@ -14,3 +14,4 @@ pub mod SingleFacts
 pub mod OneContext
 pub mod OneFoot
 pub mod PlacedStacks
+pub mod Growing

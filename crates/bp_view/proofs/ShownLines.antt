@@ -1,5 +1,5 @@
 -- The line of a call, where it has one, and nothing where it has none.
-use Rattle.std.proofs.Common.{if◌then◌else◌, ◌≡◌, ◌∙◌, ◌+◌, ◌-◌, ◌<◌, ◌++◌, ℕ, zero, suc, true, List, [], ◌∷◌, codes, nat_lt, take, drop, length, length-drop, ap, ap₂, refl, sym, arith, ◌≤◌, length-append, append-nil, ◌/◌, ◌%◌, ◌^◌, ◌==◌, ◌⊎◌, inl, inr, false, decimal, append_assoc, max, Bool, Option, None, ◌&&◌, subst, slice_set}
+use Rattle.std.proofs.Common.{if◌then◌else◌, ◌≡◌, ◌∙◌, ◌+◌, ◌-◌, ◌<◌, ◌++◌, ℕ, suc, true, List, [], ◌∷◌, codes, nat_lt, take, length, ap, ap₂, refl, sym, arith, ◌≤◌, length-append, append-nil, ◌/◌, ◌%◌, ◌^◌, ◌==◌, ◌⊎◌, inl, inr, false, decimal, append_assoc, max, Bool, Option, None, ◌&&◌, subst, slice_set}
 use Rattle.std.proofs.lemmas.Bool.Decides.{nat_tests}
 use Rattle.std.specs.List.{concat}
 use Rattle.std.proofs.lemmas.Bool.{cases_lt}
@@ -7,8 +7,7 @@ use Rattle.std.proofs.lemmas.Fmt.{decimal_digit, decimal_step}
 use Rattle.std.proofs.Math.ListN.{length-replicate}
 use Rattle.std.proofs.lemmas.List.{replicate-append-replicate}
 use Rattle.bp_text.specs.Pieces.{spaces, at_right, at_left}
-use Rattle.bp_text.specs.Lines.{Adds}
-use Rattle.bp_text.proofs.PartsOfTexts.{both_added, all_added, regrouped, pair_added}
+use Rattle.bp_text.proofs.PartsOfTexts.{regrouped}
 use Rattle.bp_language.specs.Ast.{Program}
 use Rattle.bp_flat.specs.Moves.{Configuration}
 use Rattle.bp_machine.specs.declared.calls.Call.{Call}
@@ -21,69 +20,30 @@ use Rattle.bp_view.specs.CallFacts.{ShownCall, printed_by, changes_by, AreCallFa
 use Rattle.bp_view.specs.declared.filters.CallFilter.{CallFilter}
 use Rattle.bp_view.specs.declared.checkpoints.ReplayedCall.{ReplayedCall}
 use Rattle.bp_view.specs.Filters.{calls_at, calls_of, is_asked, is_seen, watched_names}
-use Rattle.bp_view.specs.Lines.{shortened, after_room, front_text, tens_digits, tens_text, turn_texts, field_texts, mark_text}
+use Rattle.bp_view.specs.Lines.{shortened, front_text, tens_digits, tens_text, turn_texts, field_texts, mark_text}
 use Rattle.bp_view.specs.declared.fronts.FrontKey.{FrontKey}
 use Rattle.bp_view.specs.declared.view_contexts.Widths.{Widths}
 use Rattle.bp_view.specs.Views.{line_in, next_print_in, printed_in, filter_of, has_line, IsShownLine, IsViewLineIf}
-use Rattle.bp_view.specs.States.{condition_lines, values_line}
+use Rattle.bp_view.specs.Buffers.{Gains, Grown}
+use Rattle.bp_view.specs.declared.buffers.Buffer.{Buffer}
+use Rattle.bp_view.proofs.Growing.{gains, nothing}
 use Rattle.bp_view.specs.declared.view_contexts.ViewContext.{ViewContext}
 
 -- What is after the first bytes of a line, cut.
-
-abbrev nothing : List ℕ
-nothing = []
-
-none_taken : (k : ℕ) → take k nothing ≡ nothing
-none_taken zero = refl
-none_taken (suc k) = refl
-
-taken_both : (n k : ℕ) (xs : List ℕ) → take (n + k) xs ≡ take n xs ++ take k (drop n xs)
-taken_both zero k xs = let same : 0 + k ≡ k = omega arith in ap (λ m. take m xs) same
-taken_both (suc n) k [] = none_taken (suc n + k) ∙ sym (none_taken k)
-taken_both (suc n) k (x ∷ xs) =
-    let same : suc n + k ≡ suc (n + k) = omega arith in
-    ap (λ m. take m (x ∷ xs)) same ∙ ap (λ ys. x ∷ ys) (taken_both n k xs)
 
 pub taken : (a b : List ℕ) → take (length a) (a ++ b) ≡ a
 taken [] b = refl
 taken (x ∷ a) b = ap (λ ys. x ∷ ys) (taken a b)
 
-dropped : (a b : List ℕ) → drop (length a) (a ++ b) ≡ b
-dropped [] b = refl
-dropped (x ∷ a) b = dropped a b
+pub cut_short : (room : ℕ) (text : List ℕ) → length text ≤ room → shortened room text ≡ text
+cut_short room text few =
+    let all : nat_lt room (length text) ≡ false = grind (arith, nat_tests, few) in
+    ap (λ b. if b then take (room - 2) text ++ codes ".." else text) all
 
--- a line that is too long after its first bytes
-pub cut : (columns start : ℕ) (line : List ℕ) → columns < length line - start
-    → take (start + (columns - 2)) line ++ codes ".." ≡ take start line ++ shortened columns (drop start line)
-cut columns start line more =
-    let rest = drop start line in
-    let long : nat_lt columns (length rest) ≡ true = let size = length-drop start line in grind (arith, nat_tests, size, more) in
-    let own = ap (λ b. if b then take (columns - 2) rest ++ codes ".." else rest) (sym long) in
-    both_added (take start line) _ _ (take (columns - 2) rest) (codes "..") _ refl (taken_both start (columns - 2) line) own
-
--- what was added to a line is cut
-pub added_cut : (columns : ℕ) (first more line : List ℕ) (start : ℕ) → start ≡ length first → line ≡ first ++ more
-    → take start line ++ shortened columns (drop start line) ≡ first ++ shortened columns more
-added_cut columns first more line start begins is =
-    ap₂ (λ n y. take n y ++ shortened columns (drop n y)) begins is
-    ∙ ap₂ (λ a b. a ++ shortened columns b) (taken first more) (dropped first more)
-
--- A note after spaces, and a line that has no note and loses these spaces.
-
-pub some_note : (old spaced new note : List ℕ) (room : ℕ) → spaced ≡ old ++ spaces room → new ≡ spaced ++ note → length spaced < length new
-    → new ≡ old ++ after_room room note
-some_note old spaced new [] room has is more = absurd (omega (arith, ap length is, length-append spaced [], more))
-some_note old spaced new (b ∷ bs) room has is more =
-    is ∙ ap (λ y. y ++ (b ∷ bs)) has ∙ all_added old (spaces room ∷ (b ∷ bs) ∷ [])
-
-pub no_note : (old spaced new note : List ℕ) (room : ℕ) → spaced ≡ old ++ spaces room → new ≡ spaced ++ note → length new ≤ length spaced
-    → (end : ℕ) → end ≡ length old → take end new ≡ old ++ after_room room note
-no_note old spaced new [] room has is few end ends =
-    ap (λ n. take n new) ends
-    ∙ ap (λ y. take (length old) y) (is ∙ append-nil spaced ∙ has)
-    ∙ taken old (spaces room)
-    ∙ sym (append-nil old)
-no_note old spaced new (b ∷ bs) room has is few end ends = absurd (omega (arith, ap length is, length-append spaced (b ∷ bs), few))
+pub cut_long : (room : ℕ) (text : List ℕ) → room < length text → shortened room text ≡ take (room - 2) text ++ codes ".."
+cut_long room text more =
+    let long : nat_lt room (length text) ≡ true = grind (arith, nat_tests, more) in
+    ap (λ b. if b then take (room - 2) text ++ codes ".." else text) long
 
 -- The fields of a line before its place, by their parts that are kept.
 
@@ -148,17 +108,12 @@ parts_put k text m d mark digit last is ends =
 
 -- The place of a call and its statement, with the spaces between them, and how long the place is in its column.
 
-gap_added : (old place statement : List ℕ) (padding indent : ℕ)
-    → old ++ place ++ spaces (padding + indent) ++ statement ≡ old ++ (place ++ spaces padding) ++ concat (spaces indent ∷ statement ∷ [])
-gap_added old place statement padding indent =
-    ap (λ gap. old ++ place ++ gap ++ statement) (sym (replicate-append-replicate padding indent 32)) ∙ simp regrouped
-
-pub statement_added : (old place shown end whole : List ℕ) (padding indent gap : ℕ) → gap ≡ padding + indent → shown ++ end ≡ whole
-    → old ++ place ++ spaces gap ++ shown ++ end ≡ old ++ (place ++ spaces padding) ++ concat (spaces indent ∷ whole ∷ [])
-statement_added old place shown end whole padding indent gap gap_is cut =
-    ap (λ n. old ++ place ++ spaces n ++ shown ++ end) gap_is
-    ∙ pair_added (old ++ place ++ spaces (padding + indent)) shown end whole cut
-    ∙ gap_added old place whole padding indent
+pub statement_is : (place shown end whole : List ℕ) (padding indent gap : ℕ) → gap ≡ padding + indent → shown ++ end ≡ whole
+    → place ++ (spaces gap ++ (shown ++ end)) ≡ (place ++ spaces padding) ++ concat (spaces indent ∷ whole ∷ [])
+statement_is place shown end whole padding indent gap gap_is cut =
+    ap₂ (λ n x. place ++ (spaces n ++ x)) gap_is cut
+    ∙ ap (λ g. place ++ (g ++ whole)) (sym (replicate-append-replicate padding indent 32))
+    ∙ simp regrouped
 
 pub place_length : (width : ℕ) (place : List ℕ) → length (at_left width place) ≡ max width (length place)
 place_length width place = omega (arith, length-append place (spaces (width - length place)), length-replicate {A = ℕ} (width - length place) 32)
@@ -183,44 +138,10 @@ pub printed_line : (format : ViewFormat) (has_colour : Bool) (w : Widths) (f : S
 printed_line Columns has_colour w f calls c x = refl
 printed_line Json has_colour w f calls c x = refl
 
--- Texts that are joined in one order are those that are joined in another.
-
-condition_parts : (a b c d l v : List ℕ) → concat (a ∷ b ∷ c ∷ d ∷ l ∷ v ∷ []) ≡ concat (concat (a ∷ b ∷ c ∷ d ∷ []) ∷ (l ++ v) ∷ [])
-condition_parts a b c d l v = simp regrouped
-
-statement_joined : (place statement lead values : List ℕ) → lead ++ values ≡ values_line values
-    → concat (codes " at " ∷ place ∷ codes ": " ∷ statement ∷ lead ∷ values ∷ []) ≡ condition_lines place statement values
-statement_joined place statement lead values line =
-    condition_parts (codes " at ") place (codes ": ") statement lead values
-    ∙ ap (λ x. concat (concat (codes " at " ∷ place ∷ codes ": " ∷ statement ∷ []) ∷ x ∷ [])) line
-
-place_parts : (a n k l b c d e f g : List ℕ)
-    → concat (a ∷ n ∷ k ∷ l ∷ b ∷ c ∷ d ∷ e ∷ f ∷ g ∷ []) ≡ concat (a ∷ (n ++ k ++ (l ++ b ++ c)) ∷ d ∷ e ∷ f ∷ g ∷ [])
-place_parts a n k l b c d e f g = simp regrouped
-
-pub condition_joined : (file line column statement lead values : List ℕ) → lead ++ values ≡ values_line values
-    → concat (codes " at " ∷ file ∷ codes ":" ∷ line ∷ codes ":" ∷ column ∷ codes ": " ∷ statement ∷ lead ∷ values ∷ [])
-    ≡ condition_lines (file ++ codes ":" ++ (line ++ codes ":" ++ column)) statement values
-condition_joined file line column statement lead values is =
-    place_parts (codes " at ") file (codes ":") line (codes ":") column (codes ": ") statement lead values
-    ∙ statement_joined (file ++ codes ":" ++ (line ++ codes ":" ++ column)) statement lead values is
-
-frame_parts : (a b c d e f g h z : List ℕ)
-    → concat (a ∷ b ∷ c ∷ d ∷ e ∷ f ∷ g ∷ h ∷ z ∷ []) ≡ concat (concat (a ∷ b ∷ []) ∷ concat (c ∷ d ∷ e ∷ f ∷ g ∷ h ∷ []) ∷ z ∷ [])
-frame_parts a b c d e f g h z = simp regrouped
-
-pub frame_joined : (lead name place statement line values : List ℕ) → line ++ values ≡ values_line values
-    → concat (lead ∷ name ∷ codes " at " ∷ place ∷ codes ": " ∷ statement ∷ line ∷ values ∷ codes "\n" ∷ [])
-    ≡ concat (concat (lead ∷ name ∷ []) ∷ condition_lines place statement values ∷ codes "\n" ∷ [])
-frame_joined lead name place statement line values is =
-    frame_parts lead name (codes " at ") place (codes ": ") statement line values (codes "\n")
-    ∙ ap (λ x. concat (concat (lead ∷ name ∷ []) ∷ x ∷ codes "\n" ∷ [])) (statement_joined place statement line values is)
-
-pub foot_joined : (a b c d e f g o w z : List ℕ) → concat (a ∷ b ∷ c ∷ d ∷ e ∷ f ∷ g ∷ o ∷ w ∷ z ∷ []) ≡ concat (a ∷ b ∷ c ∷ d ∷ e ∷ f ∷ g ∷ []) ++ o ++ w ++ z
-foot_joined a b c d e f g o w z = simp regrouped
-
-pub limits_joined : (old a b c d e f : List ℕ) → old ++ concat (a ∷ b ∷ c ∷ d ∷ e ∷ f ∷ []) ≡ old ++ (a ++ b ++ c) ++ (d ++ e ++ f)
-limits_joined old a b c d e f = simp regrouped
+and_none : (a b : Bool) → (a && (b && false)) ≡ false
+and_none true true = refl
+and_none true false = refl
+and_none false b = refl
 
 module _ (t : Program) (text : List ℕ) (s : SetupOf) (context : ViewContext) (h : List Call) (x : Call) where
   abbrev o : ViewOptions
@@ -252,30 +173,23 @@ module _ (t : Program) (text : List ℕ) (s : SetupOf) (context : ViewContext) (
       → is_seen (watched_names o.watch) (changes_by t s h x) ≡ b → nat_lt 0 (calls_of (filter_of o) whole h x) ≡ c → has ≡ (a && (b && c))
   line_if a b c asked seen some = ap₂ (λ p q. p && q) asked (ap₂ (λ p q. p && q) seen some)
 
-  module _ (old : List ℕ) where
-    pub hidden : has ≡ false → Adds (IsShownLine t text s o w whole h x) old old
-    hidden none = record {
-      more = [];
-      is = sym (append-nil old);
-      more_are = subst (λ b. IsViewLineIf t text s o w whole b h x []) (sym none) refl;
-    }
+  pub no_calls : nat_lt 0 (calls_of (filter_of o) whole h x) ≡ false → has ≡ false
+  no_calls none =
+      let asked = is_asked (filter_of o) (length whole) (suc (length h)) x.thread in
+      let seen = is_seen (watched_names o.watch) (changes_by t s h x) in
+      ap (λ b. asked && (seen && b)) none ∙ and_none asked seen
 
-    module _ (some : has ≡ true) (f : ShownCall) (are : AreCallFacts t text s h x f) where
-      abbrev now : Configuration
-      now = configuration_after t s h
+  pub hidden : has ≡ false → (v : Buffer) → Gains (IsShownLine t text s o w whole h x) v v
+  hidden none v = gains (nothing {a = v}) (subst (λ b. IsViewLineIf t text s o w whole b h x []) (sym none) refl)
 
-      -- the line of the call, which stands for this many calls and shows these values
-      abbrev line : (calls : ℕ) → (printed : Option (List Bool)) → List ℕ
-      line calls printed = line_in o.format o.has_colour w f calls printed
-
-      pub shown : (printed : Option (List Bool)) → printed ≡ printed_in o.format now x → (calls : ℕ) → calls ≡ calls_of (filter_of o) whole h x
-          → (new : List ℕ) → new ≡ old ++ line calls printed → Adds (IsShownLine t text s o w whole h x) old new
-      shown printed printed_is calls calls_is new is =
-          let count = calls_of (filter_of o) whole h x in
-          let own = line count (printed_by now x) in
-          let same = ap₂ line calls_is printed_is ∙ printed_line o.format o.has_colour w f count now x in
-          record {
-            more = own;
-            is = is ∙ ap (λ y. old ++ y) same;
-            more_are = subst (λ b. IsViewLineIf t text s o w whole b h x own) (sym some) (record { facts = f; facts_are = are; is = refl });
-          }
+  pub shown : has ≡ true → (f : ShownCall) → AreCallFacts t text s h x f → (printed : Option (List Bool))
+      → printed ≡ printed_in o.format (configuration_after t s h) x → (calls : ℕ) → calls ≡ calls_of (filter_of o) whole h x
+      → (old new : Buffer) → Grown old new (line_in o.format o.has_colour w f calls printed) → Gains (IsShownLine t text s o w whole h x) old new
+  shown some f are printed printed_is calls calls_is old new given =
+      let now = configuration_after t s h in
+      let count = calls_of (filter_of o) whole h x in
+      let line : ℕ → Option (List Bool) → List ℕ = λ n p. line_in o.format o.has_colour w f n p in
+      let same = ap₂ line calls_is printed_is ∙ printed_line o.format o.has_colour w f count now x in
+      let own = line count (printed_by now x) in
+      gains (subst (Grown old new) same given)
+      (subst (λ b. IsViewLineIf t text s o w whole b h x own) (sym some) (record { facts = f; facts_are = are; is = refl }))

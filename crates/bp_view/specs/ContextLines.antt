@@ -9,7 +9,7 @@ use Rattle.bp_machine.specs.declared.calls.Report.{Report}
 use Rattle.bp_machine.specs.Histories.{IsLeastWithin, granted_threads}
 use Rattle.bp_machine.specs.Setups.{SetupOf}
 use Rattle.bp_text.specs.declared.lines.Position.{Position}
-use Rattle.bp_text.specs.Pieces.{at_left, at_right, key_text, list_text}
+use Rattle.bp_text.specs.Pieces.{at_left, at_right, key_text, list_text, spaces}
 use Rattle.bp_trace.specs.declared.replaying.Replayed.{Replayed}
 use Rattle.bp_trace.specs.Replays.{IsReplayed}
 use Rattle.bp_text.specs.Lines.{IsInParts}
@@ -18,20 +18,18 @@ use Rattle.bp_view.specs.ContextFacts.{AreContextFacts, ShownContext}
 use Rattle.bp_tasks.specs.declared.options.ViewFormat.{ViewFormat}
 use Rattle.bp_tasks.specs.declared.options.ViewFormat.TheVariants.{Columns, Json}
 use Rattle.bp_view.specs.declared.view_contexts.Widths.{Widths}
-use Rattle.bp_view.specs.Lines.{after_room, entries_text, extent, AreWidths}
+use Rattle.bp_view.specs.Lines.{entries_text, extent, led, AreWidths}
 
 -- a context for people
 abbrev pub context_line : Widths → ShownContext → List ℕ
 context_line w f =
     concat (
-    concat (
     codes "context " ∷ at_right w.context (decimal f.number)
     ∷ codes " thread " ∷ at_right w.thread (decimal f.thread)
     ∷ codes " calls " ∷ at_right w.number (decimal f.first)
     ∷ codes " to " ∷ at_right w.number (decimal f.last)
-    ∷ codes " from " ∷ [])
-    ∷ concat (at_left w.place f.from.place ∷ codes " to " ∷ f.to.place ∷ [])
-    ∷ after_room (w.place - length f.to.place) (entries_text Columns f.changes)
+    ∷ codes " from " ∷ at_left w.place f.from.place ∷ codes " to " ∷ f.to.place
+    ∷ led (spaces (w.place - length f.to.place)) (entries_text Columns f.changes)
     ∷ codes "\n" ∷ [])
 
 -- a place as an object of JSON, or null
@@ -47,14 +45,12 @@ position_or_null (Some p) =
 abbrev pub context_object : ShownContext → List ℕ
 context_object f =
     concat (
-    concat (
     codes "{\"kind\":\"context\""
     ∷ key_text (codes "context") ∷ decimal f.number
     ∷ key_text (codes "thread") ∷ decimal f.thread
     ∷ key_text (codes "first") ∷ decimal f.first
     ∷ key_text (codes "last") ∷ decimal f.last
-    ∷ key_text (codes "from") ∷ [])
-    ∷ position_or_null f.from.position
+    ∷ key_text (codes "from") ∷ position_or_null f.from.position
     ∷ key_text (codes "to") ∷ position_or_null f.to.position
     ∷ key_text (codes "changes") ∷ list_text (entries_text Json f.changes)
     ∷ codes "}\n" ∷ [])

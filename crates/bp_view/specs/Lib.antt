@@ -1,3 +1,4 @@
+pub mod Buffers
 pub mod Lines
 pub mod States
 pub mod ContextLines

@@ -150,18 +150,15 @@ note_text f calls =
     ∷ times_text calls
     ∷ entries_text Columns f.changes ∷ [])
 
--- a note after this many spaces; no space is left where there is no note
-abbrev pub after_room : ℕ → List ℕ → List ℕ
-after_room room [] = []
-after_room room (b ∷ bs) = concat (spaces room ∷ (b ∷ bs) ∷ [])
+-- a note after a lead; none is left where there is no note
+abbrev pub led : (lead note : List ℕ) → List ℕ
+led lead [] = []
+led lead (b ∷ bs) = lead ++ b ∷ bs
 
 -- the place in its column, and the statement
 abbrev pub standing_text : Widths → ShownCall → List ℕ
 standing_text w f =
-    concat (
-    at_left w.place f.next.place
-    ∷ indented w.statement f.next.depth f.next.text
-    ∷ [])
+    at_left w.place f.next.place ++ indented w.statement f.next.depth f.next.text
 
 -- the fields, the place, the statement, and after its column the note
 abbrev pub call_text : Widths → ShownCall → (calls : ℕ) → List ℕ
@@ -171,7 +168,7 @@ call_text w f calls =
     concat (field_texts w f)
     ∷ at_left w.place f.next.place
     ∷ statement
-    ∷ after_room (w.notes - length statement) (note_text f calls)
+    ∷ led (spaces (w.notes - length statement)) (note_text f calls)
     ∷ [])
 
 -- The same in at most this many columns. The place and the statement have those that the fields

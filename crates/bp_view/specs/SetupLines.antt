@@ -41,7 +41,8 @@ headings_in Json w = []
 
 -- the number of a thread, and the procedure in which it begins
 abbrev pub thread_line : ℕ → List ℕ → List ℕ
-thread_line i entry = codes "thread " ++ decimal i ++ codes " begins in " ++ entry ++ codes "\n"
+thread_line i entry =
+    concat (codes "thread " ∷ decimal i ∷ codes " begins in " ∷ entry ∷ codes "\n" ∷ [])
 
 -- a line for each of these entries, whose first is that of thread i
 abbrev pub thread_lines : ℕ → List (List ℕ) → List ℕ
@@ -54,45 +55,37 @@ globals_line [] = []
 globals_line (x ∷ xs) =
     codes "globals" ++ variables_text Columns None (x ∷ xs) ++ codes "\n"
 
-abbrev pub number_line : List ℕ → ℕ → List ℕ
-number_line key n = key ++ decimal n ++ codes "\n"
-
 abbrev pub seed_line : Option ℕ → List ℕ
 seed_line None = codes "seed none\n"
-seed_line (Some n) = number_line (codes "seed ") n
+seed_line (Some n) = concat (codes "seed " ∷ decimal n ∷ codes "\n" ∷ [])
+
+abbrev pub limit_lines : SetupOf → List ℕ
+limit_lines s =
+    concat (
+    codes "contexts at most " ∷ decimal s.contexts ∷ codes "\n"
+    ∷ codes "calls of a thread at most " ∷ decimal s.calls ∷ codes "\n" ∷ [])
 
 -- where the threads begin, the globals with their first values, the limits and the seed, and an
 -- empty line
 abbrev pub head_lines : List Name → SetupOf → List ℕ
 head_lines globals s =
-    thread_lines 0 s.entries
-    ++ globals_line (binding globals s.init)
-    ++ number_line (codes "contexts at most ") s.contexts
-    ++ number_line (codes "calls of a thread at most ") s.calls
-    ++ seed_line s.seed
-    ++ codes "\n"
-
--- the limits of a setup and its seed, and the end of its object
-abbrev pub limit_members : SetupOf → List ℕ
-limit_members s =
     concat (
-    key_text (codes "max_contexts") ∷ decimal s.contexts
-    ∷ key_text (codes "max_calls") ∷ decimal s.calls
-    ∷ key_text (codes "seed") ∷ number_or_null s.seed
-    ∷ codes "}\n" ∷ [])
+    thread_lines 0 s.entries
+    ∷ globals_line (binding globals s.init)
+    ∷ limit_lines s ∷ seed_line s.seed ∷ codes "\n" ∷ [])
 
 -- the same as an object of JSON, which says the version of the format
 abbrev pub head_object : List Name → SetupOf → List ℕ
 head_object globals s =
     concat (
-    concat (
     codes "{\"kind\":\"setup\",\"version\":2"
-    ∷ key_text (codes "threads") ∷ list_text (flat_map string_item s.entries) ∷ [])
-    ∷ concat (
-    key_text (codes "globals")
-    ∷ list_text (variables_text Json None (binding globals s.init)) ∷ [])
-    ∷ limit_members s
-    ∷ [])
+    ∷ key_text (codes "threads") ∷ list_text (flat_map string_item s.entries)
+    ∷ key_text (codes "globals")
+    ∷ list_text (variables_text Json None (binding globals s.init))
+    ∷ key_text (codes "max_contexts") ∷ decimal s.contexts
+    ∷ key_text (codes "max_calls") ∷ decimal s.calls
+    ∷ key_text (codes "seed") ∷ number_or_null s.seed
+    ∷ codes "}\n" ∷ [])
 
 -- the setup in this format
 abbrev pub head_in : ViewFormat → List Name → SetupOf → List ℕ

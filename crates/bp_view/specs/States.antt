@@ -1,5 +1,5 @@
 -- The text of a state, from its facts, and of the conditions and frames in it.
-use Rattle.std.specs.Prelude.{ℕ, List, [], ◌∷◌, ◌++◌, codes, decimal, map, if◌then◌else◌, ◌==◌, Some, flat_map, ◌≡◌, Option, None, length, take}
+use Rattle.std.specs.Prelude.{ℕ, List, [], ◌∷◌, codes, decimal, if◌then◌else◌, ◌==◌, Some, flat_map, ◌≡◌, Option, None, length, take}
 use Rattle.std.specs.List.{concat}
 use Rattle.bp_text.specs.declared.lines.Position.{Position}
 use Rattle.bp_text.specs.Pieces.{string_text, displayed, key_text, list_text, number_or_null}
@@ -11,7 +11,6 @@ use Rattle.bp_machine.specs.declared.calls.Report.{Report}
 use Rattle.bp_machine.specs.Setups.{SetupOf}
 use Rattle.bp_trace.specs.declared.replaying.Replayed.{Replayed}
 use Rattle.bp_trace.specs.Replays.{IsReplayed}
-use Rattle.bp_source.specs.SourceStatements.{position_text}
 use Rattle.bp_source.specs.Listings.{column_of, line_of}
 use Rattle.bp_tasks.specs.declared.options.ViewFormat.{ViewFormat}
 use Rattle.bp_tasks.specs.declared.options.ViewFormat.TheVariants.{Columns, Json}
@@ -19,23 +18,20 @@ use Rattle.bp_view.specs.FootFacts.{ShownCondition}
 use Rattle.bp_view.specs.StateFacts.{ShownFrame, AreStateFacts, ShownState, ShownThread}
 use Rattle.bp_view.specs.declared.state_facts.Standing.{Standing}
 use Rattle.bp_view.specs.declared.state_facts.Standing.TheVariants as standing
-use Rattle.bp_view.specs.Lines.{entries_text, variables_text}
+use Rattle.bp_view.specs.Lines.{entries_text, led, variables_text}
 use Rattle.bp_view.specs.SetupLines.{globals_line}
 
 -- The text of a condition, which is an assertion or an assumption, from its facts.
 
--- a line of values, and none where there are none
-abbrev pub values_line : List ℕ → List ℕ
-values_line [] = []
-values_line (b ∷ bs) = codes "\nvalues" ++ b ∷ bs
-
--- where a statement begins, its text, and the line of its values
-abbrev pub condition_lines : (place statement values : List ℕ) → List ℕ
-condition_lines place statement values =
+-- where in a file a statement begins, its text, and the line of its values
+abbrev pub condition_lines : (file : List ℕ) → Position → (statement values : List ℕ) → List ℕ
+condition_lines file position statement values =
     concat (
-    concat (codes " at " ∷ place ∷ codes ": " ∷ statement ∷ [])
-    ∷ values_line values
-    ∷ [])
+    codes " at " ∷ displayed file
+    ∷ codes ":" ∷ decimal position.line
+    ∷ codes ":" ∷ decimal position.column
+    ∷ codes ": " ∷ statement
+    ∷ led (codes "\nvalues") values ∷ [])
 
 -- the same as the members of an object
 abbrev pub condition_members : Position → (statement values : List ℕ) → List ℕ
@@ -50,8 +46,7 @@ condition_members position statement values =
 -- what is said of a condition in a view of this format; for people its place is in a file
 abbrev pub condition_text : ViewFormat → (file : List ℕ) → ShownCondition → List ℕ
 condition_text Columns file x =
-    let place = displayed file ++ codes ":" ++ position_text x.position in
-    condition_lines place x.text (entries_text Columns x.values)
+    condition_lines file x.position x.text (entries_text Columns x.values)
 condition_text Json file x = condition_members x.position x.text (entries_text Json x.values)
 
 -- the object of the thread that stands at it, and what is said of it
@@ -76,8 +71,10 @@ locals_text format x = variables_text format (Some x.procedure) x.locals
 abbrev pub frame_lines : ShownFrame → (values : List ℕ) → List ℕ
 frame_lines x values =
     concat (
-    concat (lead x.above ∷ x.procedure.name.text ∷ [])
-    ∷ condition_lines x.place x.text values
+    lead x.above ∷ x.procedure.name.text
+    ∷ codes " at " ∷ x.place
+    ∷ codes ": " ∷ x.text
+    ∷ led (codes "\nvalues") values
     ∷ codes "\n" ∷ [])
 
 -- the same as an object of JSON after a comma
@@ -155,9 +152,8 @@ failed_line (Failed i) =
 abbrev pub state_lines : ShownState → (threads : List ℕ) → List ℕ
 state_lines x threads =
     concat (
-    concat (
     codes "after call " ∷ decimal x.number
-    ∷ codes " of " ∷ decimal x.count ∷ codes "\n" ∷ [])
+    ∷ codes " of " ∷ decimal x.count ∷ codes "\n"
     ∷ failed_line x.outcome
     ∷ globals_line x.globals
     ∷ threads ∷ [])

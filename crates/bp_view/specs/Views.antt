@@ -38,20 +38,11 @@ use Rattle.bp_view.specs.ContextLines.{AreContextLines}
 
 -- The text of the foot of a view, from its facts: the report of the history.
 
--- the calls of a history, the contexts of its steps, and the threads that may continue
-abbrev pub counts_line : Report → List ℕ
-counts_line r =
-    concat (
-    codes "\n" ∷ decimal r.calls
-    ∷ codes " calls, contexts " ∷ decimal r.contexts
-    ∷ codes ", open threads " ∷ decimal r.left_open
-    ∷ codes "\n" ∷ [])
-
 -- the thread whose assertion failed, and what is said of the assertion, which is in this file
 abbrev pub failure_text : ViewFormat → (file : List ℕ) → ShownCondition → List ℕ
 failure_text Columns file x =
     concat (
-    concat (codes "an assertion of thread " ∷ decimal x.thread ∷ codes " failed" ∷ [])
+    codes "an assertion of thread " ∷ decimal x.thread ∷ codes " failed"
     ∷ condition_text Columns file x ∷ [])
 failure_text Json file x = condition_object x
 
@@ -71,16 +62,22 @@ outcome_text format file deadlocked (Some x) = failure_text format file x
 abbrev pub wait_text : ViewFormat → (file : List ℕ) → ShownCondition → List ℕ
 wait_text Columns file x =
     concat (
-    concat (codes "\nthread " ∷ decimal x.thread ∷ codes " waits" ∷ [])
+    codes "\nthread " ∷ decimal x.thread ∷ codes " waits"
     ∷ condition_text Columns file x ∷ [])
 wait_text Json file x = codes "," ++ condition_object x
 
 abbrev pub waits_text : ViewFormat → (file : List ℕ) → List ShownCondition → List ℕ
 waits_text format file xs = flat_map (wait_text format file) xs
 
--- the counts of a report, this text of its outcome, and this one of the threads that wait
+-- the calls of a history, the contexts of its steps, and the threads that may continue; this text
+-- of its outcome, and this one of the threads that wait
 abbrev pub foot_in_format : ViewFormat → Report → (outcome waits : List ℕ) → List ℕ
-foot_in_format Columns r outcome waits = counts_line r ++ outcome ++ waits ++ codes "\n"
+foot_in_format Columns r outcome waits =
+    concat (
+    codes "\n" ∷ decimal r.calls
+    ∷ codes " calls, contexts " ∷ decimal r.contexts
+    ∷ codes ", open threads " ∷ decimal r.left_open
+    ∷ codes "\n" ∷ outcome ∷ waits ∷ codes "\n" ∷ [])
 foot_in_format Json r outcome waits =
     concat (
     codes "{\"kind\":\"end\""

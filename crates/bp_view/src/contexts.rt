@@ -1,209 +1,168 @@
 //! The contexts of a history, a line for each.
-ghost use Rattle.std.specs.Prelude.{◌≡◌, ◌++◌, ℕ, suc, List, length, map, MatchResult, IfOk, OnOk};
+ghost use Rattle.std.specs.Prelude.{◌≡◌, ◌++◌, ℕ, suc, List, length, MatchResult, IfOk};
 ghost use Rattle.bp_language.specs.Ast.{Program};
 ghost use Rattle.bp_flat.specs.StandsFor.{StandsFor, InEach};
 ghost use Rattle.bp_machine.specs.declared.calls.Call.{Call as Answered};
 ghost use Rattle.bp_machine.specs.Setups.{FitsCode, SetupOf};
 ghost use Rattle.bp_trace.specs.Replays.{IsPlayable, IsReplayRefusal};
 ghost use Rattle.bp_text.specs.Pieces.{key_text};
-ghost use Rattle.bp_text.specs.Lines.{Adds, IsInParts};
+ghost use Rattle.bp_text.specs.Lines.{IsInParts};
 ghost use Rattle.bp_source.specs.SourceStatements.{AreSourceStatements};
-ghost use Rattle.bp_view.specs.CallFacts.{entry_of};
+ghost use Rattle.bp_view.specs.Buffers.{Gains, Grown};
 ghost use Rattle.bp_view.specs.ContextFacts.{context_in, AreSpans, IsSpan};
-ghost use Rattle.bp_tasks.specs.declared.options.ViewFormat.TheVariants.{Columns, Json};
 ghost use Rattle.bp_view.specs.ContextLines.{context_line, context_object, context_text, contexts_head, position_or_null, AreContextLines, AreContextsOfTrace, IsContextLine};
 ghost use Rattle.bp_view.specs.Views.{IsViewContextOf};
-ghost use Rattle.bp_view.specs.Lines.{entries_text};
 
+use crate::buffers::Buffer;
 use crate::call_facts::{ContextFacts, facts_of_context, fill_changes_within};
 use crate::change_facts::Change;
-use crate::lines::{push_changed, spaces_before};
+use crate::lines::push_changed;
 use crate::spans::{Span, spans_of};
 use crate::view_contexts::{ShownTrace, ViewContext, Widths, shown_trace_of};
 use bp_code::Checked;
 use bp_flat::Code;
 use bp_machine::Report;
-use bp_source::{push_three, push_two};
 use bp_tasks::ViewFormat;
-use bp_text::Piece::{Bytes, Key, Left, List, Number, NumberRight, Spaces};
-use bp_text::{Position, push_pieces};
+use bp_text::Piece::{Bytes, Key, Left, Number, NumberRight, Spaces};
+use bp_text::Position;
 use bp_trace::ReplayFault;
 use std::alloc::{AllocError, Global};
 
-/// Adds a context for people. `note` is what it changed.
-fn push_context_line<'a>(
-    view: &mut Vec<u8>,
-    note: &'a [u8],
-    widths: Widths,
-    facts: &ContextFacts<'a>,
-) -> Result<(), AllocError>
-    ensures { note.entry.now ≡ entries_text Columns (map entry_of facts.now.changes.now)
-        → let line = context_line widths (context_in facts.now) in
-        OnOk result (view.new.items ≡ view.old.items ++ line) }
+/// Adds a context for people.
+fn push_context_line(view: &mut Buffer, widths: Widths, facts: &ContextFacts<'_>)
+    ensures { Grown view.old view.new (context_line widths (context_in facts.now)) }
 {
     let (from, to) = (facts.from.place, facts.to.place);
-    let room = widths.place.saturating_sub(to.len());
-    push_pieces(
-        view,
-        &[
-            Bytes(b"context "),
-            NumberRight(widths.context, facts.number),
-            Bytes(b" thread "),
-            NumberRight(widths.thread, u64::from(facts.thread)),
-            Bytes(b" calls "),
-            NumberRight(widths.number, facts.first),
-            Bytes(b" to "),
-            NumberRight(widths.number, facts.last),
-            Bytes(b" from "),
-            Left(widths.place, from),
-            Bytes(b" to "),
-            Bytes(to),
-            Spaces(spaces_before(room, note)),
-            Bytes(note),
-            Bytes(b"\n"),
-        ],
-    )
+    view.put_pieces(&[
+        Bytes(b"context "),
+        NumberRight(widths.context, facts.number),
+        Bytes(b" thread "),
+        NumberRight(widths.thread, u64::from(facts.thread)),
+        Bytes(b" calls "),
+        NumberRight(widths.number, facts.first),
+        Bytes(b" to "),
+        NumberRight(widths.number, facts.last),
+        Bytes(b" from "),
+        Left(widths.place, from),
+        Bytes(b" to "),
+        Bytes(to),
+    ]);
+    let start = view.len();
+    view.put(Spaces(widths.place.saturating_sub(to.len())));
+    let middle = view.len();
+    push_changed(view, ViewFormat::Columns, facts.changes);
+    view.drop_lead(start, middle);
+    view.put(Bytes(b"\n"))
 }
 
 /// Adds a place as a member of an object: an object of JSON, or null.
-fn push_position(
-    view: &mut Vec<u8>,
-    key: &'static [u8],
-    position: Option<Position>,
-) -> Result<(), AllocError>
+fn push_position(view: &mut Buffer, key: &'static [u8], position: Option<Position>)
     ensures { let place = position_or_null position in
-        OnOk result (view.new.items ≡ view.old.items ++ key_text key.entry.now ++ place) }
+        Grown view.old view.new (key_text key.entry.now ++ place) }
 {
     let Some(position) = position else {
-        return push_two(view, Key(key), Bytes(b"null"));
+        return view.put_two(Key(key), Bytes(b"null"));
     };
-    push_pieces(
-        view,
-        &[
-            Key(key),
-            Bytes(b"{\"line\":"),
-            Number(position.line as u64),
-            Key(b"column"),
-            Number(position.column as u64),
-            Bytes(b"}"),
-        ],
-    )
+    view.put_pieces(&[
+        Key(key),
+        Bytes(b"{\"line\":"),
+        Number(position.line as u64),
+        Key(b"column"),
+        Number(position.column as u64),
+        Bytes(b"}"),
+    ])
 }
 
-/// Adds a context as an object of JSON. `note` is what it changed.
-fn push_context_object(
-    view: &mut Vec<u8>,
-    note: &[u8],
-    facts: &ContextFacts<'_>,
-) -> Result<(), AllocError>
-    ensures { note.now ≡ entries_text Json (map entry_of facts.now.changes.now)
-        → let object = context_object (context_in facts.now) in
-        OnOk result (view.new.items ≡ view.old.items ++ object) }
+/// Adds a context as an object of JSON.
+fn push_context_object(view: &mut Buffer, facts: &ContextFacts<'_>)
+    ensures { Grown view.old view.new (context_object (context_in facts.now)) }
 {
-    push_pieces(
-        view,
-        &[
-            Bytes(b"{\"kind\":\"context\""),
-            Key(b"context"),
-            Number(facts.number),
-            Key(b"thread"),
-            Number(u64::from(facts.thread)),
-            Key(b"first"),
-            Number(facts.first),
-            Key(b"last"),
-            Number(facts.last),
-        ],
-    )?;
-    push_position(view, b"from", facts.from.position)?;
-    push_position(view, b"to", facts.to.position)?;
-    push_three(view, Key(b"changes"), List(note), Bytes(b"}\n"))
+    view.put_pieces(&[
+        Bytes(b"{\"kind\":\"context\""),
+        Key(b"context"),
+        Number(facts.number),
+        Key(b"thread"),
+        Number(u64::from(facts.thread)),
+        Key(b"first"),
+        Number(facts.first),
+        Key(b"last"),
+        Number(facts.last),
+    ]);
+    push_position(view, b"from", facts.from.position);
+    push_position(view, b"to", facts.to.position);
+    view.put(Key(b"changes"));
+    let start = view.len();
+    push_changed(view, ViewFormat::Json, facts.changes);
+    view.close_list(start);
+    view.put(Bytes(b"}\n"))
 }
 
-/// Adds a context in the format of the view. `note` is what it changed.
-fn push_context_in(
-    view: &mut Vec<u8>,
-    note: &[u8],
-    context: &ViewContext<'_>,
-    facts: &ContextFacts<'_>,
-) -> Result<(), AllocError>
+/// Adds a context in the format of the view.
+fn push_context_in(view: &mut Buffer, context: &ViewContext<'_>, facts: &ContextFacts<'_>)
     ensures { let format = context.now.options.format in
-        note.now ≡ entries_text format (map entry_of facts.now.changes.now)
-        → let line = context_text format context.now.widths (context_in facts.now) in
-        OnOk result (view.new.items ≡ view.old.items ++ line) }
+        let line = context_text format context.now.widths (context_in facts.now) in
+        Grown view.old view.new line }
 {
     match context.options.format {
-        ViewFormat::Columns => push_context_line(view, note, context.widths, facts),
-        ViewFormat::Json => push_context_object(view, note, facts),
+        ViewFormat::Columns => push_context_line(view, context.widths, facts),
+        ViewFormat::Json => push_context_object(view, facts),
     }
 }
 
-/// Adds the line of the context of this number. `note` and `changes` are room for what it changed.
+/// Adds the line of the context of this number. `changes` is room for what it changed.
 fn push_context<'a>(
-    view: &mut Vec<u8>,
-    note: &mut Vec<u8>,
+    view: &mut Buffer,
     changes: &mut Vec<Change<'a>>,
     context: &ViewContext<'a>,
     number: u64,
     span: &Span,
-) -> Result<(), AllocError>
+)
     ensures { (t : Program) (text : List ℕ) (s : SetupOf) (h : List Answered)
         → IsViewContextOf t text context.now
         → IsSpan t s h number span.now
         → let format = context.now.options.format in
         let line = IsContextLine format t text s h context.now.widths number in
-        OnOk result (Adds line view.old.items view.new.items) }
+        Gains line view.old view.new }
 {
-    fill_changes_within(changes, &context.program, span)?;
-    note.clear();
-    push_changed(note, context.options.format, changes)?;
+    let Ok(()) = fill_changes_within(changes, &context.program, span) else {
+        return view.refuse();
+    };
     let facts = facts_of_context(&context.program, number, span, changes);
-    push_context_in(view, note, context, &facts)
+    push_context_in(view, context, &facts)
 }
 
-/// Adds a line for each context. `note` and `changes` are room for what one changed.
+/// Adds a line for each context. `changes` is room for what one changed.
 fn push_contexts<'a>(
-    view: &mut Vec<u8>,
-    note: &mut Vec<u8>,
+    view: &mut Buffer,
     changes: &mut Vec<Change<'a>>,
     context: &ViewContext<'a>,
     spans: &[Span],
-) -> Result<(), AllocError>
+)
     ensures { (t : Program) (text : List ℕ) (s : SetupOf) (h : List Answered)
         → IsViewContextOf t text context.now
         → AreSpans t s h spans.now
         → let line = IsContextLine context.now.options.format t text s h context.now.widths in
         let lines = IsInParts (λ k part. line (suc k) part) (length spans.now) in
-        OnOk result (Adds lines view.old.items view.new.items) }
+        Gains lines view.old view.new }
 {
     for (n, span) in spans.iter().enumerate() {
-        push_context(view, note, changes, context, n as u64 + 1, span)?;
+        push_context(view, changes, context, n as u64 + 1, span);
     }
-    Ok(())
 }
 
 /// Adds what comes before the contexts.
-fn push_contexts_head(
-    view: &mut Vec<u8>,
-    format: ViewFormat,
-    calls: u64,
-    contexts: u64,
-) -> Result<(), AllocError>
-    ensures { let head = contexts_head format calls contexts in
-        OnOk result (view.new.items ≡ view.old.items ++ head) }
+fn push_contexts_head(view: &mut Buffer, format: ViewFormat, calls: u64, contexts: u64)
+    ensures { Grown view.old view.new (contexts_head format calls contexts) }
 {
-    match format {
-        ViewFormat::Columns => Ok(()),
-        ViewFormat::Json => push_pieces(
-            view,
-            &[
-                Bytes(b"{\"kind\":\"contexts\",\"version\":1"),
-                Key(b"calls"),
-                Number(calls),
-                Key(b"contexts"),
-                Number(contexts),
-                Bytes(b"}\n"),
-            ],
-        ),
+    if let ViewFormat::Json = format {
+        view.put_pieces(&[
+            Bytes(b"{\"kind\":\"contexts\",\"version\":1"),
+            Key(b"calls"),
+            Number(calls),
+            Key(b"contexts"),
+            Number(contexts),
+            Bytes(b"}\n"),
+        ]);
     }
 }
 
@@ -230,13 +189,12 @@ fn contexts_in(
         return Err(AllocError);
     };
     let context = shown.context(checked, format);
-    let mut view = Vec::new(alloc);
+    let mut view = Buffer::new(alloc);
     let calls = context.history.len() as u64;
-    push_contexts_head(&mut view, format, calls, spans.len() as u64)?;
-    let mut note = Vec::new(alloc);
+    push_contexts_head(&mut view, format, calls, spans.len() as u64);
     let mut changes = Vec::new(alloc);
-    push_contexts(&mut view, &mut note, &mut changes, &context, &spans)?;
-    Ok(view)
+    push_contexts(&mut view, &mut changes, &context, &spans);
+    view.into_bytes()
 }
 
 /// A line for each context of a trace, and the report of the trace: the thread of the context, its

@@ -2,18 +2,20 @@
 //! the sign of a switch and the last digit of the number.
 //! The colours of a view's lines.
 //! The headings over the columns of a view.
-ghost use Rattle.std.specs.Prelude.{◌≡◌, Some, length, suc, OnOk, ◌++◌};
+ghost use Rattle.std.specs.Prelude.{◌≡◌, Some, length, suc, OnOk};
 ghost use Rattle.bp_text.specs.Pieces.{at_right, piece_text};
 ghost use Rattle.bp_view.specs.declared.fronts.FrontKey.{FrontKey};
+ghost use Rattle.bp_view.specs.Buffers.{Grown};
 ghost use Rattle.bp_view.specs.Lines.{front_text, tens_digits, tens_text, context_text, colour_of, opening};
 ghost use Rattle.bp_view.specs.SetupLines.{headings_in, headings_line, under_headings};
 
+use crate::buffers::Buffer;
 use crate::view_contexts::Widths;
 use bp_machine::Reply;
 use bp_source::{push_four, push_two};
 use bp_tasks::ViewFormat;
+use bp_text::Piece;
 use bp_text::Piece::{Bytes, Left, NumberRight, Right};
-use bp_text::{Piece, push_pieces};
 use std::alloc::{AllocError, Global};
 
 /// What these fields are made from, but for the sign and the last digit.
@@ -176,35 +178,27 @@ impl Widths {
 }
 
 /// Adds the headings of columns of these widths.
-fn push_line(head: &mut Vec<u8>, widths: Widths) -> Result<(), AllocError>
-    ensures { OnOk result (head.new.items ≡ head.old.items ++ headings_line widths) }
+fn push_line(head: &mut Buffer, widths: Widths)
+    ensures { Grown head.old head.new (headings_line widths) }
 {
-    push_pieces(
-        head,
-        &[
-            Bytes(b" "),
-            Right(widths.number, CALL),
-            Bytes(b" "),
-            Right(widths.thread, THREAD),
-            Bytes(b" "),
-            Right(widths.context, CONTEXT),
-            Bytes(b" "),
-            Left(widths.place, PLACE),
-            Bytes(b"  statement\n"),
-        ],
-    )
+    head.put_pieces(&[
+        Bytes(b" "),
+        Right(widths.number, CALL),
+        Bytes(b" "),
+        Right(widths.thread, THREAD),
+        Bytes(b" "),
+        Right(widths.context, CONTEXT),
+        Bytes(b" "),
+        Left(widths.place, PLACE),
+        Bytes(b"  statement\n"),
+    ])
 }
 
 /// Adds the headings of a view, in its format.
-pub(crate) fn push_headings(
-    head: &mut Vec<u8>,
-    format: ViewFormat,
-    widths: Widths,
-) -> Result<(), AllocError>
-    ensures { OnOk result (head.new.items ≡ head.old.items ++ headings_in format widths) }
+pub(crate) fn push_headings(head: &mut Buffer, format: ViewFormat, widths: Widths)
+    ensures { Grown head.old head.new (headings_in format widths) }
 {
-    match format {
-        ViewFormat::Columns => push_line(head, widths.under_headings()),
-        ViewFormat::Json => Ok(()),
+    if let ViewFormat::Columns = format {
+        push_line(head, widths.under_headings());
     }
 }

@@ -2,6 +2,7 @@
 //! texts of these facts, for people and in JSON.
 #![tactic(auto)]
 
+mod buffers;
 mod call_facts;
 mod change_facts;
 mod checkpoints;

@@ -1,10 +1,12 @@
 //! The line of a call in columns, from its facts.
-ghost use Rattle.std.specs.Prelude.{◌≡◌, ◌++◌, ◌∷◌, [], codes, map, OnOk};
+ghost use Rattle.std.specs.Prelude.{◌≡◌, ◌++◌, ◌∷◌, [], codes, map};
 ghost use Rattle.std.specs.List.{concat};
 ghost use Rattle.bp_text.specs.Pieces.{at_left, spaces};
+ghost use Rattle.bp_view.specs.Buffers.{Grown};
 ghost use Rattle.bp_view.specs.CallFacts.{facts_in, next_in, entry_of};
-ghost use Rattle.bp_view.specs.Lines.{closing, after_room, call_text, choice_text, column_line, field_texts, fitted_text, indented, mark_text, narrow_text, note_text, reply_note, times_text, entries_text};
+ghost use Rattle.bp_view.specs.Lines.{closing, call_text, choice_text, column_line, field_texts, fitted_text, indented, led, mark_text, narrow_text, note_text, reply_note, times_text, entries_text};
 
+use crate::buffers::Buffer;
 use crate::call_facts::{CallFacts, Next};
 use crate::change_facts::Change;
 use crate::fronts::{Colour, Front, FrontKey};
@@ -12,11 +14,8 @@ use crate::statement_columns::{cut_after, in_column};
 use crate::variables::push_value;
 use crate::view_contexts::{MAX_INDENTS, Widths};
 use bp_machine::Reply;
-use bp_source::{push_three, push_two};
 use bp_tasks::ViewFormat;
 use bp_text::Piece::{Bytes, Left, Number, Spaces};
-use bp_text::push_piece;
-use std::alloc::AllocError;
 
 /// What is said of a reply.
 fn reply_note(reply: Reply) -> &'static [u8]
@@ -41,14 +40,8 @@ fn mark(is_switch: bool) -> u8
 }
 
 /// Adds the fields of a call: its number, its thread and its context.
-fn push_fields(
-    line: &mut Vec<u8>,
-    front: &mut Front,
-    widths: &Widths,
-    facts: &CallFacts<'_>,
-) -> Result<(), AllocError>
-    ensures { let fields = concat (field_texts widths.now (facts_in facts.now)) in
-        OnOk result (line.new.items ≡ line.old.items ++ fields) }
+fn push_fields(line: &mut Buffer, front: &mut Front, widths: &Widths, facts: &CallFacts<'_>)
+    ensures { Grown line.old line.new (concat (field_texts widths.now (facts_in facts.now))) }
 {
     let key = FrontKey {
         tens: facts.number / 10,
@@ -59,31 +52,35 @@ fn push_fields(
         context_width: widths.context,
     };
     let digit = b'0' + (facts.number % 10) as u8;
-    front.set(key, mark(facts.is_switch), digit)?;
-    push_piece(line, Bytes(&front.text))
+    let Ok(()) = front.set(key, mark(facts.is_switch), digit) else {
+        return line.refuse();
+    };
+    line.put(Bytes(&front.text))
 }
 
 /// Adds the place of the statement, and the statement, moved to the right by the depth of the
 /// stack; no text where there is none.
-fn push_statement(line: &mut Vec<u8>, widths: &Widths, next: &Next<'_>) -> Result<(), AllocError>
+fn push_statement(line: &mut Buffer, widths: &Widths, next: &Next<'_>)
     ensures { let next = next_in next.now in
         let place = at_left widths.now.place next.place in
         let statement = indented widths.now.statement next.depth next.text in
-        OnOk result (line.new.items ≡ line.old.items ++ place ++ statement) }
+        Grown line.old line.new (place ++ statement) }
 {
     let Some(statement) = next.text else {
-        return push_piece(line, Left(widths.place, next.place));
+        return line.put(Left(widths.place, next.place));
     };
     let padding = widths.place.saturating_sub(next.place.len());
     let indent = 2 * next.depth.min(MAX_INDENTS);
     // The spaces after the place and those before the statement are added at once.
-    let gap = padding.checked_add(indent).ok_or(AllocError)?;
+    let Some(gap) = padding.checked_add(indent) else {
+        return line.refuse();
+    };
     let (shown, end) = in_column(widths.statement, statement);
-    push_three(line, Bytes(next.place), Spaces(gap), Bytes(shown))?;
+    line.put_three(Bytes(next.place), Spaces(gap), Bytes(shown));
     if end.is_empty() {
-        return Ok(());
+        return;
     }
-    push_piece(line, Bytes(end))
+    line.put(Bytes(end))
 }
 
 /// A choice bit, where one is shown.
@@ -98,84 +95,60 @@ fn choice_note(choice: Option<bool>) -> &'static [u8]
 }
 
 /// Adds the variables that a call changed.
-pub(crate) fn push_changed(
-    note: &mut Vec<u8>,
-    format: ViewFormat,
-    changes: &[Change<'_>],
-) -> Result<(), AllocError>
-    ensures { let changes = entries_text format (map entry_of changes.now) in
-        OnOk result (note.new.items ≡ note.old.items ++ changes) }
+#[tactic(auto, using(crate::proofs::SingleFacts::all_mapped))]
+pub(crate) fn push_changed(note: &mut Buffer, format: ViewFormat, changes: &[Change<'_>])
+    ensures { Grown note.old note.new (entries_text format (map entry_of changes.now)) }
 {
     for change in changes {
-        push_value(note, format, change.owner, change.name, change.value)?;
+        push_value(note, format, change.owner, change.name, change.value);
     }
-    Ok(())
 }
 
 /// Adds for how many calls a line stands, where these are several.
-fn push_times(note: &mut Vec<u8>, calls: usize) -> Result<(), AllocError>
-    ensures { OnOk result (note.new.items ≡ note.old.items ++ times_text calls) }
+fn push_times(note: &mut Buffer, calls: usize)
+    ensures { Grown note.old note.new (times_text calls) }
 {
     if calls > 1 {
-        return push_three(note, Bytes(b" "), Number(calls as u64), Bytes(b" times"));
+        note.put_three(Bytes(b" "), Number(calls as u64), Bytes(b" times"));
     }
-    Ok(())
 }
 
 /// Adds the note of a call: the choice bit where it is read, the reply where it is no step, for how
 /// many calls the line stands, and the variables that the step changed.
-fn push_note(line: &mut Vec<u8>, facts: &CallFacts<'_>, calls: usize) -> Result<(), AllocError>
-    ensures { let note = note_text (facts_in facts.now) calls in
-        OnOk result (line.new.items ≡ line.old.items ++ note) }
+fn push_note(line: &mut Buffer, facts: &CallFacts<'_>, calls: usize)
+    ensures { Grown line.old line.new (note_text (facts_in facts.now) calls) }
 {
     let (choice, reply) = (choice_note(facts.choice()), reply_note(facts.call.reply));
-    push_two(line, Bytes(choice), Bytes(reply))?;
-    push_times(line, calls)?;
+    line.put_two(Bytes(choice), Bytes(reply));
+    push_times(line, calls);
     push_changed(line, ViewFormat::Columns, facts.changes)
 }
 
-/// How many spaces come before a note that has this room before it; none before an empty note.
-pub(crate) fn spaces_before(room: usize, note: &[u8]) -> usize
-    ensures { spaces result ++ note.now ≡ after_room room note.now }
-{
-    if note.is_empty() { 0 } else { room }
-}
-
 /// Adds the note of a call after this many spaces, which go where the note is empty.
-fn push_note_after(
-    line: &mut Vec<u8>,
-    room: usize,
-    facts: &CallFacts<'_>,
-    calls: usize,
-) -> Result<(), AllocError>
-    ensures { let note = after_room room (note_text (facts_in facts.now) calls) in
-        OnOk result (line.new.items ≡ line.old.items ++ note) }
+fn push_note_after(line: &mut Buffer, room: usize, facts: &CallFacts<'_>, calls: usize)
+    ensures { let note = note_text (facts_in facts.now) calls in
+        Grown line.old line.new (led (spaces room) note) }
 {
-    let end = line.len();
-    push_piece(line, Spaces(room))?;
     let start = line.len();
-    push_note(line, facts, calls)?;
-    if line.len() > start {
-        return Ok(());
-    }
-    line.truncate(end);
-    Ok(())
+    line.put(Spaces(room));
+    let middle = line.len();
+    push_note(line, facts, calls);
+    line.drop_lead(start, middle)
 }
 
 /// Adds the fields of a call, its statement, and after that one's column its note.
 fn push_call(
-    line: &mut Vec<u8>,
+    line: &mut Buffer,
     front: &mut Front,
     widths: &Widths,
     facts: &CallFacts<'_>,
     calls: usize,
-) -> Result<(), AllocError>
-    ensures { let text = call_text widths.now (facts_in facts.now) calls in
-        OnOk result (line.new.items ≡ line.old.items ++ text) }
+)
+    ensures { Grown line.old line.new (call_text widths.now (facts_in facts.now) calls) }
 {
-    push_fields(line, front, widths, facts)?;
+    push_fields(line, front, widths, facts);
     let start = line.len();
-    push_statement(line, widths, &facts.next)?;
+    push_statement(line, widths, &facts.next);
     let place = widths.place.max(facts.next.place.len());
     let size = line.len().saturating_sub(start).saturating_sub(place);
     push_note_after(line, widths.notes.saturating_sub(size), facts, calls)
@@ -184,81 +157,81 @@ fn push_call(
 /// Adds a call in at most this many columns: its note, and before it as much of the place and the
 /// statement as there is room for.
 fn push_narrow_call(
-    line: &mut Vec<u8>,
+    line: &mut Buffer,
     front: &mut Front,
     widths: &Widths,
     columns: usize,
     facts: &CallFacts<'_>,
     calls: usize,
-) -> Result<(), AllocError>
+)
     ensures { let text = narrow_text columns widths.now (facts_in facts.now) calls in
-        OnOk result (line.new.items ≡ line.old.items ++ text) }
+        Grown line.old line.new text }
 {
-    let mut note = Vec::new(*line.allocator());
-    push_note(&mut note, facts, calls)?;
+    let mut note = Buffer::new(line.allocator());
+    push_note(&mut note, facts, calls);
     let start = line.len();
-    push_fields(line, front, widths, facts)?;
+    push_fields(line, front, widths, facts);
     let fields = line.len();
-    push_statement(line, widths, &facts.next)?;
+    push_statement(line, widths, &facts.next);
     let room = columns
-        .saturating_sub(fields - start)
+        .saturating_sub(fields.saturating_sub(start))
         .saturating_sub(note.len());
-    cut_after(line, fields, room)?;
-    let padding = room.saturating_sub(line.len() - fields);
-    push_two(line, Spaces(padding), Bytes(&note))?;
+    cut_after(line, fields, room);
+    let standing = line.len().saturating_sub(fields);
+    line.put(Spaces(room.saturating_sub(standing)));
+    line.put_all(&note);
     cut_after(line, start, columns)
 }
 
 /// Adds a call, narrowed if lines may have fewer columns than it needs.
 fn push_fitted_call(
-    line: &mut Vec<u8>,
+    line: &mut Buffer,
     front: &mut Front,
     widths: &Widths,
     facts: &CallFacts<'_>,
     calls: usize,
-) -> Result<(), AllocError>
+)
     ensures { let widths = widths.now in
         let text = fitted_text widths.line widths (facts_in facts.now) calls in
-        OnOk result (line.new.items ≡ line.old.items ++ text) }
+        Grown line.old line.new text }
 {
     let start = line.len();
-    push_call(line, front, widths, facts, calls)?;
+    push_call(line, front, widths, facts, calls);
     let Some(columns) = widths.line else {
-        return Ok(());
+        return;
     };
-    if line.len() - start <= columns {
-        return Ok(());
+    if line.len().saturating_sub(start) <= columns {
+        return;
     }
     line.truncate(start);
     push_narrow_call(line, front, widths, columns, facts, calls)
 }
 
 /// Ends a line in this colour.
-fn push_end(line: &mut Vec<u8>, colour: Colour) -> Result<(), AllocError>
-    ensures { let end = concat (closing colour ∷ codes "\n" ∷ []) in
-        OnOk result (line.new.items ≡ line.old.items ++ end) }
+fn push_end(line: &mut Buffer, colour: Colour)
+    ensures { Grown line.old line.new (concat (closing colour ∷ codes "\n" ∷ [])) }
 {
     match colour {
-        Colour::Plain => push_piece(line, Bytes(b"\n")),
-        Colour::Red | Colour::Yellow => push_piece(line, Bytes(b"\x1b[0m\n")),
+        Colour::Plain => line.put(Bytes(b"\n")),
+        Colour::Red | Colour::Yellow => line.put(Bytes(b"\x1b[0m\n")),
     }
 }
 
 /// Adds the line of a call, which stands for this many calls. It is in colour where that is wanted
 /// and the call is a failure or a switch. `front` has the thread and the context of another line.
 pub(crate) fn push_line(
-    line: &mut Vec<u8>,
+    line: &mut Buffer,
     front: &mut Front,
     widths: &Widths,
     has_colour: bool,
     facts: &CallFacts<'_>,
     calls: usize,
-) -> Result<(), AllocError>
+)
     ensures { let text = column_line has_colour widths.now (facts_in facts.now) calls in
-        OnOk result (line.new.items ≡ line.old.items ++ text) }
+        Grown line.old line.new text }
 {
     let colour = Colour::of(has_colour, facts.call.reply, facts.is_switch);
-    push_piece(line, Bytes(colour.opening()))?;
-    push_fitted_call(line, front, widths, facts, calls)?;
+    line.put(Bytes(colour.opening()));
+    push_fitted_call(line, front, widths, facts, calls);
     push_end(line, colour)
 }

@@ -1,47 +1,39 @@
 //! The text of the foot of a view, from its facts: the report of the history.
-ghost use Rattle.std.specs.Prelude.{◌≡◌, ◌++◌, ℕ, List, map, option_map, OnOk, IfOk};
+ghost use Rattle.std.specs.Prelude.{◌≡◌, ℕ, List, map, option_map, IfOk};
 ghost use Rattle.bp_language.specs.Ast.{Program};
 ghost use Rattle.bp_flat.specs.StandsFor.{StandsFor};
 ghost use Rattle.bp_machine.specs.declared.calls.Call.{Call as Answered};
 ghost use Rattle.bp_machine.specs.Histories.{outcome_of};
 ghost use Rattle.bp_machine.specs.Sessions.{Stands};
-ghost use Rattle.bp_view.specs.FootFacts.{condition_in};
+ghost use Rattle.bp_view.specs.Buffers.{Gains, Grown};
+ghost use Rattle.bp_view.specs.FootFacts.{condition_in, foot_in};
 ghost use Rattle.bp_tasks.specs.declared.options.ViewFormat.TheVariants.{Columns, Json};
-ghost use Rattle.bp_view.specs.Views.{clean_text, failure_text, foot_in_format, outcome_text, wait_text, waits_text, IsFoot, IsViewContextOf};
+ghost use Rattle.bp_view.specs.Views.{clean_text, failure_text, foot_text, outcome_text, wait_text, waits_text, IsFoot, IsViewContextOf};
 
-use crate::foot_facts::{ConditionFacts, facts_of_foot};
-use crate::frames::{push_condition, push_condition_object};
+use crate::buffers::Buffer;
+use crate::foot_facts::{ConditionFacts, FootFacts, facts_of_foot};
+use crate::frames::{push_condition_lines, push_condition_object};
 use crate::view_contexts::ViewContext;
 use bp_machine::{Report, Session};
-use bp_source::push_three;
 use bp_tasks::ViewFormat;
-use bp_text::Piece::{Bytes, Key, List, Number};
-use bp_text::{push_bytes, push_pieces};
+use bp_text::Piece::{Bytes, Key, Number};
 use std::alloc::{AllocError, Global};
 
-/// Adds the thread whose assertion failed, and what is said of the assertion. `note` is room for
-/// its values.
-fn push_failure(
-    view: &mut Vec<u8>,
-    note: &mut Vec<u8>,
-    format: ViewFormat,
-    file: &str,
-    assertion: &ConditionFacts<'_>,
-) -> Result<(), AllocError>
+/// Adds the thread whose assertion failed, and what is said of the assertion.
+fn push_failure(view: &mut Buffer, format: ViewFormat, file: &str, assertion: &ConditionFacts<'_>)
     ensures { let text = failure_text format file.now (condition_in assertion.now) in
-        OnOk result (view.new.items ≡ view.old.items ++ text) }
+        Grown view.old view.new text }
 {
     match format {
         ViewFormat::Columns => {
-            push_three(
-                view,
+            view.put_three(
                 Bytes(b"an assertion of thread "),
                 Number(u64::from(assertion.thread)),
                 Bytes(b" failed"),
-            )?;
-            push_condition(view, note, format, file, assertion)
+            );
+            push_condition_lines(view, file, assertion)
         }
-        ViewFormat::Json => push_condition_object(view, note, assertion),
+        ViewFormat::Json => push_condition_object(view, assertion),
     }
 }
 
@@ -53,6 +45,23 @@ fn clean_text(format: ViewFormat, deadlocked: bool) -> &'static [u8]
         ViewFormat::Columns if deadlocked => b"deadlock",
         ViewFormat::Columns => b"no assertion failed",
         ViewFormat::Json => b"null",
+    }
+}
+
+/// Adds the outcome.
+fn push_outcome(
+    view: &mut Buffer,
+    format: ViewFormat,
+    file: &str,
+    deadlocked: bool,
+    failure: Option<&ConditionFacts<'_>>,
+)
+    ensures { let failure = option_map (λ x. condition_in x.now) failure.entry in
+        Grown view.old view.new (outcome_text format file.now deadlocked failure) }
+{
+    match failure {
+        Some(assertion) => push_failure(view, format, file, assertion),
+        None => view.put(Bytes(clean_text(format, deadlocked))),
     }
 }
 
@@ -68,37 +77,37 @@ pub fn outcome_text(
         let text = outcome_text format file.now deadlocked failure in
         IfOk result (λ v. v.items ≡ text) }
 {
-    let mut view = Vec::new(alloc);
-    let Some(assertion) = failure else {
-        push_bytes(&mut view, clean_text(format, deadlocked))?;
-        return Ok(view);
-    };
-    let mut note = Vec::new(alloc);
-    push_failure(&mut view, &mut note, format, file, assertion)?;
-    Ok(view)
+    let mut view = Buffer::new(alloc);
+    push_outcome(&mut view, format, file, deadlocked, failure);
+    view.into_bytes()
 }
 
-/// Adds a thread that waits, and what is said of its assumption. `note` is room for its values.
-fn push_wait(
-    view: &mut Vec<u8>,
-    note: &mut Vec<u8>,
-    format: ViewFormat,
-    file: &str,
-    assumption: &ConditionFacts<'_>,
-) -> Result<(), AllocError>
+/// Adds a thread that waits, and what is said of its assumption.
+fn push_wait(view: &mut Buffer, format: ViewFormat, file: &str, assumption: &ConditionFacts<'_>)
     ensures { let text = wait_text format file.now (condition_in assumption.now) in
-        OnOk result (view.new.items ≡ view.old.items ++ text) }
+        Grown view.old view.new text }
 {
     match format {
         ViewFormat::Columns => {
             let thread = u64::from(assumption.thread);
-            push_three(view, Bytes(b"\nthread "), Number(thread), Bytes(b" waits"))?;
-            push_condition(view, note, format, file, assumption)
+            view.put_three(Bytes(b"\nthread "), Number(thread), Bytes(b" waits"));
+            push_condition_lines(view, file, assumption)
         }
         ViewFormat::Json => {
-            push_bytes(view, b",")?;
-            push_condition_object(view, note, assumption)
+            view.put(Bytes(b","));
+            push_condition_object(view, assumption)
         }
+    }
+}
+
+/// Adds the threads that wait, each after a line feed or a comma.
+#[tactic(auto, using(crate::proofs::SingleFacts::all_mapped))]
+fn push_waits(view: &mut Buffer, format: ViewFormat, file: &str, waits: &[ConditionFacts<'_>])
+    ensures { let waits = map condition_in waits.now in
+        Grown view.old view.new (waits_text format file.now waits) }
+{
+    for wait in waits {
+        push_wait(view, format, file, wait);
     }
 }
 
@@ -113,110 +122,86 @@ pub fn waits_text(
     ensures { let waits = map condition_in waits.now in
         IfOk result (λ v. v.items ≡ waits_text format file.now waits) }
 {
-    let mut view = Vec::new(alloc);
-    let mut note = Vec::new(alloc);
-    for wait in waits {
-        push_wait(&mut view, &mut note, format, file, wait)?;
-    }
-    Ok(view)
+    let mut view = Buffer::new(alloc);
+    push_waits(&mut view, format, file, waits);
+    view.into_bytes()
 }
 
 /// Adds the counts of a report after an empty line, its outcome and the threads that wait, for
 /// people.
-fn push_foot_lines<'a>(
-    view: &mut Vec<u8>,
-    report: Report,
-    outcome: &'a [u8],
-    waits: &'a [u8],
-) -> Result<(), AllocError>
-    ensures { let foot = foot_in_format Columns report outcome.entry.now waits.entry.now in
-        OnOk result (view.new.items ≡ view.old.items ++ foot) }
+fn push_foot_lines(view: &mut Buffer, file: &str, foot: &FootFacts<'_>)
+    ensures { Grown view.old view.new (foot_text Columns file.now (foot_in foot.now)) }
 {
-    push_pieces(
-        view,
-        &[
-            Bytes(b"\n"),
-            Number(report.calls),
-            Bytes(b" calls, contexts "),
-            Number(u64::from(report.contexts)),
-            Bytes(b", open threads "),
-            Number(u64::from(report.left_open)),
-            Bytes(b"\n"),
-            Bytes(outcome),
-            Bytes(waits),
-            Bytes(b"\n"),
-        ],
-    )
+    let report = foot.report;
+    view.put_pieces(&[
+        Bytes(b"\n"),
+        Number(report.calls),
+        Bytes(b" calls, contexts "),
+        Number(u64::from(report.contexts)),
+        Bytes(b", open threads "),
+        Number(u64::from(report.left_open)),
+        Bytes(b"\n"),
+    ]);
+    let format = ViewFormat::Columns;
+    push_outcome(view, format, file, foot.deadlocked, foot.failure.as_ref());
+    push_waits(view, format, file, foot.waits.as_slice());
+    view.put(Bytes(b"\n"))
 }
 
 /// Adds the object of a report, its outcome and the threads that wait.
-fn push_foot_object<'a>(
-    view: &mut Vec<u8>,
-    report: Report,
-    outcome: &'a [u8],
-    waits: &'a [u8],
-) -> Result<(), AllocError>
-    ensures { let foot = foot_in_format Json report outcome.entry.now waits.entry.now in
-        OnOk result (view.new.items ≡ view.old.items ++ foot) }
+fn push_foot_object(view: &mut Buffer, file: &str, foot: &FootFacts<'_>)
+    ensures { Grown view.old view.new (foot_text Json file.now (foot_in foot.now)) }
 {
-    push_pieces(
-        view,
-        &[
-            Bytes(b"{\"kind\":\"end\""),
-            Key(b"calls"),
-            Number(report.calls),
-            Key(b"contexts"),
-            Number(u64::from(report.contexts)),
-            Key(b"open"),
-            Number(u64::from(report.left_open)),
-            Key(b"failure"),
-            Bytes(outcome),
-            Key(b"deadlock"),
-            List(waits),
-            Bytes(b"}\n"),
-        ],
-    )
+    let report = foot.report;
+    view.put_pieces(&[
+        Bytes(b"{\"kind\":\"end\""),
+        Key(b"calls"),
+        Number(report.calls),
+        Key(b"contexts"),
+        Number(u64::from(report.contexts)),
+        Key(b"open"),
+        Number(u64::from(report.left_open)),
+        Key(b"failure"),
+    ]);
+    let format = ViewFormat::Json;
+    push_outcome(view, format, file, foot.deadlocked, foot.failure.as_ref());
+    view.put(Key(b"deadlock"));
+    let start = view.len();
+    push_waits(view, format, file, foot.waits.as_slice());
+    view.close_list(start);
+    view.put(Bytes(b"}\n"))
 }
 
-/// The foot of a view in this format: a report, its outcome and the threads that wait.
-fn foot_in_format(
-    alloc: Global,
-    format: ViewFormat,
-    report: Report,
-    outcome: &[u8],
-    waits: &[u8],
-) -> Result<Vec<u8>, AllocError>
-    ensures { IfOk result (λ v. v.items ≡ foot_in_format format report outcome.now waits.now) }
+/// Adds the foot of a view in this format: a report, its outcome and the threads that wait.
+fn push_foot(view: &mut Buffer, format: ViewFormat, file: &str, foot: &FootFacts<'_>)
+    ensures { Grown view.old view.new (foot_text format file.now (foot_in foot.now)) }
 {
-    let mut foot = Vec::new(alloc);
     match format {
-        ViewFormat::Columns => push_foot_lines(&mut foot, report, outcome, waits)?,
-        ViewFormat::Json => push_foot_object(&mut foot, report, outcome, waits)?,
+        ViewFormat::Columns => push_foot_lines(view, file, foot),
+        ViewFormat::Json => push_foot_object(view, file, foot),
     }
-    Ok(foot)
 }
 
-/// The report of the history after which the session stands, and what is said of an assertion
+/// Adds the report of the history after which the session stands, and what is said of an assertion
 /// that failed in it, or of the threads that are deadlocked after it.
-pub(crate) fn foot_of(
+pub(crate) fn push_foot_of(
     alloc: Global,
+    view: &mut Buffer,
     context: &ViewContext<'_>,
     session: &Session,
     report: Report,
-) -> Result<Vec<u8>, AllocError>
+)
     ensures { (t : Program) (text : List ℕ) (h : List Answered)
         → IsViewContextOf t text context.now
         → StandsFor session.now.code t
         → Stands t session.now h
         → report.outcome ≡ outcome_of h
-        → let o = context.now.options in
-        let s = session.now.setup in
-        let file = context.now.file.now in
-        IfOk result (λ v. IsFoot o.format file t text s h report v.items) }
+        → let format = context.now.options.format in
+        let foot = IsFoot format context.now.file.now t text session.now.setup h report in
+        Gains foot view.old view.new }
 {
-    let (format, file) = (context.options.format, context.file);
-    let foot = facts_of_foot(alloc, &context.program, session, report)?;
-    let outcome = outcome_text(alloc, format, file, foot.deadlocked, foot.failure.as_ref())?;
-    let waits = waits_text(alloc, format, file, foot.waits.as_slice())?;
-    foot_in_format(alloc, format, foot.report, &outcome, &waits)
+    let Ok(foot) = facts_of_foot(alloc, &context.program, session, report) else {
+        return view.refuse();
+    };
+    push_foot(view, context.options.format, context.file, &foot)
 }

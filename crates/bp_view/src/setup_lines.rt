@@ -1,19 +1,19 @@
 //! The head of a view: the setup of the history.
-ghost use Rattle.std.specs.Prelude.{◌≡◌, ◌++◌, [], None, codes, false, flat_map, slice_get, unwrap_or, OnOk, IfOk};
+ghost use Rattle.std.specs.Prelude.{◌≡◌, [], None, false, flat_map, slice_get, unwrap_or, IfOk};
 ghost use Rattle.bp_flat.specs.Moves.{binding};
 ghost use Rattle.bp_source.specs.Listings.{string_item};
-ghost use Rattle.bp_view.specs.SetupLines.{globals_line, head_lines, head_object, number_line, seed_line, setup_head, thread_lines, view_head};
+ghost use Rattle.bp_view.specs.Buffers.{Grown};
+ghost use Rattle.bp_view.specs.SetupLines.{globals_line, head_lines, head_object, limit_lines, seed_line, setup_head, thread_lines, view_head};
 ghost use Rattle.bp_view.specs.Lines.{variables_text};
 
+use crate::buffers::Buffer;
 use crate::fronts::push_headings;
 use crate::variables::push_value;
 use crate::view_contexts::ViewContext;
 use bp_language::Name;
 use bp_machine::Setup;
-use bp_source::{push_item, push_three};
 use bp_tasks::{ViewFormat, ViewOptions};
-use bp_text::Piece::{Bytes, Key, List, Number, NumberOrNull, Text};
-use bp_text::{push_bytes, push_pieces};
+use bp_text::Piece::{Bytes, Key, Number, NumberOrNull, Text};
 use std::alloc::{AllocError, Global};
 
 /// The name of a thread's entry procedure.
@@ -27,22 +27,18 @@ fn entry_of(setup: &Setup, thread: u32) -> &[u8]
 }
 
 /// Adds a line for each thread: its number and its entry procedure.
-fn push_threads(view: &mut Vec<u8>, setup: &Setup) -> Result<(), AllocError>
-    ensures { OnOk result (view.new.items ≡ view.old.items ++ thread_lines 0 setup.now.entries) }
+fn push_threads(view: &mut Buffer, setup: &Setup)
+    ensures { Grown view.old view.new (thread_lines 0 setup.now.entries) }
 {
     for thread in 0..setup.threads() {
-        push_pieces(
-            view,
-            &[
-                Bytes(b"thread "),
-                Number(u64::from(thread)),
-                Bytes(b" begins in "),
-                Bytes(entry_of(setup, thread)),
-                Bytes(b"\n"),
-            ],
-        )?;
+        view.put_pieces(&[
+            Bytes(b"thread "),
+            Number(u64::from(thread)),
+            Bytes(b" begins in "),
+            Bytes(entry_of(setup, thread)),
+            Bytes(b"\n"),
+        ]);
     }
-    Ok(())
 }
 
 /// The initial value of a global, by its place in the declarations.
@@ -57,141 +53,108 @@ fn initial_bit(setup: &Setup, n: usize) -> bool
 }
 
 /// Adds the globals and their values.
-fn push_values(
-    view: &mut Vec<u8>,
-    format: ViewFormat,
-    setup: &Setup,
-    globals: &[Name],
-) -> Result<(), AllocError>
+fn push_values(view: &mut Buffer, format: ViewFormat, setup: &Setup, globals: &[Name])
     ensures { let values = binding globals.now setup.now.init in
-        OnOk result (view.new.items ≡ view.old.items ++ variables_text format None values) }
+        Grown view.old view.new (variables_text format None values) }
 {
     for (n, name) in globals.iter().enumerate() {
         let text = name.text().as_bytes();
-        push_value(view, format, None, text, initial_bit(setup, n))?;
+        push_value(view, format, None, text, initial_bit(setup, n));
     }
-    Ok(())
 }
 
 /// Adds the line of the initial values of the globals, where there are globals.
-fn push_globals(view: &mut Vec<u8>, setup: &Setup, globals: &[Name]) -> Result<(), AllocError>
-    ensures { OnOk result
-        (view.new.items ≡ view.old.items ++ globals_line (binding globals.now setup.now.init)) }
+fn push_globals(view: &mut Buffer, setup: &Setup, globals: &[Name])
+    ensures { Grown view.old view.new (globals_line (binding globals.now setup.now.init)) }
 {
     if globals.is_empty() {
-        return Ok(());
+        return;
     }
-    push_bytes(view, b"globals")?;
-    push_values(view, ViewFormat::Columns, setup, globals)?;
-    push_bytes(view, b"\n")
+    view.put(Bytes(b"globals"));
+    push_values(view, ViewFormat::Columns, setup, globals);
+    view.put(Bytes(b"\n"))
 }
 
 /// Adds the lines of the limits.
-fn push_limit_lines(view: &mut Vec<u8>, setup: &Setup) -> Result<(), AllocError>
-    ensures { let contexts = number_line (codes "contexts at most ") setup.now.contexts in
-        let calls = number_line (codes "calls of a thread at most ") setup.now.calls in
-        OnOk result (view.new.items ≡ view.old.items ++ contexts ++ calls) }
+fn push_limit_lines(view: &mut Buffer, setup: &Setup)
+    ensures { Grown view.old view.new (limit_lines setup.now) }
 {
-    push_pieces(
-        view,
-        &[
-            Bytes(b"contexts at most "),
-            Number(u64::from(setup.contexts())),
-            Bytes(b"\n"),
-            Bytes(b"calls of a thread at most "),
-            Number(u64::from(setup.calls())),
-            Bytes(b"\n"),
-        ],
-    )
+    view.put_pieces(&[
+        Bytes(b"contexts at most "),
+        Number(u64::from(setup.contexts())),
+        Bytes(b"\n"),
+        Bytes(b"calls of a thread at most "),
+        Number(u64::from(setup.calls())),
+        Bytes(b"\n"),
+    ])
 }
 
 /// Adds the line of the seed.
-fn push_seed(view: &mut Vec<u8>, seed: Option<u64>) -> Result<(), AllocError>
-    ensures { OnOk result (view.new.items ≡ view.old.items ++ seed_line seed) }
+fn push_seed(view: &mut Buffer, seed: Option<u64>)
+    ensures { Grown view.old view.new (seed_line seed) }
 {
     match seed {
-        Some(seed) => push_three(view, Bytes(b"seed "), Number(seed), Bytes(b"\n")),
-        None => push_bytes(view, b"seed none\n"),
+        Some(seed) => view.put_three(Bytes(b"seed "), Number(seed), Bytes(b"\n")),
+        None => view.put(Bytes(b"seed none\n")),
     }
 }
 
 /// Adds the lines of the setup: the entries, the globals, the limits and the seed, and an empty
 /// line.
-fn push_head_lines(head: &mut Vec<u8>, setup: &Setup, globals: &[Name]) -> Result<(), AllocError>
-    ensures { OnOk result
-        (head.new.items ≡ head.old.items ++ head_lines globals.now setup.now) }
+fn push_head_lines(head: &mut Buffer, setup: &Setup, globals: &[Name])
+    ensures { Grown head.old head.new (head_lines globals.now setup.now) }
 {
-    push_threads(head, setup)?;
-    push_globals(head, setup, globals)?;
-    push_limit_lines(head, setup)?;
-    push_seed(head, setup.seed())?;
-    push_bytes(head, b"\n")
+    push_threads(head, setup);
+    push_globals(head, setup, globals);
+    push_limit_lines(head, setup);
+    push_seed(head, setup.seed());
+    head.put(Bytes(b"\n"))
 }
 
 /// Adds the entries of the threads as items of a list.
-fn push_entries(items: &mut Vec<u8>, setup: &Setup) -> Result<(), AllocError>
-    ensures { let entries = flat_map string_item setup.now.entries in
-        OnOk result (items.new.items ≡ items.old.items ++ entries) }
+fn push_entries(items: &mut Buffer, setup: &Setup)
+    ensures { Grown items.old items.new (flat_map string_item setup.now.entries) }
 {
     for thread in 0..setup.threads() {
-        push_item(items, entry_of(setup, thread))?;
+        items.put_two(Bytes(b","), Text(entry_of(setup, thread)));
     }
-    Ok(())
 }
 
-/// Adds the object of the setup. `note` is room for its lists.
-fn push_head_object(
-    head: &mut Vec<u8>,
-    note: &mut Vec<u8>,
-    setup: &Setup,
-    globals: &[Name],
-) -> Result<(), AllocError>
-    ensures { OnOk result
-        (head.new.items ≡ head.old.items ++ head_object globals.now setup.now) }
+/// Adds the object of the setup.
+fn push_head_object(head: &mut Buffer, setup: &Setup, globals: &[Name])
+    ensures { Grown head.old head.new (head_object globals.now setup.now) }
 {
     let kind = b"{\"kind\":\"setup\",\"version\":2";
-    note.clear();
-    push_entries(note, setup)?;
-    push_three(head, Bytes(kind), Key(b"threads"), List(note))?;
-    note.clear();
-    push_values(note, ViewFormat::Json, setup, globals)?;
-    push_pieces(
-        head,
-        &[
-            Key(b"globals"),
-            List(note),
-            Key(b"max_contexts"),
-            Number(u64::from(setup.contexts())),
-            Key(b"max_calls"),
-            Number(u64::from(setup.calls())),
-            Key(b"seed"),
-            NumberOrNull(setup.seed()),
-            Bytes(b"}\n"),
-        ],
-    )
+    head.put_two(Bytes(kind), Key(b"threads"));
+    let entries = head.len();
+    push_entries(head, setup);
+    head.close_list(entries);
+    head.put(Key(b"globals"));
+    let values = head.len();
+    push_values(head, ViewFormat::Json, setup, globals);
+    head.close_list(values);
+    head.put_pieces(&[
+        Key(b"max_contexts"),
+        Number(u64::from(setup.contexts())),
+        Key(b"max_calls"),
+        Number(u64::from(setup.calls())),
+        Key(b"seed"),
+        NumberOrNull(setup.seed()),
+        Bytes(b"}\n"),
+    ])
 }
 
-/// The setup of a history, unless the view is brief.
-fn setup_head(
-    alloc: Global,
-    options: ViewOptions<'_>,
-    setup: &Setup,
-    globals: &[Name],
-) -> Result<Vec<u8>, AllocError>
-    ensures { IfOk result (λ v. v.items ≡ setup_head options.entry globals.now setup.now) }
+/// Adds the setup of a history, unless the view is brief.
+fn push_setup(head: &mut Buffer, options: ViewOptions<'_>, setup: &Setup, globals: &[Name])
+    ensures { Grown head.old head.new (setup_head options.entry globals.now setup.now) }
 {
-    let mut head = Vec::new(alloc);
     if options.is_brief {
-        return Ok(head);
+        return;
     }
     match options.format {
-        ViewFormat::Columns => push_head_lines(&mut head, setup, globals)?,
-        ViewFormat::Json => {
-            let mut note = Vec::new(alloc);
-            push_head_object(&mut head, &mut note, setup, globals)?;
-        }
+        ViewFormat::Columns => push_head_lines(head, setup, globals),
+        ViewFormat::Json => push_head_object(head, setup, globals),
     }
-    Ok(head)
 }
 
 /// The head of a view: the setup of its history, and the headings over its columns.
@@ -205,7 +168,8 @@ pub(crate) fn head_of(
         IfOk result (λ v. v.items ≡ head) }
 {
     let options = context.options;
-    let mut head = setup_head(alloc, options, setup, context.program.globals)?;
-    push_headings(&mut head, options.format, context.widths)?;
-    Ok(head)
+    let mut head = Buffer::new(alloc);
+    push_setup(&mut head, options, setup, context.program.globals);
+    push_headings(&mut head, options.format, context.widths);
+    head.into_bytes()
 }

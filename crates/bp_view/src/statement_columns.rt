@@ -1,9 +1,11 @@
 //! How many columns a statement has, and how a text is cut.
-ghost use Rattle.std.specs.Prelude.{◌≡◌, ◌++◌, ◌≤◌, ◌<◌, drop, length, take, OnOk};
+ghost use Rattle.std.specs.Prelude.{◌≡◌, ◌++◌, ◌≤◌, ◌<◌};
+ghost use Rattle.bp_view.specs.Buffers.{IsCutAfter};
 ghost use Rattle.bp_view.specs.Lines.{shortened, statement_room};
 
-use bp_text::{part_before, push_bytes};
-use std::alloc::AllocError;
+use crate::buffers::Buffer;
+use bp_text::Piece::Bytes;
+use bp_text::part_before;
 
 /// The most bytes of a statement in its column.
 pub(crate) const MAX_STATEMENT: usize = 60;
@@ -43,14 +45,12 @@ pub(crate) fn in_column(room: usize, statement: &[u8]) -> (&[u8], &[u8])
 }
 
 /// Cuts a line that has more than `room` bytes after its first `start` bytes.
-pub(crate) fn cut_after(line: &mut Vec<u8>, start: usize, room: usize) -> Result<(), AllocError>
-    requires { start ≤ length line.now.items }
-    ensures { let old = line.old.items in
-        OnOk result (line.new.items ≡ take start old ++ shortened room (drop start old)) }
+pub(crate) fn cut_after(line: &mut Buffer, start: usize, room: usize)
+    ensures { IsCutAfter start room line.old line.new }
 {
-    if line.len() - start <= room {
-        return Ok(());
+    if line.len().saturating_sub(start) <= room {
+        return;
     }
     line.truncate(start + room.saturating_sub(CUT.len()));
-    push_bytes(line, CUT)
+    line.put(Bytes(CUT))
 }

@@ -1,16 +1,19 @@
 //! The text of a state, from its facts: the values of the globals, and how each thread stands.
-ghost use Rattle.std.specs.Prelude.{◌≡◌, ◌++◌, ℕ, List, length, map, take, IfOk, MatchResult, OnOk};
+ghost use Rattle.std.specs.Prelude.{◌≡◌, ℕ, List, length, map, take, IfOk, MatchResult};
 ghost use Rattle.bp_language.specs.Ast.{Program};
 ghost use Rattle.bp_flat.specs.InstrEffects.{bits_of};
 ghost use Rattle.bp_flat.specs.StandsFor.{valuation_of, StandsFor};
 ghost use Rattle.bp_machine.specs.Sessions.{Stands};
 ghost use Rattle.bp_trace.specs.Replays.{IsReplayRefusal};
 ghost use Rattle.bp_source.specs.SourceStatements.{AreSourceStatements};
+ghost use Rattle.bp_tasks.specs.declared.options.ViewFormat.TheVariants.{Columns, Json};
+ghost use Rattle.bp_view.specs.Buffers.{Gains, Grown};
 ghost use Rattle.bp_view.specs.StateFacts.{state_in, thread_in};
 ghost use Rattle.bp_view.specs.SetupLines.{globals_line};
 ghost use Rattle.bp_view.specs.Views.{IsViewContextOf};
-ghost use Rattle.bp_view.specs.States.{failed_line, failed_thread, standing_name, standing_text, state_lines, state_members, state_object, state_text, thread_lines, thread_object, thread_text, threads_text, IsStateOfTrace, IsStateText};
+ghost use Rattle.bp_view.specs.States.{failed_line, failed_thread, standing_name, standing_text, state_members, state_text, thread_text, threads_text, IsStateOfTrace, IsStateText};
 
+use crate::buffers::Buffer;
 use crate::filters::calls_to;
 use crate::frames::push_frames;
 use crate::state_facts::{Standing, StateFacts, ThreadFacts, facts_of_state};
@@ -20,10 +23,8 @@ use bp_code::Checked;
 use bp_flat::Code;
 use bp_language::Name;
 use bp_machine::{Call, Outcome, Report, Session};
-use bp_source::push_four;
 use bp_tasks::ViewFormat;
-use bp_text::Piece::{Bytes, Key, List, Number, NumberOrNull, Text};
-use bp_text::{push_bytes, push_pieces};
+use bp_text::Piece::{Bytes, Key, Number, NumberOrNull, Text};
 use bp_trace::ReplayFault;
 use std::alloc::{AllocError, Global};
 
@@ -59,151 +60,96 @@ fn standing_name(standing: Standing) -> &'static [u8]
     }
 }
 
-/// Adds a thread with these frames, for people.
-fn push_thread_lines(
-    view: &mut Vec<u8>,
-    thread: &ThreadFacts<'_>,
-    frames: &[u8],
-) -> Result<(), AllocError>
-    ensures { let text = thread_lines (thread_in thread.now) frames.now in
-        OnOk result (view.new.items ≡ view.old.items ++ text) }
+/// Adds a thread and its frames, for people.
+fn push_thread_lines(view: &mut Buffer, thread: &ThreadFacts<'_>)
+    ensures { Grown view.old view.new (thread_text Columns (thread_in thread.now)) }
 {
-    push_pieces(
-        view,
-        &[
-            Bytes(b"\nthread "),
-            Number(u64::from(thread.thread)),
-            Bytes(standing_text(thread.standing)),
-            Bytes(b"\n"),
-            Bytes(frames),
-        ],
-    )
+    view.put_pieces(&[
+        Bytes(b"\nthread "),
+        Number(u64::from(thread.thread)),
+        Bytes(standing_text(thread.standing)),
+        Bytes(b"\n"),
+    ]);
+    push_frames(view, ViewFormat::Columns, thread.frames.as_slice())
 }
 
-/// Adds a thread with these frames as an object of JSON, after a comma.
-fn push_thread_object(
-    view: &mut Vec<u8>,
-    thread: &ThreadFacts<'_>,
-    frames: &[u8],
-) -> Result<(), AllocError>
-    ensures { let text = thread_object (thread_in thread.now) frames.now in
-        OnOk result (view.new.items ≡ view.old.items ++ text) }
+/// Adds a thread and its frames as an object of JSON, after a comma.
+fn push_thread_object(view: &mut Buffer, thread: &ThreadFacts<'_>)
+    ensures { Grown view.old view.new (thread_text Json (thread_in thread.now)) }
 {
-    push_pieces(
-        view,
-        &[
-            Bytes(b",{\"thread\":"),
-            Number(u64::from(thread.thread)),
-            Key(b"standing"),
-            Text(standing_name(thread.standing)),
-            Key(b"frames"),
-            List(frames),
-            Bytes(b"}"),
-        ],
-    )
-}
-
-/// Room for parts of a state while it is written.
-#[derive(Drop)]
-struct Room {
-    frames: Vec<u8>,
-    note: Vec<u8>,
+    view.put_pieces(&[
+        Bytes(b",{\"thread\":"),
+        Number(u64::from(thread.thread)),
+        Key(b"standing"),
+        Text(standing_name(thread.standing)),
+        Key(b"frames"),
+    ]);
+    let start = view.len();
+    push_frames(view, ViewFormat::Json, thread.frames.as_slice());
+    view.close_list(start);
+    view.put(Bytes(b"}"))
 }
 
 /// Adds a thread.
-fn push_thread(
-    view: &mut Vec<u8>,
-    room: &mut Room,
-    format: ViewFormat,
-    thread: &ThreadFacts<'_>,
-) -> Result<(), AllocError>
-    ensures { let text = thread_text format (thread_in thread.now) in
-        OnOk result (view.new.items ≡ view.old.items ++ text) }
+fn push_thread(view: &mut Buffer, format: ViewFormat, thread: &ThreadFacts<'_>)
+    ensures { Grown view.old view.new (thread_text format (thread_in thread.now)) }
 {
-    room.frames.clear();
-    push_frames(
-        &mut room.frames,
-        &mut room.note,
-        format,
-        thread.frames.as_slice(),
-    )?;
     match format {
-        ViewFormat::Columns => push_thread_lines(view, thread, &room.frames),
-        ViewFormat::Json => push_thread_object(view, thread, &room.frames),
+        ViewFormat::Columns => push_thread_lines(view, thread),
+        ViewFormat::Json => push_thread_object(view, thread),
     }
 }
 
-/// The text of all threads.
-fn threads_text(
-    alloc: Global,
-    format: ViewFormat,
-    threads: &[ThreadFacts<'_>],
-) -> Result<Vec<u8>, AllocError>
-    ensures { IfOk result (λ v. v.items ≡ threads_text format (map thread_in threads.now)) }
+/// Adds all threads.
+#[tactic(auto, using(crate::proofs::SingleFacts::all_mapped))]
+fn push_threads(view: &mut Buffer, format: ViewFormat, threads: &[ThreadFacts<'_>])
+    ensures { Grown view.old view.new (threads_text format (map thread_in threads.now)) }
 {
-    let mut view = Vec::new(alloc);
-    let mut room = Room {
-        frames: Vec::new(alloc),
-        note: Vec::new(alloc),
-    };
     for thread in threads {
-        push_thread(&mut view, &mut room, format, thread)?;
+        push_thread(view, format, thread);
     }
-    Ok(view)
 }
 
 /// Adds that an assertion failed, where one did.
-fn push_failed_line(view: &mut Vec<u8>, outcome: Outcome) -> Result<(), AllocError>
-    ensures { OnOk result (view.new.items ≡ view.old.items ++ failed_line outcome) }
+fn push_failed_line(view: &mut Buffer, outcome: Outcome)
+    ensures { Grown view.old view.new (failed_line outcome) }
 {
-    let Outcome::Failed { thread } = outcome else {
-        return Ok(());
-    };
-    push_pieces(
-        view,
-        &[
+    if let Outcome::Failed { thread } = outcome {
+        view.put_three(
             Bytes(b"an assertion of thread "),
             Number(u64::from(thread)),
             Bytes(b" failed\n"),
-        ],
-    )
+        );
+    }
 }
 
 /// Adds the line of the globals, where there are any.
-fn push_globals_line(view: &mut Vec<u8>, globals: &[Name], word: u128) -> Result<(), AllocError>
+fn push_globals_line(view: &mut Buffer, globals: &[Name], word: u128)
     ensures { let values = valuation_of globals.now (bits_of word) in
-        OnOk result (view.new.items ≡ view.old.items ++ globals_line values) }
+        Grown view.old view.new (globals_line values) }
 {
     if globals.is_empty() {
-        return Ok(());
+        return;
     }
-    push_bytes(view, b"globals")?;
-    push_values(view, ViewFormat::Columns, None, globals, 0, word)?;
-    push_bytes(view, b"\n")
+    view.put(Bytes(b"globals"));
+    push_values(view, ViewFormat::Columns, None, globals, 0, word);
+    view.put(Bytes(b"\n"))
 }
 
-/// Adds a state with this text of its threads, for people.
-fn push_state_lines(
-    view: &mut Vec<u8>,
-    state: &StateFacts<'_>,
-    threads: &[u8],
-) -> Result<(), AllocError>
-    ensures { let text = state_lines (state_in state.now) threads.now in
-        OnOk result (view.new.items ≡ view.old.items ++ text) }
+/// Adds a state, for people.
+fn push_state_lines(view: &mut Buffer, state: &StateFacts<'_>)
+    ensures { Grown view.old view.new (state_text Columns (state_in state.now)) }
 {
-    push_pieces(
-        view,
-        &[
-            Bytes(b"after call "),
-            Number(state.number),
-            Bytes(b" of "),
-            Number(state.count),
-            Bytes(b"\n"),
-        ],
-    )?;
-    push_failed_line(view, state.outcome)?;
-    push_globals_line(view, state.globals, state.values)?;
-    push_bytes(view, threads)
+    view.put_pieces(&[
+        Bytes(b"after call "),
+        Number(state.number),
+        Bytes(b" of "),
+        Number(state.count),
+        Bytes(b"\n"),
+    ]);
+    push_failed_line(view, state.outcome);
+    push_globals_line(view, state.globals, state.values);
+    push_threads(view, ViewFormat::Columns, state.threads.as_slice())
 }
 
 /// The number of the thread whose assertion failed.
@@ -217,86 +163,68 @@ fn failed_thread(outcome: Outcome) -> Option<u64>
 }
 
 /// Adds the members of a state that have one value each, and the key of the globals.
-fn push_state_members(view: &mut Vec<u8>, state: &StateFacts<'_>) -> Result<(), AllocError>
-    ensures { OnOk result
-        (view.new.items ≡ view.old.items ++ state_members (state_in state.now)) }
+fn push_state_members(view: &mut Buffer, state: &StateFacts<'_>)
+    ensures { Grown view.old view.new (state_members (state_in state.now)) }
 {
-    push_pieces(
-        view,
-        &[
-            Bytes(b"{\"kind\":\"state\",\"version\":2"),
-            Key(b"call"),
-            Number(state.number),
-            Key(b"calls"),
-            Number(state.count),
-            Key(b"failed"),
-            NumberOrNull(failed_thread(state.outcome)),
-            Key(b"globals"),
-        ],
-    )
+    view.put_pieces(&[
+        Bytes(b"{\"kind\":\"state\",\"version\":2"),
+        Key(b"call"),
+        Number(state.number),
+        Key(b"calls"),
+        Number(state.count),
+        Key(b"failed"),
+        NumberOrNull(failed_thread(state.outcome)),
+        Key(b"globals"),
+    ])
 }
 
-/// Adds a state with this text of its threads as an object of JSON. `note` is room for the values
-/// of the globals.
-fn push_state_object(
-    view: &mut Vec<u8>,
-    note: &mut Vec<u8>,
-    state: &StateFacts<'_>,
-    threads: &[u8],
-) -> Result<(), AllocError>
-    ensures { let text = state_object (state_in state.now) threads.now in
-        OnOk result (view.new.items ≡ view.old.items ++ text) }
+/// Adds a state as an object of JSON.
+fn push_state_object(view: &mut Buffer, state: &StateFacts<'_>)
+    ensures { Grown view.old view.new (state_text Json (state_in state.now)) }
 {
-    note.clear();
-    push_values(note, ViewFormat::Json, None, state.globals, 0, state.values)?;
-    push_state_members(view, state)?;
-    push_four(
-        view,
-        List(note),
-        Key(b"threads"),
-        List(threads),
-        Bytes(b"}\n"),
-    )
+    push_state_members(view, state);
+    let globals = view.len();
+    push_values(view, ViewFormat::Json, None, state.globals, 0, state.values);
+    view.close_list(globals);
+    view.put(Key(b"threads"));
+    let threads = view.len();
+    push_threads(view, ViewFormat::Json, state.threads.as_slice());
+    view.close_list(threads);
+    view.put(Bytes(b"}\n"))
 }
 
-/// The text of a state.
-fn state_text(
-    alloc: Global,
-    format: ViewFormat,
-    state: &StateFacts<'_>,
-) -> Result<Vec<u8>, AllocError>
-    ensures { IfOk result (λ v. v.items ≡ state_text format (state_in state.now)) }
+/// Adds a state.
+fn push_state(view: &mut Buffer, format: ViewFormat, state: &StateFacts<'_>)
+    ensures { Grown view.old view.new (state_text format (state_in state.now)) }
 {
-    let threads = threads_text(alloc, format, state.threads.as_slice())?;
-    let mut view = Vec::new(alloc);
     match format {
-        ViewFormat::Columns => push_state_lines(&mut view, state, &threads)?,
-        ViewFormat::Json => {
-            let mut note = Vec::new(alloc);
-            push_state_object(&mut view, &mut note, state, &threads)?;
-        }
+        ViewFormat::Columns => push_state_lines(view, state),
+        ViewFormat::Json => push_state_object(view, state),
     }
-    Ok(view)
 }
 
-/// The state of the session, which stands after this history, the front of one of `count` calls.
-pub(crate) fn state_of(
+/// Adds the state of the session, which stands after this history, the front of one of `count`
+/// calls.
+pub(crate) fn push_state_of(
     alloc: Global,
+    view: &mut Buffer,
     context: &ViewContext<'_>,
     session: &Session,
     history: &[Call],
     count: u64,
-) -> Result<Vec<u8>, AllocError>
+)
     ensures { (t : Program) (text : List ℕ)
         → IsViewContextOf t text context.now
         → StandsFor session.now.code t
         → Stands t session.now history.now
         → let format = context.now.options.format in
-        let s = session.now.setup in
-        IfOk result (λ v. IsStateText format t text s history.now count v.items) }
+        let state = IsStateText format t text session.now.setup history.now count in
+        Gains state view.old view.new }
 {
-    let facts = facts_of_state(alloc, &context.program, session, history, count)?;
-    state_text(alloc, context.options.format, &facts)
+    let Ok(facts) = facts_of_state(alloc, &context.program, session, history, count) else {
+        return view.refuse();
+    };
+    push_state(view, context.options.format, &facts)
 }
 
 /// The state after the first `number` calls of a trace that was replayed, or after the last where
@@ -322,7 +250,9 @@ fn state_after(
     let calls = calls_to(shown.replayed.history.as_slice(), number);
     let context = shown.context(checked, format);
     let count = context.history.len() as u64;
-    state_of(alloc, &context, session, calls, count)
+    let mut state = Buffer::new(alloc);
+    push_state_of(alloc, &mut state, &context, session, calls, count);
+    state.into_bytes()
 }
 
 /// The state after the first `number` calls of a trace, or after the last where there are fewer,

@@ -1,35 +1,32 @@
 //! The names of the bits of a store, and their values.
 //! The object of a call in JSON, from its facts.
-ghost use Rattle.std.specs.Prelude.{◌≡◌, ◌<◌, ◌+◌, ◌^◌, ◌++◌, ◌∷◌, [], codes, length, option_map, OnOk, flat_map};
+ghost use Rattle.std.specs.Prelude.{◌≡◌, ◌<◌, ◌+◌, ◌^◌, ◌∷◌, [], codes, length, option_map, flat_map};
 ghost use Rattle.std.specs.List.{concat};
 ghost use Rattle.bp_text.specs.Pieces.{bit_text};
 ghost use Rattle.bp_flat.specs.InstrEffects.{bits_of};
 ghost use Rattle.bp_flat.specs.StandsFor.{valuation_of};
 ghost use Rattle.bp_tasks.specs.declared.options.ViewFormat.TheVariants.{Json};
+ghost use Rattle.bp_view.specs.Buffers.{Grown};
 ghost use Rattle.bp_view.specs.CallFacts.{facts_in};
 ghost use Rattle.bp_view.specs.Lines.{owner_text, variable_object, variable_text, assignment_text, variables_text, bit_item, call_object, member_texts, printed_text, reply_name};
 
+use crate::buffers::Buffer;
 use crate::call_facts::CallFacts;
 use crate::lines::push_changed;
 use bp_flat::bit_of;
 use bp_language::{Name, Proc};
 use bp_machine::Reply;
-use bp_source::{column_of, line_of, push_four, push_three, push_two, wide};
+use bp_source::{column_of, line_of, wide};
 use bp_tasks::ViewFormat;
-use bp_text::Piece::{
-    Bit, BitOrNull, Bytes, Key, List, Number, NumberOrNull, Text, TextOrNull, Truth,
-};
-use bp_text::push_piece;
-use std::alloc::AllocError;
+use bp_text::Piece::{Bit, BitOrNull, Bytes, Key, Number, NumberOrNull, Text, TextOrNull, Truth};
 
 /// Adds the name of a local's procedure and a dot; nothing for a global.
-fn push_owner(line: &mut Vec<u8>, owner: Option<&Proc>) -> Result<(), AllocError>
+fn push_owner(line: &mut Buffer, owner: Option<&Proc>)
     ensures { let owner = option_map (λ p. p.now) owner.entry in
-        OnOk result (line.new.items ≡ line.old.items ++ owner_text owner) }
+        Grown line.old line.new (owner_text owner) }
 {
-    match owner {
-        Some(proc) => push_two(line, Bytes(proc.name().text().as_bytes()), Bytes(b".")),
-        None => Ok(()),
+    if let Some(proc) = owner {
+        line.put_two(Bytes(proc.name().text().as_bytes()), Bytes(b"."));
     }
 }
 
@@ -41,18 +38,13 @@ fn value_text(value: bool) -> &'static [u8]
 }
 
 /// Adds a variable and its value, for people.
-fn push_assignment(
-    line: &mut Vec<u8>,
-    owner: Option<&Proc>,
-    name: &[u8],
-    value: bool,
-) -> Result<(), AllocError>
+fn push_assignment(line: &mut Buffer, owner: Option<&Proc>, name: &[u8], value: bool)
     ensures { let owner = option_map (λ p. p.now) owner.entry in
-        OnOk result (line.new.items ≡ line.old.items ++ assignment_text owner name.now value) }
+        Grown line.old line.new (assignment_text owner name.now value) }
 {
-    push_piece(line, Bytes(b" "))?;
-    push_owner(line, owner)?;
-    push_two(line, Bytes(name), Bytes(value_text(value)))
+    line.put(Bytes(b" "));
+    push_owner(line, owner);
+    line.put_two(Bytes(name), Bytes(value_text(value)))
 }
 
 /// The name of a local's procedure; none for a global.
@@ -67,36 +59,29 @@ fn owner_name<'a>(owner: Option<&'a Proc>) -> Option<&'a [u8]>
 }
 
 /// Adds a variable and its value as an object of JSON, after a comma.
-fn push_variable_object(
-    line: &mut Vec<u8>,
-    owner: Option<&Proc>,
-    name: &[u8],
-    value: bool,
-) -> Result<(), AllocError>
+fn push_variable_object(line: &mut Buffer, owner: Option<&Proc>, name: &[u8], value: bool)
     ensures { let owner = option_map (λ p. p.now) owner.entry in
-        OnOk result (line.new.items ≡ line.old.items ++ variable_object owner name.now value) }
+        Grown line.old line.new (variable_object owner name.now value) }
 {
-    push_four(
-        line,
+    line.put_four(
         Bytes(b",{\"procedure\":"),
         TextOrNull(owner_name(owner)),
         Key(b"name"),
         Text(name),
-    )?;
-    push_three(line, Key(b"value"), Bit(value), Bytes(b"}"))
+    );
+    line.put_three(Key(b"value"), Bit(value), Bytes(b"}"))
 }
 
 /// Adds a variable and its value; the variable is a local of its owner, or a global.
 pub(crate) fn push_value(
-    line: &mut Vec<u8>,
+    line: &mut Buffer,
     format: ViewFormat,
     owner: Option<&Proc>,
     name: &[u8],
     value: bool,
-) -> Result<(), AllocError>
+)
     ensures { let owner = option_map (λ p. p.now) owner.entry in
-        OnOk result
-        (line.new.items ≡ line.old.items ++ variable_text format owner name.now value) }
+        Grown line.old line.new (variable_text format owner name.now value) }
 {
     match format {
         ViewFormat::Columns => push_assignment(line, owner, name, value),
@@ -106,23 +91,22 @@ pub(crate) fn push_value(
 
 /// Adds the values of the names. The first name has this slot.
 pub(crate) fn push_values(
-    line: &mut Vec<u8>,
+    line: &mut Buffer,
     format: ViewFormat,
     owner: Option<&Proc>,
     names: &[Name],
     first: usize,
     word: u128,
-) -> Result<(), AllocError>
+)
     requires { first + length names.now < 2 ^ 64 }
     ensures { let owner = option_map (λ p. p.now) owner.entry in
         let values = valuation_of names.now (λ k. bits_of word (first + k)) in
-        OnOk result (line.new.items ≡ line.old.items ++ variables_text format owner values) }
+        Grown line.old line.new (variables_text format owner values) }
 {
     for (n, name) in names.iter().enumerate() {
         let bit = bit_of(word, first + n);
-        push_value(line, format, owner, name.text().as_bytes(), bit)?;
+        push_value(line, format, owner, name.text().as_bytes(), bit);
     }
-    Ok(())
 }
 
 /// What is said of a reply.
@@ -141,46 +125,39 @@ fn reply_name(reply: Reply) -> &'static [u8]
 }
 
 /// Adds the members of a call that have one value each.
-fn push_members(line: &mut Vec<u8>, facts: &CallFacts<'_>) -> Result<(), AllocError>
-    ensures { let members = concat (member_texts (facts_in facts.now)) in
-        OnOk result (line.new.items ≡ line.old.items ++ members) }
+fn push_members(line: &mut Buffer, facts: &CallFacts<'_>)
+    ensures { Grown line.old line.new (concat (member_texts (facts_in facts.now))) }
 {
-    push_three(
-        line,
+    line.put_three(
         Bytes(b"{\"kind\":\"call\""),
         Key(b"number"),
         Number(facts.number),
-    )?;
-    push_four(
-        line,
+    );
+    line.put_four(
         Key(b"thread"),
         Number(u64::from(facts.call.thread)),
         Key(b"context"),
         NumberOrNull(wide(facts.context)),
-    )?;
-    push_four(
-        line,
+    );
+    line.put_four(
         Key(b"switch"),
         Truth(facts.is_switch),
         Key(b"line"),
         NumberOrNull(line_of(facts.next.position)),
-    )?;
-    push_four(
-        line,
+    );
+    line.put_four(
         Key(b"column"),
         NumberOrNull(column_of(facts.next.position)),
         Key(b"procedure"),
         TextOrNull(facts.next.procedure),
-    )?;
-    push_four(
-        line,
+    );
+    line.put_four(
         Key(b"depth"),
         Number(facts.next.depth as u64),
         Key(b"statement"),
         TextOrNull(facts.next.text),
-    )?;
-    push_four(
-        line,
+    );
+    line.put_four(
         Key(b"choice"),
         BitOrNull(facts.choice()),
         Key(b"reply"),
@@ -189,49 +166,38 @@ fn push_members(line: &mut Vec<u8>, facts: &CallFacts<'_>) -> Result<(), AllocEr
 }
 
 /// Adds the bits as items of a list.
-fn push_bit_items(items: &mut Vec<u8>, bits: &[bool]) -> Result<(), AllocError>
-    ensures { OnOk result (items.new.items ≡ items.old.items ++ flat_map bit_item bits.now) }
+fn push_bit_items(items: &mut Buffer, bits: &[bool])
+    ensures { Grown items.old items.new (flat_map bit_item bits.now) }
 {
     for bit in bits {
-        push_two(items, Bytes(b","), Bit(*bit))?;
+        items.put_two(Bytes(b","), Bit(*bit));
     }
-    Ok(())
 }
 
-/// Adds the values that a call printed, or null. `note` is room for them.
-fn push_printed(
-    line: &mut Vec<u8>,
-    note: &mut Vec<u8>,
-    printed: Option<&[bool]>,
-) -> Result<(), AllocError>
+/// Adds the values that a call printed, or null.
+fn push_printed(line: &mut Buffer, printed: Option<&[bool]>)
     ensures { let printed = printed_text (option_map (λ v. v.now) printed.entry) in
-        OnOk result (line.new.items ≡ line.old.items ++ printed) }
+        Grown line.old line.new printed }
 {
-    match printed {
-        Some(values) => {
-            note.clear();
-            push_bit_items(note, values)?;
-            push_piece(line, List(note))
-        }
-        None => push_piece(line, Bytes(b"null")),
-    }
+    let Some(values) = printed else {
+        return line.put(Bytes(b"null"));
+    };
+    let start = line.len();
+    push_bit_items(line, values);
+    line.close_list(start)
 }
 
-/// Adds the object of a call that printed these values, if any. `note` is room for its lists.
-pub(crate) fn push_object(
-    line: &mut Vec<u8>,
-    note: &mut Vec<u8>,
-    facts: &CallFacts<'_>,
-    printed: Option<&[bool]>,
-) -> Result<(), AllocError>
+/// Adds the object of a call that printed these values, if any.
+pub(crate) fn push_object(line: &mut Buffer, facts: &CallFacts<'_>, printed: Option<&[bool]>)
     ensures { let printed = option_map (λ v. v.now) printed.entry in
-        OnOk result
-        (line.new.items ≡ line.old.items ++ call_object (facts_in facts.now) printed) }
+        Grown line.old line.new (call_object (facts_in facts.now) printed) }
 {
-    push_members(line, facts)?;
-    note.clear();
-    push_changed(note, ViewFormat::Json, facts.changes)?;
-    push_three(line, Key(b"changes"), List(note), Key(b"printed"))?;
-    push_printed(line, note, printed)?;
-    push_piece(line, Bytes(b"}\n"))
+    push_members(line, facts);
+    line.put(Key(b"changes"));
+    let start = line.len();
+    push_changed(line, ViewFormat::Json, facts.changes);
+    line.close_list(start);
+    line.put(Key(b"printed"));
+    push_printed(line, printed);
+    line.put(Bytes(b"}\n"))
 }

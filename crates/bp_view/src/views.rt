@@ -1,35 +1,35 @@
 //! The view of a trace.
 //! The end of a view.
-ghost use Rattle.std.specs.Prelude.{◌≡◌, ◌≤◌, ℕ, List, length, map, take, MatchResult, IfOk, OnOk};
+ghost use Rattle.std.specs.Prelude.{◌≡◌, ◌≤◌, [], ℕ, List, length, map, take, MatchResult, IfOk};
 ghost use Rattle.bp_text.specs.Writing.{IsWritten};
-ghost use Rattle.bp_text.specs.Lines.{Adds};
 ghost use Rattle.bp_language.specs.Ast.{Program};
 ghost use Rattle.bp_flat.specs.StandsFor.{StandsFor};
 ghost use Rattle.bp_machine.specs.Setups.{threads};
 ghost use Rattle.bp_machine.specs.declared.calls.Call.{Call as Answered};
 ghost use Rattle.bp_machine.specs.Histories.{outcome_of};
 ghost use Rattle.bp_machine.specs.Sessions.{Stands};
+ghost use Rattle.bp_view.specs.Buffers.{Gains, Grown};
 ghost use Rattle.bp_view.specs.Checkpoints.{IsCheckpoint};
 ghost use Rattle.bp_view.specs.Filters.{skipped, watched_names};
-ghost use Rattle.bp_view.specs.Views.{filter_of, IsShownTrace, HasMade, IsMissing, IsStopped, IsThere, IsView, IsViewRefusal, IsViewable, IsViewed, IsEnd, IsStateIf, IsViewContextOf};
+ghost use Rattle.bp_view.specs.Views.{after_foot, filter_of, IsShownTrace, HasMade, IsMissing, IsStopped, IsThere, IsView, IsViewRefusal, IsViewable, IsViewed, IsEnd, IsStateIf, IsViewContextOf};
 ghost use Rattle.bp_view.specs.SetupLines.{view_head};
 
+use crate::buffers::Buffer;
 use crate::checkpoints::Checkpoint;
 use crate::faults::ViewFault;
 use crate::fronts::Front;
-use crate::outcomes::foot_of;
+use crate::outcomes::push_foot_of;
 use crate::program_facts::{undeclared, watched_names};
 use crate::setup_lines::head_of;
-use crate::states::state_of;
+use crate::states::push_state_of;
 use crate::view_contexts::{ShownTrace, ViewContext, shown_trace_before, view_context_of};
 use crate::writers::{ViewWriter, filter_of};
 use bp_code::Checked;
 use bp_flat::Code;
 use bp_machine::{Report, Session, Setup};
-use bp_source::push_two;
 use bp_tasks::{ViewFormat, ViewOptions};
 use bp_text::Piece::Bytes;
-use bp_text::{push_bytes, put};
+use bp_text::put;
 use bp_trace::ReplayFault;
 use std::alloc::{AllocError, Global};
 use std::io::Write;
@@ -76,7 +76,7 @@ fn write_parts<W: Write>(
         let Ok(()) = writer.make_line(&history[n]) else {
             return Err(ViewFault::Memory);
         };
-        put(out, &writer.line)?;
+        put(out, &writer.line.bytes)?;
     }
     let end = end_of(alloc, &writer.context, &writer.session, report)?;
     put(out, &end)?;
@@ -134,8 +134,7 @@ fn write_view<W: Write>(
     let mut writer = ViewWriter {
         context,
         session,
-        line: Vec::new(alloc),
-        note: Vec::new(alloc),
+        line: Buffer::new(alloc),
         front: Front::new(alloc),
         changes: Vec::new(alloc),
         last,
@@ -181,14 +180,18 @@ pub fn view<W: Write>(
     Ok(shown.replayed.report)
 }
 
+/// Adds what is between a foot and a state: an empty line for people.
+fn push_gap(view: &mut Buffer, format: ViewFormat)
+    ensures { Grown view.old view.new (after_foot format []) }
+{
+    if let ViewFormat::Columns = format {
+        view.put(Bytes(b"\n"));
+    }
+}
+
 /// Adds the state of the session after a foot, where it is asked for. The session stands after the
 /// last call.
-fn push_state(
-    alloc: Global,
-    view: &mut Vec<u8>,
-    context: &ViewContext<'_>,
-    session: &Session,
-) -> Result<(), AllocError>
+fn push_state(alloc: Global, view: &mut Buffer, context: &ViewContext<'_>, session: &Session)
     ensures { (t : Program) (text : List ℕ) (h : List Answered)
         → IsViewContextOf t text context.now
         → StandsFor session.now.code t
@@ -196,17 +199,14 @@ fn push_state(
         → context.now.history.now ≡ h
         → let o = context.now.options in
         let state = IsStateIf o.format t text session.now.setup h o.has_state in
-        OnOk result (Adds state view.old.items view.new.items) }
+        Gains state view.old view.new }
 {
     if !context.options.has_state {
-        return Ok(());
+        return;
     }
     let history = context.history;
-    let state = state_of(alloc, context, session, history, history.len() as u64)?;
-    match context.options.format {
-        ViewFormat::Columns => push_two(view, Bytes(b"\n"), Bytes(&state)),
-        ViewFormat::Json => push_bytes(view, &state),
-    }
+    push_gap(view, context.options.format);
+    push_state_of(alloc, view, context, session, history, history.len() as u64)
 }
 
 /// The foot of the view of a history with this report, and the state after it where that is asked
@@ -227,7 +227,8 @@ pub(crate) fn end_of(
         let file = context.now.file.now in
         IfOk result (λ v. IsEnd context.now.options file t text s h report v.items) }
 {
-    let mut end = foot_of(alloc, context, session, report)?;
-    push_state(alloc, &mut end, context, session)?;
-    Ok(end)
+    let mut end = Buffer::new(alloc);
+    push_foot_of(alloc, &mut end, context, session, report);
+    push_state(alloc, &mut end, context, session);
+    end.into_bytes()
 }

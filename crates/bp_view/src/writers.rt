@@ -2,7 +2,6 @@
 //! The lines of the calls that are shown.
 //! Which calls a view shows, by its options.
 ghost use Rattle.std.specs.Prelude.{◌≡◌, ◌++◌, ◌∷◌, [], ℕ, List, option_map, MatchResult, OnOk, None};
-ghost use Rattle.bp_text.specs.Lines.{Adds};
 ghost use Rattle.bp_language.specs.Ast.{Program};
 ghost use Rattle.bp_machine.specs.declared.calls.Call.{Call as Answered};
 ghost use Rattle.bp_machine.specs.Histories.{stack_of, configuration_after};
@@ -10,9 +9,11 @@ ghost use Rattle.bp_machine.specs.Runs.{values_printed};
 ghost use Rattle.bp_machine.specs.Sessions.{IsPrintRefusal, AfterEach};
 ghost use Rattle.bp_machine.specs.Setups.{SetupOf};
 ghost use Rattle.bp_trace.specs.Replays.{IsPlayable};
+ghost use Rattle.bp_view.specs.Buffers.{Gains, Grown};
 ghost use Rattle.bp_view.specs.CallFacts.{facts_in, IsReplayedCall};
 ghost use Rattle.bp_view.specs.Views.{IsViewContextOf, next_print_in, line_in, printed_in, IsShownLine, filter_of};
 
+use crate::buffers::Buffer;
 use crate::call_facts::{CallFacts, facts_of_call};
 use crate::change_facts::{Change, fill_changes};
 use crate::checkpoints::{ReplayedCall, last_step, printed_by, replayed_call};
@@ -24,7 +25,6 @@ use crate::variables::push_object;
 use crate::view_contexts::ViewContext;
 use bp_machine::{AskFault, Call, Session};
 use bp_tasks::{ViewFormat, ViewOptions};
-use std::alloc::AllocError;
 
 /// The values that the next statement of a thread prints, where a view of this format shows them.
 fn next_print(
@@ -51,9 +51,7 @@ pub(crate) struct ViewWriter<'a> {
     /// It stands after the calls that were made.
     pub(crate) session: Session,
     /// The line of the last of them, or nothing where it is not shown.
-    pub(crate) line: Vec<u8>,
-    /// Room for parts of a line.
-    pub(crate) note: Vec<u8>,
+    pub(crate) line: Buffer,
     /// What lines have as the lines before have it.
     pub(crate) front: Front,
     /// Room for what a call changed.
@@ -83,7 +81,7 @@ impl ViewWriter<'_> {
             → let s = self.old.session.setup in
             let x = self.old.context in
             let whole = x.history.now in
-            let line = self.new.line.items in
+            let line = self.new.line.bytes.items in
             OnOk result (IsShownLine t text s x.options x.widths whole h recorded.now line) }
         ensures kept { (self.new.session.setup ≡ self.old.session.setup)
             × (self.new.context ≡ self.old.context) }
@@ -97,13 +95,13 @@ impl ViewWriter<'_> {
         self.line.clear();
         push_shown(
             &mut self.line,
-            &mut self.note,
             &mut self.front,
             &mut self.changes,
             &self.context,
             &replayed,
             printed,
-        )?;
+        );
+        self.line.finish()?;
         self.last = last_step(self.last, &replayed.call);
         self.made = number;
         Ok(())
@@ -111,22 +109,20 @@ impl ViewWriter<'_> {
 }
 
 /// Adds the line of a call in the format of the view, which stands for this many calls; the call
-/// printed these values, if any. `note` is room for parts of it, and `front` has those of another
-/// line that are kept.
+/// printed these values, if any. `front` has parts of another line that are kept.
 fn push_line_in(
-    view: &mut Vec<u8>,
-    note: &mut Vec<u8>,
+    view: &mut Buffer,
     front: &mut Front,
     context: &ViewContext<'_>,
     facts: &CallFacts<'_>,
     calls: usize,
     printed: Option<&[bool]>,
-) -> Result<(), AllocError>
+)
     ensures { let o = context.now.options in
         let printed = option_map (λ v. v.now) printed.entry in
         let f = facts_in facts.now in
         let line = line_in o.format o.has_colour context.now.widths f calls printed in
-        OnOk result (view.new.items ≡ view.old.items ++ line) }
+        Grown view.old view.new line }
 {
     let options = context.options;
     match options.format {
@@ -134,49 +130,46 @@ fn push_line_in(
             let widths = context.widths.under_headings();
             push_line(view, front, &widths, options.has_colour, facts, calls)
         }
-        ViewFormat::Json => push_object(view, note, facts, printed),
+        ViewFormat::Json => push_object(view, facts, printed),
     }
 }
 
 /// Adds the line of a call, where it is shown: it is asked for, it changed what is watched, and its
-/// line stands for a call. `note` is room for parts of the line, `front` has those of another line
-/// that are kept, and `changes` is room for what the call changed.
+/// line stands for a call. `front` has parts of another line that are kept, and `changes` is room
+/// for what the call changed.
 pub(crate) fn push_shown<'a>(
-    view: &mut Vec<u8>,
-    note: &mut Vec<u8>,
+    view: &mut Buffer,
     front: &mut Front,
     changes: &mut Vec<Change<'a>>,
     context: &ViewContext<'a>,
     replayed: &ReplayedCall,
     printed: Option<&[bool]>,
-) -> Result<(), AllocError>
+)
     ensures { (t : Program) (text : List ℕ) (s : SetupOf) (h : List Answered) (x : Answered)
         → IsViewContextOf t text context.now
         → IsReplayedCall t s h x replayed.now
         → let o = context.now.options in
         option_map (λ v. v.now) printed.entry ≡ printed_in o.format (configuration_after t s h) x
         → let line = IsShownLine t text s o context.now.widths context.now.history.now h x in
-        OnOk result (Adds line view.old.items view.new.items) }
+        Gains line view.old view.new }
 {
-    let count = context.history.len() as u64;
-    if !context
-        .filter
-        .asks_for(replayed.call.thread, replayed.number, count)
-    {
-        return Ok(());
+    let (call, number) = (&replayed.call, replayed.number);
+    let (filter, count) = (context.filter, context.history.len() as u64);
+    if !filter.asks_for(call.thread, number, count) {
+        return;
     }
-    fill_changes(changes, &context.program, replayed)?;
+    let Ok(()) = fill_changes(changes, &context.program, replayed) else {
+        return view.refuse();
+    };
     if !has_watched(context.names, changes) {
-        return Ok(());
+        return;
     }
-    let calls = context
-        .filter
-        .calls_in_line(context.history, &replayed.call, replayed.number);
-    if calls > 0 {
-        let facts = facts_of_call(&context.program, replayed, changes);
-        push_line_in(view, note, front, context, &facts, calls, printed)?;
+    let calls = filter.calls_in_line(context.history, call, number);
+    if calls == 0 {
+        return;
     }
-    Ok(())
+    let facts = facts_of_call(&context.program, replayed, changes);
+    push_line_in(view, front, context, &facts, calls, printed)
 }
 
 /// All calls, without colours.

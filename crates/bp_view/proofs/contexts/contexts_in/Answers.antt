@@ -1,7 +1,9 @@
 use Rattle.std.proofs.Common.{◌≡◌, ◌∙◌, ◌++◌, ap, length, rules, subst, sym, vec_len}
+use Rattle.std.proofs.lemmas.Result.{IfOk-weaker}
 use Rattle.bp_trace.specs.Replays.{IsPlayable}
 use Rattle.bp_view.specs.ContextFacts.{AreSpans}
 use Rattle.bp_view.specs.ContextLines.{AreContextLines}
+use Rattle.bp_view.proofs.Growing.{held}
 use Rattle.bp_view.proofs.ViewableContexts.{all_contexts}
 use Rattle.bp_view.proofs.contexts.contexts_in.Goals as goal
 
@@ -19,13 +21,14 @@ returns c = λ text are.
     let known = context.known text are in
     let spans = subst (λ g. AreSpans t r.setup g c.in-Ok.spans.items) c.as_slice-history.ensures.value (c.in-Ok.ensures t c.requires.code) in
     let spans_are = subst (AreSpans t r.setup h) (sym c.deref.ensures.value) spans in
-    let said = c.push_contexts.new.view.items in
-    let lines = c.in_ok-push_contexts.ensures t text r.setup h known spans_are in
     let size : length c.in-Ok.spans.items ≡ vec_len c.in-Ok.spans = search rules in
     let count = c.len.ensures ∙ sym size ∙ ap length (sym c.deref.ensures.value) in
-    let head = rw (c.new-view.ensures.items, count, sym context.format) at c.in_ok-push_contexts_head.ensures in
-    let is = lines.is ∙ ap (λ z. z ++ lines.more) head in
+    IfOk-weaker c.into_bytes.result _ _ (λ v (fine, same).
+    let (was, lines) = c.push_contexts.ensures t text r.setup h known spans_are fine in
+    let head = rw (count, sym context.format) at (held c.new-view.ensures c.push_contexts_head.ensures was) in
+    let is = same ∙ lines.is ∙ ap (λ z. z ++ lines.more) head in
     let own =
-    all_contexts t text r.setup h x known context.widths context.columns (ap length context.history) c.deref.result.now spans_are said
+    all_contexts t text r.setup h x known context.widths context.columns (ap length context.history) c.deref.result.now spans_are v.items
     (record { more = lines.more; is = is; more_are = lines.more_are }) in
-    subst (λ f. AreContextLines f t text r.setup h said) context.format own
+    subst (λ f. AreContextLines f t text r.setup h v.items) context.format own)
+    c.into_bytes.ensures

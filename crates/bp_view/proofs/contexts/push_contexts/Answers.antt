@@ -4,13 +4,14 @@ use Rattle.bp_view.proofs.SpansOfHistories.{span_of}
 use Rattle.bp_view.proofs.contexts.push_contexts.Goals as goal
 
 pub loop-n-init : goal.loop-n-init
-loop-n-init c = λ t text s h set are. none_added
+loop-n-init c = λ t text s h set are fine. (fine, none_added)
 
 pub loop-n-preserved : goal.loop-n-preserved
-loop-n-preserved c = λ t text s h set are.
+loop-n-preserved c = λ t text s h set are fine.
     let n = c.loop-n.n in
-    let line = c.in_ok-push_context.ensures t text s h set (span_of t s h c.args.spans.now are n _ c.loop-n-test.true) in
-    rw (add-one n) (one_added (c.loop-n.invariant t text s h set are) (rw (add-one n) at line))
+    let (was, line) = c.push_context.ensures t text s h set (span_of t s h c.args.spans.now are n _ c.loop-n-test.true) fine in
+    let (first, lines) = c.loop-n.invariant t text s h set are was in
+    (first, rw (add-one n) (one_added lines (rw (add-one n) at line)))
 
 pub returns : goal.returns
 returns c = λ t text s h set are.

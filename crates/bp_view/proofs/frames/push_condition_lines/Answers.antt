@@ -1,14 +1,8 @@
-use Rattle.std.proofs.Common.{◌++◌, ap, decimal, map}
-use Rattle.bp_text.specs.Pieces.{displayed}
-use Rattle.bp_source.proofs.DecidersOfPlaces.{when_ok}
-use Rattle.bp_view.proofs.ShownLines.{condition_joined}
+use Rattle.bp_view.proofs.Growing.{ends, led_note}
 use Rattle.bp_view.proofs.frames.push_condition_lines.Goals as goal
 
 pub returns : goal.returns
 returns c =
-    let x = c.args.condition.now in
-    let old = c.args.view.now.items in
-    let lead = c.values_lead.result.now in
-    let file = displayed c.args.file.now in
-    let joined = condition_joined file (decimal x.position.line) (decimal x.position.column) x.text.now lead c.args.values.now c.values_lead.ensures in
-    when_ok c.push_pieces.result c.push_pieces.ensures (λ added. rw (added, c.as_bytes.ensures.value) (ap (λ y. old ++ y) joined))
+    let changed = rw c.as_slice.ensures.value at c.push_changed.ensures in
+    let values = led_note c.len-start.ensures c.put.ensures c.len-middle.ensures changed c.drop_lead.ensures in
+    rw c.as_bytes.ensures.value at (c.put_pieces.ensures.followed _ _ (ends values))

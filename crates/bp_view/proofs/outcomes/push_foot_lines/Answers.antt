@@ -1,14 +1,10 @@
-use Rattle.std.proofs.Common.{◌++◌, ap, codes, decimal}
-use Rattle.bp_source.proofs.DecidersOfPlaces.{when_ok}
-use Rattle.bp_view.proofs.ShownLines.{foot_joined}
+use Rattle.bp_view.specs.FootFacts.{condition_in}
+use Rattle.bp_view.proofs.BegunViews.{copied}
+use Rattle.bp_view.proofs.Growing.{and_then}
 use Rattle.bp_view.proofs.outcomes.push_foot_lines.Goals as goal
 
 pub returns : goal.returns
 returns c =
-    let r = c.args.report in
-    let end = codes "\n" in
-    let contexts = codes " calls, contexts " in
-    let open_threads = codes ", open threads " in
-    let joined =
-    foot_joined end (decimal r.calls) contexts (decimal r.contexts) open_threads (decimal r.left_open) end c.args.outcome.now c.args.waits.now end in
-    when_ok c.push_pieces.result c.push_pieces.ensures (λ added. rw (added, c.from.ensures, c.from-2.ensures) (ap (λ x. c.args.view.now.items ++ x) joined))
+    let outcome = rw (copied condition_in c.as_ref.result, c.as_ref.ensures.value) at c.push_outcome.ensures in
+    let waits = rw c.as_slice.ensures.value at c.push_waits.ensures in
+    rw (c.from.ensures, c.from-2.ensures) at (c.put_pieces.ensures.followed _ _ (and_then outcome (and_then waits c.put.ensures)))

@@ -1,6 +1,7 @@
-use Rattle.std.proofs.Common.{◌≡◌, ◌++◌, take}
+use Rattle.std.proofs.Common.{take}
+use Rattle.bp_view.specs.Buffers.{Grown}
 use Rattle.bp_view.specs.SetupLines.{thread_lines}
 use Rattle.bp_view.proofs.setup_lines.push_threads.Given as goal
 
 abbrev pub invariant-loop-thread : goal.invariant-loop-thread
-invariant-loop-thread l = l.view.items ≡ l.initial.view.items ++ thread_lines 0 (take l.thread l.setup.entries)
+invariant-loop-thread l = Grown l.fn.view l.view (thread_lines 0 (take l.thread l.setup.entries))

@@ -1,16 +1,17 @@
-use Rattle.std.proofs.Common.{◌∙◌, ◌++◌, ◌-◌, ◌<◌, ◌+◌, codes, length, take, ap, arith}
-use Rattle.bp_source.proofs.DecidersOfPlaces.{when_ok}
-use Rattle.bp_view.proofs.ShownLines.{cut}
+use Rattle.std.proofs.Common.{◌≡◌, ◌∙◌, ◌++◌, ◌-◌, ◌+◌, ◌<◌, append_assoc, codes, length, length-append, take, ap, ap₂, sym, arith}
+use Rattle.std.proofs.Math.Seq.{take-append-add}
+use Rattle.bp_view.proofs.ShownLines.{cut_long}
 use Rattle.bp_view.proofs.statement_columns.cut_after.Goals as goal
 
 pub returns : goal.returns
-returns c =
-    let line = c.args.line.now.items in
-    let start = c.args.start in
-    let room = c.args.room in
-    let more : room < length line - start = omega (arith, c.len.ensures, c.if-len-start.false) in
-    when_ok c.push_bytes.result c.push_bytes.ensures (λ added.
-    added
-    ∙ ap (λ y. y ++ codes "..") c.truncate.ensures.items
-    ∙ ap (λ n. take (start + n) line ++ codes "..") c.saturating_sub.ensures
-    ∙ cut room start line more)
+returns c = record {
+  kept = λ fine. sym c.truncate.ensures.0 ∙ (c.put.ensures.grown fine).0;
+  is = λ before text begins fine was.
+      let room = c.args.room in
+      let long : room < length text = omega (arith, c.if-saturating_sub-room.false, ap length was, length-append before text) in
+      let size : c.args.start + c.saturating_sub-2.result ≡ length before + (room - 2) = omega arith in
+      (c.put.ensures.grown fine).1
+      ∙ ap (λ x. x ++ codes "..") (c.truncate.ensures.1 ∙ ap₂ take size was ∙ take-append-add before text (room - 2))
+      ∙ append_assoc before (take (room - 2) text) (codes "..")
+      ∙ ap (λ x. before ++ x) (sym (cut_long room text long));
+}

@@ -1,14 +1,13 @@
-use Rattle.std.proofs.Common.{◌≡◌, ◌∙◌, ◌++◌, ◌<◌, List, [], ◌∷◌, None, length, codes, ap, sym, refl, arith}
-use Rattle.std.proofs.lemmas.Result.{on_ok_weaker}
+use Rattle.std.proofs.Common.{◌≡◌, ◌++◌, ◌<◌, List, [], ◌∷◌, None, length, codes, refl, arith}
 use Rattle.bp_language.specs.Ast.{Name}
 use Rattle.bp_flat.specs.InstrEffects.{bits_of}
 use Rattle.bp_flat.specs.Steps.{Bits}
 use Rattle.bp_flat.specs.StandsFor.{valuation_of}
-use Rattle.bp_text.proofs.PartsOfTexts.{both_added}
-use Rattle.bp_view.proofs.ChangedEntries.{from_first}
 use Rattle.bp_tasks.specs.declared.options.ViewFormat.TheVariants.{Columns}
 use Rattle.bp_view.specs.SetupLines.{globals_line}
 use Rattle.bp_view.specs.Lines.{variables_text}
+use Rattle.bp_view.proofs.ChangedEntries.{from_first}
+use Rattle.bp_view.proofs.Growing.{and_then}
 use Rattle.bp_view.proofs.states.push_globals_line.Goals as goal
 
 line_of_some : (xs : List Name) (bits : Bits) → 0 < length xs
@@ -20,11 +19,6 @@ pub returns : goal.returns
 returns c =
     let xs = c.args.globals.now in
     let bits = bits_of c.args.word in
-    let old = c.args.view.now.items in
-    let values = variables_text Columns None (valuation_of xs bits) in
     let some : 0 < length xs = grind arith in
-    let said = c.in_ok-push_values.ensures ∙ ap (λ f. c.push_bytes.new.line.items ++ variables_text Columns None (valuation_of xs f)) (from_first bits) in
-    let begun = both_added old _ _ (codes "globals") values _ said c.in_ok-push_bytes.ensures refl in
-    on_ok_weaker c.push_bytes-2.result (λ added.
-    both_added old _ _ (codes "globals" ++ values) (codes "\n") _ added begun (sym (line_of_some xs bits some)))
-    c.push_bytes-2.ensures
+    let values = rw (from_first bits) at c.push_values.ensures in
+    rw (line_of_some xs bits some) (and_then (and_then c.put.ensures values) c.put-2.ensures)

@@ -1,28 +1,10 @@
-use Rattle.std.proofs.Common.{[], ◌∷◌, ◌∙◌, ◌+◌, ◌++◌, None, ap, codes}
 use Rattle.bp_flat.specs.InstrEffects.{bits_of}
-use Rattle.bp_flat.specs.StandsFor.{valuation_of}
-use Rattle.bp_text.proofs.PartsOfTexts.{all_added}
-use Rattle.bp_text.specs.Pieces.{key_text, list_text}
-use Rattle.bp_view.specs.StateFacts.{state_in}
 use Rattle.bp_view.proofs.ChangedEntries.{from_first}
-use Rattle.bp_tasks.specs.declared.options.ViewFormat.TheVariants.{Json}
-use Rattle.bp_view.specs.States.{state_members}
-use Rattle.bp_view.specs.Lines.{variables_text}
+use Rattle.bp_view.proofs.Growing.{and_then, listed}
 use Rattle.bp_view.proofs.states.push_state_object.Goals as goal
-use Rattle.bp_source.proofs.DecidersOfPlaces.{when_ok}
 
 pub returns : goal.returns
 returns c =
-    let state = c.args.state.now in
-    let bits = bits_of state.values in
-    let names = state.globals.now in
-    let values = variables_text Json None (valuation_of names bits) in
-    let note = c.deref.ensures.value
-    ∙ c.in_ok-push_values.ensures
-    ∙ ap (λ x. x ++ variables_text Json None (valuation_of names (λ k. bits (0 + k)))) c.clear.ensures.items
-    ∙ ap (λ f. variables_text Json None (valuation_of names f)) (from_first bits)
-    in
-    when_ok c.push_four.result c.push_four.ensures (λ added.
-    rw (added, c.in_ok-push_state_members.ensures, note)
-    (all_added c.args.view.now.items
-    (state_members (state_in state) ∷ list_text values ∷ key_text (codes "threads") ∷ list_text c.args.threads.now ∷ codes "}\n" ∷ [])))
+    let globals = listed c.len-globals.ensures (rw (from_first (bits_of c.args.state.now.values)) at c.push_values.ensures) c.close_list.ensures in
+    let threads = listed c.len-threads.ensures (rw c.as_slice.ensures.value at c.push_threads.ensures) c.close_list-2.ensures in
+    and_then c.push_state_members.ensures (and_then globals (and_then c.put.ensures (and_then threads c.put-2.ensures)))

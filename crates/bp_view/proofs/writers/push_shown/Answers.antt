@@ -4,64 +4,50 @@ use Rattle.bp_machine.specs.Histories.{configuration_after}
 use Rattle.bp_view.specs.declared.change_facts.Change.{Change}
 use Rattle.bp_view.specs.CallFacts.{changes_by, facts_in, entry_of}
 use Rattle.bp_view.specs.Filters.{is_seen, watched_names}
-use Rattle.bp_view.proofs.ShownLines.{asked_of, calls_are, hidden, line_if, shown}
+use Rattle.bp_view.proofs.ShownLines.{asked_of, calls_are, hidden, line_if, no_calls, shown}
 use Rattle.bp_view.proofs.writers.push_shown.Goals as goal
 
 pub returns-then-not-asks_for : goal.returns-then-not-asks_for
 returns-then-not-asks_for c = λ t text s h x set of printed.
     let context = c.args.context.now in
-    let m = c.args.replayed.now in
-    let f = context.filter in
     let none = sym c.asks_for.ensures ∙ c.if-not-asks_for.true in
-    let asked = asked_of t text s context h x m of f set.filter false none in
-    hidden t text s context h x c.args.view.now.items (line_if t text s context h x false _ _ asked refl refl)
+    let asked = asked_of t text s context h x c.args.replayed.now of context.filter set.filter false none in
+    hidden t text s context h x (line_if t text s context h x false _ _ asked refl refl) c.args.view.now
 
 pub returns-then-not-has_watched : goal.returns-then-not-has_watched
 returns-then-not-has_watched c = λ t text s h x set of printed.
     let context = c.args.context.now in
-    let m = c.args.replayed.now in
-    let f = context.filter in
     let some = sym c.asks_for.ensures ∙ c.if-not-asks_for.false in
-    let asked = asked_of t text s context h x m of f set.filter true some in
+    let asked = asked_of t text s context h x c.args.replayed.now of context.filter set.filter true some in
     let after = configuration_after t s (h ++ x ∷ []) in
-    let filled = c.in_ok-fill_changes.ensures t text (configuration_after t s h) after x.thread set.program of.leads in
+    let filled = c.in-Ok.ensures t text (configuration_after t s h) after x.thread set.program of.leads in
     let changed = ap (λ (xs : List Change). map entry_of xs) c.deref.ensures.value ∙ filled in
     let seen : is_seen (watched_names context.options.watch) (changes_by t s h x) ≡ false =
     ap₂ is_seen (sym set.names) (sym changed) ∙ sym c.has_watched.ensures ∙ c.if-not-has_watched.true in
-    hidden t text s context h x c.args.view.now.items (line_if t text s context h x true false _ asked seen refl)
+    hidden t text s context h x (line_if t text s context h x true false _ asked seen refl) c.args.view.now
 
-pub returns-else-calls-gt0 : goal.returns-else-calls-gt0
-returns-else-calls-gt0 c = λ t text s h x set of printed.
+pub returns-then-calls-eq0 : goal.returns-then-calls-eq0
+returns-then-calls-eq0 c = λ t text s h x set of printed.
     let context = c.args.context.now in
     let m = c.args.replayed.now in
-    let f = context.filter in
-    let some = sym c.asks_for.ensures ∙ c.if-not-asks_for.false in
-    let asked = asked_of t text s context h x m of f set.filter true some in
-    let after = configuration_after t s (h ++ x ∷ []) in
-    let filled = c.in_ok-fill_changes.ensures t text (configuration_after t s h) after x.thread set.program of.leads in
-    let changed = ap (λ (xs : List Change). map entry_of xs) c.deref.ensures.value ∙ filled in
-    let seen : is_seen (watched_names context.options.watch) (changes_by t s h x) ≡ true =
-    ap₂ is_seen (sym set.names) (sym changed) ∙ sym c.has_watched.ensures ∙ c.if-not-has_watched.false in
-    let calls = calls_are t text s context h x m of f set.filter c.calls_in_line-calls.result c.calls_in_line-calls.ensures in
-    let none : nat_lt 0 c.calls_in_line-calls.result ≡ false = grind (arith, nat_tests, c.if-calls-gt0.false) in
-    let no_line = ap (nat_lt 0) (sym calls) ∙ none in
-    hidden t text s context h x c.args.view.now.items (line_if t text s context h x true true false asked seen no_line)
+    let calls = calls_are t text s context h x m of context.filter set.filter c.calls_in_line-calls.result c.calls_in_line-calls.ensures in
+    let none : nat_lt 0 c.calls_in_line-calls.result ≡ false = grind (arith, nat_tests, c.if-calls-eq0.true) in
+    hidden t text s context h x (no_calls t text s context h x (ap (nat_lt 0) (sym calls) ∙ none)) c.args.view.now
 
-pub returns-in_ok-push_line_in : goal.returns-in_ok-push_line_in
-returns-in_ok-push_line_in c = λ t text s h x set of printed.
+pub returns : goal.returns
+returns c = λ t text s h x set of printed.
     let context = c.args.context.now in
     let m = c.args.replayed.now in
-    let f = context.filter in
     let wanted = sym c.asks_for.ensures ∙ c.if-not-asks_for.false in
-    let asked = asked_of t text s context h x m of f set.filter true wanted in
+    let asked = asked_of t text s context h x m of context.filter set.filter true wanted in
     let after = configuration_after t s (h ++ x ∷ []) in
-    let filled = c.in_ok-fill_changes.ensures t text (configuration_after t s h) after x.thread set.program of.leads in
+    let filled = c.in-Ok.ensures t text (configuration_after t s h) after x.thread set.program of.leads in
     let changed = ap (λ (xs : List Change). map entry_of xs) c.deref.ensures.value ∙ filled in
     let seen : is_seen (watched_names context.options.watch) (changes_by t s h x) ≡ true =
     ap₂ is_seen (sym set.names) (sym changed) ∙ sym c.has_watched.ensures ∙ c.if-not-has_watched.false in
-    let calls = calls_are t text s context h x m of f set.filter c.calls_in_line-calls.result c.calls_in_line-calls.ensures in
-    let some : nat_lt 0 c.calls_in_line-calls.result ≡ true = grind (arith, nat_tests, c.if-calls-gt0.true) in
+    let calls = calls_are t text s context h x m of context.filter set.filter c.calls_in_line-calls.result c.calls_in_line-calls.ensures in
+    let some : nat_lt 0 c.calls_in_line-calls.result ≡ true = grind (arith, nat_tests, c.if-calls-eq0.false) in
     let has = line_if t text s context h x true true true asked seen (ap (nat_lt 0) (sym calls) ∙ some) in
-    let shown_changes = ap (λ (xs : List Change). map entry_of xs) c.deref-then-calls-gt0.ensures.value ∙ filled in
-    let facts = c.facts_of_call-facts.ensures t text s h x set.program of shown_changes in
-    shown t text s context h x c.args.view.now.items has (facts_in c.facts_of_call-facts.result) facts _ printed _ calls _ c.in_ok-push_line_in.ensures
+    let changes = ap (λ (xs : List Change). map entry_of xs) c.deref-2.ensures.value ∙ filled in
+    let facts = c.facts_of_call-facts.ensures t text s h x set.program of changes in
+    shown t text s context h x has (facts_in c.facts_of_call-facts.result) facts _ printed _ calls _ _ c.push_line_in.ensures

@@ -6,6 +6,7 @@ use Rattle.bp_machine.specs.Histories.{configuration_after, granted_threads, is_
 use Rattle.bp_trace.proofs.PlayableFronts.{own_is}
 use Rattle.bp_view.proofs.RecordedCalls.{next_number, own_refused, print_refused}
 use Rattle.bp_view.specs.Views.{next_print_in, IsShownLine}
+use Rattle.bp_view.proofs.Growing.{gained}
 use Rattle.bp_view.proofs.ShownLines.{printed_of}
 use Rattle.bp_view.proofs.writers.ViewWriter.make_line.Goals as goal
 
@@ -41,10 +42,8 @@ returns-clause-line c = λ t text h has playable known.
     let own_next = next ∙ ap (next_print_in context.options.format now) (sym thread) in
     let is = c.printed_by-printed.ensures ∙ ap (λ o. if is_granted y.reply then o else None) c.as_deref.ensures.value in
     let printed = printed_of context.options.format now y _ values own_next is in
-    let shown = c.in_ok-push_shown.ensures t text s h y known replayed printed in
-    let line = shown.is ∙ ap (λ old. old ++ shown.more) c.clear.ensures.items in
-    subst (λ l. IsShownLine t text s context.options context.widths context.history.now h x l) (sym line)
-    (subst (λ z. IsShownLine t text s context.options context.widths context.history.now h z shown.more) own shown.more_are)
+    let shown = gained c.push_shown.new.view c.clear.ensures (c.push_shown.ensures t text s h y known replayed printed) c.in_ok-finish.ensures in
+    subst (λ z. IsShownLine t text s context.options context.widths context.history.now h z c.push_shown.new.view.bytes.items) own shown
 
 pub returns-in_err-next-clause-made : goal.returns-in_err-next-clause-made
 returns-in_err-next-clause-made c = λ t h has playable.

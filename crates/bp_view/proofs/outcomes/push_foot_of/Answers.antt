@@ -1,0 +1,8 @@
+use Rattle.std.proofs.Common.{refl}
+use Rattle.bp_view.specs.FootFacts.{foot_in}
+use Rattle.bp_view.proofs.Growing.{gains}
+use Rattle.bp_view.proofs.outcomes.push_foot_of.Goals as goal
+
+pub returns : goal.returns
+returns c = λ t text h set code stands outcome.
+    gains c.push_foot.ensures (record { facts = foot_in c.in-Ok.foot; facts_are = c.in-Ok.ensures t text h set.program code stands outcome; is = refl })

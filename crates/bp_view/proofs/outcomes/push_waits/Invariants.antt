@@ -1,0 +1,8 @@
+use Rattle.std.proofs.Common.{flat_map, take}
+use Rattle.bp_view.specs.Buffers.{Grown}
+use Rattle.bp_view.specs.FootFacts.{condition_in}
+use Rattle.bp_view.specs.Views.{wait_text}
+use Rattle.bp_view.proofs.outcomes.push_waits.Given as goal
+
+abbrev pub invariant-loop-wait : goal.invariant-loop-wait
+invariant-loop-wait l = Grown l.fn.view l.view (flat_map (λ x. wait_text l.format l.file (condition_in x)) (take l.wait-index l.waits))

@@ -1,7 +1,0 @@
-use Rattle.std.proofs.Common.{◌≡◌, flat_map, take}
-use Rattle.bp_view.specs.FootFacts.{condition_in}
-use Rattle.bp_view.specs.Views.{wait_text}
-use Rattle.bp_view.proofs.outcomes.waits_text.Given as goal
-
-abbrev pub invariant-loop-wait : goal.invariant-loop-wait
-invariant-loop-wait l = l.view.items ≡ flat_map (λ x. wait_text l.format l.file (condition_in x)) (take l.wait-index l.waits)

@@ -1,7 +1,0 @@
-use Rattle.std.proofs.Common.{◌≡◌, flat_map, take}
-use Rattle.bp_view.specs.StateFacts.{thread_in}
-use Rattle.bp_view.specs.States.{thread_text}
-use Rattle.bp_view.proofs.states.threads_text.Given as goal
-
-abbrev pub invariant-loop-thread : goal.invariant-loop-thread
-invariant-loop-thread l = l.view.items ≡ flat_map (λ x. thread_text l.format (thread_in x)) (take l.thread-index l.threads)

@@ -1,0 +1,17 @@
+use Rattle.std.proofs.Common.{◌∙◌, ◌++◌, ap}
+use Rattle.std.proofs.lemmas.Result.{IfOk-weaker}
+use Rattle.bp_view.proofs.views.end_of.Goals as goal
+
+pub returns : goal.returns
+returns c = λ t text h known code stands whole outcome.
+    IfOk-weaker c.into_bytes.result _ _ (λ v (fine, same).
+    let (was, state) = c.push_state.ensures t text h known code stands whole fine in
+    let (none, foot) = c.push_foot_of.ensures t text h known code stands outcome was in
+    record {
+      foot = foot.more;
+      foot_is = foot.more_are;
+      state = state.more;
+      state_is = state.more_are;
+      is = same ∙ state.is ∙ ap (λ x. x ++ state.more) (foot.is ∙ ap (λ x. x ++ foot.more) c.new-end.ensures.none);
+    })
+    c.into_bytes.ensures
