@@ -11,7 +11,5 @@ pub mod WholeFacts
 pub mod FailedConditions
 pub mod SpansOfHistories
 pub mod SingleFacts
-pub mod OneContext
-pub mod OneFoot
 pub mod PlacedStacks
 pub mod Growing

@@ -1,36 +1,134 @@
--- A history has one view.
-use Rattle.std.proofs.Common.{◌≡◌, ◌∙◌, ℕ, List, ap, sym, ◌<◌, ◌++◌, Bool, true, false, Some, length, map, slice_get, take, ap₂, subst, refl, suc, None}
+-- A history has one view, one state, and one list of its contexts, since the facts that they show are single.
+use Rattle.std.proofs.Common.{◌≡◌, ◌∙◌, ℕ, List, ap, sym, ◌<◌, ◌++◌, Bool, true, false, Some, length, map, slice_get, take, ap₂, subst, refl, suc, None, if◌then◌else◌, [], ◌∷◌, Option, IsTrue, ◌↔◌, arith}
 use Rattle.bp_text.specs.Lines.{IsInParts}
 use Rattle.bp_text.proofs.PartsOfTexts.{item_at, one_of_parts}
 use Rattle.bp_language.specs.Ast.{Program}
 use Rattle.bp_flat.specs.StandsFor.{places_of, starts_of}
 use Rattle.bp_machine.specs.declared.calls.Call.{Call}
 use Rattle.bp_machine.specs.declared.calls.Report.{Report}
-use Rattle.bp_machine.specs.Setups.{SetupOf}
-use Rattle.bp_machine.specs.Histories.{configuration_after, granted_threads}
+use Rattle.bp_machine.specs.Setups.{SetupOf, threads}
+use Rattle.bp_machine.specs.Histories.{configuration_after, granted_threads, stack_of}
 use Rattle.bp_machine.proofs.ContextCounts.{least_opened}
 use Rattle.bp_source.specs.SourceStatements.{place_text}
 use Rattle.bp_source.proofs.OneStatement.{one_list_of_statements}
 use Rattle.bp_tasks.specs.declared.options.ViewFormat.{ViewFormat}
 use Rattle.bp_tasks.specs.declared.options.ViewOptions.{ViewOptions}
-use Rattle.bp_view.specs.CallFacts.{printed_by, ShownCall}
+use Rattle.bp_view.specs.CallFacts.{printed_by, ShownCall, IsNextOf}
 use Rattle.bp_view.specs.Filters.{calls_of}
-use Rattle.bp_view.proofs.OneFoot as facts
 use Rattle.bp_view.proofs.SingleFacts as states
-use Rattle.bp_view.proofs.SingleFacts.{one_call}
-use Rattle.bp_view.proofs.OneContext.{one_context}
+use Rattle.bp_view.proofs.SingleFacts.{one_call, one_next}
 use Rattle.bp_view.specs.Views.{foot_text, IsFoot, after_foot, IsEnd, IsStateIf, filter_of, has_line, line_in, AreLines, IsShownLine, IsView, IsViewLineIf}
 use Rattle.bp_view.specs.States.{state_text, IsStateText}
 use Rattle.bp_view.specs.declared.view_contexts.Widths.{Widths}
 use Rattle.bp_view.specs.SetupLines.{view_head}
 use Rattle.bp_view.specs.Lines.{extent, AreWidths, Extent}
-use Rattle.bp_view.specs.ContextLines.{context_text, contexts_head, AreContextLines, IsContextLine}
+use Rattle.bp_view.specs.ContextLines.{context_text, contexts_head, AreContextLines, IsContextLine, changes_within, AreContextFacts, IsContextOf, ShownContext}
+use Rattle.std.specs.List.{All}
+use Rattle.std.proofs.lemmas.List.Elements.{All-head, All-tail}
+use Rattle.bp_flat.specs.Moves.{Configuration}
+use Rattle.bp_machine.specs.declared.calls.Outcome.{Outcome}
+use Rattle.bp_machine.specs.declared.calls.Outcome.TheVariants.{Clean, Failed}
+use Rattle.bp_view.specs.FootFacts.{waiting, AreFailureFacts, AreFootFacts, AreStandingFacts, ShownCondition, ShownFoot}
+use Rattle.bp_view.proofs.FailedConditions.{one_assertion, one_condition, one_decision, one_frame, one_place, same_condition}
+
+-- The facts of a context are single.
+
+-- a context has one thread, one first and one last call
+record OneContext (i j first last other next : ℕ) : Type 0 where
+  thread : i ≡ j
+  first_is : first ≡ other
+  last_is : last ≡ next
+
+same_context : (n : ℕ) (h : List Call) (i j first last other next : ℕ) → IsContextOf n h i first last → IsContextOf n h j other next
+    → OneContext i j first last other next
+same_context n h i j first last other next a b =
+    let (x, begins) = a.begins in
+    let (y, ends) = a.ends in
+    let (z, starts) = b.begins in
+    let (u, stops) = b.ends in
+    record {
+      thread = sym (a.each first x begins).0 ∙ (b.each first x begins).0;
+      first_is = omega (arith, (b.each first x begins).1, (a.each other z starts).1);
+      last_is = omega (arith, (b.each last y ends).2, (a.each next u stops).2);
+    }
+
+module _ (t : Program) (text : List ℕ) (s : SetupOf) (h : List Call) (n : ℕ) where
+  pub one_context : (f g : ShownContext) → AreContextFacts t text s h n f → AreContextFacts t text s h n g → f ≡ g
+  one_context f g a b =
+      let same = same_context n h f.thread g.thread a.first a.last b.first b.last a.context b.context in
+      let before = ap₂ (λ k i. stack_of (configuration_after t s (take k h)) i) same.first_is same.thread in
+      let after = ap₂ (λ k i. stack_of (configuration_after t s (take (suc k) h)) i) same.last_is same.thread in
+      let from = one_next text _ f.from g.from (subst (λ stack. IsNextOf text stack f.from) before a.from) b.from in
+      let to = one_next text _ f.to g.to (subst (λ stack. IsNextOf text stack f.to) after a.to) b.to in
+      let changes = a.changes ∙ changed_alike same ∙ sym b.changes in
+      λ i. record {
+        number = (a.number ∙ sym b.number) i;
+        thread = same.thread i;
+        first = (a.first_is ∙ ap suc same.first_is ∙ sym b.first_is) i;
+        last = (a.last_is ∙ ap suc same.last_is ∙ sym b.last_is) i;
+        from = from i;
+        to = to i;
+        changes = changes i;
+      }
+    where
+      changed_alike : OneContext f.thread g.thread a.first a.last b.first b.last → changes_within t s h a.first a.last ≡ changes_within t s h b.first b.last
+      changed_alike same = ap₂ (changes_within t s h) same.first_is same.last_is
+
+-- The facts of an end are single: a thread stands at one condition, and whether the threads are deadlocked is decided.
+
+one_answer : (P : Type 0) (a b : Bool) → IsTrue a ↔ P → IsTrue b ↔ P → a ≡ b
+one_answer P true true x y = refl
+one_answer P false false x y = refl
+one_answer P true false x y = sym (y.1 (x.0 refl))
+one_answer P false true x y = x.1 (y.0 refl)
+
+module _ (text : List ℕ) (c : Configuration) where
+  one_standing : (x y : ShownCondition) → x.thread ≡ y.thread → AreStandingFacts text c x → AreStandingFacts text c y → x ≡ y
+  one_standing x y same a b =
+      let place = one_place c x.thread y.thread same a.stands b.stands in
+      let decision = one_decision c x.thread y.thread same a.stands b.stands in
+      let frame = one_frame c x.thread y.thread same a.stands b.stands in
+      one_condition text _ _ _ _ x y same (same_condition text _ _ _ _ _ _ _ _ x place decision frame refl a.are) b.are
+
+  one_waits : (xs ys : List ShownCondition) → map (λ x. x.thread) xs ≡ map (λ y. y.thread) ys
+      → All (AreStandingFacts text c) xs → All (AreStandingFacts text c) ys → xs ≡ ys
+  one_waits [] [] same a b = refl
+  one_waits [] (y ∷ ys) same a b = absurd cc
+  one_waits (x ∷ xs) [] same a b = absurd cc
+  one_waits (x ∷ xs) (y ∷ ys) same a b =
+      let first : x.thread ≡ y.thread = cc in
+      let others : map (λ (z : ShownCondition). z.thread) xs ≡ map (λ (z : ShownCondition). z.thread) ys = cc in
+      let P = AreStandingFacts text c in
+      ap₂ (λ z (zs : List ShownCondition). z ∷ zs) (one_standing x y first (All-head P x xs a) (All-head P y ys b))
+      (one_waits xs ys others (All-tail P x xs a) (All-tail P y ys b))
+
+module _ (t : Program) (text : List ℕ) (s : SetupOf) (h : List Call) where
+  one_failure : (o : Outcome) (x y : Option ShownCondition) → AreFailureFacts t text s h o x → AreFailureFacts t text s h o y → x ≡ y
+  one_failure Clean x y a b = a ∙ sym b
+  one_failure (Failed i) None y a b = elim a [ ]
+  one_failure (Failed i) (Some x) None a b = elim b [ ]
+  one_failure (Failed i) (Some x) (Some y) a b = ap Some (one_assertion t s h text x y (a.0 ∙ sym b.0) a.1 b.1)
+
+  pub one_foot_facts : (r : Report) (x y : ShownFoot) → AreFootFacts t text s h r x → AreFootFacts t text s h r y → x ≡ y
+  one_foot_facts r x y a b =
+      let now = configuration_after t s h in
+      let deadlocked = one_answer _ x.deadlocked y.deadlocked a.decides b.decides in
+      let failure = one_failure r.outcome x.failure y.failure a.failure b.failure in
+      let stuck : Bool → List ℕ = λ d. if d then waiting t now (threads s) else [] in
+      let of = a.waits_are.of ∙ ap stuck deadlocked ∙ sym b.waits_are.of in
+      let stand = one_waits text now x.waits y.waits of a.waits_are.each b.waits_are.each in
+      λ i. record {
+        report = (a.report ∙ sym b.report) i;
+        deadlocked = deadlocked i;
+        failure = failure i;
+        waits = stand i;
+      }
 
 -- A foot has one text, since it has one set of facts.
 
 pub one_foot : (format : ViewFormat) (file : List ℕ) (t : Program) (text : List ℕ) (s : SetupOf) (h : List Call) (r : Report) (v w : List ℕ)
     → IsFoot format file t text s h r v → IsFoot format file t text s h r w → v ≡ w
-one_foot format file t text s h r v w x y = x.is ∙ ap (foot_text format file) (facts.one_foot t text s h r x.facts y.facts x.facts_are y.facts_are) ∙ sym y.is
+one_foot format file t text s h r v w x y = x.is ∙ ap (foot_text format file) (one_foot_facts t text s h r x.facts y.facts x.facts_are y.facts_are) ∙ sym y.is
 
 -- A state has one text, since it has one set of facts.
 

@@ -17,7 +17,7 @@ use Rattle.bp_machine.proofs.HistoryWithCall.{calls_other, calls_of_thread-same}
 use Rattle.bp_trace.specs.Replays.{IsOwnRefusal, IsPlayable}
 use Rattle.bp_trace.proofs.PlayableFronts.{next_allowed, front}
 use Rattle.bp_view.specs.declared.checkpoints.Checkpoint.{Checkpoint}
-use Rattle.bp_view.specs.Checkpoints.{IsCheckpoint, IsKept}
+use Rattle.bp_view.specs.CallFacts.{IsCheckpoint, IsKept}
 use Rattle.bp_view.specs.StateFacts.{last_reply}
 
 -- a recorded bit is handed in exactly where there is no seed

@@ -13,7 +13,7 @@ use Rattle.bp_machine.specs.Sessions.{contexts_opened, last_thread, used_with, I
 use Rattle.bp_machine.specs.Setups.{SetupOf}
 use Rattle.bp_machine.proofs.ContextCounts.{within_front, count_of_none, counts_more}
 use Rattle.bp_machine.proofs.HistoryWithCall.{granted_threads-append}
-use Rattle.bp_view.specs.ContextFacts.{IsContextOf, IsStepIn, count_of, joined, with_step, AreSpans, AreSpansFrom, IsSpan, IsStandingPoint}
+use Rattle.bp_view.specs.ContextLines.{IsContextOf, IsStepIn, count_of, joined, with_step, AreSpans, AreSpansFrom, IsSpan, IsStandingPoint}
 use Rattle.bp_view.specs.CallFacts.{IsContext}
 use Rattle.bp_view.specs.declared.spans.Span.{Span}
 

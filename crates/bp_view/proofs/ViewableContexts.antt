@@ -19,12 +19,11 @@ use Rattle.bp_view.specs.Filters.{watched_names, AreDeclared, IsUndeclared}
 use Rattle.bp_view.specs.declared.faults.ViewFault.{ViewFault}
 use Rattle.bp_view.specs.declared.faults.ViewFault.TheVariants.{Memory, NoThread, NoVariable, Replay, Write}
 use Rattle.bp_view.specs.declared.spans.Span.{Span}
-use Rattle.bp_view.specs.ContextFacts.{AreSpans}
+use Rattle.bp_view.specs.ContextLines.{AreSpans, contexts_head, AreContextLines, IsContextLine}
 use Rattle.bp_view.specs.declared.view_contexts.ViewContext.{ViewContext}
 use Rattle.bp_view.specs.declared.view_contexts.ShownTrace.{ShownTrace}
 use Rattle.bp_view.specs.Views.{IsViewContextOf, IsShownTrace, IsMissing, IsStopped, IsThere, IsView, IsViewOfTrace, IsViewRefusal, IsViewable, IsViewed}
 use Rattle.bp_view.specs.Lines.{extent_of, AreWidths}
-use Rattle.bp_view.specs.ContextLines.{contexts_head, AreContextLines, IsContextLine}
 use Rattle.bp_view.proofs.BegunViews.{places_are}
 
 module _ {t : Program} {text trace : List ℕ} {shown : ShownTrace} (is : IsShownTrace t text t trace shown) where

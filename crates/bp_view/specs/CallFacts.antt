@@ -1,13 +1,13 @@
--- What a call did and changed, as plain facts.
-use Rattle.std.specs.Prelude.{◌≡◌, ℕ, List, if◌then◌else◌, ◌==◌, nat_lt, [], ◌∷◌, length, take, Bool, ◌++◌, Option, None, Some, map, option_map, ◌&&◌, not, suc, false, MatchOption, codes}
+-- What a call did and changed, as plain facts; and the session after the first calls of a history.
+use Rattle.std.specs.Prelude.{◌≡◌, ℕ, List, if◌then◌else◌, ◌==◌, nat_lt, [], ◌∷◌, length, take, Bool, ◌++◌, Option, None, Some, map, option_map, ◌&&◌, not, suc, false, MatchOption, codes, ◌≤◌, ◌<◌, ◌⊎◌, min}
 use Rattle.bp_text.specs.declared.lines.Position.{Position}
 use Rattle.bp_text.specs.Lines.{IsOneLine, position_at}
 use Rattle.bp_language.specs.Ast.{Program, Procedure}
 use Rattle.bp_flat.specs.Moves.{Frame, Configuration, Valuation, same_bit}
-use Rattle.bp_flat.specs.StandsFor.{start_of_block}
+use Rattle.bp_flat.specs.StandsFor.{start_of_block, StandsFor}
 use Rattle.bp_machine.specs.Histories.{stack_of, IsLeastWithin, configuration_after, granted_threads, is_granted}
 use Rattle.bp_machine.specs.declared.calls.Call.{Call}
-use Rattle.bp_machine.specs.Sessions.{last_thread}
+use Rattle.bp_machine.specs.Sessions.{last_thread, Stands}
 use Rattle.bp_machine.specs.Setups.{SetupOf}
 use Rattle.bp_machine.specs.Runs.{IsTop, values_printed}
 use Rattle.bp_machine.specs.declared.calls.Reply.{Reply}
@@ -18,6 +18,8 @@ use Rattle.bp_view.specs.declared.change_facts.Change.{Change}
 use Rattle.bp_view.specs.declared.checkpoints.ReplayedCall.{ReplayedCall}
 use Rattle.bp_view.specs.declared.call_facts.CallFacts.{CallFacts}
 use Rattle.bp_view.specs.declared.call_facts.Next.{Next as NextFacts}
+use Rattle.bp_view.specs.declared.checkpoints.Checkpoint.{Checkpoint}
+use Rattle.bp_view.specs.declared.checkpoints.CheckpointWatcher.{CheckpointWatcher}
 
 -- What facts show of a program and its text.
 
@@ -236,3 +238,32 @@ pub record AreCallFacts
   pub switch : f.switch ≡ is_switch h x
   pub next : IsNextOf text (stack_of (configuration_after t s h) x.thread) f.next
   pub changes : f.changes ≡ changes_by t s h x
+
+-- Checkpoints: the session after the first calls of a history.
+
+-- Of a program in a setup, and a history.
+module _ (t : Program) (s : SetupOf) (h : List Call) where
+  -- the session stands after the first calls of the history, as many as the checkpoint says
+  pub record IsCheckpoint (x : Checkpoint) : Type 0 where
+    pub few : x.made ≤ length h
+    pub code : StandsFor x.session.code t
+    pub setup : x.session.setup ≡ s
+    pub stands : Stands t x.session (take x.made h)
+    pub last : x.last ≡ last_thread (granted_threads (take x.made h))
+
+  -- these are the first n, or all where there are fewer
+  pub record IsCheckpointAfter (n : ℕ) (x : Checkpoint) : Type 0 where
+    pub is : IsCheckpoint x
+    pub made : x.made ≡ min n (length h)
+
+  -- A device: the history is as long as the first n calls that a checkpoint is wanted after, or
+  -- longer, where one was kept.
+  abbrev pub IsKept : (n : ℕ) → Option Checkpoint → Type 0
+  IsKept n None = (n ≡ 0) ⊎ (length h < n)
+  IsKept n (Some x) = IsCheckpoint x × (x.made ≡ n)
+
+  -- A device: a watcher has counted the calls of the history.
+  pub record HasCounted (w : CheckpointWatcher) : Type 0 where
+    pub made : w.made ≡ length h
+    pub last : w.last ≡ last_thread (granted_threads h)
+    pub kept : IsKept w.after w.kept

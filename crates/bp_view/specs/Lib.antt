@@ -5,8 +5,6 @@ pub mod ContextLines
 pub mod Views
 pub mod SetupLines
 pub mod CallFacts
-pub mod Checkpoints
-pub mod ContextFacts
 pub mod Filters
 pub mod FootFacts
 pub mod Laws

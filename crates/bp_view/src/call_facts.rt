@@ -8,7 +8,7 @@ ghost use Rattle.bp_machine.specs.Histories.{stack_of};
 ghost use Rattle.bp_machine.specs.Setups.{SetupOf};
 ghost use Rattle.bp_machine.specs.Runs.{IsTop};
 ghost use Rattle.bp_view.specs.CallFacts.{changes_by, choice_of, facts_in, is_tried, next_in, AreCallFacts, IsNextOf, entry_of, IsReplayedCall, AreProgramFacts};
-ghost use Rattle.bp_view.specs.ContextFacts.{changes_within, context_in, AreContextFacts, IsSpan};
+ghost use Rattle.bp_view.specs.ContextLines.{changes_within, context_in, AreContextFacts, IsSpan};
 
 use crate::change_facts::{Change, add_differing};
 use crate::checkpoints::ReplayedCall;

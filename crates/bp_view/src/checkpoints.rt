@@ -9,8 +9,7 @@ ghost use Rattle.bp_machine.specs.Setups.{FitsCode};
 ghost use Rattle.bp_machine.specs.Sessions.{Stands, last_thread, AfterEach};
 ghost use Rattle.bp_machine.specs.Histories.{IsLeastWithin, granted_threads, is_granted};
 ghost use Rattle.bp_trace.specs.Replays.{IsReplayed, IsReplayRefusal, IsOwnCall, IsOwnRefusal};
-ghost use Rattle.bp_view.specs.Checkpoints.{IsCheckpoint, IsCheckpointAfter, HasCounted};
-ghost use Rattle.bp_view.specs.CallFacts.{is_other, is_switch, IsReplayedCall};
+ghost use Rattle.bp_view.specs.CallFacts.{IsCheckpoint, IsCheckpointAfter, HasCounted, is_other, is_switch, IsReplayedCall};
 
 use bp_flat::Code;
 use bp_machine::{AskFault, Call, Reply, Session, Setup, Top};
@@ -57,7 +56,7 @@ struct CheckpointWatcher {
 
 impl Watcher for CheckpointWatcher {
     ghost use Rattle.std.specs.Prelude.{◌≡◌};
-    ghost use Rattle.bp_view.specs.Checkpoints.{HasCounted};
+    ghost use Rattle.bp_view.specs.CallFacts.{HasCounted};
 
     ghost sees = { λ first now t s h. (now.after ≡ first.after) × HasCounted t s h now };
 

@@ -1,16 +1,14 @@
 //! The contexts of a history, a line for each.
-ghost use Rattle.std.specs.Prelude.{◌≡◌, ◌++◌, ℕ, suc, List, length, MatchResult, IfOk};
+ghost use Rattle.std.specs.Prelude.{◌≡◌, ◌++◌, ℕ, suc, List, length, MatchResult};
 ghost use Rattle.bp_language.specs.Ast.{Program};
-ghost use Rattle.bp_flat.specs.StandsFor.{StandsFor, InEach};
+ghost use Rattle.bp_flat.specs.StandsFor.{StandsFor};
 ghost use Rattle.bp_machine.specs.declared.calls.Call.{Call as Answered};
-ghost use Rattle.bp_machine.specs.Setups.{FitsCode, SetupOf};
-ghost use Rattle.bp_trace.specs.Replays.{IsPlayable, IsReplayRefusal};
+ghost use Rattle.bp_machine.specs.Setups.{SetupOf};
+ghost use Rattle.bp_trace.specs.Replays.{IsReplayRefusal};
 ghost use Rattle.bp_text.specs.Pieces.{key_text};
 ghost use Rattle.bp_text.specs.Lines.{IsInParts};
-ghost use Rattle.bp_source.specs.SourceStatements.{AreSourceStatements};
 ghost use Rattle.bp_view.specs.Buffers.{Gains, Grown};
-ghost use Rattle.bp_view.specs.ContextFacts.{context_in, AreSpans, IsSpan};
-ghost use Rattle.bp_view.specs.ContextLines.{context_line, context_object, context_text, contexts_head, position_or_null, AreContextLines, AreContextsOfTrace, IsContextLine};
+ghost use Rattle.bp_view.specs.ContextLines.{context_in, AreSpans, IsSpan, context_line, context_object, context_text, contexts_head, position_or_null, AreContextsOfTrace, IsContextLine};
 ghost use Rattle.bp_view.specs.Views.{IsViewContextOf};
 
 use crate::buffers::Buffer;
@@ -18,7 +16,7 @@ use crate::call_facts::{ContextFacts, facts_of_context, fill_changes_within};
 use crate::change_facts::Change;
 use crate::lines::push_changed;
 use crate::spans::{Span, spans_of};
-use crate::view_contexts::{ShownTrace, ViewContext, Widths, shown_trace_of};
+use crate::view_contexts::{ViewContext, Widths, shown_trace_of};
 use bp_code::Checked;
 use bp_flat::Code;
 use bp_machine::Report;
@@ -26,7 +24,7 @@ use bp_tasks::ViewFormat;
 use bp_text::Piece::{Bytes, Key, Left, Number, NumberRight, Spaces};
 use bp_text::Position;
 use bp_trace::ReplayFault;
-use std::alloc::{AllocError, Global};
+use std::alloc::Global;
 
 /// Adds a context for people.
 fn push_context_line(view: &mut Buffer, widths: Widths, facts: &ContextFacts<'_>)
@@ -166,37 +164,6 @@ fn push_contexts_head(view: &mut Buffer, format: ViewFormat, calls: u64, context
     }
 }
 
-/// A line for each context of a trace that was replayed.
-fn contexts_in(
-    alloc: Global,
-    checked: &Checked,
-    code: &Code,
-    shown: &ShownTrace,
-    format: ViewFormat,
-) -> Result<Vec<u8>, AllocError>
-    requires code { StandsFor code.now checked.now }
-    requires fits { FitsCode code.now shown.now.replayed.setup }
-    requires playable { InEach code.now (λ t.
-        IsPlayable t shown.now.replayed.setup shown.now.replayed.history.items) }
-    ensures { (text : List ℕ)
-        → AreSourceStatements text checked.now shown.now.statements.items
-        → let r = shown.now.replayed in
-        let lines = AreContextLines format checked.now text r.setup r.history.items in
-        IfOk result (λ v. lines v.items) }
-{
-    let history = shown.replayed.history.as_slice();
-    let Ok(spans) = spans_of(alloc, code, &shown.replayed.setup, history) else {
-        return Err(AllocError);
-    };
-    let context = shown.context(checked, format);
-    let mut view = Buffer::new(alloc);
-    let calls = context.history.len() as u64;
-    push_contexts_head(&mut view, format, calls, spans.len() as u64);
-    let mut changes = Vec::new(alloc);
-    push_contexts(&mut view, &mut changes, &context, &spans);
-    view.into_bytes()
-}
-
 /// A line for each context of a trace, and the report of the trace: the thread of the context, its
 /// first and its last call, where the thread stood before and after it, and the globals that it
 /// changed. A text that is no trace of the program is refused as `replay` refuses it.
@@ -214,6 +181,18 @@ pub fn contexts_of(
         (IsReplayRefusal checked.now trace.now) }
 {
     let shown = shown_trace_of(alloc, text, checked, code, trace)?;
-    let lines = contexts_in(alloc, checked, code, &shown, format)?;
+    let history = shown.replayed.history.as_slice();
+    let Ok(spans) = spans_of(alloc, code, &shown.replayed.setup, history) else {
+        return Err(ReplayFault::Memory);
+    };
+    let context = shown.context(checked, format);
+    let mut view = Buffer::new(alloc);
+    let calls = context.history.len() as u64;
+    push_contexts_head(&mut view, format, calls, spans.len() as u64);
+    let mut changes = Vec::new(alloc);
+    push_contexts(&mut view, &mut changes, &context, &spans);
+    let Ok(lines) = view.into_bytes() else {
+        return Err(ReplayFault::Memory);
+    };
     Ok((lines, shown.replayed.report))
 }

@@ -6,7 +6,7 @@ ghost use Rattle.bp_machine.specs.Histories.{configuration_after};
 ghost use Rattle.bp_machine.specs.Sessions.{Stands, AfterEach};
 ghost use Rattle.bp_machine.specs.Setups.{FitsCode};
 ghost use Rattle.bp_trace.specs.Replays.{IsPlayable};
-ghost use Rattle.bp_view.specs.ContextFacts.{joined, with_step, AreSpans, IsStandingPoint};
+ghost use Rattle.bp_view.specs.ContextLines.{joined, with_step, AreSpans, IsStandingPoint};
 
 use crate::checkpoints::is_step;
 use bp_flat::Code;

@@ -1,11 +1,10 @@
 //! The text of a state, from its facts: the values of the globals, and how each thread stands.
-ghost use Rattle.std.specs.Prelude.{◌≡◌, ℕ, List, length, map, take, IfOk, MatchResult};
+ghost use Rattle.std.specs.Prelude.{◌≡◌, ℕ, List, map, MatchResult};
 ghost use Rattle.bp_language.specs.Ast.{Program};
 ghost use Rattle.bp_flat.specs.InstrEffects.{bits_of};
 ghost use Rattle.bp_flat.specs.StandsFor.{valuation_of, StandsFor};
 ghost use Rattle.bp_machine.specs.Sessions.{Stands};
 ghost use Rattle.bp_trace.specs.Replays.{IsReplayRefusal};
-ghost use Rattle.bp_source.specs.SourceStatements.{AreSourceStatements};
 ghost use Rattle.bp_tasks.specs.declared.options.ViewFormat.TheVariants.{Columns, Json};
 ghost use Rattle.bp_view.specs.Buffers.{Gains, Grown};
 ghost use Rattle.bp_view.specs.StateFacts.{state_in, thread_in};
@@ -18,7 +17,7 @@ use crate::filters::calls_to;
 use crate::frames::push_frames;
 use crate::state_facts::{Standing, StateFacts, ThreadFacts, facts_of_state};
 use crate::variables::push_values;
-use crate::view_contexts::{ShownTrace, ViewContext, shown_trace_to};
+use crate::view_contexts::{ViewContext, shown_trace_to};
 use bp_code::Checked;
 use bp_flat::Code;
 use bp_language::Name;
@@ -26,7 +25,7 @@ use bp_machine::{Call, Outcome, Report, Session};
 use bp_tasks::ViewFormat;
 use bp_text::Piece::{Bytes, Key, Number, NumberOrNull, Text};
 use bp_trace::ReplayFault;
-use std::alloc::{AllocError, Global};
+use std::alloc::Global;
 
 /// How a thread stands, for people.
 fn standing_text(standing: Standing) -> &'static [u8]
@@ -227,34 +226,6 @@ pub(crate) fn push_state_of(
     push_state(view, context.options.format, &facts)
 }
 
-/// The state after the first `number` calls of a trace that was replayed, or after the last where
-/// there are fewer. The session stands after these.
-fn state_after(
-    alloc: Global,
-    checked: &Checked,
-    shown: &ShownTrace,
-    session: &Session,
-    format: ViewFormat,
-    number: u64,
-) -> Result<Vec<u8>, AllocError>
-    ensures { (text : List ℕ)
-        → AreSourceStatements text checked.now shown.now.statements.items
-        → let r = shown.now.replayed in
-        let h = r.history.items in
-        StandsFor session.now.code checked.now
-        → session.now.setup ≡ r.setup
-        → Stands checked.now session.now (take number h)
-        → let state = IsStateText format checked.now text r.setup (take number h) (length h) in
-        IfOk result (λ v. state v.items) }
-{
-    let calls = calls_to(shown.replayed.history.as_slice(), number);
-    let context = shown.context(checked, format);
-    let count = context.history.len() as u64;
-    let mut state = Buffer::new(alloc);
-    push_state_of(alloc, &mut state, &context, session, calls, count);
-    state.into_bytes()
-}
-
 /// The state after the first `number` calls of a trace, or after the last where there are fewer,
 /// and the report of the whole trace. The state has the values of the globals, how each thread
 /// stands, and the frames of its stack. A text that is no trace of the program is refused as
@@ -274,6 +245,20 @@ pub fn state_at(
         (IsReplayRefusal checked.now trace.now) }
 {
     let (shown, checkpoint) = shown_trace_to(alloc, text, checked, code, trace, number)?;
-    let state = state_after(alloc, checked, &shown, &checkpoint.session, format, number)?;
+    let calls = calls_to(shown.replayed.history.as_slice(), number);
+    let context = shown.context(checked, format);
+    let count = context.history.len() as u64;
+    let mut view = Buffer::new(alloc);
+    push_state_of(
+        alloc,
+        &mut view,
+        &context,
+        &checkpoint.session,
+        calls,
+        count,
+    );
+    let Ok(state) = view.into_bytes() else {
+        return Err(ReplayFault::Memory);
+    };
     Ok((state, shown.replayed.report))
 }

@@ -6,7 +6,7 @@ ghost use Rattle.bp_flat.specs.StandsFor.{InEach};
 ghost use Rattle.bp_trace.specs.Replays.{IsReplayRefusal};
 ghost use Rattle.bp_source.specs.SourceStatements.{AreSourceStatements};
 ghost use Rattle.bp_view.specs.Filters.{watched_names, skipped};
-ghost use Rattle.bp_view.specs.Checkpoints.{IsCheckpoint, IsCheckpointAfter};
+ghost use Rattle.bp_view.specs.CallFacts.{IsCheckpoint, IsCheckpointAfter};
 ghost use Rattle.bp_view.specs.Views.{IsViewContextOf, IsShownTrace};
 ghost use Rattle.bp_view.specs.Lines.{shortened, extent_of, longest, AreWidths};
 

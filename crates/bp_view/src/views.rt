@@ -9,7 +9,7 @@ ghost use Rattle.bp_machine.specs.declared.calls.Call.{Call as Answered};
 ghost use Rattle.bp_machine.specs.Histories.{outcome_of};
 ghost use Rattle.bp_machine.specs.Sessions.{Stands};
 ghost use Rattle.bp_view.specs.Buffers.{Gains, Grown};
-ghost use Rattle.bp_view.specs.Checkpoints.{IsCheckpoint};
+ghost use Rattle.bp_view.specs.CallFacts.{IsCheckpoint};
 ghost use Rattle.bp_view.specs.Filters.{skipped, watched_names};
 ghost use Rattle.bp_view.specs.Views.{after_foot, filter_of, IsShownTrace, HasMade, IsMissing, IsStopped, IsThere, IsView, IsViewRefusal, IsViewable, IsViewed, IsEnd, IsStateIf, IsViewContextOf};
 ghost use Rattle.bp_view.specs.SetupLines.{view_head};

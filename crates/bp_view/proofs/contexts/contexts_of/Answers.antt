@@ -1,25 +1,45 @@
-use Rattle.std.proofs.Common.{refl}
-use Rattle.std.proofs.lemmas.Result.{err_from_is_err_and}
+use Rattle.std.proofs.Common.{◌≡◌, ◌∙◌, ◌++◌, ap, length, refl, rules, subst, sym, vec_len}
 use Rattle.bp_machine.proofs.SetupInRange.{fits}
+use Rattle.bp_trace.specs.Replays.{IsPlayable}
+use Rattle.bp_view.specs.ContextLines.{AreSpans, AreContextLines}
+use Rattle.bp_view.proofs.Growing.{held}
+use Rattle.bp_view.proofs.ViewableContexts.{all_contexts}
 use Rattle.bp_view.proofs.contexts.contexts_of.Goals as goal
 
-pub contexts_in-requires-clause-fits : goal.contexts_in-requires-clause-fits
-contexts_in-requires-clause-fits c = λ t is. fits t c.in_ok-shown.shown.replayed.setup (c.in_ok-shown.ensures t is).is.trace.fine
+pub spans_of-requires-clause-fits : goal.spans_of-requires-clause-fits
+spans_of-requires-clause-fits c = λ t is. fits t c.in_ok-shown.shown.replayed.setup (c.in_ok-shown.ensures t is).is.trace.fine
 
-pub contexts_in-requires-clause-playable : goal.contexts_in-requires-clause-playable
-contexts_in-requires-clause-playable c = λ t is. (c.in_ok-shown.ensures t is).is.trace.playable
+pub spans_of-requires-clause-playable : goal.spans_of-requires-clause-playable
+spans_of-requires-clause-playable c = λ t is.
+    subst (IsPlayable t c.in_ok-shown.shown.replayed.setup) (sym c.as_slice-history.ensures.value) (c.in_ok-shown.ensures t is).is.trace.playable
 
-pub returns-in_err-lines : goal.returns-in_err-lines
-returns-in_err-lines c =
-    let p = err_from_is_err_and c.from_residual-in_err-lines.result c.from_residual-in_err-lines.ensures.1 in
-    rw (p.1, p.2) (c.in_ok-shown.ensures c.args.checked.now c.requires).short
+pub returns-in_default : goal.returns-in_default
+returns-in_default c = (c.in_ok-shown.ensures c.args.checked.now c.requires).short
+
+pub returns-in_default-into_bytes : goal.returns-in_default-into_bytes
+returns-in_default-into_bytes c = (c.in_ok-shown.ensures c.args.checked.now c.requires).short
 
 pub returns : goal.returns
 returns c =
-    let shown = c.in_ok-shown.ensures c.args.checked.now c.requires in
+    let t = c.args.checked.now in
+    let text = c.args.text.now in
+    let shown = c.in_ok-shown.ensures t c.requires in
+    let r = c.in_ok-shown.shown.replayed in
+    let h = r.history.items in
+    let context = c.context-context.ensures in
+    let known = context.known text shown.statements in
+    let made = subst (λ g. AreSpans t r.setup g c.in-Ok.spans.items) c.as_slice-history.ensures.value (c.in-Ok.ensures t c.requires) in
+    let spans = subst (AreSpans t r.setup h) (sym c.deref.ensures.value) made in
+    let size : length c.in-Ok.spans.items ≡ vec_len c.in-Ok.spans = search rules in
+    let count = c.len.ensures ∙ sym size ∙ ap length (sym c.deref.ensures.value) in
+    let (was, lines) = c.push_contexts.ensures t text r.setup h known spans c.in-Ok-into_bytes.ensures.0 in
+    let head = rw (count, sym context.format) at (held c.new-view.ensures c.push_contexts_head.ensures was) in
+    let all =
+    all_contexts t text r.setup h c.context-context.result known context.widths context.columns (ap length context.history) _ spans c.in-Ok-into_bytes.lines.items
+    (record { more = lines.more; is = c.in-Ok-into_bytes.ensures.1 ∙ lines.is ∙ ap (λ z. z ++ lines.more) head; more_are = lines.more_are }) in
     record {
-      replayed = c.in_ok-shown.shown.replayed;
+      replayed = r;
       is = shown.is;
-      lines_are = c.in_ok-lines.ensures c.args.text.now shown.statements;
+      lines_are = subst (λ f. AreContextLines f t text r.setup h c.in-Ok-into_bytes.lines.items) context.format all;
       report_is = refl;
     }

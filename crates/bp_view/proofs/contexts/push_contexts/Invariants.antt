@@ -4,8 +4,7 @@ use Rattle.bp_machine.specs.declared.calls.Call.{Call}
 use Rattle.bp_machine.specs.Setups.{SetupOf}
 use Rattle.bp_text.specs.Lines.{IsInParts}
 use Rattle.bp_view.specs.Buffers.{Gains}
-use Rattle.bp_view.specs.ContextFacts.{AreSpans}
-use Rattle.bp_view.specs.ContextLines.{IsContextLine}
+use Rattle.bp_view.specs.ContextLines.{AreSpans, IsContextLine}
 use Rattle.bp_view.specs.Views.{IsViewContextOf}
 use Rattle.bp_view.proofs.contexts.push_contexts.Given as goal
 

@@ -5,7 +5,7 @@ use Rattle.bp_machine.specs.Histories.{configuration_after, is_granted}
 use Rattle.bp_machine.specs.Sessions.{Stands}
 use Rattle.bp_trace.proofs.PlayableFronts.{own_is}
 use Rattle.bp_view.specs.declared.spans.Span.{Span}
-use Rattle.bp_view.specs.ContextFacts.{AreSpans, IsStandingPoint}
+use Rattle.bp_view.specs.ContextLines.{AreSpans, IsStandingPoint}
 use Rattle.bp_view.proofs.RecordedCalls.{asked_refused}
 use Rattle.bp_view.proofs.SpansOfHistories.{spans_idle, spans_with, IsOwnStep}
 use Rattle.bp_view.proofs.spans.play_call.Goals as goal

@@ -2,7 +2,7 @@ use Rattle.std.proofs.Common.{if◌then◌else◌, ◌≡◌, ◌∙◌, ◌++�
 use Rattle.std.specs.Option.{option_to_list}
 use Rattle.std.proofs.lemmas.Bool.Decides.{nat_tests}
 use Rattle.bp_text.proofs.PartsOfTexts.{both_added}
-use Rattle.bp_view.specs.ContextFacts.{joined, with_step}
+use Rattle.bp_view.specs.ContextLines.{joined, with_step}
 use Rattle.bp_view.proofs.SpansOfHistories.{with_step_after}
 use Rattle.bp_view.proofs.spans.push_step.Goals as goal
 

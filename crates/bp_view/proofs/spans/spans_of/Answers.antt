@@ -3,7 +3,7 @@ use Rattle.std.proofs.lemmas.List.{take_all, take_more}
 use Rattle.std.proofs.lemmas.Result.{err_from_is_err_and}
 use Rattle.bp_flat.specs.StandsFor.{StandsFor}
 use Rattle.bp_machine.specs.Sessions.{Stands}
-use Rattle.bp_view.specs.ContextFacts.{AreSpans}
+use Rattle.bp_view.specs.ContextLines.{AreSpans}
 use Rattle.bp_view.proofs.RecordedCalls.{playable_here}
 use Rattle.bp_view.proofs.SpansOfHistories.{no_spans}
 use Rattle.bp_view.proofs.spans.spans_of.Goals as goal

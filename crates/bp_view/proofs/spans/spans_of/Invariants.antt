@@ -2,7 +2,7 @@ use Rattle.std.proofs.Common.{◌≡◌, take}
 use Rattle.bp_language.specs.Ast.{Program}
 use Rattle.bp_flat.specs.StandsFor.{StandsFor}
 use Rattle.bp_machine.specs.Sessions.{Stands}
-use Rattle.bp_view.specs.ContextFacts.{AreSpans}
+use Rattle.bp_view.specs.ContextLines.{AreSpans}
 use Rattle.bp_view.proofs.spans.spans_of.Given as goal
 
 abbrev pub invariant-loop-n : goal.invariant-loop-n

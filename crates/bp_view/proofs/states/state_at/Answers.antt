@@ -1,24 +1,30 @@
-use Rattle.std.proofs.Common.{◌∙◌, ap, refl, subst, take}
+use Rattle.std.proofs.Common.{◌∙◌, ap, length, refl, subst, sym, take}
 use Rattle.std.proofs.lemmas.List.{take_min}
-use Rattle.std.proofs.lemmas.Result.{err_from_is_err_and}
 use Rattle.bp_machine.specs.Sessions.{Stands}
+use Rattle.bp_view.specs.States.{IsStateText}
+use Rattle.bp_view.proofs.Growing.{gained}
 use Rattle.bp_view.proofs.states.state_at.Goals as goal
 
-pub returns-in_err-state : goal.returns-in_err-state
-returns-in_err-state c =
-    let p = err_from_is_err_and c.from_residual-in_err-state.result c.from_residual-in_err-state.ensures.1 in
-    rw (p.1, p.2) (c.in_ok-shown.ensures c.args.checked.now c.requires).0.short
+pub returns-in_default : goal.returns-in_default
+returns-in_default c = (c.in_ok-shown.ensures c.args.checked.now c.requires).0.short
 
 pub returns : goal.returns
 returns c =
-    let (shown, kept) = c.in_ok-shown.ensures c.args.checked.now c.requires in
-    let h = c.in_ok-shown.shown.replayed.history.items in
-    let session = c.in_ok-shown.checkpoint.session in
-    let front = ap (λ n. take n h) kept.made ∙ take_min c.args.number h in
-    let stands = subst (Stands c.args.checked.now session) front kept.is.stands in
+    let t = c.args.checked.now in
+    let text = c.args.text.now in
+    let (shown, kept) = c.in_ok-shown.ensures t c.requires in
+    let r = c.in_ok-shown.shown.replayed in
+    let n = c.args.number in
+    let front = ap (λ k. take k r.history.items) kept.made ∙ take_min n r.history.items in
+    let calls = c.calls_to-calls.ensures ∙ ap (take n) c.as_slice.ensures.value in
+    let stands = subst (Stands t c.in_ok-shown.checkpoint.session) (front ∙ sym calls) kept.is.stands in
+    let context = c.context-context.ensures in
+    let (fine, same) = c.in-Ok.ensures in
+    let made = gained c.push_state_of.new.view c.new-view.ensures (c.push_state_of.ensures t text (context.known text shown.statements) kept.is.code stands) fine in
+    let state = rw (ap length context.history, context.format, kept.is.setup, calls) at made in
     record {
-      replayed = c.in_ok-shown.shown.replayed;
+      replayed = r;
       is = shown.is;
-      state_is = c.in_ok-state.ensures c.args.text.now shown.statements kept.is.code kept.is.setup stands;
+      state_is = subst (IsStateText c.args.format t text r.setup (take n r.history.items) (length r.history.items)) (sym same) state;
       report_is = refl;
     }
