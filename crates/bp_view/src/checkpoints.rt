@@ -234,6 +234,7 @@ pub fn replayed_call(
 }
 
 /// The thread of the last step, with that of one more call.
+#[tactic(auto, using(crate::proofs::SpansOfHistories::last_after))]
 pub fn last_step(last: Option<u32>, call: &Call) -> Option<u32>
     ensures { (h : List Answered)
         → last ≡ last_thread (granted_threads h)

@@ -15,6 +15,7 @@ pub fn views_are_single()
 
 /// States that the lines of the calls of a history whose numbers are asked for, folded or not,
 /// stand for these calls, each once.
+#[tactic(auto, using(crate::proofs::CallsOfLines::each_once))]
 pub fn lines_stand_for_each_call_once()
     ensures { StandForEachOnce }
 {}
@@ -24,6 +25,7 @@ pub fn lines_stand_for_each_call_once()
 /// those below it stay as they are. One that the call entered has the formals that the changes
 /// name, and 0 for each declared local; one that it left is gone. Other threads keep their stacks.
 /// The values of a history begin with those of its setup.
+#[tactic(auto, using(crate::proofs::ChangesReplay::changes_replay))]
 pub fn changes_replay()
     ensures { ChangesReplay }
 {}

@@ -1,13 +1,6 @@
-use Rattle.std.proofs.Common.{◌≡◌, [], refl, subst, sym}
 use Rattle.bp_machine.specs.Histories.{stack_of}
-use Rattle.bp_view.specs.CallFacts.{nothing_next, IsNextOf}
 use Rattle.bp_view.proofs.PlacedStacks.{next_of_top}
 use Rattle.bp_view.proofs.call_facts.next_of.Goals as goal
-
-pub returns-in_default : goal.returns-in_default
-returns-in_default c = λ t text d i set is.
-    let none : stack_of d i ≡ [] = rw c.in_default.is at is in
-    subst (λ s. IsNextOf text s nothing_next) (sym none) refl
 
 pub returns-in_default-source_statement_of : goal.returns-in_default-source_statement_of
 returns-in_default-source_statement_of c = λ t text d i set is.

@@ -1,10 +1,7 @@
 use Rattle.std.proofs.Common.{◌≡◌, length, add-one, arith}
-use Rattle.bp_text.proofs.PartsOfTexts.{none_added, one_added}
+use Rattle.bp_text.proofs.PartsOfTexts.{one_added}
 use Rattle.bp_view.proofs.SpansOfHistories.{span_of}
 use Rattle.bp_view.proofs.contexts.push_contexts.Goals as goal
-
-pub loop-n-init : goal.loop-n-init
-loop-n-init c = λ t text s h set are fine. (fine, none_added)
 
 pub loop-n-preserved : goal.loop-n-preserved
 loop-n-preserved c = λ t text s h set are fine.

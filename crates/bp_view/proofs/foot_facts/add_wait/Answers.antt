@@ -3,14 +3,9 @@ use Rattle.std.proofs.lemmas.List.{map-append}
 use Rattle.bp_machine.specs.Histories.{configuration_after}
 use Rattle.bp_machine.specs.Runs.{waits}
 use Rattle.bp_view.specs.FootFacts.{condition_in, waiting, AreWaitsFacts}
-use Rattle.bp_view.proofs.WholeFacts.{no_wait_more, one_wait_more}
+use Rattle.bp_view.proofs.WholeFacts.{one_wait_more}
 use Rattle.bp_view.proofs.FailedConditions.{at_assumption}
 use Rattle.bp_view.proofs.foot_facts.add_wait.Goals as goal
-
-pub returns-then-not-waits : goal.returns-then-not-waits
-returns-then-not-waits c = λ t text h set is stands are.
-    let now = configuration_after t c.args.session.now.setup h in
-    no_wait_more t text now c.args.thread _ are (sym (c.waits.ensures t h is stands) ∙ c.if-not-waits.true)
 
 pub returns-in_default : goal.returns-in_default
 returns-in_default c = λ t text h set is stands are.

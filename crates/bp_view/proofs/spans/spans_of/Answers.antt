@@ -1,20 +1,11 @@
-use Rattle.std.proofs.Common.{◌≡◌, ◌∙◌, ◌+◌, ◌<◌, ◌≤◌, [], suc, length, sym, subst, take, length-take-le, arith}
+use Rattle.std.proofs.Common.{◌≡◌, ◌∙◌, ◌+◌, ◌<◌, ◌≤◌, suc, length, sym, subst, take, length-take-le, arith}
 use Rattle.std.proofs.lemmas.List.{take_all, take_more}
 use Rattle.std.proofs.lemmas.Result.{err_from_is_err_and}
 use Rattle.bp_flat.specs.StandsFor.{StandsFor}
 use Rattle.bp_machine.specs.Sessions.{Stands}
 use Rattle.bp_view.specs.ContextLines.{AreSpans}
 use Rattle.bp_view.proofs.RecordedCalls.{playable_here}
-use Rattle.bp_view.proofs.SpansOfHistories.{no_spans}
 use Rattle.bp_view.proofs.spans.spans_of.Goals as goal
-
-pub loop-n-init : goal.loop-n-init
-loop-n-init c = record {
-  stands = c.in_ok-session.ensures.stands;
-  spans = λ t is. subst (AreSpans t c.args.setup.now []) (sym c.new-spans.ensures.items) (no_spans t c.args.setup.now);
-  code = c.in_ok-session.ensures.kept.0;
-  setup = c.in_ok-session.ensures.kept.1;
-}
 
 pub loop-n-preserved : goal.loop-n-preserved
 loop-n-preserved c =

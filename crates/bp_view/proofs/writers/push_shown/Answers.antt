@@ -7,13 +7,6 @@ use Rattle.bp_view.specs.Filters.{is_seen, watched_names}
 use Rattle.bp_view.proofs.ShownLines.{asked_of, calls_are, hidden, line_if, no_calls, shown}
 use Rattle.bp_view.proofs.writers.push_shown.Goals as goal
 
-pub returns-then-not-asks_for : goal.returns-then-not-asks_for
-returns-then-not-asks_for c = λ t text s h x set of printed.
-    let context = c.args.context.now in
-    let none = sym c.asks_for.ensures ∙ c.if-not-asks_for.true in
-    let asked = asked_of t text s context h x c.args.replayed.now of context.filter set.filter false none in
-    hidden t text s context h x (line_if t text s context h x false _ _ asked refl refl) c.args.view.now
-
 pub returns-then-not-has_watched : goal.returns-then-not-has_watched
 returns-then-not-has_watched c = λ t text s h x set of printed.
     let context = c.args.context.now in
