@@ -11,7 +11,7 @@ use Rattle.bp_machine.specs.declared.calls.Call.{Call}
 use Rattle.bp_machine.specs.Histories.{IsWithin, IsLeastWithin, granted_threads, is_granted, configuration_after}
 use Rattle.bp_machine.specs.Sessions.{contexts_opened, last_thread, used_with, IsCountOf}
 use Rattle.bp_machine.specs.Setups.{SetupOf}
-use Rattle.bp_machine.proofs.ContextCounts.{within_front, count_of_none, counts_more}
+use Rattle.bp_machine.proofs.ContextCounts.{within_front, counts_more}
 use Rattle.bp_machine.proofs.HistoryWithCall.{granted_threads-append}
 use Rattle.bp_view.specs.ContextLines.{IsContextOf, IsStepIn, count_of, joined, with_step, AreSpans, AreSpansFrom, IsSpan, IsStandingPoint}
 use Rattle.bp_view.specs.CallFacts.{IsContext}
@@ -167,10 +167,6 @@ take_whole [] x = refl
 take_whole (y ∷ h) x = ap (λ g. y ∷ g) (take_whole h x)
 
 module _ (t : Program) (s : SetupOf) where
-  -- a history without calls has no contexts
-  pub no_spans : AreSpans t s [] []
-  no_spans = record { count = count_of_none; each = tt }
-
   -- each of the spans is a context
   span_at : (h : List Call) (n : ℕ) (xs : List Span) → AreSpansFrom t s h n xs → (k : ℕ) (d : Span) → k < length xs → IsSpan t s h (n + k) (get_or xs k d)
   span_at h n [] are k d inside = absurd (omega (arith, inside))
