@@ -1,5 +1,5 @@
 -- The line of a call, where it has one, and nothing where it has none.
-use Rattle.std.proofs.Common.{if◌then◌else◌, ◌≡◌, ◌∙◌, ◌+◌, ◌-◌, ◌<◌, ◌++◌, ℕ, suc, true, List, [], ◌∷◌, nat_lt, take, length, ap, ap₂, refl, sym, arith, ◌≤◌, length-append, append-nil, ◌/◌, ◌%◌, ◌^◌, ◌==◌, ◌⊎◌, inl, inr, false, decimal, append_assoc, max, Bool, Option, None, ◌&&◌, subst, slice_set}
+use Rattle.std.proofs.Common.{if◌then◌else◌, ◌≡◌, ◌∙◌, ◌+◌, ◌-◌, ◌<◌, ◌++◌, ℕ, suc, true, List, [], ◌∷◌, codes, nat_lt, take, length, ap, ap₂, refl, sym, arith, ◌≤◌, length-append, append-nil, ◌/◌, ◌%◌, ◌^◌, ◌==◌, ◌⊎◌, inl, inr, false, decimal, append_assoc, max, Bool, Option, None, ◌&&◌, subst, slice_set}
 use Rattle.std.proofs.lemmas.Bool.Decides.{nat_tests}
 use Rattle.std.specs.List.{concat}
 use Rattle.std.proofs.lemmas.Bool.{cases_lt}
@@ -20,7 +20,7 @@ use Rattle.bp_view.specs.CallFacts.{ShownCall, printed_by, changes_by, AreCallFa
 use Rattle.bp_view.specs.declared.filters.CallFilter.{CallFilter}
 use Rattle.bp_view.specs.declared.checkpoints.ReplayedCall.{ReplayedCall}
 use Rattle.bp_view.specs.Filters.{calls_at, calls_of, is_asked, is_seen, watched_names}
-use Rattle.bp_view.specs.Lines.{front_text, tens_digits, tens_text, turn_texts, field_texts, mark_text}
+use Rattle.bp_view.specs.Lines.{shortened, front_text, tens_digits, tens_text, turn_texts, field_texts, mark_text}
 use Rattle.bp_view.specs.declared.fronts.FrontKey.{FrontKey}
 use Rattle.bp_view.specs.declared.view_contexts.Widths.{Widths}
 use Rattle.bp_view.specs.Views.{line_in, next_print_in, printed_in, filter_of, has_line, IsShownLine, IsViewLineIf}
@@ -29,11 +29,16 @@ use Rattle.bp_view.specs.declared.buffers.Buffer.{Buffer}
 use Rattle.bp_view.proofs.Growing.{gains, nothing}
 use Rattle.bp_view.specs.declared.view_contexts.ViewContext.{ViewContext}
 
--- The first bytes of a line.
+-- The first bytes of a line, and a text that is cut.
 
 pub taken : (a b : List ℕ) → take (length a) (a ++ b) ≡ a
 taken [] b = refl
 taken (x ∷ a) b = ap (λ ys. x ∷ ys) (taken a b)
+
+pub cut_long : (room : ℕ) (text : List ℕ) → room < length text → shortened room text ≡ take (room - 2) text ++ codes ".."
+cut_long room text more =
+    let long : nat_lt room (length text) ≡ true = grind (arith, nat_tests, more) in
+    ap (λ b. if b then take (room - 2) text ++ codes ".." else text) long
 
 -- The fields of a line before its place, by their parts that are kept.
 

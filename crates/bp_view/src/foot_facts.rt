@@ -76,7 +76,6 @@ fn add_variable<'a>(
 }
 
 /// The variables of these names, with their values.
-#[tactic(auto, using(crate::proofs::SingleFacts::all_mapped))]
 fn variables_named<'a>(
     alloc: Global,
     globals: &[Name],
