@@ -1,5 +1,5 @@
 -- The decimals of any length, and the end line, that begin a text.
-use Rattle.std.proofs.Common.{◌≡◌, ◌≢◌, ℕ, ◌+◌, ◌-◌, ◌<◌, ◌≤◌, Bool, List, [], ◌∷◌, ◌++◌, length, drop, None, Some, ap, sym, ◌∙◌, arith, length-append, decimal, suc, take, get_or, refl, subst, codes, inl, inr, add-one, drop-cons, take-append-drop, map, flat_map, Option, slice_get}
+use Rattle.std.proofs.Common.{◌≡◌, ◌≢◌, ℕ, ◌+◌, ◌-◌, ◌<◌, ◌≤◌, Bool, List, [], ◌∷◌, ◌++◌, length, drop, Some, ap, sym, ◌∙◌, arith, length-append, decimal, suc, take, get_or, refl, subst, codes, inl, inr, add-one, drop-cons, take-append-drop, map, flat_map, Option, slice_get}
 use Rattle.std.proofs.lemmas.List.{drop_at, get_or-take, get_or_at, get_or_append_left, length-take-le, map-append, take_more}
 use Rattle.std.specs.Str.Parse.{AllDigits}
 use Rattle.std.proofs.lemmas.Bool.{cases_lt}
@@ -19,7 +19,7 @@ use Rattle.bp_trace.specs.Replays.{IsDecimal, IsEndLine, IsBodyLine}
 use Rattle.bp_trace.specs.declared.traces.Version.TheVariants.{Two, One}
 use Rattle.bp_trace.specs.TraceText.{bit_digit, Symbol, Piece, call_of, symbol_text, piece_line, calls_of_piece, call_line}
 use Rattle.bp_trace.specs.declared.traces.Version.{Version}
-use Rattle.bp_trace.proofs.OneText.{one_number, call_then, one_cut, digits_without, front_cut, piece_then, symbols_alike, no_symbol_at_end, number_begins, one_call_line, one_piece_line}
+use Rattle.bp_trace.proofs.OneText.{call_then, one_cut, digits_without, front_cut, piece_then, symbols_alike, no_symbol_at_end, number_begins, one_call_line, one_piece_line}
 use Rattle.bp_trace.proofs.ScheduleLineAt.{thread_parts, thread_there}
 
 -- The thread that begins a text, with a space after it, and the call that does.

@@ -8,6 +8,7 @@ mod LongestAccepted
 mod OneRefusal
 pub mod PlayableFronts
 mod OneScheduleRefusal
+pub mod Walks
 pub mod TraceLength
 mod ReplayedTexts
 mod ScheduleLineAt

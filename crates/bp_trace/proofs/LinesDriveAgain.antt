@@ -1,34 +1,30 @@
--- The lines of a legal history drive its program to it.
-use Rattle.std.proofs.Common.{ℕ, ◌*◌, ◌<◌, ◌≤◌, List, [], ◌∷◌, length, arith, length-append, inl, inr, ◌≡◌, ◌≢◌, ◌↔◌, IsTrue, Bool, true, false, ◌++◌, drop, Some, refl, ap, sym, ◌∙◌, subst, ◌+◌, Option, None, is_some, length-drop, decimal}
+-- Lines of schedules: how long they are, which call they are of, and what a session that stands after them says of the next one.
+use Rattle.std.proofs.Common.{ℕ, ◌*◌, ◌<◌, ◌≤◌, List, [], ◌∷◌, length, arith, length-append, inl, inr, ◌≡◌, ◌≢◌, ◌↔◌, IsTrue, Bool, true, false, ◌++◌, Some, refl, ap, sym, ◌∙◌, subst, ◌+◌, Option, None, is_some, decimal}
 use Rattle.std.proofs.Math.Nat.{mul-le-mul_left, mul-le-mul_right}
-use Rattle.std.proofs.lemmas.Bool.{cases_lt, false≢true}
-use Rattle.std.proofs.lemmas.List.{append-nil, drop-drop, map-append}
-use Rattle.std.proofs.Math.Seq.{drop-append_seam}
+use Rattle.std.proofs.lemmas.Bool.{cases_lt}
+use Rattle.std.proofs.lemmas.List.{append-nil, map-append}
 use Rattle.std.proofs.lemmas.List.Concat.{flat_map-append}
-use Rattle.bp_text.proofs.PartsOfTexts.{others_after, regrouped, rest_left}
+use Rattle.bp_text.proofs.PartsOfTexts.{regrouped}
 use Rattle.bp_language.specs.Ast.{Program}
 use Rattle.bp_flat.specs.Moves.{Configuration}
 use Rattle.bp_flat.specs.StandsFor.{StandsFor, IsOfProgram}
 use Rattle.bp_machine.specs.declared.limits.TheConstants.{MAX_THREADS}
 use Rattle.bp_machine.specs.declared.calls.Call.{Call}
 use Rattle.bp_machine.specs.Setups.{SetupOf, threads, IsInRange}
-use Rattle.bp_machine.specs.Histories.{IsLegal, Answers, reply_of, configuration_after, granted_threads, is_finished, IsAllowed, IsLegalAfter}
+use Rattle.bp_machine.specs.Histories.{IsLegal, Answers, reply_of, configuration_after, granted_threads, is_finished, IsAllowed}
 use Rattle.bp_machine.specs.declared.calls.Reply.{Reply}
-use Rattle.bp_machine.specs.Runs.{history_of_run}
 use Rattle.bp_machine.specs.Sessions.{SessionOf, Stands, StandsForAll, IsAskRefusal}
 use Rattle.bp_machine.specs.declared.calls.AskFault.{AskFault}
 use Rattle.bp_machine.specs.declared.calls.AskFault.TheVariants.{NoThread, Finished, Seeded, Unseeded, Memory, Busy}
 use Rattle.bp_machine.proofs.HistoriesAreRuns.{AllBelow, all_below, legal_length}
-use Rattle.bp_machine.proofs.RunsAreHistories.{run_is_history}
 use Rattle.bp_machine.proofs.SetupInRange.{is_true, is_false}
 use Rattle.bp_trace.specs.declared.limits.TheConstants.{MAX_SCHEDULE}
 use Rattle.bp_trace.specs.TraceText.{bit_digit, line_text, schedule_text, line_of_call, lines_of_history, IsLineAt, HasNoLine}
 use Rattle.bp_trace.specs.declared.driving.ScheduleLine.{ScheduleLine}
-use Rattle.bp_trace.specs.Drives.{IsDriven, IsBadLine, IsAfterFinish, IsRefusal, drive_fault_of, IsAdded, IsLineRefusal}
-use Rattle.bp_trace.specs.Laws.{LinesDriveAgain, DrivesTo, RunsDriveToHistories}
+use Rattle.bp_trace.specs.Drives.{IsBadLine, IsAfterFinish, IsRefusal, drive_fault_of, IsAdded, IsLineRefusal}
 use Rattle.bp_trace.specs.declared.faults.DriveFault.{DriveFault}
 use Rattle.bp_trace.specs.declared.faults.DriveFault.TheVariants as fault
-use Rattle.bp_trace.proofs.ScheduleLineAt.{one_digit, both_digits, same_line, same_rest}
+use Rattle.bp_trace.proofs.ScheduleLineAt.{one_digit, both_digits}
 
 -- The schedule of a legal history is short enough to be driven.
 
@@ -87,97 +83,6 @@ module _ (t : Program) (s : SetupOf) where
       let other = subst (λ b. Answers t s.contexts (configuration_after t s h) (granted_threads h) y.thread b x.reply) bit one in
       let reply = same_answer t s.contexts (configuration_after t s h) (granted_threads h) y.thread y.bit x.reply y.reply other q.answers in
       λ i. record { thread = thread i; bit = bit i; reply = reply i }
-
-  -- what is left of one history configuration_after another one whose lines begin its own
-  record GoesOn (p g h : List Call) (rest : List ℕ) : Type 0 where
-    left : List Call
-    whole : h ≡ g ++ left
-    lines : rest ≡ schedule_text (lines_of_history left)
-    legal : IsLegalAfter t s (p ++ g) left
-
-  goes_on : threads s ≤ MAX_THREADS → (p g h : List Call) (rest : List ℕ) → IsLegalAfter t s p g → IsLegalAfter t s p h
-      → schedule_text (lines_of_history h) ≡ schedule_text (lines_of_history g) ++ rest → GoesOn p g h rest
-  goes_on few p [] h rest lg lh e =
-      record { left = h; whole = refl; lines = sym e; legal = subst (λ q. IsLegalAfter t s q h) (sym (append-nil p)) lh }
-  goes_on few p (y ∷ ys) [] rest lg lh e =
-      absurd (not_empty (line_of_call y) (schedule_text (lines_of_history ys) ++ rest)
-      (simp regrouped (simp regrouped at e)))
-  goes_on few p (y ∷ ys) (x ∷ xs) rest (allowed_y, ly) (allowed_x, lx) e =
-      let below_x = allowed_x.thread in
-      let below_y = allowed_y.thread in
-      let small_x : x.thread < 100 = omega arith in
-      let small_y : y.thread < 100 = omega arith in
-      let joined = others_after _ (line_text (line_of_call y)) (schedule_text (lines_of_history ys)) rest e in
-      let line = same_line (line_of_call x) (line_of_call y) (schedule_text (lines_of_history xs))
-      (schedule_text (lines_of_history ys) ++ rest) small_x small_y joined in
-      let rests = same_rest (line_of_call x) (line_of_call y) (schedule_text (lines_of_history xs))
-      (schedule_text (lines_of_history ys) ++ rest) small_x small_y joined in
-      let same = same_call p x y line allowed_x allowed_y in
-      let more = goes_on few (p ++ y ∷ []) ys xs rest ly (subst (λ z. IsLegalAfter t s (p ++ z ∷ []) xs) same lx) rests in
-      record {
-        left = more.left;
-        whole = ap (λ z. z ∷ xs) same ∙ ap (λ zs. y ∷ zs) more.whole;
-        lines = more.lines;
-        legal = subst (λ q. IsLegalAfter t s q more.left) (rest_left p _ (y ∷ []) ys _ refl refl) more.legal;
-      }
-
-module _ (t : Program) (s : SetupOf) (h : List Call) (few : threads s ≤ MAX_THREADS) (legal : IsLegal t s h) where
-  alone : (g : List Call) → IsDriven t s (schedule_text (lines_of_history h)) g → g ≡ h
-  alone g driven = none_left on.left on.lines on.whole
-    where
-      on : GoesOn t s [] g h []
-      on = goes_on t s few [] g h [] driven.legal legal (driven.lines ∙ sym (append-nil (schedule_text (lines_of_history g))))
-
-      none_left : (k : List Call) → [] ≡ schedule_text (lines_of_history k) → h ≡ g ++ k → g ≡ h
-      none_left [] none whole = sym (whole ∙ append-nil g)
-      none_left (x ∷ xs) none whole = absurd (not_empty (line_of_call x) (schedule_text (lines_of_history xs)) none)
-
-  no_bad_line : (n : ℕ) → IsBadLine t s (schedule_text (lines_of_history h)) n → ⊥
-  no_bad_line n bad = next on.left on.lines on.legal
-    where
-      on : GoesOn t s [] bad.reached.history h bad.rest
-      on = goes_on t s few [] bad.reached.history h bad.rest bad.reached.legal legal bad.reached.whole
-
-      next : (k : List Call) → bad.rest ≡ schedule_text (lines_of_history k) → IsLegalAfter t s bad.reached.history k → ⊥
-      next [] lines legal = bad.some lines
-      next (x ∷ xs) lines (allowed, rest) = bad.bad (line_of_call x) (schedule_text (lines_of_history xs)) allowed.thread lines
-
-  none_finished : (n : ℕ) → IsAfterFinish t s (schedule_text (lines_of_history h)) n → ⊥
-  none_finished n late = next on.left on.lines on.legal
-    where
-      on : GoesOn t s [] late.reached.history h late.rest
-      on = goes_on t s few [] late.reached.history h late.rest late.reached.legal legal late.reached.whole
-
-      next : (k : List Call) → late.rest ≡ schedule_text (lines_of_history k) → IsLegalAfter t s late.reached.history k → ⊥
-      next [] lines legal = not_empty late.line late.begins.0 (sym lines ∙ late.begins.2)
-      next (x ∷ xs) lines (allowed, rest) =
-          let below = allowed.thread in
-          let below_late = late.begins.1 in
-          let line = same_line (line_of_call x) late.line (schedule_text (lines_of_history xs)) late.begins.0
-          (omega arith) (omega arith) (sym lines ∙ late.begins.2) in
-          let thread : x.thread ≡ late.line.thread = ap (λ (z : ScheduleLine). z.thread) line in
-          false≢true (sym allowed.unfinished ∙ ap (λ i. is_finished s late.reached.history i) thread ∙ late.finished)
-
-pub lines_drive_again : LinesDriveAgain
-lines_drive_again t s h range legal = record {
-  driven = record { short = schedule_short t s h range legal; legal = legal; lines = refl };
-  alone = alone t s h range.few legal;
-  lines = no_bad_line t s h range.few legal;
-  finishes = none_finished t s h range.few legal;
-}
-
--- The threads and bits of a run drive its program to its history.
-
--- a line says nothing of a reply
-same_lines : (steps : List Call) (failed : Bool) → lines_of_history (history_of_run steps failed) ≡ lines_of_history steps
-same_lines [] failed = refl
-same_lines (x ∷ xs) failed = ap (λ ls. line_of_call x ∷ ls) (same_lines xs failed)
-
-pub runs_drive_to_histories : RunsDriveToHistories
-runs_drive_to_histories t s steps d range run =
-    let h = history_of_run steps d.failed in
-    subst (λ ls. DrivesTo t s (schedule_text ls) h) (same_lines steps d.failed)
-    (lines_drive_again t s h range (run_is_history t s steps d run).legal)
 
 -- What a session that stands after the calls of all lines says of them.
 
@@ -246,8 +151,6 @@ module _ (x : SessionOf) (t : Program) (is : StandsFor x.code t) (s : SetupOf) (
 
   module _ (line : ScheduleLine) (n many : ℕ) (number : n ≡ length h + 1) (all : many ≡ threads s) (begins : IsLineAt many rest line) where
     pub line_refused : (f : DriveFault) → IsLineRefusal x.setup h line n f → (bytes : Option (List ℕ)) → IsRefusal t s schedule bytes bytes f
-    line_refused fault.TooLong r bytes = absurd r
-    line_refused (fault.Line m) r bytes = absurd r
     line_refused (fault.AfterFinish m) r bytes =
         let after : IsAfterFinish t s schedule m = record {
           rest = rest;
@@ -258,4 +161,4 @@ module _ (x : SessionOf) (t : Program) (is : StandsFor x.code t) (s : SetupOf) (
         } in
         (refl, (short, after))
     line_refused fault.Memory r bytes = (refl, short)
-    line_refused fault.Write r bytes = absurd r
+    line_refused f r bytes = absurd r

@@ -21,8 +21,8 @@ use Rattle.bp_trace.specs.TraceText.{calls_text, HasHead, head_text}
 use Rattle.bp_trace.specs.Replays.{IsPlayable, IsBodyLine, IsCallFault, line_count, IsAccepted, IsLongestAccepted, HasRefusedCall}
 use Rattle.bp_trace.proofs.PiecesAreFewest.{text_grows, count_grows, some_line, line_below, thread_of}
 use Rattle.bp_trace.proofs.HeadsRead.{all_of_both, all_of_second, one_head}
-use Rattle.bp_trace.proofs.OneHistoryAfter.{Line, text_of_lines, calls_of_lines, AreLines, lines_of, below}
-use Rattle.bp_trace.proofs.EndLineAt.{one_body_line}
+use Rattle.bp_trace.proofs.OneHistoryAfter.{State, IsNextLine, single, grown, walk_of, below}
+use Rattle.bp_trace.proofs.Walks.{Walk, Stays, Goes, compared, stays}
 use Rattle.bp_trace.proofs.OneText.{front_cut}
 use Rattle.bp_trace.proofs.PlayableFronts.{not_refused}
 
@@ -135,50 +135,6 @@ pub history_more : (old own new calls : List Call) (i : ℕ) (d : Call) → i < 
 history_more old own new calls i d within before after =
     both_added old own new (take i calls) (get_or calls i d ∷ []) _ after before (sym (take_more calls i d within))
 
--- two lists of lines of one text: the first calls are a beginning of the others, or a line goes on after these
-module _ (v : Version) (n : ℕ) (few : n ≤ MAX_THREADS) where
-  pub record GoesOn (p a b : List Call) (y : List ℕ) : Type 0 where
-    pub line : List ℕ
-    pub calls : List Call
-    pub more : List ℕ
-    pub others : List Call
-    pub is_line : IsBodyLine n (last_thread (map thread_of (p ++ b))) line calls v
-    pub begins : y ≡ line ++ more
-    pub is : a ≡ b ++ (calls ++ others)
-
-  abbrev Compared : (p a b : List Call) → List ℕ → Type 0
-  Compared p a b y = ((m : List Call) × (b ≡ a ++ m)) ⊎ GoesOn p a b y
-
-  one_more : (p c a b k : List Call) (y : List ℕ) → c ≡ k → Compared (p ++ k) a b y → Compared p (c ++ a) (k ++ b) y
-  one_more p c a b k y e (inl s) = inl (s.0, ap (λ z. k ++ z) s.1 ∙ ap (λ z. z ++ (a ++ s.0)) (sym e) ∙ simp regrouped)
-  one_more p c a b k y e (inr s) = inr (record {
-    line = s.line;
-    calls = s.calls;
-    more = s.more;
-    others = s.others;
-    is_line = simp regrouped at s.is_line;
-    begins = s.begins;
-    is = ap (λ z. z ++ a) e ∙ ap (λ z. k ++ z) s.is ∙ simp regrouped;
-  })
-
-  compared : (p : List Call) (ls ks : List Line) (x y : List ℕ) → AreLines v n p ls → AreLines v n p ks
-      → text_of_lines ls ++ x ≡ text_of_lines ks ++ y → Compared p (calls_of_lines ls) (calls_of_lines ks) y
-  compared p [] ks x y ll lk e = inl (calls_of_lines ks, refl)
-  compared p (l ∷ ls) [] x y ll lk e = inr (record {
-    line = l.text;
-    calls = l.calls;
-    more = text_of_lines ls ++ x;
-    others = calls_of_lines ls;
-    is_line = subst (λ z. IsBodyLine n (last_thread (map thread_of z)) l.text l.calls v) (sym (append-nil p)) ll.0;
-    begins = simp regrouped at (sym e);
-    is = refl;
-  })
-  compared p (l ∷ ls) (k ∷ ks) x y ll lk e =
-      let (line, calls, rest) = one_body_line n few (last_thread (map thread_of p)) v l.text k.text l.calls k.calls
-      (text_of_lines ls ++ x) (text_of_lines ks ++ y) ll.0 lk.0 (simp regrouped at e) in
-      let own = subst (λ cs. AreLines v n (p ++ cs) ls) calls ll.1 in
-      one_more p l.calls (calls_of_lines ls) (calls_of_lines ks) k.calls y calls (compared (p ++ k.calls) ls ks x y own lk.1 rest)
-
 -- a front of a list is one of its first part, or has the element after it
 abbrev Fronts : List Call → List Call → Call → Type 0
 Fronts g h c = ((m : List Call) × (h ≡ g ++ m)) ⊎ ((m : List Call) × (g ≡ h ++ c ∷ m))
@@ -199,19 +155,17 @@ module _ (t : Program) (text : List ℕ) (v : Version) (s : SetupOf) (has : HasH
   abbrev few : threads s ≤ MAX_THREADS
   few = few_threads t s fine
 
-  -- what is accepted in this setup is a beginning of h, or a line goes on after h
-  within : (g : List Call) → IsAccepted t text v s g → (o : List Call) × Compared v (threads s) few [] (g ++ o) h rest
+  -- the lines of what is accepted in this setup go on to those of h, or from there
+  abbrev Compared : State (threads s) v → Type 0
+  Compared b = Walk (IsNextLine (threads s) v) b (h, rest) ⊎ Walk (IsNextLine (threads s) v) (h, rest) b
+
+  within : (g : List Call) (a : IsAccepted t text v s g) → Compared (g ++ a.others, a.rest)
   within g a =
       let all = all_of_both (λ (x : Call). x.thread < threads s) g a.others (below t v s few [] g a.playable.legal) a.threads in
-      let lg = lines_of v (threads s) (g ++ a.others) all in
-      let lh = lines_of v (threads s) h (below t v s few [] h playable.legal) in
-      let alike = front_cut (head_text v s) _ _ (sym a.parts ∙ parts) in
-      let joined = ap (λ z. z ++ a.rest) lg.text ∙ alike ∙ ap (λ z. z ++ rest) (sym lh.text) in
-      let found = compared v (threads s) few [] lg.lines lh.lines a.rest rest lg.are lh.are joined in (
-        a.others,
-        subst (λ z. Compared v (threads s) few [] z h rest) lg.calls
-            (subst (λ z. Compared v (threads s) few [] (calls_of_lines lg.lines) z rest) lh.calls found),
-      )
+      let alike = front_cut (head_text v s) _ _ (sym parts ∙ a.parts) in
+      let own = walk_of (threads s) v h rest (below t v s few [] h playable.legal) in
+      compared (IsNextLine (threads s) v) (single (threads s) v few) _ _ _ (walk_of (threads s) v (g ++ a.others) a.rest all)
+      (subst (λ z. Walk (IsNextLine (threads s) v) ([], z) (h, rest)) alike own)
 
   moved : (w : Version) (r : SetupOf) (g : List Call) → IsAccepted t text w r g → IsAccepted t text v s g
   moved w r g a =
@@ -220,9 +174,10 @@ module _ (t : Program) (text : List ℕ) (v : Version) (s : SetupOf) (has : HasH
 
   -- no line of calls begins the rest
   module _ (ends : HasNoBodyLine v (threads s) (last_thread (map thread_of h)) rest) where
-    beginning : (g : List Call) → (o : List Call) × Compared v (threads s) few [] (g ++ o) h rest → (m : List Call) × (h ≡ g ++ m)
-    beginning g (o, inl found) = (o ++ found.0, found.1 ∙ simp regrouped)
-    beginning g (o, inr more) = absurd (ends more.line more.calls more.more more.is_line more.begins)
+    beginning : (g o : List Call) (r : List ℕ) → Compared (g ++ o, r) → (m : List Call) × (h ≡ g ++ m)
+    beginning g o r (inl on) = let (m, is) = grown (threads s) v (g ++ o, r) (h, rest) on in (o ++ m, is ∙ simp regrouped)
+    beginning g o r (inr back) =
+        (o, ap (λ z. z.0) (stays (IsNextLine (threads s) v) (h, rest) (g ++ o, r) back (λ u next. ends next.line next.calls u.1 next.is_line next.begins)))
 
     pub longest_before_no_line : IsLongestAccepted t text v s h
     longest_before_no_line = record {
@@ -235,7 +190,7 @@ module _ (t : Program) (text : List ℕ) (v : Version) (s : SetupOf) (has : HasH
         rest = rest;
         parts = parts ∙ ap (λ z. head_text v s ++ (calls_text v z ++ rest)) (sym (append-nil h));
       };
-      longest = λ w r g a. beginning g (within g (moved w r g a));
+      longest = λ w r g a. let own = moved w r g a in beginning g own.others own.rest (within g own);
     }
 
   -- a line of calls begins it, of which one is refused
@@ -248,14 +203,25 @@ module _ (t : Program) (text : List ℕ) (v : Version) (s : SetupOf) (has : HasH
     not_more g playable (inr more) =
         absurd (not_refused t s good r.among.call more.0 (subst (IsPlayable t s) more.1 playable) n f r.among.refused)
 
-    before_it : (g : List Call) → IsPlayable t s g → (o : List Call) × Compared v (threads s) few [] (g ++ o) h rest → (m : List Call) × (good ≡ g ++ m)
-    before_it g playable (o, inl found) =
-        (o ++ (found.0 ++ r.among.good), ap (λ z. z ++ r.among.good) found.1 ∙ simp regrouped)
-    before_it g playable (o, inr more) =
-        let (line, calls, after) = one_body_line (threads s) few (last_thread (map thread_of h)) v more.line r.line more.calls
-        r.calls more.more r.more more.is_line r.is_line (sym more.begins ∙ r.begins) in
-        let whole = more.is ∙ ap (λ z. h ++ (z ++ more.others)) (calls ∙ r.among.parts) in
-        not_more g playable (fronts g o good r.among.call (r.among.others ++ more.others) (whole ∙ simp regrouped))
+    refused_line : IsNextLine (threads s) v (h, rest) (h ++ r.calls, r.more)
+    refused_line = record { line = r.line; calls = r.calls; is_line = r.is_line; history = refl; begins = r.begins }
+
+    -- what goes on from h goes on with that line
+    with_line : (a b c : State (threads s) v) → IsNextLine (threads s) v a c → Walk (IsNextLine (threads s) v) a b → (a.0 ≡ b.0) ⊎ ((m : List Call) × (b.0 ≡ c.0 ++ m))
+    with_line a b c next Stays = inl refl
+    with_line a b c next (Goes {u = u} other w) =
+        let (m, is) = grown (threads s) v u b w in inr (m, is ∙ ap (λ z. z.0 ++ m) (single (threads s) v few a u c other next))
+
+    before_it : (g o : List Call) (k : List ℕ) → IsPlayable t s g → Compared (g ++ o, k) → (m : List Call) × (good ≡ g ++ m)
+    before_it g o k playable (inl on) =
+        let (m, is) = grown (threads s) v (g ++ o, k) (h, rest) on in (o ++ (m ++ r.among.good), ap (λ z. z ++ r.among.good) is ∙ simp regrouped)
+    before_it g o k playable (inr back) = by_end (with_line (h, rest) (g ++ o, k) (h ++ r.calls, r.more) refused_line back)
+      where
+        by_end : (h ≡ g ++ o) ⊎ ((m : List Call) × (g ++ o ≡ (h ++ r.calls) ++ m)) → (m : List Call) × (good ≡ g ++ m)
+        by_end (inl same) = (o ++ r.among.good, ap (λ z. z ++ r.among.good) same ∙ simp regrouped)
+        by_end (inr (m, is)) =
+            let whole = is ∙ ap (λ z. (h ++ z) ++ m) r.among.parts in
+            not_more g playable (fronts g o good r.among.call (r.among.others ++ m) (whole ∙ simp regrouped))
 
     goes_on : text ≡ head_text v s ++ (calls_text v (good ++ r.among.call ∷ r.among.others) ++ r.more)
     goes_on =
@@ -286,5 +252,5 @@ module _ (t : Program) (text : List ℕ) (v : Version) (s : SetupOf) (has : HasH
       };
       longest = λ w u g a.
           let own = moved w u g a in
-          before_it g own.playable (within g own);
+          before_it g own.others own.rest own.playable (within g own);
     }

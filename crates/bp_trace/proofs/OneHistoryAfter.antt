@@ -17,96 +17,67 @@ use Rattle.bp_trace.specs.declared.faults.ReplayFault.TheVariants as fault
 use Rattle.bp_trace.proofs.PiecesAreFewest.{piece_thread, last_is_thread, Alternate, pieces_alternate, pieces_threads, thread_of, pieces_whole, some_line}
 use Rattle.bp_trace.proofs.EndLineAt.{one_body_line, one_end_line, not_both}
 use Rattle.bp_trace.proofs.PlayableFronts.{front, one_among, not_refused}
+use Rattle.bp_trace.proofs.Walks.{Walk, Stays, Goes, IsSingle, compared}
 
--- The lines of a history: its text is theirs, one after the other, and each may follow those before it.
+-- The text of a history is that of its lines, each of which may follow the calls before it.
 
--- a line, and the calls that it holds
-pub record Line : Type 0 where
-  pub text : List ℕ
-  pub calls : List Call
+module _ (n : ℕ) (v : Version) where
+  -- the calls so far, and what is left of the text
+  abbrev pub State : Type 0
+  State = List Call × List ℕ
 
-abbrev pub text_of_lines : List Line → List ℕ
-text_of_lines ls = flat_map (λ (l : Line). l.text) ls
+  -- a line of calls that may follow begins what is left
+  pub record IsNextLine (a b : State) : Type 0 where
+    pub line : List ℕ
+    pub calls : List Call
+    pub is_line : IsBodyLine n (last_thread (map thread_of a.0)) line calls v
+    pub history : b.0 ≡ a.0 ++ calls
+    pub begins : a.1 ≡ line ++ b.1
 
-abbrev pub calls_of_lines : List Line → List Call
-calls_of_lines ls = flat_map (λ (l : Line). l.calls) ls
+  pub single : n ≤ MAX_THREADS → IsSingle IsNextLine
+  single few a b c p q =
+      let (line, calls, rest) = one_body_line n few (last_thread (map thread_of a.0)) v p.line q.line p.calls q.calls b.1 c.1
+      p.is_line q.is_line (sym p.begins ∙ q.begins) in
+      λ i. ((p.history ∙ ap (λ z. a.0 ++ z) calls ∙ sym q.history) i, rest i)
 
--- each line may follow the calls h and those of the lines before it
-abbrev pub AreLines : Version → ℕ → List Call → List Line → Type 0
-AreLines v n h [] = Unit {0}
-AreLines v n h (l ∷ ls) = IsBodyLine n (last_thread (map thread_of h)) l.text l.calls v × AreLines v n (h ++ l.calls) ls
+  -- a walk adds calls
+  pub grown : (a b : State) → Walk IsNextLine a b → (m : List Call) × (b.0 ≡ a.0 ++ m)
+  grown a b Stays = ([], sym (append-nil a.0))
+  grown a b (Goes {u = u} next w) = let (m, is) = grown u b w in (next.calls ++ m, is ∙ ap (λ z. z ++ m) next.history ∙ simp regrouped)
 
-pub record HasLines (v : Version) (n : ℕ) (h : List Call) : Type 0 where
-  pub lines : List Line
-  pub are : AreLines v n [] lines
-  pub calls : calls_of_lines lines ≡ h
-  pub text : text_of_lines lines ≡ calls_text v h
+module _ (n : ℕ) where
+  call_walk : (p h : List Call) (x : List ℕ) → AllByRecursion (λ (c : Call). c.thread < n) h → Walk (IsNextLine n One) (p, flat_map call_line h ++ x) (p ++ h, x)
+  call_walk p [] x below = subst (λ q. Walk (IsNextLine n One) (p, x) (q, x)) (sym (append-nil p)) Stays
+  call_walk p (c ∷ h) x below =
+      let next : IsNextLine n One (p, flat_map call_line (c ∷ h) ++ x) (p ++ c ∷ [], flat_map call_line h ++ x) = record {
+        line = call_line c;
+        calls = c ∷ [];
+        is_line = record { call = c; thread = below.0; is = refl; holds = refl };
+        history = refl;
+        begins = simp regrouped;
+      } in
+      Goes next (subst (λ q. Walk (IsNextLine n One) (p ++ c ∷ [], flat_map call_line h ++ x) (q, x)) (simp regrouped) (call_walk (p ++ c ∷ []) h x below.1))
 
--- ---- a line for each call
+  piece_walk : (p : List Call) (ks : List Piece) (x : List ℕ) → AllByRecursion (λ (k : Piece). k.thread < n) ks → Alternate (last_thread (map thread_of p)) ks
+      → Walk (IsNextLine n Two) (p, flat_map piece_line ks ++ x) (p ++ calls_of_pieces ks, x)
+  piece_walk p [] x below other = subst (λ q. Walk (IsNextLine n Two) (p, x) (q, x)) (sym (append-nil p)) Stays
+  piece_walk p (k ∷ ks) x below other =
+      let next : IsNextLine n Two (p, flat_map piece_line (k ∷ ks) ++ x) (p ++ calls_of_piece k, flat_map piece_line ks ++ x) = record {
+        line = piece_line k;
+        calls = calls_of_piece k;
+        is_line = record { piece = k; thread = below.0; other = other.0; is = refl; holds = refl };
+        history = refl;
+        begins = simp regrouped;
+      } in
+      let later = subst (λ l. Alternate l ks) (sym (last_is_thread k.thread p (calls_of_piece k) (piece_thread k))) other.1 in
+      Goes next (subst (λ q. Walk (IsNextLine n Two) (p ++ calls_of_piece k, flat_map piece_line ks ++ x) (q, x)) (simp regrouped)
+      (piece_walk (p ++ calls_of_piece k) ks x below.1 later))
 
-line_of_call : Call → Line
-line_of_call x = record { text = call_line x; calls = x ∷ [] }
-
-call_lines : (n : ℕ) (before h : List Call) → AllByRecursion (λ (x : Call). x.thread < n) h → AreLines One n before (map line_of_call h)
-unfolding line_of_call
-call_lines n before [] below = tt
-call_lines n before (x ∷ xs) below = (record { call = x; thread = below.0; is = refl; holds = refl }, call_lines n (before ++ x ∷ []) xs below.1)
-
-calls_again : (h : List Call) → calls_of_lines (map line_of_call h) ≡ h
-unfolding line_of_call
-calls_again [] = refl
-calls_again (x ∷ xs) = ap (λ cs. x ∷ cs) (calls_again xs)
-
-call_texts : (h : List Call) → text_of_lines (map line_of_call h) ≡ flat_map call_line h
-unfolding line_of_call
-call_texts [] = refl
-call_texts (x ∷ xs) = ap (λ t. call_line x ++ t) (call_texts xs)
-
--- ---- a line for each piece
-
-line_of_piece : Piece → Line
-line_of_piece p = record { text = piece_line p; calls = calls_of_piece p }
-
-piece_lines : (n : ℕ) (before : List Call) (ps : List Piece) → AllByRecursion (λ (p : Piece). p.thread < n) ps
-    → Alternate (last_thread (map thread_of before)) ps → AreLines Two n before (map line_of_piece ps)
-unfolding line_of_piece
-piece_lines n before [] below other = tt
-piece_lines n before (p ∷ ps) below other =
-    let own : IsBodyLine n (last_thread (map thread_of before)) (piece_line p) (calls_of_piece p) Two = record {
-      piece = p;
-      thread = below.0;
-      other = other.0;
-      is = refl;
-      holds = refl;
-    } in (
-      own,
-      piece_lines n (before ++ calls_of_piece p) ps below.1
-          (subst (λ l. Alternate l ps) (sym (last_is_thread p.thread before (calls_of_piece p) (piece_thread p))) other.1),
-    )
-
-piece_calls : (ps : List Piece) → calls_of_lines (map line_of_piece ps) ≡ calls_of_pieces ps
-unfolding line_of_piece
-piece_calls [] = refl
-piece_calls (p ∷ ps) = ap (λ cs. calls_of_piece p ++ cs) (piece_calls ps)
-
-piece_texts : (ps : List Piece) → text_of_lines (map line_of_piece ps) ≡ flat_map piece_line ps
-unfolding line_of_piece
-piece_texts [] = refl
-piece_texts (p ∷ ps) = ap (λ t. piece_line p ++ t) (piece_texts ps)
-
-pub lines_of : (v : Version) (n : ℕ) (h : List Call) → AllByRecursion (λ (x : Call). x.thread < n) h → HasLines v n h
-lines_of One n h below = record {
-  lines = map line_of_call h;
-  are = call_lines n [] h below;
-  calls = calls_again h;
-  text = call_texts h;
-}
-lines_of Two n h below = record {
-  lines = map line_of_piece (pieces_of h);
-  are = piece_lines n [] (pieces_of h) (pieces_threads (λ i. i < n) h below) (pieces_alternate h);
-  calls = piece_calls (pieces_of h) ∙ pieces_whole h;
-  text = piece_texts (pieces_of h);
-}
+  pub walk_of : (v : Version) (h : List Call) (x : List ℕ) → AllByRecursion (λ (c : Call). c.thread < n) h → Walk (IsNextLine n v) ([], calls_text v h ++ x) (h, x)
+  walk_of One h x below = call_walk [] h x below
+  walk_of Two h x below =
+      subst (λ g. Walk (IsNextLine n Two) ([], calls_text Two h ++ x) (g, x)) (pieces_whole h)
+      (piece_walk [] (pieces_of h) x (pieces_threads (λ i. i < n) h below) (pieces_alternate h))
 
 module _ (t : Program) (v : Version) (s : SetupOf) (few : threads s ≤ MAX_THREADS) where
   -- no line of calls that may be played after h begins the text
@@ -115,29 +86,12 @@ module _ (t : Program) (v : Version) (s : SetupOf) (few : threads s ≤ MAX_THRE
       (line : List ℕ) (calls : List Call) (more : List ℕ)
       → IsBodyLine (threads s) (last_thread (map thread_of h)) line calls v → IsPlayable t s (h ++ calls) → x ≢ line ++ more
 
-  same_calls : (p : List Call) (l k : Line) (ls : List Line) (x : List ℕ) → l.calls ≡ k.calls
-      → Stops (p ++ (l.calls ++ calls_of_lines ls)) x → Stops ((p ++ k.calls) ++ calls_of_lines ls) x
-  same_calls p l k ls x e stops = subst (λ h. Stops h x) (rw e (simp regrouped)) stops
-
-  -- two lists of lines, each with something after it that no line goes on, that have one text
-  one_list : (p : List Call) (ls ks : List Line) (x y : List ℕ) → AreLines v (threads s) p ls → AreLines v (threads s) p ks
-      → IsPlayable t s (p ++ calls_of_lines ls) → IsPlayable t s (p ++ calls_of_lines ks) → Stops (p ++ calls_of_lines ls) x → Stops (p ++ calls_of_lines ks) y
-      → text_of_lines ls ++ x ≡ text_of_lines ks ++ y → (calls_of_lines ls ≡ calls_of_lines ks) × (x ≡ y)
-  one_list p [] [] x y ll lk pl pk sx sy e = (refl, e)
-  one_list p [] (k ∷ ks) x y ll lk pl pk sx sy e =
-      let playable = front t s (p ++ k.calls) (calls_of_lines ks) (simp regrouped pk) in
-      absurd (subst (λ h. Stops h x) (append-nil p) sx k.text k.calls (text_of_lines ks ++ y) lk.0 playable (simp regrouped at e))
-  one_list p (l ∷ ls) [] x y ll lk pl pk sx sy e =
-      let playable = front t s (p ++ l.calls) (calls_of_lines ls) (simp regrouped pl) in
-      absurd (subst (λ h. Stops h y) (append-nil p) sy l.text l.calls (text_of_lines ls ++ x) ll.0 playable (simp regrouped at (sym e)))
-  one_list p (l ∷ ls) (k ∷ ks) x y ll lk pl pk sx sy e =
-      let (line, calls, rest) = one_body_line (threads s) few (last_thread (map thread_of p)) v l.text k.text l.calls
-      k.calls (text_of_lines ls ++ x) (text_of_lines ks ++ y) ll.0 lk.0 (simp regrouped at e) in
-      let own = subst (λ cs. AreLines v (threads s) (p ++ cs) ls) calls ll.1 in
-      let pown : IsPlayable t s ((p ++ k.calls) ++ calls_of_lines ls) = simp regrouped (rw calls at pl) in
-      let (more, after) = one_list (p ++ k.calls) ls ks x y own lk.1 pown (simp regrouped pk)
-      (same_calls p l k ls x calls sx) (same_calls p k k ks y refl sy) rest in
-      (ap (λ cs. cs ++ calls_of_lines ls) calls ∙ ap (λ cs. k.calls ++ cs) more, after)
+  not_gone : (a b : State (threads s) v) → Walk (IsNextLine (threads s) v) a b → IsPlayable t s b.0 → Stops a.0 a.1 → (a.0 ≡ b.0) × (a.1 ≡ b.1)
+  not_gone a b Stays playable stops = (refl, refl)
+  not_gone a b (Goes {u = u} next w) playable stops =
+      let (m, is) = grown (threads s) v u b w in
+      let played = front t s (a.0 ++ next.calls) m (subst (IsPlayable t s) (is ∙ ap (λ z. z ++ m) next.history) playable) in
+      absurd (stops next.line next.calls u.1 next.is_line played next.begins)
 
   pub below : (p h : List Call) → IsLegalAfter t s p h → AllByRecursion (λ (x : Call). x.thread < threads s) h
   below p [] legal = tt
@@ -147,13 +101,12 @@ module _ (t : Program) (v : Version) (s : SetupOf) (few : threads s ≤ MAX_THRE
   pub one_history : (h g : List Call) (x y : List ℕ) → IsPlayable t s h → IsPlayable t s g → Stops h x → Stops g y
       → calls_text v h ++ x ≡ calls_text v g ++ y → (h ≡ g) × (x ≡ y)
   one_history h g x y ph pg sx sy e =
-      let lh = lines_of v (threads s) h (below [] h ph.legal) in
-      let lg = lines_of v (threads s) g (below [] g pg.legal) in
-      let joined = ap (λ z. z ++ x) lh.text ∙ e ∙ ap (λ z. z ++ y) (sym lg.text) in
-      let (calls, after) = one_list [] lh.lines lg.lines x y lh.are lg.are (subst (IsPlayable t s) (sym lh.calls) ph)
-      (subst (IsPlayable t s) (sym lg.calls) pg)
-      (subst (λ z. Stops z x) (sym lh.calls) sx) (subst (λ z. Stops z y) (sym lg.calls) sy) joined in
-      (sym lh.calls ∙ calls ∙ lg.calls, after)
+      let own = walk_of (threads s) v h x (below [] h ph.legal) in
+      let other = subst (λ z. Walk (IsNextLine (threads s) v) ([], z) (g, y)) (sym e) (walk_of (threads s) v g y (below [] g pg.legal)) in
+      elim (compared (IsNextLine (threads s) v) (single (threads s) v few) _ (h, x) (g, y) own other) [
+        | inl on ↦ not_gone (h, x) (g, y) on pg sx
+        | inr back ↦ let same = not_gone (g, y) (h, x) back ph sy in (sym same.0, sym same.1)
+      ]
 
 -- What is after the calls of a history is refused once, or is its end.
 
@@ -189,13 +142,7 @@ module _ (t : Program) (v : Version) (s : SetupOf) (few : threads s ≤ MAX_THRE
   refused (fault.EndCount m c) r = inr (inl (λ i. fault.EndCount (r.0 i) (r.1 i), r.2))
   refused (fault.Line m) (inl r) = inr (inr (inl (ap fault.Line r.0, r.1)))
   refused (fault.Line m) (inr r) = inr (inr (inr (inl (ap fault.Line r.0, r.1))))
-  refused (fault.AfterFinish m made) r = inr (inr (inr (inr r)))
-  refused (fault.Bit m d) r = inr (inr (inr (inr r)))
-  refused (fault.Reply m d) r = inr (inr (inr (inr r)))
-  refused fault.TooLong r = inr (inr (inr (inr r)))
-  refused (fault.Head k) r = inr (inr (inr (inr r)))
-  refused (fault.Setup g) r = inr (inr (inr (inr r)))
-  refused fault.Memory r = inr (inr (inr (inr r)))
+  refused f r = inr (inr (inr (inr r)))
 
   pub stops : (f : ReplayFault) → Refused f → Stops t v s few h x
   stops f (inl r) line calls more next playable e =

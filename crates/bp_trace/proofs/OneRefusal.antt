@@ -89,12 +89,7 @@ module _ (t : Program) (text : List ℕ) where
   refusal (fault.Head k) other r = inr (r.0, inl (k, refl, r.1))
   refusal (fault.Setup g) other r = inr (r.0, inr (inl (g, refl, r.1)))
   refusal fault.Memory other r = absurd (other refl)
-  refusal (fault.Line m) other r = inr (r.0, inr (inr r.1))
-  refusal (fault.AfterFinish m made) other r = inr (r.0, inr (inr r.1))
-  refusal (fault.Bit m d) other r = inr (r.0, inr (inr r.1))
-  refusal (fault.Reply m d) other r = inr (r.0, inr (inr r.1))
-  refusal (fault.NoEnd c) other r = inr (r.0, inr (inr r.1))
-  refusal (fault.EndCount m c) other r = inr (r.0, inr (inr r.1))
+  refusal f other r = inr (r.0, inr (inr r.1))
 
   moved_to : (v w : Version) (s r : SetupOf) (g : List Call) (m : ℕ) (y : List ℕ) → v ≡ w → s ≡ r → Reaches t text w r g m y → Reaches t text v s g m y
   moved_to v w s r g m y a b q = subst (λ z. Reaches t text v z g m y) (sym b) (subst (λ z. Reaches t text z r g m y) (sym a) q)

@@ -1,5 +1,5 @@
--- A schedule has at most one refusal, and one that is refused drives its program to no history.
-use Rattle.std.proofs.Common.{◌≡◌, ◌≢◌, ℕ, ◌+◌, ◌<◌, ◌≤◌, List, [], ◌∷◌, ◌++◌, length, refl, ap, sym, ◌∙◌, subst, arith, append-nil}
+-- A schedule drives its program to one history or has one refusal, and the lines of a legal history drive its program to it.
+use Rattle.std.proofs.Common.{◌≡◌, ◌≢◌, ℕ, ◌+◌, ◌<◌, ◌≤◌, List, [], ◌∷◌, ◌++◌, length, Bool, true, Option, None, Some, ◌⊎◌, inl, inr, refl, ap, sym, ◌∙◌, subst, arith, append-nil}
 use Rattle.std.proofs.lemmas.Bool.{false≢true}
 use Rattle.bp_text.proofs.PartsOfTexts.{regrouped}
 use Rattle.bp_language.specs.Ast.{Program}
@@ -7,115 +7,150 @@ use Rattle.bp_machine.specs.declared.calls.Call.{Call}
 use Rattle.bp_machine.specs.declared.limits.TheConstants.{MAX_THREADS}
 use Rattle.bp_machine.specs.Setups.{SetupOf, threads}
 use Rattle.bp_machine.specs.Histories.{is_finished, IsAllowed, IsLegalAfter}
+use Rattle.bp_machine.specs.Runs.{history_of_run}
+use Rattle.bp_machine.proofs.RunsAreHistories.{run_is_history}
+use Rattle.bp_trace.specs.declared.faults.DriveFault.{DriveFault}
 use Rattle.bp_trace.specs.declared.faults.DriveFault.TheVariants as drive
 use Rattle.bp_trace.specs.declared.limits.TheConstants.{MAX_SCHEDULE}
 use Rattle.bp_trace.specs.declared.driving.ScheduleLine.{ScheduleLine}
-use Rattle.bp_trace.specs.TraceText.{line_text, line_of_call, lines_of_history, schedule_text}
-use Rattle.bp_trace.specs.Drives.{IsDriven, IsBadLine, IsAfterFinish}
-use Rattle.bp_trace.specs.Laws.{OneScheduleRefusal, RefusedDrivesNowhere}
-use Rattle.bp_trace.proofs.LinesDriveAgain.{same_call, not_empty}
-use Rattle.bp_trace.proofs.ScheduleLineAt.{same_line, same_rest}
+use Rattle.bp_trace.specs.TraceText.{line_text, line_of_call, lines_of_history, schedule_text, IsLineAt, HasNoLine}
+use Rattle.bp_trace.specs.Drives.{DrivesUpTo, IsDriven, IsScheduleRefusal}
+use Rattle.bp_trace.specs.Laws.{DrivesTo, LinesDriveAgain, OneScheduleRefusal, RefusedDrivesNowhere, RunsDriveToHistories}
+use Rattle.bp_trace.proofs.LinesDriveAgain.{same_call, not_empty, schedule_short}
+use Rattle.bp_trace.proofs.ScheduleLineAt.{one_line}
+use Rattle.bp_trace.proofs.Walks.{Walk, Stays, Goes, IsSingle, Stops, one_end}
 
 module _ (t : Program) (s : SetupOf) (few : threads s ≤ MAX_THREADS) where
   abbrev lines : List Call → List ℕ
   lines h = schedule_text (lines_of_history h)
 
-  -- the line of no call that is allowed after h begins the text
-  abbrev Stops : List Call → List ℕ → Type 0
-  Stops h x = (call : Call) (more : List ℕ) → IsAllowed t s h call → x ≢ line_text (line_of_call call) ++ more
+  -- a history, and what is left of the schedule
+  abbrev State : Type 0
+  State = List Call × List ℕ
 
-  -- two histories with one text, each with something after it that no call's line begins
-  one_history : (p h g : List Call) (x y : List ℕ) → IsLegalAfter t s p h → IsLegalAfter t s p g → Stops (p ++ h) x → Stops (p ++ g) y
-      → lines h ++ x ≡ lines g ++ y → (h ≡ g) × (x ≡ y)
-  one_history p [] [] x y lh lg sx sy e = (refl, e)
-  one_history p [] (k ∷ ks) x y lh (allowed, lg) sx sy e =
-      absurd (subst (λ h. Stops h x) (append-nil p) sx k (lines ks ++ y) allowed (simp regrouped (simp regrouped at e)))
-  one_history p (l ∷ ls) [] x y (allowed, lh) lg sx sy e =
-      absurd (subst (λ h. Stops h y) (append-nil p) sy l (lines ls ++ x) allowed (simp regrouped (simp regrouped at (sym e))))
-  one_history p (l ∷ ls) (k ∷ ks) x y (allowed_l, lh) (allowed_k, lg) sx sy e =
-      let below_l = allowed_l.thread in
-      let below_k = allowed_k.thread in
-      let small_l : l.thread < 100 = omega arith in
-      let small_k : k.thread < 100 = omega arith in
-      let joined : line_text (line_of_call l) ++ (lines ls ++ x) ≡ line_text (line_of_call k) ++ (lines ks ++ y) = simp regrouped (simp regrouped at e) in
-      let line = same_line (line_of_call l) (line_of_call k) (lines ls ++ x) (lines ks ++ y) small_l small_k joined in
-      let rest = same_rest (line_of_call l) (line_of_call k) (lines ls ++ x) (lines ks ++ y) small_l small_k joined in
-      let same = same_call t s p l k line allowed_l allowed_k in
-      let moved = subst (λ z. IsLegalAfter t s (p ++ z ∷ []) ls) same lh in
-      let stops_l : Stops ((p ++ k ∷ []) ++ ls) x = subst (λ z. Stops z x) (rw same (simp regrouped)) sx in
-      let stops_k : Stops ((p ++ k ∷ []) ++ ks) y = subst (λ z. Stops z y) (simp regrouped) sy in
-      let (calls, after) = one_history (p ++ k ∷ []) ls ks x y moved lg stops_l stops_k rest in
-      (ap (λ z. z ∷ ls) same ∙ ap (λ zs. k ∷ zs) calls, after)
+  -- one more call, whose line begins what is left
+  record IsNext (a b : State) : Type 0 where
+    call : Call
+    allowed : IsAllowed t s a.0 call
+    history : b.0 ≡ a.0 ++ call ∷ []
+    line : a.1 ≡ line_text (line_of_call call) ++ b.1
 
-  bad_stops : (schedule : List ℕ) (n : ℕ) (bad : IsBadLine t s schedule n) → Stops bad.reached.history bad.rest
-  bad_stops schedule n bad call more allowed = bad.bad (line_of_call call) more allowed.thread
+  single : IsSingle IsNext
+  single a b c p q =
+      let below_p = p.allowed.thread in
+      let below_q = q.allowed.thread in
+      let (line, rest) = one_line (line_of_call p.call) (line_of_call q.call) b.1 c.1 (omega arith) (omega arith) (sym p.line ∙ q.line) in
+      let call = same_call t s a.0 p.call q.call line p.allowed q.allowed in
+      λ i. ((p.history ∙ ap (λ z. a.0 ++ z ∷ []) call ∙ sym q.history) i, rest i)
 
-  late_stops : (schedule : List ℕ) (n : ℕ) (late : IsAfterFinish t s schedule n) → Stops late.reached.history late.rest
-  late_stops schedule n late call more allowed is =
-      let below = allowed.thread in
-      let below_late = late.begins.1 in
-      let line = same_line (line_of_call call) late.line more late.begins.0 (omega arith) (omega arith) (sym is ∙ late.begins.2) in
-      let thread : call.thread ≡ late.line.thread = ap (λ (z : ScheduleLine). z.thread) line in
-      false≢true (sym allowed.unfinished ∙ ap (λ i. is_finished s late.reached.history i) thread ∙ late.finished)
+  walk : (p h : List Call) (x : List ℕ) → IsLegalAfter t s p h → Walk IsNext (p, lines h ++ x) (p ++ h, x)
+  walk p [] x legal = subst (λ q. Walk IsNext (p, x) (q, x)) (sym (append-nil p)) Stays
+  walk p (c ∷ h) x (allowed, legal) =
+      let next : IsNext (p, lines (c ∷ h) ++ x) (p ++ c ∷ [], lines h ++ x) = record { call = c; allowed = allowed; history = refl; line = simp regrouped } in
+      Goes next (subst (λ q. Walk IsNext (p ++ c ∷ [], lines h ++ x) (q, x)) (simp regrouped) (walk (p ++ c ∷ []) h x legal))
 
-  two_bad : (schedule : List ℕ) (n m : ℕ) → IsBadLine t s schedule n → IsBadLine t s schedule m → n ≡ m
-  two_bad schedule n m p q =
-      let one = one_history [] p.reached.history q.reached.history p.rest q.rest p.reached.legal q.reached.legal
-      (bad_stops schedule n p) (bad_stops schedule m q)
-      (sym p.reached.whole ∙ q.reached.whole) in
-      p.reached.number ∙ ap (λ h. length h + 1) one.0 ∙ sym q.reached.number
+  -- how the schedule ends there: with the history, or refused
+  abbrev Ends : Option DriveFault → State → Type 0
+  Ends None a = a.1 ≡ []
+  Ends (Some (drive.Line n)) a = (n ≡ length a.0 + 1) × (a.1 ≢ []) × HasNoLine (threads s) a.1
+  Ends (Some (drive.AfterFinish n)) a =
+      (n ≡ length a.0 + 1) × (line : ScheduleLine) × IsLineAt (threads s) a.1 line × (is_finished s a.0 line.thread ≡ true)
+  Ends (Some f) a = ⊥
 
-  two_late : (schedule : List ℕ) (n m : ℕ) → IsAfterFinish t s schedule n → IsAfterFinish t s schedule m → n ≡ m
-  two_late schedule n m p q =
-      let one = one_history [] p.reached.history q.reached.history p.rest q.rest p.reached.legal q.reached.legal
-      (late_stops schedule n p) (late_stops schedule m q)
-      (sym p.reached.whole ∙ q.reached.whole) in
-      p.reached.number ∙ ap (λ h. length h + 1) one.0 ∙ sym q.reached.number
+  ends_stop : (f : Option DriveFault) (a : State) → Ends f a → Stops IsNext a
+  ends_stop None a end b next = not_empty (line_of_call next.call) b.1 (sym end ∙ next.line)
+  ends_stop (Some (drive.Line n)) a end b next = end.2 (line_of_call next.call) b.1 next.allowed.thread next.line
+  ends_stop (Some (drive.AfterFinish n)) a (number, line, begins, finished) b next =
+      let below = next.allowed.thread in
+      let below_late = begins.1 in
+      let same = one_line (line_of_call next.call) line b.1 begins.0 (omega arith) (omega arith) (sym next.line ∙ begins.2) in
+      let thread : next.call.thread ≡ line.thread = ap (λ (z : ScheduleLine). z.thread) same.0 in
+      false≢true (sym next.allowed.unfinished ∙ ap (λ i. is_finished s a.0 i) thread ∙ finished)
+  ends_stop (Some f) a end b next = absurd end
 
-  bad_or_late : (schedule : List ℕ) (n m : ℕ) → IsBadLine t s schedule n → IsAfterFinish t s schedule m → ⊥
-  bad_or_late schedule n m p q =
-      let one = one_history [] p.reached.history q.reached.history p.rest q.rest p.reached.legal q.reached.legal
-      (bad_stops schedule n p) (late_stops schedule m q)
-      (sym p.reached.whole ∙ q.reached.whole) in
-      p.bad q.line q.begins.0 q.begins.1 (one.1 ∙ q.begins.2)
+  one_fault : (f g : Option DriveFault) (a : State) → Ends f a → Ends g a → f ≡ g
+  one_fault None None a p q = refl
+  one_fault None (Some (drive.Line m)) a p q = absurd (q.1 p)
+  one_fault None (Some (drive.AfterFinish m)) a p (number, line, begins, finished) = absurd (not_empty line begins.0 (sym p ∙ begins.2))
+  one_fault (Some (drive.Line n)) None a p q = absurd (p.1 q)
+  one_fault (Some (drive.Line n)) (Some (drive.Line m)) a p q = ap (λ k. Some (drive.Line k)) (p.0 ∙ sym q.0)
+  one_fault (Some (drive.Line n)) (Some (drive.AfterFinish m)) a p (number, line, begins, finished) = absurd (p.2 line begins.0 begins.1 begins.2)
+  one_fault (Some (drive.AfterFinish n)) None a (number, line, begins, finished) q = absurd (not_empty line begins.0 (sym q ∙ begins.2))
+  one_fault (Some (drive.AfterFinish n)) (Some (drive.Line m)) a (number, line, begins, finished) q = absurd (q.2 line begins.0 begins.1 begins.2)
+  one_fault (Some (drive.AfterFinish n)) (Some (drive.AfterFinish m)) a p q = ap (λ k. Some (drive.AfterFinish k)) (p.0 ∙ sym q.0)
+  one_fault f g a p q = absurd (assumption (p, q))
 
-  -- a schedule that ends after its calls has no line there
-  nothing_stops : (h : List Call) → Stops h []
-  nothing_stops h call more allowed is = not_empty (line_of_call call) more is
+  module _ (schedule : List ℕ) where
+    record EndsAs (f : Option DriveFault) : Type 0 where
+      state : State
+      walk : Walk IsNext ([], schedule) state
+      end : Ends f state
 
-  bad_or_driven : (schedule : List ℕ) (n : ℕ) (h : List Call) → IsBadLine t s schedule n → IsDriven t s schedule h → ⊥
-  bad_or_driven schedule n h p driven =
-      let one = one_history [] p.reached.history h p.rest [] p.reached.legal driven.legal (bad_stops schedule n p) (nothing_stops h)
-      (sym p.reached.whole ∙ driven.lines ∙ sym (append-nil (lines h))) in
-      p.some one.1
+    one_state : (f g : Option DriveFault) (p : EndsAs f) (q : EndsAs g) → p.state ≡ q.state
+    one_state f g p q = one_end IsNext single _ p.state q.state p.walk q.walk (ends_stop f p.state p.end) (ends_stop g q.state q.end)
 
-  late_or_driven : (schedule : List ℕ) (n : ℕ) (h : List Call) → IsAfterFinish t s schedule n → IsDriven t s schedule h → ⊥
-  late_or_driven schedule n h p driven =
-      let one = one_history [] p.reached.history h p.rest [] p.reached.legal driven.legal (late_stops schedule n p) (nothing_stops h)
-      (sym p.reached.whole ∙ driven.lines ∙ sym (append-nil (lines h))) in
-      not_empty p.line p.begins.0 (sym one.1 ∙ p.begins.2)
+    one : (f g : Option DriveFault) → EndsAs f → EndsAs g → f ≡ g
+    one f g p q = one_fault f g q.state (subst (Ends f) (one_state f g p q) p.end) q.end
 
-too_long : (n k : ℕ) → k < n → n ≤ k → ⊥
-too_long n k p q = omega arith
+    driven_ends : (h : List Call) → IsDriven t s schedule h → EndsAs None
+    driven_ends h driven = record {
+      state = (h, []);
+      walk = subst (λ z. Walk IsNext ([], z) (h, [])) (append-nil (lines h) ∙ sym driven.lines) (walk [] h [] driven.legal);
+      end = refl;
+    }
+
+    reached : (n : ℕ) (rest : List ℕ) (r : DrivesUpTo t s schedule n rest) → Walk IsNext ([], schedule) (r.history, rest)
+    reached n rest r = subst (λ z. Walk IsNext ([], z) (r.history, rest)) (sym r.whole) (walk [] r.history rest r.legal)
+
+    -- too long, or refused where it ends
+    abbrev Refused : DriveFault → Type 0
+    Refused f = ((f ≡ drive.TooLong) × (MAX_SCHEDULE < length schedule)) ⊎ ((length schedule ≤ MAX_SCHEDULE) × EndsAs (Some f))
+
+    refused : (f : DriveFault) → f ≢ drive.Memory → IsScheduleRefusal t s schedule f → Refused f
+    refused drive.TooLong other r = inl (refl, r)
+    refused (drive.Line n) other (short, bad) =
+        inr (short, record { state = _; walk = reached n bad.rest bad.reached; end = (bad.reached.number, bad.some, bad.bad) })
+    refused (drive.AfterFinish n) other (short, late) =
+        inr (short, record { state = _; walk = reached n late.rest late.reached; end = (late.reached.number, late.line, late.begins, late.finished) })
+    refused drive.Memory other r = absurd (other refl)
+    refused drive.Write other r = absurd r
 
 pub one_schedule_refusal : OneScheduleRefusal
-one_schedule_refusal t s schedule drive.TooLong drive.TooLong range f g p q = refl
-one_schedule_refusal t s schedule drive.TooLong (drive.Line m) range f g p q = absurd (too_long (length schedule) MAX_SCHEDULE p q.0)
-one_schedule_refusal t s schedule drive.TooLong (drive.AfterFinish m) range f g p q = absurd (too_long (length schedule) MAX_SCHEDULE p q.0)
-one_schedule_refusal t s schedule (drive.Line n) drive.TooLong range f g p q = absurd (too_long (length schedule) MAX_SCHEDULE q p.0)
-one_schedule_refusal t s schedule (drive.Line n) (drive.Line m) range f g p q = ap drive.Line (two_bad t s range.few schedule n m p.1 q.1)
-one_schedule_refusal t s schedule (drive.Line n) (drive.AfterFinish m) range f g p q = absurd (bad_or_late t s range.few schedule n m p.1 q.1)
-one_schedule_refusal t s schedule (drive.AfterFinish n) drive.TooLong range f g p q = absurd (too_long (length schedule) MAX_SCHEDULE q p.0)
-one_schedule_refusal t s schedule (drive.AfterFinish n) (drive.Line m) range f g p q = absurd (bad_or_late t s range.few schedule m n q.1 p.1)
-one_schedule_refusal t s schedule (drive.AfterFinish n) (drive.AfterFinish m) range f g p q = ap drive.AfterFinish (two_late t s range.few schedule n m p.1 q.1)
-one_schedule_refusal t s schedule drive.Memory g range f other p q = absurd (f refl)
-one_schedule_refusal t s schedule drive.Write g range f other p q = absurd p
-one_schedule_refusal t s schedule f drive.Memory range other g p q = absurd (g refl)
-one_schedule_refusal t s schedule f drive.Write range other g p q = absurd q
+one_schedule_refusal t s schedule f g range other another p q =
+    by_length (refused t s range.few schedule f other p) (refused t s range.few schedule g another q)
+  where
+    by_length : Refused t s range.few schedule f → Refused t s range.few schedule g → f ≡ g
+    by_length (inl a) (inl b) = a.0 ∙ sym b.0
+    by_length (inr a) (inr b) = let same = one t s range.few schedule (Some f) (Some g) a.1 b.1 in cc
+    by_length (inl a) (inr b) = absurd (omega (arith, a.1, b.0))
+    by_length (inr a) (inl b) = absurd (omega (arith, a.0, b.1))
 
 pub refused_drives_nowhere : RefusedDrivesNowhere
-refused_drives_nowhere t s schedule h drive.TooLong range f p driven = too_long (length schedule) MAX_SCHEDULE p driven.short
-refused_drives_nowhere t s schedule h (drive.Line n) range f p driven = bad_or_driven t s range.few schedule n h p.1 driven
-refused_drives_nowhere t s schedule h (drive.AfterFinish n) range f p driven = late_or_driven t s range.few schedule n h p.1 driven
-refused_drives_nowhere t s schedule h drive.Memory range f p driven = f refl
-refused_drives_nowhere t s schedule h drive.Write range f p driven = p
+refused_drives_nowhere t s schedule h f range other p driven = elim (refused t s range.few schedule f other p) [
+  | inl long ↦ let short = driven.short in omega (arith, long.1)
+  | inr end ↦ let same = one t s range.few schedule (Some f) None end.1 (driven_ends t s range.few schedule h driven) in absurd cc
+]
+
+pub lines_drive_again : LinesDriveAgain
+unfolding driven_ends
+lines_drive_again t s h range legal = record {
+  driven = own;
+  alone = λ g driven. ap (λ z. z.0) (one_state t s range.few _ None None (driven_ends t s range.few _ g driven) (driven_ends t s range.few _ h own));
+  lines = λ n bad. refused_drives_nowhere t s _ h (drive.Line n) range (λ e. absurd cc) (own.short, bad) own;
+  finishes = λ n late. refused_drives_nowhere t s _ h (drive.AfterFinish n) range (λ e. absurd cc) (own.short, late) own;
+}
+  where
+    own : IsDriven t s (lines t s range.few h) h
+    own = record { short = schedule_short t s h range legal; legal = legal; lines = refl }
+
+-- a line says nothing of a reply
+same_lines : (steps : List Call) (failed : Bool) → lines_of_history (history_of_run steps failed) ≡ lines_of_history steps
+same_lines [] failed = refl
+same_lines (x ∷ xs) failed = ap (λ ls. line_of_call x ∷ ls) (same_lines xs failed)
+
+-- the threads and bits of a run drive its program to its history
+pub runs_drive_to_histories : RunsDriveToHistories
+runs_drive_to_histories t s steps d range run =
+    let h = history_of_run steps d.failed in
+    subst (λ ls. DrivesTo t s (schedule_text ls) h) (same_lines steps d.failed)
+    (lines_drive_again t s h range (run_is_history t s steps d run).legal)

@@ -110,13 +110,7 @@ module _ (t : Program) (s : SetupOf) where
     not_refused n (fault.AfterFinish m made) r = false≢true (sym next_allowed.unfinished ∙ r.2)
     not_refused n (fault.Bit m due) r = r.2 (ap (λ (y : Call). y.bit) (own_is due.call r.1.own))
     not_refused n (fault.Reply m due) r = r.3 (ap (λ (y : Call). y.reply) (own_is due.call r.1.own))
-    not_refused n fault.TooLong r = r
-    not_refused n (fault.Head k) r = r
-    not_refused n (fault.Setup g) r = r
-    not_refused n (fault.Line m) r = r
-    not_refused n (fault.NoEnd c) r = r
-    not_refused n (fault.EndCount m c) r = r
-    not_refused n fault.Memory r = r
+    not_refused n f r = r
 
   -- one call has one refusal
   module _ (h : List Call) (n : ℕ) (x : Call) where
@@ -143,13 +137,7 @@ module _ (t : Program) (s : SetupOf) where
     refused (fault.AfterFinish m made) p = inl (λ i. fault.AfterFinish (p.0 i) (p.1 i), p.2)
     refused (fault.Bit m d) p = inr (inl (d, ap (λ k. fault.Bit k d) p.0, p.1, p.2))
     refused (fault.Reply m d) p = inr (inr (d, ap (λ k. fault.Reply k d) p.0, p.1, p.2))
-    refused fault.TooLong p = absurd p
-    refused (fault.Head k) p = absurd p
-    refused (fault.Setup g) p = absurd p
-    refused (fault.Line m) p = absurd p
-    refused (fault.NoEnd c) p = absurd p
-    refused (fault.EndCount m c) p = absurd p
-    refused fault.Memory p = absurd p
+    refused f p = absurd p
 
     one_refused : (f g : ReplayFault) → Refused f → Refused g → f ≡ g
     one_refused f g (inl p) (inl q) = p.0 ∙ sym q.0
@@ -215,14 +203,7 @@ module _ (t : Program) (s : SetupOf) (h : List Call) (n : ℕ) (x own : Call) (n
     ap (λ (y : Call). y.bit) is.1.call ∙ is.2,
     λ e. is.3 (ap (λ (y : Call). y.reply) (sym is.1.call) ∙ e),
   )
-  other_fault fault.TooLong is = absurd is
-  other_fault (fault.Head m) is = absurd is
-  other_fault (fault.Setup e) is = absurd is
-  other_fault (fault.Line m) is = absurd is
-  other_fault (fault.AfterFinish m made) is = absurd is
-  other_fault (fault.NoEnd c) is = absurd is
-  other_fault (fault.EndCount m c) is = absurd is
-  other_fault fault.Memory is = absurd is
+  other_fault f is = absurd is
 
   pub other_call_refused : (f : ReplayFault) → IsMismatch own x n (length h) f → IsCallRefusal t s h n x f
   other_call_refused f is = inr (other_fault f is)

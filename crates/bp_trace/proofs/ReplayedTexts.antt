@@ -87,13 +87,7 @@ module _ (t : Program) (text : List ℕ) (short : length text ≤ MAX_TRACE) (v 
     call_refused played (fault.AfterFinish m made) r = (short, refused_rest r.history r.rest r.playable r.parts (fault.AfterFinish m made) r.refused)
     call_refused played (fault.Bit m d) r = (short, refused_rest r.history r.rest r.playable r.parts (fault.Bit m d) r.refused)
     call_refused played (fault.Reply m d) r = (short, refused_rest r.history r.rest r.playable r.parts (fault.Reply m d) r.refused)
-    call_refused played fault.TooLong r = absurd r.refused.among.refused
-    call_refused played (fault.Head k) r = absurd r.refused.among.refused
-    call_refused played (fault.Setup g) r = absurd r.refused.among.refused
-    call_refused played (fault.Line m) r = absurd r.refused.among.refused
-    call_refused played (fault.NoEnd c) r = absurd r.refused.among.refused
-    call_refused played (fault.EndCount m c) r = absurd r.refused.among.refused
-    call_refused played fault.Memory r = absurd r.refused.among.refused
+    call_refused played f r = absurd r.refused.among.refused
 
     pub body_refuses : (played : List Call) (f : ReplayFault) → IsBodyRefusal t v s rest first played f → IsReplayRefusal t text f
     body_refuses played f (inl memory) = subst (IsReplayRefusal t text) (sym memory) short
@@ -136,13 +130,7 @@ module _ (t : Program) (text : List ℕ) (short : length text ≤ MAX_TRACE) (v 
           (short, at_end (fault.Line m) (inl (q.0 ∙ body.number, record { some = q.1.some; calls = body.ends; ends = q.1.ends })))
       end_refuses (fault.Line m) (inr q) =
           (short, at_end (fault.Line m) (inr (q.0 ∙ ap (λ n. n + 1) body.number, subst (λ own. HasMoreAfter own after) own_is q.1)))
-      end_refuses fault.TooLong q = absurd q
-      end_refuses (fault.Head k) q = absurd q
-      end_refuses (fault.Setup g) q = absurd q
-      end_refuses (fault.AfterFinish m made) q = absurd q
-      end_refuses (fault.Bit m d) q = absurd q
-      end_refuses (fault.Reply m d) q = absurd q
-      end_refuses fault.Memory q = absurd q
+      end_refuses f q = absurd q
 
       -- all calls of the lines are the longest that are accepted
       pub end_keeps : IsLongestAccepted t text v s h

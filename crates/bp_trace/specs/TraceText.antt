@@ -1,5 +1,5 @@
 -- The text of a trace: the setups that have one, its head, and the lines of its calls; schedules.
-use Rattle.std.specs.Prelude.{◌≡◌, ◌≢◌, ◌<◌, ℕ, Bool, List, [], ◌∷◌, ◌++◌, map, flat_map, decimal, if◌then◌else◌, ◌==◌, Option, None, Some, length, codes, ◌^◌, ◌+◌}
+use Rattle.std.specs.Prelude.{◌≡◌, ◌≢◌, ◌<◌, ℕ, Bool, List, [], ◌∷◌, ◌++◌, map, flat_map, decimal, if◌then◌else◌, ◌==◌, Option, None, Some, length, codes, ◌^◌}
 use Rattle.std.specs.List.{concat, AllByRecursion}
 pub use Rattle.bp_text.specs.Formats.{bit_digit}
 use Rattle.bp_machine.specs.declared.calls.Call.{Call}
