@@ -3,14 +3,16 @@ use Rattle.std.proofs.Common.{append_assoc, append-nil, ◌≡◌, ◌≢◌, �
 use Rattle.std.specs.List.{AllByRecursion, concat}
 use Rattle.std.proofs.lemmas.Bool.{false≢true, ne_eqb}
 use Rattle.std.proofs.lemmas.List.{length-append, length-map}
-use Rattle.bp_text.specs.Formats.{bit, bit_digit, BreaksAt, EachFits, Fits, IsAt, lines_of, SpanFits, text_of}
-use Rattle.bp_text.specs.Formats.Format.{After, Line, Many, Span, Then}
+use Rattle.bp_text.specs.Formats.{bit, bit_digit, BreaksAt, EachFits, Fits, Format, IsAt, lines_of, SpanFits, text_of}
+use Rattle.bp_text.specs.Formats.Format.{After, As, Line, Many, Span, Then}
+use Rattle.bp_text.specs.Pieces.{bit_text}
 use Rattle.bp_text.proofs.Breaks.{breaks_after, has_none, lines_each}
 use Rattle.bp_text.proofs.NumbersInTurn.{ends_at, no_digit_first}
 use Rattle.bp_text.proofs.PartsOfTexts.{regrouped}
-use Rattle.bp_text.proofs.Readings.{within}
+use Rattle.bp_text.proofs.Readings.{one_at, within}
 use Rattle.bp_text.proofs.WholeTexts.{few_values}
-use Rattle.bp_machine.specs.Setups.{SetupOf}
+use Rattle.bp_machine.specs.Setups.{SetupOf, setup_of}
+use Rattle.bp_machine.specs.declared.calls.Call.{Call}
 use Rattle.bp_trace.specs.declared.heads.EntryState.{EntryState}
 use Rattle.bp_trace.specs.declared.heads.EntryState.TheVariants.{Start, Within}
 use Rattle.bp_trace.specs.declared.heads.Head.{Head}
@@ -18,8 +20,7 @@ use Rattle.bp_trace.specs.declared.traces.Version.{Version}
 use Rattle.bp_trace.specs.declared.traces.Version.TheVariants.{One, Two}
 use Rattle.bp_trace.specs.HeadFormat.{after_byte, bits, entry, head, may_end, seed, seed_value, settings, version_word}
 use Rattle.bp_trace.specs.Reading.{IsHeadOf, setup_of_head}
-use Rattle.bp_trace.specs.TraceText.{IsEntryName, entry_line, field_line, init_digits, init_line, limit_lines, seed_word, Without, HasHead, version_line, setting_lines, head_lines, head_text}
-use Rattle.bp_trace.proofs.OneText.{HasLines, head_parts, heads_alike}
+use Rattle.bp_trace.specs.TraceText.{IsEntryName, entry_line, field_line, init_digits, init_line, limit_lines, seed_word, Without, IsWritable, HasHead, version_line, setting_lines, head_lines, head_text}
 
 -- What holds of each element of two lists holds of each of both, and what of both of each.
 
@@ -32,30 +33,61 @@ module _ {X : Type 0} (P : X → Type 0) where
   all_of_second [] b p = p
   all_of_second (x ∷ a) b p = all_of_second a b p.1
 
-names_without : (es : List (List ℕ)) → AllByRecursion IsEntryName es → AllByRecursion (Without 10) es
-names_without [] p = tt
-names_without (n ∷ es) p = ((p.0).line, names_without es p.1)
-
-has_lines : (s : SetupOf) → HasHead s → HasLines s
-has_lines s p = record { names = names_without s.entries p.names; contexts = p.contexts; calls = p.calls; seed = p.seed }
-
-pub one_head : (v w : Version) (s r : SetupOf) (x y : List ℕ) → HasHead s → HasHead r → head_text v s ++ x ≡ head_text w r ++ y → (v ≡ w) × (s ≡ r) × (x ≡ y)
-one_head v w s r x y p q e = heads_alike s r (has_lines s p) (has_lines r q) v w x y e
-
 pub line_total : (v : Version) (s : SetupOf) → length (head_lines v s) ≡ length s.entries + 5
 line_total v s = omega (arith, length-append (map entry_line s.entries) (setting_lines s), length-map s.entries entry_line)
 
--- The format's texts are those of the heads.
+-- The text of a head: its entries, its initial bits and its limits, one after the other.
+
+abbrev pub limits_text : SetupOf → List ℕ
+limits_text s = concat (
+    codes "contexts " ∷ decimal s.contexts
+    ∷ codes "\ncalls " ∷ decimal s.calls
+    ∷ codes "\nseed " ∷ seed_word s.seed
+    ∷ codes "\n" ∷ [])
+
+abbrev pub setup_text : SetupOf → List ℕ
+setup_text s = flat_map entry_line s.entries ++ (init_line s.init ++ limits_text s)
+
+entries_joined : (es : List (List ℕ)) → concat (map entry_line es) ≡ flat_map entry_line es
+entries_joined [] = refl
+entries_joined (n ∷ es) = ap (λ t. entry_line n ++ t) (entries_joined es)
+
+pub head_parts : (v : Version) (s : SetupOf) → head_text v s ≡ version_line v ++ (flat_map entry_line s.entries ++ (init_line s.init ++ concat (limit_lines s)))
+head_parts v s = simp (regrouped, entries_joined)
+
+pub head_joined : (v : Version) (s : SetupOf) → head_text v s ≡ version_line v ++ setup_text s
+head_joined v s = simp (regrouped, entries_joined)
+
+digits_joined : (bs : List Bool) → flat_map bit_text bs ≡ map bit_digit bs
+digits_joined [] = refl
+digits_joined (false ∷ bs) = ap (λ ds. 48 ∷ ds) (digits_joined bs)
+digits_joined (true ∷ bs) = ap (λ ds. 49 ∷ ds) (digits_joined bs)
+
+-- where there is a global, its digit and those of the others
+pub some_digits : (bs : List Bool) → 0 < length bs → flat_map bit_text bs ≡ init_digits bs
+some_digits [] some = absurd (omega arith)
+some_digits (b ∷ bs) some = digits_joined (b ∷ bs)
+
+-- The format's texts are those of the heads. Names have a byte, or may be empty where they begin within one.
+
+abbrev entry_from : EntryState → Format (List ℕ)
+entry_from state = Line (After (codes "entry ") (Span after_byte may_end state))
+
+abbrev head_from : EntryState → Format (Version × SetupOf)
+head_from state =
+    As (λ h. (h.0, (h.1.entries, (h.1.init, (h.1.contexts, (h.1.calls, h.1.seed))))))
+    (λ p. (p.0, setup_of p.1.0 p.1.1.0 p.1.1.1.0 p.1.1.1.1.0 p.1.1.1.1.1)) (λ h. refl)
+    (Then (Line version_word) (Then (Many (entry_from state)) settings))
 
 same_version : (v : Version) → text_of (Line version_word) v ≡ version_line v
 same_version One = refl
 same_version Two = refl
 
-same_entries : (es : List (List ℕ)) → flat_map (text_of entry) es ≡ flat_map entry_line es
-same_entries [] = refl
-same_entries (n ∷ es) =
-    let one : text_of entry n ≡ entry_line n = simp regrouped in
-    λ i. one i ++ same_entries es i
+same_entries : (state : EntryState) (es : List (List ℕ)) → flat_map (text_of (entry_from state)) es ≡ flat_map entry_line es
+same_entries state [] = refl
+same_entries state (n ∷ es) =
+    let one : text_of (entry_from state) n ≡ entry_line n = simp regrouped in
+    λ i. one i ++ same_entries state es i
 
 same_digits : (bs : List Bool) → flat_map (text_of bit) bs ≡ map bit_digit bs
 same_digits [] = refl
@@ -87,8 +119,8 @@ module _ (s : SetupOf) where
   same_settings = λ i.
       init_part i ++ (limit_part (codes "contexts ") s.contexts i ++ (limit_part (codes "calls ") s.calls i ++ seed_part i))
 
-same_head : (v : Version) (s : SetupOf) → text_of head (v, s) ≡ head_text v s
-same_head v s = (λ i. same_version v i ++ (same_entries s.entries i ++ same_settings s i)) ∙ sym (head_parts v s)
+same_head : (state : EntryState) (v : Version) (s : SetupOf) → text_of (head_from state) (v, s) ≡ head_text v s
+same_head state v s = (λ i. same_version v i ++ (same_entries state s.entries i ++ same_settings s i)) ∙ sym (head_parts v s)
 
 -- A setup that can be said in a head fits.
 
@@ -107,9 +139,12 @@ name_fits : (name rest : List ℕ) → IsEntryName name → SpanFits after_byte 
 name_fits [] rest is = absurd (is.some refl)
 name_fits (b ∷ bs) rest is = (Within, goes_on Start b (is.line).0, span_fits bs rest (is.line).1)
 
-entries_fit : (es : List (List ℕ)) (rest more : List ℕ) → rest ≡ 105 ∷ more → AllByRecursion IsEntryName es → EachFits (text_of entry) (Fits entry) es rest
-entries_fit [] rest more is names = λ name after fits e. absurd (omega (arith, ap (λ t. get_or t 0 0) (sym is ∙ e)))
-entries_fit (n ∷ es) rest more is names = (name_fits n _ names.0, entries_fit es rest more is names.1)
+-- where what holds of the names makes them fit
+entries_fit : (state : EntryState) (P : List ℕ → Type 0) → ((name rest : List ℕ) → P name → SpanFits after_byte may_end state name (10 ∷ rest))
+    → (es : List (List ℕ)) (rest more : List ℕ) → rest ≡ 105 ∷ more → AllByRecursion P es
+    → EachFits (text_of (entry_from state)) (Fits (entry_from state)) es rest
+entries_fit state P fit [] rest more is names = λ name after fits e. absurd (omega (arith, ap (λ t. get_or t 0 0) (sym is ∙ e)))
+entries_fit state P fit (n ∷ es) rest more is names = (fit n _ names.0, entries_fit state P fit es rest more is names.1)
 
 digit_is : (b : Bool) (n : ℕ) → n < 48 → n ≢ bit_digit b
 digit_is false n low e = omega (arith, low, e)
@@ -132,23 +167,41 @@ seed_fits (Some n) rest small =
       λ x more other e. (no_digit_first (codes "none" ++ more) 110 (codes "one" ++ more) refl (inr (omega arith))).none n (10 ∷ rest) (fits, fits, ends) (sym e),
     )
 
-pub head_at : (v : Version) (s : SetupOf) (text rest : List ℕ) → HasHead s → text ≡ head_text v s ++ rest → IsAt head text (v, s) rest
-head_at v s text rest has parts = record {
+at_head : (state : EntryState) (P : List ℕ → Type 0) → ((name rest : List ℕ) → P name → SpanFits after_byte may_end state name (10 ∷ rest))
+    → (v : Version) (s : SetupOf) (text rest : List ℕ) → AllByRecursion P s.entries → s.contexts < 2 ^ 64 → s.calls < 2 ^ 64
+    → ((n : ℕ) → s.seed ≡ Some n → n < 2 ^ 64) → text ≡ head_text v s ++ rest → IsAt (head_from state) text (v, s) rest
+at_head state P fit v s text rest names contexts calls seed parts = record {
   fits = (
     version_fits v _,
     (
-      entries_fit s.entries _ _ refl has.names,
+      entries_fit state P fit s.entries _ _ refl names,
       (
         bits_fit s.init _,
-        (
-          (has.contexts, has.contexts, ends_at 10 _ (inl (omega arith))),
-          ((has.calls, has.calls, ends_at 10 _ (inl (omega arith))), seed_fits s.seed _ has.seed),
-        ),
+        ((contexts, contexts, ends_at 10 _ (inl (omega arith))), ((calls, calls, ends_at 10 _ (inl (omega arith))), seed_fits s.seed _ seed)),
       ),
     ),
   );
-  parts = parts ∙ ap (λ t. t ++ rest) (sym (same_head v s));
+  parts = parts ∙ ap (λ t. t ++ rest) (sym (same_head state v s));
 }
+
+head_at : (v : Version) (s : SetupOf) (text rest : List ℕ) → HasHead s → text ≡ head_text v s ++ rest → IsAt head text (v, s) rest
+head_at v s text rest has parts = at_head Start IsEntryName name_fits v s text rest has.names has.contexts has.calls has.seed parts
+
+-- so one head begins a text, also of setups that can be written with an empty name
+pub one_head : (v w : Version) (s r : SetupOf) (x y : List ℕ) → HasHead s → HasHead r → head_text v s ++ x ≡ head_text w r ++ y → (v ≡ w) × (s ≡ r) × (x ≡ y)
+one_head v w s r x y p q e =
+    let (same, rest) = one_at (head_at v s _ x p refl) (head_at w r _ y q e) in
+    (ap (λ z. z.0) same, ap (λ z. z.1) same, rest)
+
+written_at : (v : Version) (s : SetupOf) (h : List Call) (text rest : List ℕ) → IsWritable s h → text ≡ head_text v s ++ rest
+    → IsAt (head_from Within) text (v, s) rest
+written_at v s h text rest p parts = at_head Within (Without 10) span_fits v s text rest p.names p.contexts p.calls p.seed parts
+
+pub heads_alike : (v w : Version) (s r : SetupOf) (h g : List Call) (x y : List ℕ) → IsWritable s h → IsWritable r g
+    → head_text v s ++ x ≡ head_text w r ++ y → (v ≡ w) × (s ≡ r) × (x ≡ y)
+heads_alike v w s r h g x y p q e =
+    let (same, rest) = one_at (written_at v s h _ x p refl) (written_at w r g _ y q e) in
+    (ap (λ z. z.0) same, ap (λ z. z.1) same, rest)
 
 -- so a text that begins with a head is one at each line
 pub no_break : (v : Version) (s : SetupOf) (text rest : List ℕ) (k : ℕ) → HasHead s → text ≡ head_text v s ++ rest → BreaksAt head text k → ⊥
@@ -182,7 +235,7 @@ small_seed (Some m) rest fits n e = let same : m ≡ n = cc in subst (λ k. k < 
 
 module _ (text rest : List ℕ) (read : Head) (at : IsAt head text (read.version, setup_of_head read) rest) where
   parts : text ≡ head_text read.version (setup_of_head read) ++ rest
-  parts = at.parts ∙ ap (λ t. t ++ rest) (same_head read.version (setup_of_head read))
+  parts = at.parts ∙ ap (λ t. t ++ rest) (same_head Start read.version (setup_of_head read))
 
   pub is_head : read.size ≡ length text - length rest → read.lines ≡ length (map (λ n. n.now) read.entries.items) + 5 → IsHeadOf text read
   is_head size lines = record {

@@ -24,7 +24,7 @@ use Rattle.bp_trace.proofs.HeadsRead.{all_of_both, all_of_second, one_head}
 use Rattle.bp_trace.proofs.OneHistoryAfter.{State, IsNextLine, single, grown, walk_of, below}
 use Rattle.bp_trace.proofs.Walks.{Walk, Stays, Goes, compared, stays}
 use Rattle.bp_trace.proofs.OneText.{front_cut}
-use Rattle.bp_trace.proofs.PlayableFronts.{not_refused}
+use Rattle.bp_trace.proofs.PlayableFronts.{not_refused, one_place}
 
 -- What a session that stands after the calls of some lines of a trace says of them.
 
@@ -140,15 +140,11 @@ abbrev Fronts : List Call → List Call → Call → Type 0
 Fronts g h c = ((m : List Call) × (h ≡ g ++ m)) ⊎ ((m : List Call) × (g ≡ h ++ c ∷ m))
 
 fronts : (g k h : List Call) (c : Call) (z : List Call) → g ++ k ≡ h ++ c ∷ z → Fronts g h c
-fronts [] k h c z e = inl (h, refl)
-fronts (a ∷ g) k [] c z e = let same : a ≡ c = cc in inr (g, ap (λ d. d ∷ g) same)
-fronts (a ∷ g) k (b ∷ h) c z e =
-    let same : a ≡ b = cc in
-    go same (fronts g k h c z cc)
-  where
-    go : a ≡ b → Fronts g h c → Fronts (a ∷ g) (b ∷ h) c
-    go same (inl s) = inl (s.0, ap (λ d. d ∷ h) (sym same) ∙ ap (λ d. a ∷ d) s.1)
-    go same (inr s) = inr (s.0, ap (λ d. d ∷ g) same ∙ ap (λ d. b ∷ d) s.1)
+fronts g [] h c z e = inr (z, sym (append-nil g) ∙ e)
+fronts g (x ∷ k) h c z e = elim (one_place g h k z x c e) [
+  | inl same ↦ inl ([], sym same.0 ∙ sym (append-nil g))
+  | inr other ↦ elim other [ inl before ↦ inl (x ∷ before.0, before.1) | inr after ↦ inr after ]
+]
 
 module _ (t : Program) (text : List ℕ) (v : Version) (s : SetupOf) (has : HasHead s) (fine : setup_fault t s ≡ None)
     (h : List Call) (playable : IsPlayable t s h) (rest : List ℕ) (parts : text ≡ head_text v s ++ (calls_text v h ++ rest)) where

@@ -1,22 +1,22 @@
 -- No two triples of version, setup and history have one text.
-use Rattle.std.proofs.Common.{◌≡◌, ℕ, ◌<◌, ◌^◌, List, [], ◌∷◌, ◌++◌, length, refl, sym, arith, decimal, Bool, true, false, map, flat_map, ap, codes, ◌≤◌, ◌==◌, Option, None, Some, ◌∙◌, if◌then◌else◌, append-nil}
+use Rattle.std.proofs.Common.{◌≡◌, ℕ, ◌<◌, ◌^◌, List, [], ◌∷◌, ◌++◌, length, refl, sym, arith, decimal, Bool, true, false, flat_map, ap, ◌≤◌, ◌==◌, ◌∙◌, if◌then◌else◌}
 use Rattle.std.specs.Str.Parse.{AllDigits}
 use Rattle.std.proofs.lemmas.Str.Parse.{digit_from_value}
 use Rattle.std.proofs.lemmas.Fmt.{digits_decimal, decimal_injective, decimal_nonempty}
-use Rattle.std.specs.List.{concat, AllByRecursion}
-use Rattle.bp_text.specs.Pieces.{bit_text}
+use Rattle.std.specs.List.{AllByRecursion}
 use Rattle.bp_text.proofs.NumbersInTurn.{numerals}
 use Rattle.bp_text.proofs.PartsOfTexts.{regrouped}
-use Rattle.bp_machine.specs.Setups.{SetupOf, setup_of}
+use Rattle.bp_machine.specs.Setups.{SetupOf}
 use Rattle.bp_machine.specs.declared.calls.Call.{Call}
 use Rattle.bp_machine.specs.declared.calls.Reply.{Reply}
 use Rattle.bp_machine.specs.declared.calls.Reply.TheVariants.{Stopped, Ended, NoContexts, Full, Blocked, Failed, Stepped}
 use Rattle.bp_machine.specs.Histories.{letter_of, open_lines}
-use Rattle.bp_trace.specs.TraceText.{Without, bit_digit, version_line, entry_line, init_digits, init_line, seed_word, limit_lines, head_text, Symbol, Piece, pieces_of, calls_of_pieces, call_line, symbol_text, piece_line, calls_text, end_line, text_of, IsWritable}
+use Rattle.bp_trace.specs.TraceText.{Without, bit_digit, Symbol, Piece, pieces_of, calls_of_pieces, call_line, symbol_text, piece_line, calls_text, end_line, text_of, IsWritable}
 use Rattle.bp_trace.specs.declared.traces.Version.{Version}
 use Rattle.bp_trace.specs.declared.traces.Version.TheVariants.{One, Two}
 use Rattle.bp_trace.specs.Reading.{HasNoSymbol}
 use Rattle.bp_trace.proofs.PiecesAreFewest.{pieces_threads, pieces_whole}
+use Rattle.bp_trace.proofs.HeadsRead.{heads_alike}
 
 -- The first of a byte cuts two lists alike; and texts of numbers, which hold digits alone.
 
@@ -53,38 +53,6 @@ digits_begin (d ∷ ds) rest letter text p some high e = absurd (omega (arith, d
 pub number_begins : (n : ℕ) (rest : List ℕ) (letter : ℕ) (text : List ℕ) → n < 2 ^ 64 → 57 < letter → decimal n ++ rest ≡ letter ∷ text → ⊥
 number_begins n rest letter text fits high e = digits_begin (decimal n) rest letter text (digits_decimal numerals n fits) (decimal_nonempty n fits) high e
 
--- The text of a head: its entries, its initial bits and its limits, one after the other.
-
-abbrev pub limits_text : SetupOf → List ℕ
-limits_text s = concat (
-    codes "contexts " ∷ decimal s.contexts
-    ∷ codes "\ncalls " ∷ decimal s.calls
-    ∷ codes "\nseed " ∷ seed_word s.seed
-    ∷ codes "\n" ∷ [])
-
-abbrev pub setup_text : SetupOf → List ℕ
-setup_text s = flat_map entry_line s.entries ++ (init_line s.init ++ limits_text s)
-
-entries_joined : (es : List (List ℕ)) → concat (map entry_line es) ≡ flat_map entry_line es
-entries_joined [] = refl
-entries_joined (n ∷ es) = ap (λ t. entry_line n ++ t) (entries_joined es)
-
-pub head_parts : (v : Version) (s : SetupOf) → head_text v s ≡ version_line v ++ (flat_map entry_line s.entries ++ (init_line s.init ++ concat (limit_lines s)))
-head_parts v s = simp (regrouped, entries_joined)
-
-pub head_joined : (v : Version) (s : SetupOf) → head_text v s ≡ version_line v ++ setup_text s
-head_joined v s = simp (regrouped, entries_joined)
-
-digits_joined : (bs : List Bool) → flat_map bit_text bs ≡ map bit_digit bs
-digits_joined [] = refl
-digits_joined (false ∷ bs) = ap (λ ds. 48 ∷ ds) (digits_joined bs)
-digits_joined (true ∷ bs) = ap (λ ds. 49 ∷ ds) (digits_joined bs)
-
--- where there is a global, its digit and those of the others
-pub some_digits : (bs : List Bool) → 0 < length bs → flat_map bit_text bs ≡ init_digits bs
-some_digits [] some = absurd (omega arith)
-some_digits (b ∷ bs) some = digits_joined (b ∷ bs)
-
 one_digit : (a b : Bool) → bit_digit a ≡ bit_digit b → a ≡ b
 one_digit true true e = refl
 one_digit false false e = refl
@@ -119,136 +87,6 @@ pub front_cut : (front a b : List ℕ) → front ++ a ≡ front ++ b → a ≡ b
 front_cut [] a b e = e
 front_cut (c ∷ front) a b e = front_cut front a b (same_head c c (front ++ a) (front ++ b) e).1
 
--- ---- the head
-
-entries_alike : (es fs : List (List ℕ)) (x y : List ℕ) → AllByRecursion (Without 10) es → AllByRecursion (Without 10) fs
-    → flat_map entry_line es ++ (105 ∷ x) ≡ flat_map entry_line fs ++ (105 ∷ y) → (es ≡ fs) × (x ≡ y)
-entries_alike [] [] x y p q e = (refl, (same_head _ _ _ _ e).1)
-entries_alike [] (f ∷ fs) x y p q e = absurd (omega (arith, (same_head _ _ _ _ e).0))
-entries_alike (n ∷ es) [] x y p q e = absurd (omega (arith, (same_head _ _ _ _ e).0))
-entries_alike (n ∷ es) (f ∷ fs) x y p q e =
-    let cut = one_cut 10 n f (flat_map entry_line es ++ (105 ∷ x)) (flat_map entry_line fs ++ (105 ∷ y)) p.0 q.0
-    (front_cut (codes "entry ") _ _ (simp regrouped at e)) in
-    let rest = entries_alike es fs x y p.1 q.1 cut.1 in
-    (cc (cut.0, rest.0), rest.1)
-
-digit_high : (b : Bool) → 48 ≤ bit_digit b
-digit_high true = omega arith
-digit_high false = omega arith
-
-bits_without : (bs : List Bool) → Without 10 (map bit_digit bs)
-bits_without [] = tt
-bits_without (b ∷ bs) = (λ e. absurd (omega (arith, digit_high b, e)), bits_without bs)
-
-pub init_without : (bs : List Bool) → Without 10 (init_digits bs)
-init_without [] = (λ e. absurd (omega (arith, e)), tt)
-init_without (b ∷ bs) = bits_without (b ∷ bs)
-
-one_bits : (cs bs : List Bool) → map bit_digit cs ≡ map bit_digit bs → cs ≡ bs
-one_bits [] [] e = refl
-one_bits [] (b ∷ bs) e = absurd cc
-one_bits (a ∷ cs) [] e = absurd cc
-one_bits (a ∷ cs) (b ∷ bs) e =
-    let heads = same_head (bit_digit a) (bit_digit b) (map bit_digit cs) (map bit_digit bs) e in
-    cc (one_digit a b heads.0, one_bits cs bs heads.1)
-
-one_init : (cs bs : List Bool) → init_digits cs ≡ init_digits bs → cs ≡ bs
-one_init [] [] e = refl
-one_init [] (b ∷ bs) e = absurd (omega (arith, digit_high b, (same_head _ _ _ _ e).0))
-one_init (a ∷ cs) [] e = absurd (omega (arith, digit_high a, (same_head _ _ _ _ e).0))
-one_init (a ∷ cs) (b ∷ bs) e = one_bits (a ∷ cs) (b ∷ bs) e
-
-init_alike : (cs bs : List Bool) (x y : List ℕ) → init_line cs ++ x ≡ init_line bs ++ y → (cs ≡ bs) × (x ≡ y)
-init_alike cs bs x y e =
-    let cut = one_cut 10 (init_digits cs) (init_digits bs) x y (init_without cs) (init_without bs)
-    (front_cut (codes "init ") _ _ (simp regrouped at e)) in
-    (one_init cs bs cut.0, cut.1)
-
-abbrev Fits64 : Option ℕ → Type 0
-Fits64 o = (n : ℕ) → o ≡ Some n → n < 2 ^ 64
-
-pub seed_without : (o : Option ℕ) → Fits64 o → Without 10 (seed_word o)
-seed_without None fits = (
-  λ e. absurd (omega (arith, e)),
-  (λ e. absurd (omega (arith, e)), (λ e. absurd (omega (arith, e)), (λ e. absurd (omega (arith, e)), tt))),
-)
-seed_without (Some n) fits = decimal_without 10 (omega arith) n (fits n refl)
-
-no_word : (n : ℕ) → n < 2 ^ 64 → decimal n ≡ codes "none" → ⊥
-no_word n fits e = number_begins n [] 110 (111 ∷ 110 ∷ 101 ∷ []) fits (omega arith) (append-nil (decimal n) ∙ e)
-
-one_seed : (o r : Option ℕ) → Fits64 o → Fits64 r → seed_word o ≡ seed_word r → o ≡ r
-one_seed None None p q e = refl
-one_seed None (Some n) p q e = absurd (no_word n (q n refl) (sym e))
-one_seed (Some m) None p q e = absurd (no_word m (p m refl) e)
-one_seed (Some m) (Some n) p q e = ap Some (decimal_injective m n (p m refl) (q n refl) e)
-
-version_first : (v w : Version) (x y : List ℕ) → version_line v ++ x ≡ version_line w ++ y → v ≡ w
-version_first One One x y e = refl
-version_first Two Two x y e = refl
-version_first One Two x y e = absurd (omega (arith, (same_head 49 50 _ _ (front_cut (codes "btrace ") _ _ e)).0))
-version_first Two One x y e = absurd (omega (arith, (same_head 50 49 _ _ (front_cut (codes "btrace ") _ _ e)).0))
-
--- the setup's names have no line feed, and its numbers have 64 bits
-pub record HasLines (s : SetupOf) : Type 0 where
-  pub names : AllByRecursion (Without 10) s.entries
-  pub contexts : s.contexts < 2 ^ 64
-  pub calls : s.calls < 2 ^ 64
-  pub seed : Fits64 s.seed
-
-written_has_lines : (s : SetupOf) (h : List Call) → IsWritable s h → HasLines s
-written_has_lines s h p = record { names = p.names; contexts = p.contexts; calls = p.calls; seed = p.seed }
-
--- the numbers of two setups
-record SameLimits (s r : SetupOf) (x y : List ℕ) : Type 0 where
-  contexts : s.contexts ≡ r.contexts
-  calls : s.calls ≡ r.calls
-  seed : s.seed ≡ r.seed
-  rest : x ≡ y
-
-module _ (s r : SetupOf) (p : HasLines s) (q : HasLines r) where
-  limits_alike : (x y : List ℕ) → limits_text s ++ x ≡ limits_text r ++ y → SameLimits s r x y
-  limits_alike x y e =
-      let contexts = one_number 10 (omega arith) s.contexts r.contexts _ _ p.contexts q.contexts
-      (front_cut (codes "contexts ") _ _ (simp regrouped at e)) in
-      let calls = one_number 10 (omega arith) s.calls r.calls _ _ p.calls q.calls (front_cut (codes "calls ") _ _ contexts.1) in
-      let seed = one_cut 10 (seed_word s.seed) (seed_word r.seed) x y (seed_without s.seed p.seed)
-      (seed_without r.seed q.seed) (front_cut (codes "seed ") _ _ calls.1) in
-      record {
-        contexts = contexts.0;
-        calls = calls.0;
-        seed = one_seed s.seed r.seed p.seed q.seed seed.0;
-        rest = seed.1;
-      }
-
-  same_setup : s.entries ≡ r.entries → s.init ≡ r.init → (x y : List ℕ) → SameLimits s r x y → s ≡ r
-  same_setup entries init x y same =
-      ap (λ e. setup_of e s.init s.contexts s.calls s.seed) entries
-      ∙ ap (λ b. setup_of r.entries b s.contexts s.calls s.seed) init
-      ∙ ap (λ n. setup_of r.entries r.init n s.calls s.seed) same.contexts
-      ∙ ap (λ n. setup_of r.entries r.init r.contexts n s.seed) same.calls
-      ∙ ap (λ o. setup_of r.entries r.init r.contexts r.calls o) same.seed
-
-  setups_alike : (x y : List ℕ) → setup_text s ++ x ≡ setup_text r ++ y → (s ≡ r) × (x ≡ y)
-  setups_alike x y e =
-      let entries = entries_alike s.entries r.entries _ _ p.names q.names (simp regrouped at e) in
-      let inits = ap (λ t. 105 ∷ t) entries.1 in
-      let init = init_alike s.init r.init (limits_text s ++ x) (limits_text r ++ y)
-      (simp regrouped inits) in
-      let limits = limits_alike x y init.1 in
-      (same_setup entries.0 init.0 x y limits, limits.rest)
-
-  behind_version : (v w : Version) (x y : List ℕ) → head_text v s ++ x ≡ head_text w r ++ y
-      → version_line v ++ (setup_text s ++ x) ≡ version_line w ++ (setup_text r ++ y)
-  behind_version v w x y e = simp regrouped (simp regrouped at (ap (λ u. u ++ x) (sym (head_joined v s)) ∙ e ∙ ap (λ u. u ++ y) (head_joined w r)))
-
-  pub heads_alike : (v w : Version) (x y : List ℕ) → head_text v s ++ x ≡ head_text w r ++ y → (v ≡ w) × (s ≡ r) × (x ≡ y)
-  heads_alike v w x y e =
-      let both = behind_version v w x y e in
-      let version = version_first v w _ _ both in
-      let setups = setups_alike x y (front_cut (version_line v) _ _ (both ∙ ap (λ u. version_line u ++ (setup_text r ++ y)) (sym version))) in
-      (version, setups.0, setups.1)
-
 -- ---- the calls
 
 pub call_then : (c : Call) (rest : List ℕ) → call_line c ++ rest ≡ decimal c.thread ++ 32 ∷ bit_digit c.bit ∷ 32 ∷ letter_of c.reply ∷ 10 ∷ rest
@@ -282,6 +120,10 @@ calls_alike (c ∷ h) (d ∷ g) x y p q e =
     (cc (line.0, rest.0), rest.1)
 
 -- ---- the pieces
+
+digit_high : (b : Bool) → 48 ≤ bit_digit b
+digit_high true = omega arith
+digit_high false = omega arith
 
 -- symbols that no other symbol is after
 pub symbols_alike : (ts us : List Symbol) (x y : List ℕ) → HasNoSymbol x → HasNoSymbol y
@@ -345,7 +187,7 @@ module _ (v w : Version) (s r : SetupOf) (h g : List Call) (p : IsWritable s h) 
   end z k = end_line (length k) (open_lines z k)
 
   heads : (v ≡ w) × (s ≡ r) × (calls_text v h ++ end s h ≡ calls_text w g ++ end r g)
-  heads = heads_alike s r (written_has_lines s h p) (written_has_lines r g q) v w (calls_text v h ++ end s h) (calls_text w g ++ end r g) e
+  heads = heads_alike v w s r h g (calls_text v h ++ end s h) (calls_text w g ++ end r g) p q e
 
   pub one_text : (v ≡ w) × (s ≡ r) × (h ≡ g)
   one_text =

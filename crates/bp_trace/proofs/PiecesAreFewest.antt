@@ -22,12 +22,17 @@ symbols_text p = flat_map symbol_text (p.first ∷ p.others)
 abbrev pieces_text : List Piece → List ℕ
 pieces_text ps = flat_map piece_line ps
 
--- the first piece of calls of which y is the first
-record Begins (y : Call) (ys : List Call) : Type 0 where
-  piece : Piece
-  rest : List Piece
-  is : pieces_of (y ∷ ys) ≡ piece ∷ rest
+abbrev pub thread_of : Call → ℕ
+thread_of x = x.thread
+
+-- the pieces of calls of which y is the first
+pub record Cut (y : Call) (ys : List Call) : Type 0 where
+  pub piece : Piece
+  pub rest : List Piece
+  pub is : pieces_of (y ∷ ys) ≡ piece ∷ rest
   thread : piece.thread ≡ y.thread
+  calls : calls_of_piece piece ++ calls_of_pieces rest ≡ y ∷ ys
+  count : length rest ≡ opened (Some y.thread) (map thread_of ys)
   body : symbols_text piece ++ (10 ∷ pieces_text rest) ≡ symbol_text (symbol_of y) ++ (symbols_after (Some y.thread) ys ++ codes "\n")
 
 -- a call after one of its thread
@@ -42,47 +47,55 @@ breaks : (x y : Call) (ys : List Call) → (x.thread == y.thread) ≡ false
 breaks x y ys e = rw e (simp regrouped)
 
 -- the line of the first piece and those after it
-next_line : (y : Call) (ys : List Call) (b : Begins y ys)
+next_line : (y : Call) (ys : List Call) (b : Cut y ys)
     → piece_line b.piece ++ pieces_text b.rest ≡ decimal y.thread ++ 32 ∷ (symbol_text (symbol_of y) ++ (symbols_after (Some y.thread) ys ++ codes "\n"))
 next_line y ys b = simp regrouped (rw (b.thread, b.body))
 
-begins : (y : Call) (ys : List Call) → Begins y ys
-begins y [] = record { piece = piece_of y []; rest = []; is = refl; thread = refl; body = refl }
-begins x (y ∷ ys) = go (begins y ys) (x.thread == (begins y ys).piece.thread) refl
+-- whether one more context is opened
+opens : (i j : ℕ) (b : Bool) → (i == j) ≡ b → contexts_opened (Some i) j ≡ cond b 0 1
+opens i j b e = ap (λ c. cond c 0 1) e
+
+pub cut : (y : Call) (ys : List Call) → Cut y ys
+cut y [] = record { piece = piece_of y []; rest = []; is = refl; thread = refl; calls = refl; count = sym (opened_none (Some y.thread)); body = refl }
+cut x (y ∷ ys) = go (cut y ys) (x.thread == (cut y ys).piece.thread) refl
   where
+    is_cut : (b : Cut y ys) (t : Bool) → (x.thread == b.piece.thread) ≡ t
+        → pieces_of (x ∷ y ∷ ys) ≡ cond t (piece_of x (b.piece.first ∷ b.piece.others) ∷ b.rest) (piece_of x [] ∷ b.piece ∷ b.rest)
+    is_cut b t e = ap (with_call x) b.is ∙ ap (λ k. cond k (piece_of x (b.piece.first ∷ b.piece.others) ∷ b.rest) (piece_of x [] ∷ b.piece ∷ b.rest)) e
+
+    go : (b : Cut y ys) (t : Bool) → (x.thread == b.piece.thread) ≡ t → Cut x (y ∷ ys)
     -- the same thread goes on
-    same : (b : Begins y ys) → (x.thread == b.piece.thread) ≡ true → Begins x (y ∷ ys)
-    same b e =
+    go b true e =
         let equal : x.thread ≡ b.piece.thread = grind (arith, nat_tests) in
         let goes : (x.thread == y.thread) ≡ true = ap (λ n. x.thread == n) (sym b.thread) ∙ e in
         record {
           piece = piece_of x (b.piece.first ∷ b.piece.others);
           rest = b.rest;
-          is = ap (with_call x) b.is ∙ ap (λ t. cond t (piece_of x (b.piece.first ∷ b.piece.others) ∷ b.rest) (piece_of x [] ∷ b.piece ∷ b.rest)) e;
+          is = is_cut b true e;
           thread = refl;
+          calls = ap (λ (i : ℕ). x ∷ (map (call_of i) (b.piece.first ∷ b.piece.others) ++ calls_of_pieces b.rest)) equal ∙ ap (λ cs. x ∷ cs) b.calls;
+          count = omega (arith, b.count, opened_more (Some x.thread) y.thread (map thread_of ys), opens x.thread y.thread true goes);
           body = ap (λ t. symbol_text (symbol_of x) ++ t) (b.body ∙ goes_on x y ys goes);
         }
-
     -- another thread begins
-    other : (b : Begins y ys) → (x.thread == b.piece.thread) ≡ false → Begins x (y ∷ ys)
-    other b e = record {
-      piece = piece_of x [];
-      rest = b.piece ∷ b.rest;
-      is = ap (with_call x) b.is ∙ ap (λ t. cond t (piece_of x (b.piece.first ∷ b.piece.others) ∷ b.rest) (piece_of x [] ∷ b.piece ∷ b.rest)) e;
-      thread = refl;
-      body =
-          ap (λ t. symbol_text (symbol_of x) ++ 10 ∷ t) (next_line y ys b)
-          ∙ ap (λ t. symbol_text (symbol_of x) ++ t) (breaks x y ys (ap (λ n. x.thread == n) (sym b.thread) ∙ e));
-    }
-
-    go : (b : Begins y ys) (t : Bool) → (x.thread == b.piece.thread) ≡ t → Begins x (y ∷ ys)
-    go b true e = same b e
-    go b false e = other b e
+    go b false e =
+        let other : (x.thread == y.thread) ≡ false = ap (λ n. x.thread == n) (sym b.thread) ∙ e in
+        record {
+          piece = piece_of x [];
+          rest = b.piece ∷ b.rest;
+          is = is_cut b false e;
+          thread = refl;
+          calls = ap (λ cs. x ∷ cs) b.calls;
+          count = omega (arith, b.count, opened_more (Some x.thread) y.thread (map thread_of ys), opens x.thread y.thread false other);
+          body =
+              ap (λ t. symbol_text (symbol_of x) ++ 10 ∷ t) (next_line y ys b)
+              ∙ ap (λ t. symbol_text (symbol_of x) ++ t) (breaks x y ys other);
+        }
 
 -- the text of the pieces is that of the calls one by one, and the end of the last line
 pieces_are_symbols : (x : Call) (xs : List Call) → flat_map piece_line (pieces_of (x ∷ xs)) ≡ symbols_after None (x ∷ xs) ++ codes "\n"
 pieces_are_symbols x xs =
-    let b = begins x xs in
+    let b = cut x xs in
     ap pieces_text b.is
     ∙ next_line x xs b
     ∙ simp regrouped
@@ -127,55 +140,6 @@ one_more x (p ∷ ps) each = go (x.thread == p.thread) refl
 pub pieces_alternate : (h : List Call) → Alternate None (pieces_of h)
 pieces_alternate [] = tt
 pieces_alternate (x ∷ xs) = one_more x (pieces_of xs) (pieces_alternate xs)
-
-abbrev pub thread_of : Call → ℕ
-thread_of x = x.thread
-
--- the pieces of calls of which y is the first
-pub record Cut (y : Call) (ys : List Call) : Type 0 where
-  pub piece : Piece
-  pub rest : List Piece
-  pub is : pieces_of (y ∷ ys) ≡ piece ∷ rest
-  thread : piece.thread ≡ y.thread
-  calls : calls_of_piece piece ++ calls_of_pieces rest ≡ y ∷ ys
-  count : length rest ≡ opened (Some y.thread) (map thread_of ys)
-
--- whether one more context is opened
-opens : (i j : ℕ) (b : Bool) → (i == j) ≡ b → contexts_opened (Some i) j ≡ cond b 0 1
-opens i j b e = ap (λ c. cond c 0 1) e
-
-pub cut : (y : Call) (ys : List Call) → Cut y ys
-cut y [] = record { piece = piece_of y []; rest = []; is = refl; thread = refl; calls = refl; count = sym (opened_none (Some y.thread)) }
-cut x (y ∷ ys) = go (cut y ys) (x.thread == (cut y ys).piece.thread) refl
-  where
-    same : (b : Cut y ys) → (x.thread == b.piece.thread) ≡ true → Cut x (y ∷ ys)
-    same b e =
-        let equal : x.thread ≡ b.piece.thread = grind (arith, nat_tests) in
-        let none = opens x.thread y.thread true (ap (λ n. x.thread == n) (sym b.thread) ∙ e) in
-        record {
-          piece = piece_of x (b.piece.first ∷ b.piece.others);
-          rest = b.rest;
-          is = ap (with_call x) b.is ∙ ap (λ t. cond t (piece_of x (b.piece.first ∷ b.piece.others) ∷ b.rest) (piece_of x [] ∷ b.piece ∷ b.rest)) e;
-          thread = refl;
-          calls = ap (λ (i : ℕ). x ∷ (map (call_of i) (b.piece.first ∷ b.piece.others) ++ calls_of_pieces b.rest)) equal ∙ ap (λ cs. x ∷ cs) b.calls;
-          count = omega (arith, b.count, opened_more (Some x.thread) y.thread (map thread_of ys), none);
-        }
-
-    other : (b : Cut y ys) → (x.thread == b.piece.thread) ≡ false → Cut x (y ∷ ys)
-    other b e =
-        let one = opens x.thread y.thread false (ap (λ n. x.thread == n) (sym b.thread) ∙ e) in
-        record {
-          piece = piece_of x [];
-          rest = b.piece ∷ b.rest;
-          is = ap (with_call x) b.is ∙ ap (λ t. cond t (piece_of x (b.piece.first ∷ b.piece.others) ∷ b.rest) (piece_of x [] ∷ b.piece ∷ b.rest)) e;
-          thread = refl;
-          calls = ap (λ cs. x ∷ cs) b.calls;
-          count = omega (arith, b.count, opened_more (Some x.thread) y.thread (map thread_of ys), one);
-        }
-
-    go : (b : Cut y ys) (t : Bool) → (x.thread == b.piece.thread) ≡ t → Cut x (y ∷ ys)
-    go b true e = same b e
-    go b false e = other b e
 
 pub pieces_whole : (h : List Call) → calls_of_pieces (pieces_of h) ≡ h
 pieces_whole [] = refl

@@ -156,11 +156,11 @@ module _ (t : Program) (s : SetupOf) where
 -- Of the calls of a line at most one is refused, and with one refusal.
 
 -- of two places in a list one is before the other, or they are one
-abbrev Places : List Call → Call → List Call → Call → Type 0
+abbrev pub Places : List Call → Call → List Call → Call → Type 0
 Places a x b y =
     ((a ≡ b) × (x ≡ y)) ⊎ (((k : List Call) × (b ≡ a ++ x ∷ k)) ⊎ ((k : List Call) × (a ≡ b ++ y ∷ k)))
 
-one_place : (a b after others : List Call) (x y : Call) → a ++ x ∷ after ≡ b ++ y ∷ others → Places a x b y
+pub one_place : (a b after others : List Call) (x y : Call) → a ++ x ∷ after ≡ b ++ y ∷ others → Places a x b y
 one_place [] [] after others x y e = inl (refl, cc)
 one_place [] (c ∷ b) after others x y e = let same : x ≡ c = cc in inr (inl (b, ap (λ z. z ∷ b) (sym same)))
 one_place (c ∷ a) [] after others x y e = let same : c ≡ y = cc in inr (inr (a, ap (λ z. z ∷ a) same))

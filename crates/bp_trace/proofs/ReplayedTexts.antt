@@ -17,7 +17,7 @@ use Rattle.bp_trace.specs.TraceText.{HasHead, version_line, entry_line, init_lin
 use Rattle.bp_trace.specs.declared.replaying.Opened.{Opened}
 use Rattle.bp_trace.specs.Replays.{IsLongestAccepted, counts_of, IsPlayable, IsTrace, line_count, HasOtherEnd, HasMoreAfter, Reaches, IsRestRefused, HasRefusedRest, IsReplayRefusal}
 use Rattle.bp_trace.specs.Judging.{IsBody, IsBodyRefusal, HasRefusedBody, FitsText, IsOpened}
-use Rattle.bp_trace.proofs.OneText.{limits_text, setup_text, head_joined}
+use Rattle.bp_trace.proofs.HeadsRead.{limits_text, setup_text, head_joined}
 use Rattle.bp_trace.proofs.LongestAccepted.{longest_before_no_line, longest_before_refused}
 use Rattle.bp_trace.proofs.HeadsRead.{line_total}
 

@@ -18,7 +18,7 @@ use Rattle.bp_trace.specs.declared.traces.Version.{Version}
 use Rattle.bp_trace.specs.declared.traces.Version.TheVariants.{One, Two}
 use Rattle.bp_trace.specs.TraceText.{bit_digit, Symbol, Piece, calls_of_piece, calls_of_pieces, pieces_of, call_of, version_line, entry_line, init_digits, init_line, seed_word, head_text, call_line, symbol_text, piece_line, calls_text, end_line, text_of}
 use Rattle.bp_trace.specs.Replays.{IsDecimal, IsEndLine}
-use Rattle.bp_trace.proofs.OneText.{limits_text, setup_text, head_joined}
+use Rattle.bp_trace.proofs.HeadsRead.{limits_text, setup_text, head_joined}
 use Rattle.bp_trace.proofs.PiecesAreFewest.{pieces_threads, pieces_whole}
 use Rattle.bp_trace.proofs.LinesDriveAgain.{few_digits}
 

@@ -1,6 +1,6 @@
 use Rattle.std.proofs.Common.{◌<◌, length, arith}
 use Rattle.std.proofs.lemmas.Bool.Decides.{nat_tests}
-use Rattle.bp_trace.proofs.OneText.{some_digits}
+use Rattle.bp_trace.proofs.HeadsRead.{some_digits}
 use Rattle.bp_trace.proofs.traces.put_digits.Goals as goal
 
 pub returns : goal.returns

@@ -1,5 +1,5 @@
 use Rattle.bp_text.proofs.Givings.{and_then}
-use Rattle.bp_trace.proofs.OneText.{head_parts}
+use Rattle.bp_trace.proofs.HeadsRead.{head_parts}
 use Rattle.bp_trace.proofs.traces.put_head_of.Goals as goal
 
 pub returns : goal.returns
