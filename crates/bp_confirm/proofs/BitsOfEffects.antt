@@ -3,7 +3,7 @@ use Rattle.std.proofs.Common.{◌≡◌, ◌==◌, ℕ, arith, Bool, true, false
 use Rattle.std.proofs.lemmas.Option.{slice_get-map}
 use Rattle.std.proofs.lemmas.Bool.{false≢true}
 use Rattle.std.proofs.lemmas.Bool.Decides.{nat_tests}
-use Rattle.bp_language.specs.Ast.{Block, Done, Then, Skips, GoesTo, Returns, Assigns, Branches, Loops, Asserts, Assumes, Prints, Calls, Choose, Decide, Procedure, Program, Expression}
+use Rattle.bp_language.specs.Ast.{Block, Done, Then, Returns, Branches, Loops, Asserts, Assumes, Choose, Decide, Procedure, Program, Expression}
 use Rattle.bp_flat.specs.declared.effects.Effect.{Effect}
 use Rattle.bp_flat.specs.declared.effects.Effect.TheVariants as instr
 use Rattle.bp_flat.specs.declared.stores.Store.{Store}
@@ -12,7 +12,7 @@ use Rattle.bp_flat.specs.Moves.{chain}
 use Rattle.bp_flat.specs.Moves as effects
 use Rattle.bp_flat.specs.Flat.{Formula, Instruction, If, While}
 use Rattle.bp_flat.specs.StandsFor.{Place, place, places_of, Remains, Does, IsTestOf, start_of_block, starts_of}
-use Rattle.bp_flat.specs.Steps.{Bits, Activation, activation, instruction_effect, step_to, test_value}
+use Rattle.bp_flat.specs.Steps.{Bits, Activation, activation, instruction_effect, InstructionEffect, step_to, test_value}
 use Rattle.bp_confirm.specs.Steps as point
 use Rattle.bp_confirm.specs.Inferred.{bit_towards, bit_of_block, IsClearWay, IsClear, AreBothWays, IsAmbiguous}
 use Rattle.bp_confirm.specs.FollowedSteps.{NextNumbers, bit_towards_number, bit_of_effects, bit_of_instruction, are_both_there, is_fork, is_fork_block, splits}
@@ -34,25 +34,12 @@ module _ (next : NextNumbers) (follow : Bool) where
   -- effects that are the same
   no_choice : (s : Store) (d e : Effect) → effect_of s d [] ≡ effect_of s e [] → bit_of_effects next follow d e ≡ false
   no_choice s instr.Blocks (instr.Continues n w) same = absurd cc
-  no_choice s instr.Blocks (instr.Enters c m l) same = refl
-  no_choice s instr.Blocks instr.Returns same = refl
-  no_choice s instr.Blocks instr.Fails same = refl
-  no_choice s instr.Blocks instr.Blocks same = refl
   no_choice s instr.Fails (instr.Continues n w) same = absurd cc
-  no_choice s instr.Fails (instr.Enters c m l) same = refl
-  no_choice s instr.Fails instr.Returns same = refl
-  no_choice s instr.Fails instr.Fails same = refl
-  no_choice s instr.Fails instr.Blocks same = refl
   no_choice s (instr.Continues m v) (instr.Continues n w) same =
       let own : activation m (bits_of v.locals) ≡ activation n (bits_of w.locals) = cc in
       let number : m ≡ n = ap (λ (a : Activation). a.number) own in
       ap (λ k. bit_towards_number next n k) number ∙ towards_itself next n
-  no_choice s (instr.Continues m v) (instr.Enters c k l) same = refl
-  no_choice s (instr.Continues m v) instr.Returns same = refl
-  no_choice s (instr.Continues m v) instr.Fails same = refl
-  no_choice s (instr.Continues m v) instr.Blocks same = refl
-  no_choice s (instr.Enters c m l) e same = refl
-  no_choice s instr.Returns e same = refl
+  no_choice s d e same = refl
 
 same_number : (n : ℕ) → (n == n) ≡ true
 same_number n = grind (arith, nat_tests)
@@ -67,14 +54,7 @@ module _ (next : NextNumbers) where
       let own : activation m (bits_of v.locals) ≡ activation n (bits_of w.locals) = cc in
       let number : m ≡ n = ap (λ (a : Activation). a.number) own in
       ap (λ k. are_both_there next n k) number ∙ both_itself next n
-  no_split s (instr.Continues m v) (instr.Enters c k l) same = refl
-  no_split s (instr.Continues m v) instr.Returns same = refl
-  no_split s (instr.Continues m v) instr.Fails same = refl
-  no_split s (instr.Continues m v) instr.Blocks same = refl
-  no_split s (instr.Enters c m l) e same = refl
-  no_split s instr.Returns e same = refl
-  no_split s instr.Fails e same = refl
-  no_split s instr.Blocks e same = refl
+  no_split s d e same = refl
 
 -- what the test of two ways tells
 pub record SplitTells (b : Bool) (clear : Type 0) (ambiguous : Type 0) : Type 0 where
@@ -103,24 +83,15 @@ goes_on s (instr.Continues m w) bits n same =
     let own : activation m (bits_of w.locals) ≡ activation n bits.locals = cc in
     let number : m ≡ n = ap (λ (a : Activation). a.number) own in
     record { after = w; is = ap (λ k. instr.Continues k w) number }
-goes_on s (instr.Enters c m l) bits n same = absurd cc
-goes_on s instr.Returns bits n same = absurd cc
-goes_on s instr.Fails bits n same = absurd cc
-goes_on s instr.Blocks bits n same = absurd cc
+goes_on s e bits n same = absurd cc
 
 fails : (s : Store) (e : Effect) → effect_of s e [] ≡ effects.Fails → e ≡ instr.Fails
-fails s (instr.Continues m w) same = absurd cc
-fails s (instr.Enters c m l) same = absurd cc
-fails s instr.Returns same = absurd cc
 fails s instr.Fails same = refl
-fails s instr.Blocks same = absurd cc
+fails s e same = absurd cc
 
 blocks : (s : Store) (e : Effect) → effect_of s e [] ≡ effects.Blocks → e ≡ instr.Blocks
-blocks s (instr.Continues m w) same = absurd cc
-blocks s (instr.Enters c m l) same = absurd cc
-blocks s instr.Returns same = absurd cc
-blocks s instr.Fails same = absurd cc
 blocks s instr.Blocks same = refl
+blocks s e same = absurd cc
 
 -- whether what begins there is at the place
 abbrev pub start_is_at : point.Place → Option (Option ℕ) → Bool
@@ -144,21 +115,11 @@ at_fork last (Some q) taken other = refl
 
 at_last : (left : Block) (next : Option point.Place) (last follow : Bool)
     → bit_of_block left next last follow ≡ cond (is_none next && is_fork_block left) last (bit_of_block left next false follow)
-at_last Done next last follow = no_fork next last false
-at_last (Then label at Skips r) next last follow = no_fork next last false
-at_last (Then label at (GoesTo x) r) next last follow = no_fork next last false
-at_last (Then label at Returns r) next last follow = no_fork next last false
-at_last (Then label at (Assigns xs es) r) next last follow = no_fork next last false
 at_last (Then label at (Branches Choose a b) r) next last follow = at_fork last next (chain a r) (chain b r)
-at_last (Then label at (Branches (Decide x) a b) r) next last follow = no_fork next last false
 at_last (Then label at (Loops Choose a) r) next last follow = at_fork last next (chain a (Then label at (Loops Choose a) r)) r
-at_last (Then label at (Loops (Decide x) a) r) next last follow = no_fork next last false
 at_last (Then label at (Asserts Choose) r) next last follow = no_fork next last follow
-at_last (Then label at (Asserts (Decide x)) r) next last follow = no_fork next last false
 at_last (Then label at (Assumes Choose) r) next last follow = no_fork next last true
-at_last (Then label at (Assumes (Decide x)) r) next last follow = no_fork next last false
-at_last (Then label at (Prints es) r) next last follow = no_fork next last false
-at_last (Then label at (Calls x es) r) next last follow = no_fork next last false
+at_last left next last follow = no_fork next last false
 
 module _ (t : Program) (p : Procedure) where
   abbrev starts : List (Option ℕ)
@@ -184,71 +145,85 @@ module _ (t : Program) (p : Procedure) where
     decided : (test : Option Formula) (x : Expression) → IsTestOf t p test (Decide x) → test_value (store_of s) false test ≡ test_value (store_of s) true test
     decided test x is = is.equal (store_of s) false ∙ sym (is.equal (store_of s) true)
 
-    split : (m k : ℕ) → GoesOnAt d k → GoesOnAt e m → (taken other : Block) → Remains table m p taken → Remains table k p other
-        → bit_of_effects (numbers_at starts next) follow d e ≡ bit_towards false next taken other
-    split m k zero_is one_is taken other one two =
-        (λ j. bit_of_effects (numbers_at starts next) follow (zero_is.is j) (one_is.is j)) ∙ towards next m k taken other one two
+    -- the bit 0 leads to the other way, and 1 to the taken one
+    record HasWays (taken other : Block) : Type 0 where
+      one : ℕ
+      two : ℕ
+      zero_is : GoesOnAt d two
+      one_is : GoesOnAt e one
+      taken_is : Remains table one p taken
+      other_is : Remains table two p other
 
-    pub bit_is : (left : Block) (i : Instruction) → Does t (places_of t.procedures) p left i
+    -- with the bit 0 the instruction ends here, and with 1 it goes on
+    record OnlyGoesOn (stopped : Effect) : Type 0 where
+      number : ℕ
+      zero_is : d ≡ stopped
+      one_is : GoesOnAt e number
+
+    -- what the two effects are of an instruction that does the next of these statements
+    abbrev Ends : Block → Type 0
+    Ends (Then label at (Branches Choose a b) r) = HasWays (chain a r) (chain b r)
+    Ends (Then label at (Loops Choose a) r) = HasWays (chain a (Then label at (Loops Choose a) r)) r
+    Ends (Then label at (Asserts Choose) r) = OnlyGoesOn instr.Fails
+    Ends (Then label at (Assumes Choose) r) = OnlyGoesOn instr.Blocks
+    Ends left = effect_of s d [] ≡ effect_of s e []
+
+    ways : (test : Option Formula) (m k : ℕ) (taken other : Block) → IsTestOf t p test Choose → Remains table m p taken → Remains table k p other
+        → effect_of s d [] ≡ step_to (store_of s) (cond (test_value (store_of s) false test) m k) []
+        → effect_of s e [] ≡ step_to (store_of s) (cond (test_value (store_of s) true test) m k) [] → HasWays taken other
+    ways test m k taken other is one two at_zero at_one = record {
+      one = m;
+      two = k;
+      zero_is = goes_on s d (store_of s) k (at_zero ∙ ap (λ v. step_to (store_of s) (cond v m k) []) (chosen test is false));
+      one_is = goes_on s e (store_of s) m (at_one ∙ ap (λ v. step_to (store_of s) (cond v m k) []) (chosen test is true));
+      taken_is = one;
+      other_is = two;
+    }
+
+    only_goes_on : (stopped : Effect) (stop : InstructionEffect) → ((k : Effect) → effect_of s k [] ≡ stop → k ≡ stopped) → (test : Option Formula) (m : ℕ)
+        → IsTestOf t p test Choose
+        → effect_of s d [] ≡ cond (test_value (store_of s) false test) (step_to (store_of s) m []) stop
+        → effect_of s e [] ≡ cond (test_value (store_of s) true test) (step_to (store_of s) m []) stop → OnlyGoesOn stopped
+    only_goes_on stopped stop is_stopped test m is at_zero at_one = record {
+      number = m;
+      zero_is = is_stopped d (at_zero ∙ ap (λ v. cond v (step_to (store_of s) m []) stop) (chosen test is false));
+      one_is = goes_on s e (store_of s) m (at_one ∙ ap (λ v. cond v (step_to (store_of s) m []) stop) (chosen test is true));
+    }
+
+    ends : (left : Block) (i : Instruction) → Does t (places_of t.procedures) p left i
         → effect_of s d [] ≡ instruction_effect i (store_of s) [] false
         → effect_of s e [] ≡ instruction_effect i (store_of s) [] true
-        → bit_of_effects (numbers_at starts next) follow d e ≡ bit_of_block left next false follow
-    bit_is Done i is zero_is one_is =
-        no_choice (numbers_at starts next) follow s d e
-        (zero_is ∙ ap (λ k. instruction_effect k (store_of s) [] false) is
-        ∙ sym (ap (λ k. instruction_effect k (store_of s) [] true) is) ∙ sym one_is)
-    bit_is (Then label at Skips r) i is zero_is one_is = no_choice (numbers_at starts next) follow s d e (rw is.is at zero_is ∙ sym (rw is.is at one_is))
-    bit_is (Then label at (GoesTo x) r) i is zero_is one_is = no_choice (numbers_at starts next) follow s d e (rw is.is at zero_is ∙ sym (rw is.is at one_is))
-    bit_is (Then label at Returns r) i is zero_is one_is =
-        no_choice (numbers_at starts next) follow s d e
-        (zero_is ∙ ap (λ k. instruction_effect k (store_of s) [] false) is
-        ∙ sym (ap (λ k. instruction_effect k (store_of s) [] true) is) ∙ sym one_is)
-    bit_is (Then label at (Assigns xs es) r) i is zero_is one_is =
-        no_choice (numbers_at starts next) follow s d e (rw is.is at zero_is ∙ sym (rw is.is at one_is))
-    bit_is (Then label at (Branches Choose a b) r) i is zero_is one_is =
-        let at_zero = goes_on s d (store_of s) is.else_next (rw is.is at zero_is
-        ∙ ap (λ v. step_to (store_of s) (cond v is.next is.else_next) []) (chosen is.test is.test_is false)) in
-        let at_one = goes_on s e (store_of s) is.next (rw is.is at one_is
-        ∙ ap (λ v. step_to (store_of s) (cond v is.next is.else_next) []) (chosen is.test is.test_is true)) in
-        split is.next is.else_next at_zero at_one (chain a r) (chain b r) is.next_is is.else_is
-    bit_is (Then label at (Branches (Decide x) a b) r) i is zero_is one_is =
-        no_choice (numbers_at starts next) follow s d e
-        (rw is.is at zero_is
-        ∙ ap (λ v. step_to (store_of s) (cond v is.next is.else_next) []) (decided is.test x is.test_is)
-        ∙ sym (rw is.is at one_is))
-    bit_is (Then label at (Loops Choose a) r) i is zero_is one_is =
-        let at_zero = goes_on s d (store_of s) is.else_next (rw is.is at zero_is
-        ∙ ap (λ v. step_to (store_of s) (cond v is.next is.else_next) []) (chosen is.test is.test_is false)) in
-        let at_one = goes_on s e (store_of s) is.next (rw is.is at one_is
-        ∙ ap (λ v. step_to (store_of s) (cond v is.next is.else_next) []) (chosen is.test is.test_is true)) in
-        split is.next is.else_next at_zero at_one (chain a (Then label at (Loops Choose a) r)) r is.next_is is.else_is
-    bit_is (Then label at (Loops (Decide x) a) r) i is zero_is one_is =
-        no_choice (numbers_at starts next) follow s d e
-        (rw is.is at zero_is
-        ∙ ap (λ v. step_to (store_of s) (cond v is.next is.else_next) []) (decided is.test x is.test_is)
-        ∙ sym (rw is.is at one_is))
-    bit_is (Then label at (Asserts Choose) r) i is zero_is one_is =
-        let none = fails s d (rw is.is at zero_is ∙ ap (λ v. cond v (step_to (store_of s) is.next []) effects.Fails) (chosen is.test is.test_is false)) in
-        let on = goes_on s e (store_of s) is.next (rw is.is at one_is
-        ∙ ap (λ v. cond v (step_to (store_of s) is.next []) effects.Fails) (chosen is.test is.test_is true)) in
-        λ j. bit_of_effects (numbers_at starts next) follow (none j) (on.is j)
-    bit_is (Then label at (Asserts (Decide x)) r) i is zero_is one_is =
-        no_choice (numbers_at starts next) follow s d e
-        (rw is.is at zero_is
-        ∙ ap (λ v. cond v (step_to (store_of s) is.next []) effects.Fails) (decided is.test x is.test_is)
-        ∙ sym (rw is.is at one_is))
-    bit_is (Then label at (Assumes Choose) r) i is zero_is one_is =
-        let none = blocks s d (rw is.is at zero_is ∙ ap (λ v. cond v (step_to (store_of s) is.next []) effects.Blocks) (chosen is.test is.test_is false)) in
-        let on = goes_on s e (store_of s) is.next (rw is.is at one_is
-        ∙ ap (λ v. cond v (step_to (store_of s) is.next []) effects.Blocks) (chosen is.test is.test_is true)) in
-        λ j. bit_of_effects (numbers_at starts next) follow (none j) (on.is j)
-    bit_is (Then label at (Assumes (Decide x)) r) i is zero_is one_is =
-        no_choice (numbers_at starts next) follow s d e
-        (rw is.is at zero_is
-        ∙ ap (λ v. cond v (step_to (store_of s) is.next []) effects.Blocks) (decided is.test x is.test_is)
-        ∙ sym (rw is.is at one_is))
-    bit_is (Then label at (Prints es) r) i is zero_is one_is = no_choice (numbers_at starts next) follow s d e (rw is.is at zero_is ∙ sym (rw is.is at one_is))
-    bit_is (Then label at (Calls x es) r) i is zero_is one_is = no_choice (numbers_at starts next) follow s d e (rw is.is at zero_is ∙ sym (rw is.is at one_is))
+        → Ends left
+    ends Done i is zero_is one_is = rw is at zero_is ∙ sym (rw is at one_is)
+    ends (Then label at Returns r) i is zero_is one_is = rw is at zero_is ∙ sym (rw is at one_is)
+    ends (Then label at (Branches Choose a b) r) i is zero_is one_is =
+        ways is.test is.next is.else_next (chain a r) (chain b r) is.test_is is.next_is is.else_is (rw is.is at zero_is) (rw is.is at one_is)
+    ends (Then label at (Loops Choose a) r) i is zero_is one_is =
+        ways is.test is.next is.else_next (chain a (Then label at (Loops Choose a) r)) r is.test_is is.next_is is.else_is (rw is.is at zero_is) (rw is.is at one_is)
+    ends (Then label at (Asserts Choose) r) i is zero_is one_is =
+        only_goes_on instr.Fails effects.Fails (fails s) is.test is.next is.test_is (rw is.is at zero_is) (rw is.is at one_is)
+    ends (Then label at (Assumes Choose) r) i is zero_is one_is =
+        only_goes_on instr.Blocks effects.Blocks (blocks s) is.test is.next is.test_is (rw is.is at zero_is) (rw is.is at one_is)
+    ends (Then label at (Branches (Decide x) a b) r) i is zero_is one_is =
+        rw is.is at zero_is ∙ ap (λ v. step_to (store_of s) (cond v is.next is.else_next) []) (decided is.test x is.test_is) ∙ sym (rw is.is at one_is)
+    ends (Then label at (Loops (Decide x) a) r) i is zero_is one_is =
+        rw is.is at zero_is ∙ ap (λ v. step_to (store_of s) (cond v is.next is.else_next) []) (decided is.test x is.test_is) ∙ sym (rw is.is at one_is)
+    ends (Then label at (Asserts (Decide x)) r) i is zero_is one_is =
+        rw is.is at zero_is ∙ ap (λ v. cond v (step_to (store_of s) is.next []) effects.Fails) (decided is.test x is.test_is) ∙ sym (rw is.is at one_is)
+    ends (Then label at (Assumes (Decide x)) r) i is zero_is one_is =
+        rw is.is at zero_is ∙ ap (λ v. cond v (step_to (store_of s) is.next []) effects.Blocks) (decided is.test x is.test_is) ∙ sym (rw is.is at one_is)
+    ends left i is zero_is one_is = rw is.is at zero_is ∙ sym (rw is.is at one_is)
+
+    towards_ways : (taken other : Block) → HasWays taken other → bit_of_effects (numbers_at starts next) follow d e ≡ bit_towards false next taken other
+    towards_ways taken other w =
+        (λ j. bit_of_effects (numbers_at starts next) follow (w.zero_is.is j) (w.one_is.is j)) ∙ towards next w.one w.two taken other w.taken_is w.other_is
+
+    bit_is : (left : Block) → Ends left → bit_of_effects (numbers_at starts next) follow d e ≡ bit_of_block left next false follow
+    bit_is (Then label at (Branches Choose a b) r) w = towards_ways (chain a r) (chain b r) w
+    bit_is (Then label at (Loops Choose a) r) w = towards_ways (chain a (Then label at (Loops Choose a) r)) r w
+    bit_is (Then label at (Asserts Choose) r) w = λ j. bit_of_effects (numbers_at starts next) follow (w.zero_is j) (w.one_is.is j)
+    bit_is (Then label at (Assumes Choose) r) w = λ j. bit_of_effects (numbers_at starts next) follow (w.zero_is j) (w.one_is.is j)
+    bit_is left same = no_choice (numbers_at starts next) follow s d e same
 
     of_choice : (test : Option Formula) → IsTestOf t p test Choose → is_none test ≡ true
     of_choice None is = refl
@@ -272,25 +247,19 @@ module _ (t : Program) (p : Procedure) where
 
     pub fork_is : (left : Block) (i : Instruction) → Does t (places_of t.procedures) p left i → is_fork i ≡ is_fork_block left
     fork_is Done i is = ap is_fork is
-    fork_is (Then label at Skips r) i is = ap is_fork is.is
-    fork_is (Then label at (GoesTo x) r) i is = ap is_fork is.is
     fork_is (Then label at Returns r) i is = ap is_fork is
-    fork_is (Then label at (Assigns xs es) r) i is = ap is_fork is.is
     fork_is (Then label at (Branches Choose a b) r) i is = ap is_fork is.is ∙ fork_if is.test is.next is.else_next ∙ of_choice is.test is.test_is
     fork_is (Then label at (Branches (Decide x) a b) r) i is = ap is_fork is.is ∙ fork_if is.test is.next is.else_next ∙ of_value is.test x is.test_is
     fork_is (Then label at (Loops Choose a) r) i is = ap is_fork is.is ∙ fork_while is.test is.next is.else_next ∙ of_choice is.test is.test_is
     fork_is (Then label at (Loops (Decide x) a) r) i is = ap is_fork is.is ∙ fork_while is.test is.next is.else_next ∙ of_value is.test x is.test_is
-    fork_is (Then label at (Asserts d) r) i is = ap is_fork is.is
-    fork_is (Then label at (Assumes d) r) i is = ap is_fork is.is
-    fork_is (Then label at (Prints es) r) i is = ap is_fork is.is
-    fork_is (Then label at (Calls x es) r) i is = ap is_fork is.is
+    fork_is left i is = ap is_fork is.is
 
     pub bit_at_is : (last : Bool) (left : Block) (i : Instruction) → Does t (places_of t.procedures) p left i
         → effect_of s d [] ≡ instruction_effect i (store_of s) [] false
         → effect_of s e [] ≡ instruction_effect i (store_of s) [] true
         → bit_of_instruction (numbers_at starts next) last follow i d e ≡ bit_of_block left next last follow
     bit_at_is last left i is zero_is one_is =
-        (λ j. cond (none_at next j && fork_is left i is j) last (bit_is left i is zero_is one_is j)) ∙ sym (at_last left next last follow)
+        (λ j. cond (none_at next j && fork_is left i is j) last (bit_is left (ends left i is zero_is one_is) j)) ∙ sym (at_last left next last follow)
 
     all_true : (a b c : Bool) → (not a && (b && c)) ≡ true → (a ≡ false) × (b ≡ true) × (c ≡ true)
     all_true true b c e = absurd (false≢true e)
@@ -335,66 +304,23 @@ module _ (t : Program) (p : Procedure) where
               };
         }
 
-    by_split : (m k : ℕ) → GoesOnAt d k → GoesOnAt e m → (taken other : Block) → Remains table m p taken → Remains table k p other
+    by_split : (taken other : Block) → HasWays taken other
         → SplitTells (splits (numbers_at starts next) d e) (IsClearWay next taken other) (AreBothWays t next taken other)
-    by_split m k zero_is one_is taken other one two =
-        let is : splits (numbers_at starts next) d e ≡ are_both_there (numbers_at starts next) m k = λ j.
-        splits (numbers_at starts next) (zero_is.is j) (one_is.is j) in
-        subst (λ b. SplitTells b (IsClearWay next taken other) (AreBothWays t next taken other)) (sym is) (by_numbers next m k taken other one two)
+    by_split taken other w =
+        let is : splits (numbers_at starts next) d e ≡ are_both_there (numbers_at starts next) w.one w.two = λ j.
+        splits (numbers_at starts next) (w.zero_is.is j) (w.one_is.is j) in
+        subst (λ b. SplitTells b (IsClearWay next taken other) (AreBothWays t next taken other)) (sym is)
+        (by_numbers next w.one w.two taken other w.taken_is w.other_is)
+
+    split_of : (left : Block) → Ends left → SplitTells (splits (numbers_at starts next) d e) (IsClear left next) (IsAmbiguous t left next)
+    split_of (Then label at (Branches Choose a b) r) w = by_split (chain a r) (chain b r) w
+    split_of (Then label at (Loops Choose a) r) w = by_split (chain a (Then label at (Loops Choose a) r)) r w
+    split_of (Then label at (Asserts Choose) r) w = never_split _ ⊥ (ap (λ z. splits (numbers_at starts next) z e) w.zero_is)
+    split_of (Then label at (Assumes Choose) r) w = never_split _ ⊥ (ap (λ z. splits (numbers_at starts next) z e) w.zero_is)
+    split_of left same = never_split _ ⊥ (no_split (numbers_at starts next) s d e same)
 
     pub split_is : (left : Block) (i : Instruction) → Does t (places_of t.procedures) p left i
         → effect_of s d [] ≡ instruction_effect i (store_of s) [] false
         → effect_of s e [] ≡ instruction_effect i (store_of s) [] true
         → SplitTells (splits (numbers_at starts next) d e) (IsClear left next) (IsAmbiguous t left next)
-    split_is Done i is zero_is one_is =
-        never_split _ ⊥ (no_split (numbers_at starts next) s d e (zero_is
-        ∙ ap (λ k. instruction_effect k (store_of s) [] false) is
-        ∙ sym (ap (λ k. instruction_effect k (store_of s) [] true) is) ∙ sym one_is))
-    split_is (Then label at Skips r) i is zero_is one_is =
-        never_split _ ⊥ (no_split (numbers_at starts next) s d e (rw is.is at zero_is ∙ sym (rw is.is at one_is)))
-    split_is (Then label at (GoesTo x) r) i is zero_is one_is =
-        never_split _ ⊥ (no_split (numbers_at starts next) s d e (rw is.is at zero_is ∙ sym (rw is.is at one_is)))
-    split_is (Then label at Returns r) i is zero_is one_is =
-        never_split _ ⊥ (no_split (numbers_at starts next) s d e (zero_is
-        ∙ ap (λ k. instruction_effect k (store_of s) [] false) is
-        ∙ sym (ap (λ k. instruction_effect k (store_of s) [] true) is) ∙ sym one_is))
-    split_is (Then label at (Assigns xs es) r) i is zero_is one_is =
-        never_split _ ⊥ (no_split (numbers_at starts next) s d e (rw is.is at zero_is ∙ sym (rw is.is at one_is)))
-    split_is (Then label at (Branches Choose a b) r) i is zero_is one_is =
-        let at_zero = goes_on s d (store_of s) is.else_next (rw is.is at zero_is
-        ∙ ap (λ v. step_to (store_of s) (cond v is.next is.else_next) []) (chosen is.test is.test_is false)) in
-        let at_one = goes_on s e (store_of s) is.next (rw is.is at one_is
-        ∙ ap (λ v. step_to (store_of s) (cond v is.next is.else_next) []) (chosen is.test is.test_is true)) in
-        by_split is.next is.else_next at_zero at_one (chain a r) (chain b r) is.next_is is.else_is
-    split_is (Then label at (Branches (Decide x) a b) r) i is zero_is one_is =
-        never_split _ ⊥ (no_split (numbers_at starts next) s d e (rw is.is at zero_is
-        ∙ ap (λ v. step_to (store_of s) (cond v is.next is.else_next) []) (decided is.test x is.test_is)
-        ∙ sym (rw is.is at one_is)))
-    split_is (Then label at (Loops Choose a) r) i is zero_is one_is =
-        let at_zero = goes_on s d (store_of s) is.else_next (rw is.is at zero_is
-        ∙ ap (λ v. step_to (store_of s) (cond v is.next is.else_next) []) (chosen is.test is.test_is false)) in
-        let at_one = goes_on s e (store_of s) is.next (rw is.is at one_is
-        ∙ ap (λ v. step_to (store_of s) (cond v is.next is.else_next) []) (chosen is.test is.test_is true)) in
-        by_split is.next is.else_next at_zero at_one (chain a (Then label at (Loops Choose a) r)) r is.next_is is.else_is
-    split_is (Then label at (Loops (Decide x) a) r) i is zero_is one_is =
-        never_split _ ⊥ (no_split (numbers_at starts next) s d e (rw is.is at zero_is
-        ∙ ap (λ v. step_to (store_of s) (cond v is.next is.else_next) []) (decided is.test x is.test_is)
-        ∙ sym (rw is.is at one_is)))
-    split_is (Then label at (Asserts Choose) r) i is zero_is one_is =
-        let none = fails s d (rw is.is at zero_is ∙ ap (λ v. cond v (step_to (store_of s) is.next []) effects.Fails) (chosen is.test is.test_is false)) in
-        never_split _ ⊥ (ap (λ z. splits (numbers_at starts next) z e) none)
-    split_is (Then label at (Asserts (Decide x)) r) i is zero_is one_is =
-        never_split _ ⊥ (no_split (numbers_at starts next) s d e (rw is.is at zero_is
-        ∙ ap (λ v. cond v (step_to (store_of s) is.next []) effects.Fails) (decided is.test x is.test_is)
-        ∙ sym (rw is.is at one_is)))
-    split_is (Then label at (Assumes Choose) r) i is zero_is one_is =
-        let none = blocks s d (rw is.is at zero_is ∙ ap (λ v. cond v (step_to (store_of s) is.next []) effects.Blocks) (chosen is.test is.test_is false)) in
-        never_split _ ⊥ (ap (λ z. splits (numbers_at starts next) z e) none)
-    split_is (Then label at (Assumes (Decide x)) r) i is zero_is one_is =
-        never_split _ ⊥ (no_split (numbers_at starts next) s d e (rw is.is at zero_is
-        ∙ ap (λ v. cond v (step_to (store_of s) is.next []) effects.Blocks) (decided is.test x is.test_is)
-        ∙ sym (rw is.is at one_is)))
-    split_is (Then label at (Prints es) r) i is zero_is one_is =
-        never_split _ ⊥ (no_split (numbers_at starts next) s d e (rw is.is at zero_is ∙ sym (rw is.is at one_is)))
-    split_is (Then label at (Calls x es) r) i is zero_is one_is =
-        never_split _ ⊥ (no_split (numbers_at starts next) s d e (rw is.is at zero_is ∙ sym (rw is.is at one_is)))
+    split_is left i is zero_is one_is = split_of left (ends left i is zero_is one_is)

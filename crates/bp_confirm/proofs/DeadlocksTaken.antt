@@ -203,9 +203,8 @@ module _ (t : Program) (s : SetupOf) (given : LastBits) where
   still : (h : List Call) (xs : List StepOf) (calls : List Call) → TakeAfter t s h xs calls → (configuration_after t s (h ++ calls)).failed ≡ false
       → (configuration_after t s h).failed ≡ false
   still h [] [] take going = subst (λ k. (configuration_after t s k).failed ≡ false) (append-nil h) going
-  still h [] (y ∷ ys) take going = absurd take
-  still h (x ∷ xs) [] take going = absurd take
   still h (x ∷ xs) (y ∷ ys) take going = (move_of t s h x y take.0).going
+  still h xs calls take going = absurd (assumption (take))
 
   abbrev EndAlike : (hz ho hw hg : List Call) → Type 0
   EndAlike hz ho hw hg =
@@ -224,14 +223,6 @@ module _ (t : Program) (s : SetupOf) (given : LastBits) where
       subst (λ k. EndAlike k (ho ++ []) (hw ++ []) (hg ++ [])) (sym (append-nil hz))
       (subst (λ k. EndAlike hz k (hw ++ []) (hg ++ [])) (sym (append-nil ho))
       (subst (λ k. EndAlike hz ho k (hg ++ [])) (sym (append-nil hw)) (subst (λ k. EndAlike hz ho hw k) (sym (append-nil hg)) (inl alike))))
-  all_alike hz ho hw hg [] (a ∷ mz) mo mw mg alike fz fo fw take going = absurd fz
-  all_alike hz ho hw hg [] [] (b ∷ mo) mw mg alike fz fo fw take going = absurd fo
-  all_alike hz ho hw hg [] [] [] (c ∷ mw) mg alike fz fo fw take going = absurd fw
-  all_alike hz ho hw hg [] [] [] [] (y ∷ mg) alike fz fo fw take going = absurd take
-  all_alike hz ho hw hg (x ∷ xs) [] mo mw mg alike fz fo fw take going = absurd fz
-  all_alike hz ho hw hg (x ∷ xs) (a ∷ mz) [] mw mg alike fz fo fw take going = absurd fo
-  all_alike hz ho hw hg (x ∷ xs) (a ∷ mz) (b ∷ mo) [] mg alike fz fo fw take going = absurd fw
-  all_alike hz ho hw hg (x ∷ xs) (a ∷ mz) (b ∷ mo) (c ∷ mw) [] alike fz fo fw take going = absurd take
   all_alike hz ho hw hg (x ∷ xs) (a ∷ mz) (b ∷ mo) (c ∷ mw) (y ∷ mg) alike fz fo fw take going =
       by_step xs mz mw fz.1 fw.1
       (λ more. simp regrouped at (all_alike (hz ++ a ∷ []) (ho ++ b ∷ []) (hw ++ c ∷ []) (hg ++ y ∷ []) xs mz mo mw mg more fz.1 fo.1 fw.1 take.1
@@ -249,9 +240,9 @@ module _ (t : Program) (s : SetupOf) (given : LastBits) where
           → EndAlike (hz ++ a ∷ nz) (ho ++ b ∷ mo) (hw ++ c ∷ nw) (hg ++ y ∷ mg)
       by_step ys nz nw gz gw rest (inl more) = rest more
       by_step [] [] [] gz gw rest (inr failed) = inr (record { last = refl; first = failed.first; third = failed.third })
-      by_step [] (m ∷ ms) nw gz gw rest (inr failed) = absurd gz
-      by_step [] [] (m ∷ ms) gz gw rest (inr failed) = absurd gw
       by_step (v ∷ vs) nz nw gz gw rest (inr failed) = absurd (false≢true (sym failed.last))
+      by_step ys nz nw gz gw rest more = absurd (assumption (gz, gw))
+  all_alike hz ho hw hg xs mz mo mw mg alike fz fo fw take going = absurd (assumption (fz, fo, fw, take))
 
 -- a thread waits where it has the same stack and the globals are the same
 waits_same : (t : Program) (c d : Configuration) (i : ℕ) → c.globals ≡ d.globals → stack_of c i ≡ stack_of d i → waits t c i ≡ waits t d i

@@ -1,7 +1,7 @@
 -- The ways of a step with each of its last bits, beside that of any other call.
 use Rattle.std.proofs.Common.{◌≡◌, ◌∙◌, ℕ, Bool, false, List, [], ◌∷◌, Option, None, Some, refl, sym, option_map, true, cond, ap, inl, inr, ◌⊎◌}
 use Rattle.std.proofs.lemmas.Bool.{false≢true}
-use Rattle.bp_language.specs.Ast.{Block, Done, Then, Skips, GoesTo, Returns, Assigns, Branches, Loops, Asserts, Assumes, Prints, Calls, Choose, Decide, Program, Procedure}
+use Rattle.bp_language.specs.Ast.{Block, Then, Branches, Loops, Asserts, Assumes, Choose, Program, Procedure}
 use Rattle.bp_flat.specs.Moves.{Frame, chain, StatementEffect, Leaves, Fails, effect, with_left, Valuation}
 use Rattle.bp_machine.specs.declared.calls.Call.{Call}
 use Rattle.bp_machine.specs.Histories.{stack_of, configuration_after}
@@ -17,39 +17,19 @@ use Rattle.bp_confirm.proofs.StepMoves.{AgreeStacks, leaves_alike}
 -- a statement that is no branch or loop of `?` has its bit whatever the last bit is
 plain : (left : Block) (next : Option Place) (a b follow : Bool) → is_fork_block left ≡ false
     → bit_of_block left next a follow ≡ bit_of_block left next b follow
-plain Done next a b follow e = refl
-plain (Then label at Skips r) next a b follow e = refl
-plain (Then label at (GoesTo x) r) next a b follow e = refl
-plain (Then label at Returns r) next a b follow e = refl
-plain (Then label at (Assigns xs es) r) next a b follow e = refl
 plain (Then label at (Branches Choose m n) r) next a b follow e = absurd (false≢true (sym e))
-plain (Then label at (Branches (Decide d) m n) r) next a b follow e = refl
 plain (Then label at (Loops Choose m) r) next a b follow e = absurd (false≢true (sym e))
-plain (Then label at (Loops (Decide d) m) r) next a b follow e = refl
 plain (Then label at (Asserts Choose) r) next a b follow e = refl
-plain (Then label at (Asserts (Decide d)) r) next a b follow e = refl
 plain (Then label at (Assumes Choose) r) next a b follow e = refl
-plain (Then label at (Assumes (Decide d)) r) next a b follow e = refl
-plain (Then label at (Prints es) r) next a b follow e = refl
-plain (Then label at (Calls x es) r) next a b follow e = refl
+plain left next a b follow e = refl
 
 -- and so has one whose thread has a next step
 pub told : (left : Block) (p : Place) (a b follow : Bool) → bit_of_block left (Some p) a follow ≡ bit_of_block left (Some p) b follow
-told Done p a b follow = refl
-told (Then label at Skips r) p a b follow = refl
-told (Then label at (GoesTo x) r) p a b follow = refl
-told (Then label at Returns r) p a b follow = refl
-told (Then label at (Assigns xs es) r) p a b follow = refl
 told (Then label at (Branches Choose m n) r) p a b follow = refl
-told (Then label at (Branches (Decide d) m n) r) p a b follow = refl
 told (Then label at (Loops Choose m) r) p a b follow = refl
-told (Then label at (Loops (Decide d) m) r) p a b follow = refl
 told (Then label at (Asserts Choose) r) p a b follow = refl
-told (Then label at (Asserts (Decide d)) r) p a b follow = refl
 told (Then label at (Assumes Choose) r) p a b follow = refl
-told (Then label at (Assumes (Decide d)) r) p a b follow = refl
-told (Then label at (Prints es) r) p a b follow = refl
-told (Then label at (Calls x es) r) p a b follow = refl
+told left p a b follow = refl
 
 by_next : (left : Block) (next : Option Place) (a b follow : Bool) → (next ≡ None → is_fork_block left ≡ false)
     → bit_of_block left next a follow ≡ bit_of_block left next b follow
@@ -148,24 +128,12 @@ module _ (ps : List Procedure) (g : Valuation) (f : Frame) (fs : List Frame) whe
       one_of false e = inl e
 
   by_block : (left : Block) (b follow y : Bool) (h : Valuation) (S : List Frame) → effect_with left y ≡ Leaves h S → Ends left None b follow h S
-  by_block Done b follow y h S is = inl (same b _ h S is)
-  by_block (Then label at Skips r) b follow y h S is = inl (same b _ h S is)
-  by_block (Then label at (GoesTo x) r) b follow y h S is = inl (same b _ h S is)
-  by_block (Then label at Returns r) b follow y h S is = inl (same b _ h S is)
-  by_block (Then label at (Assigns xs es) r) b follow y h S is = inl (same b _ h S is)
   by_block (Then label at (Branches Choose m n) r) b follow y h S is = inl (fork (chain m r) (chain n r) b y h S is)
-  by_block (Then label at (Branches (Decide d) m n) r) b follow y h S is = inl (same b _ h S is)
   by_block (Then label at (Loops Choose m) r) b follow y h S is = inl (fork (chain m (Then label at (Loops Choose m) r)) r b y h S is)
-  by_block (Then label at (Loops (Decide d) m) r) b follow y h S is = inl (same b _ h S is)
-  by_block (Then label at (Asserts Choose) r) b true true h S is = inl (same b _ h S is)
   by_block (Then label at (Asserts Choose) r) b false true h S is = inr (record { last = refl; zeroed_is = refl; oned_is = refl; given_is = refl })
   by_block (Then label at (Asserts Choose) r) b follow false h S is = absurd cc
-  by_block (Then label at (Asserts (Decide d)) r) b follow y h S is = inl (same b _ h S is)
-  by_block (Then label at (Assumes Choose) r) b follow true h S is = inl (same b _ h S is)
   by_block (Then label at (Assumes Choose) r) b follow false h S is = absurd cc
-  by_block (Then label at (Assumes (Decide d)) r) b follow y h S is = inl (same b _ h S is)
-  by_block (Then label at (Prints es) r) b follow y h S is = inl (same b _ h S is)
-  by_block (Then label at (Calls x es) r) b follow y h S is = inl (same b _ h S is)
+  by_block left b follow y h S is = inl (same b _ h S is)
 
   pub leaves_among : (left : Block) (next : Option Place) (b follow y : Bool) (h : Valuation) (S : List Frame)
       → ((p : Place) → next ≡ Some p → follow ≡ true)

@@ -1,7 +1,7 @@
 -- Lines that are kept, and the places at which they are found.
 use Rattle.std.proofs.Common.{◌≡◌, ◌∙◌, ◌++◌, ◌∷◌, [], ◌<◌, ◌-◌, ◌≢◌, ℕ, zero, suc, List, Option, None, Some, Bor, length, take, get_or, refl, ap, sym, subst, arith, length-append, ◌&&◌, ◌==◌, Bool, true, false, not, ap₂, ◌≤◌, ◌+◌, inl, inr, slice_get, IfSome, MatchOption, option_map, is_some}
 use Rattle.std.specs.List.{AllByRecursion, list_all}
-use Rattle.std.proofs.lemmas.List.{append-nil, map-append, get_or_append_left, take_at, append_assoc, get_or_past}
+use Rattle.std.proofs.lemmas.List.{append-nil, map-append, get_or_append_left, take_at, get_or_past}
 use Rattle.std.proofs.lemmas.Option.{slice_get-get_or, slice_get-map}
 use Rattle.std.proofs.lemmas.Bool.{cases_lt}
 use Rattle.bp_language.specs.Ast.{Program}

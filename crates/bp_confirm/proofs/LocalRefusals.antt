@@ -1,7 +1,7 @@
 -- Where the call with the inferred bit does not take a step, no call with another bit does.
 use Rattle.std.proofs.Common.{◌≡◌, ◌↔◌, IsTrue, ◌++◌, ◌∷◌, ◌&&◌, nat_le, ℕ, Bool, true, false, cond, not, List, [], length, Option, None, Some, refl, ap, sym, ◌∙◌, subst, ◌<◌}
 use Rattle.std.proofs.lemmas.Bool.{false≢true}
-use Rattle.bp_language.specs.Ast.{Block, Done, Then, Skips, GoesTo, Returns, Assigns, Branches, Loops, Asserts, Assumes, Prints, Calls, Choose, Decide, Procedure, Program}
+use Rattle.bp_language.specs.Ast.{Block, Then, Branches, Loops, Asserts, Assumes, Choose, Procedure, Program}
 use Rattle.bp_flat.specs.Moves.{Frame, Configuration, is_call, StatementEffect, Leaves, Fails, Blocks, Misses, effect, after_effect, Valuation}
 use Rattle.bp_machine.specs.declared.calls.Reply.{Reply}
 use Rattle.bp_machine.specs.declared.calls.Reply.TheVariants.{Stopped, NoContexts, Full, Failed, Stepped}
@@ -20,23 +20,13 @@ module _ (ps : List Procedure) (g : Valuation) (f : Frame) (fs : List Frame) (r 
   -- a reply that is no step does not depend on the bit
   by_block : (left : Block) (next : Option Place) (last follow : Bool) (a b : Bool) → a ≡ bit_of_block left next last follow
       → reply_to_effect (effect ps left g f fs a) ≡ Some r → reply_to_effect (effect ps left g f fs b) ≡ Some r
-  by_block Done next last follow a b e is = is
-  by_block (Then label at Skips q) next last follow a b e is = is
-  by_block (Then label at (GoesTo x) q) next last follow a b e is = is
-  by_block (Then label at Returns q) next last follow a b e is = is
-  by_block (Then label at (Assigns xs es) q) next last follow a b e is = is
   by_block (Then label at (Branches Choose m n) q) next last follow a b e is = absurd (not_granted r Stepped is refl refused)
-  by_block (Then label at (Branches (Decide d) m n) q) next last follow a b e is = is
   by_block (Then label at (Loops Choose m) q) next last follow a b e is = absurd (not_granted r Stepped is refl refused)
-  by_block (Then label at (Loops (Decide d) m) q) next last follow a b e is = is
   by_block (Then label at (Asserts Choose) q) next last follow true b e is = absurd (not_granted r Stepped is refl refused)
   by_block (Then label at (Asserts Choose) q) next last follow false b e is = absurd (not_granted r Failed is refl refused)
-  by_block (Then label at (Asserts (Decide d)) q) next last follow a b e is = is
   by_block (Then label at (Assumes Choose) q) next last follow true b e is = absurd (not_granted r Stepped is refl refused)
   by_block (Then label at (Assumes Choose) q) next last follow false b e is = absurd (false≢true e)
-  by_block (Then label at (Assumes (Decide d)) q) next last follow a b e is = is
-  by_block (Then label at (Prints es) q) next last follow a b e is = is
-  by_block (Then label at (Calls x es) q) next last follow a b e is = is
+  by_block left next last follow a b e is = is
 
 module _ (t : Program) (c : Configuration) (last : LastBits) (i : ℕ) (later : List StepOf) (r : Reply) (refused : is_granted r ≡ false) (a b : Bool) where
   on_frame : (fits call full : Bool) (m n : Option Reply) → (m ≡ Some r → n ≡ Some r)
@@ -105,8 +95,7 @@ seen_there : (c d : Configuration) (i : ℕ) (S : List Frame) (e : StatementEffe
     → value_seen d.globals (stack_of d i) x ≡ seen_after c.globals S e x
 seen_there c d i S (Leaves g R) x within is moved = let left = has_left c d i g R within moved in λ j. value_seen (left.globals j) (left.own j) x
 seen_there c d i S Fails x within is moved = let failed = has_failed c d i moved in λ j. value_seen (failed.globals j) ((failed.stack i ∙ is) j) x
-seen_there c d i S Blocks x within is moved = absurd cc
-seen_there c d i S Misses x within is moved = absurd cc
+seen_there c d i S e x within is moved = absurd cc
 
 -- an effect that moves
 abbrev MovesOn : StatementEffect → Type 0
@@ -116,35 +105,21 @@ MovesOn Blocks = ⊥
 MovesOn Misses = ⊥
 
 moves_on : (c d : Configuration) (i : ℕ) (e : StatementEffect) → after_effect c i e ≡ Some d → MovesOn e
-moves_on c d i (Leaves g S) moved = tt
-moves_on c d i Fails moved = tt
 moves_on c d i Blocks moved = absurd cc
 moves_on c d i Misses moved = absurd cc
+moves_on c d i e moved = tt
 
 module _ (ps : List Procedure) (g : Valuation) (f : Frame) (fs : List Frame) (x : List ℕ) where
   -- with either bit the thread sees the same
   seen_alike : (left : Block) (a b : Bool) → MovesOn (effect ps left g f fs a) → MovesOn (effect ps left g f fs b)
       → seen_after g (f ∷ fs) (effect ps left g f fs a) x ≡ seen_after g (f ∷ fs) (effect ps left g f fs b) x
-  seen_alike Done a b m n = refl
-  seen_alike (Then label at Skips q) a b m n = refl
-  seen_alike (Then label at (GoesTo z) q) a b m n = refl
-  seen_alike (Then label at Returns q) a b m n = refl
-  seen_alike (Then label at (Assigns xs es) q) a b m n = refl
   seen_alike (Then label at (Branches Choose k l) q) a b m n = refl
-  seen_alike (Then label at (Branches (Decide d) k l) q) a b m n = refl
   seen_alike (Then label at (Loops Choose k) q) a b m n = refl
-  seen_alike (Then label at (Loops (Decide d) k) q) a b m n = refl
   seen_alike (Then label at (Asserts Choose) q) true true m n = refl
-  seen_alike (Then label at (Asserts Choose) q) true false m n = refl
-  seen_alike (Then label at (Asserts Choose) q) false true m n = refl
   seen_alike (Then label at (Asserts Choose) q) false false m n = refl
-  seen_alike (Then label at (Asserts (Decide d)) q) a b m n = refl
-  seen_alike (Then label at (Assumes Choose) q) true true m n = refl
   seen_alike (Then label at (Assumes Choose) q) true false m n = absurd n
   seen_alike (Then label at (Assumes Choose) q) false b m n = absurd m
-  seen_alike (Then label at (Assumes (Decide d)) q) a b m n = refl
-  seen_alike (Then label at (Prints es) q) a b m n = refl
-  seen_alike (Then label at (Calls z es) q) a b m n = refl
+  seen_alike left a b m n = refl
 
 sees_alike : (c d : Configuration) (i : ℕ) → ((x : List ℕ) → value_seen c.globals (stack_of c i) x ≡ value_seen d.globals (stack_of d i) x)
     → (vs : Valuation) → SeesValues d i vs → SeesValues c i vs

@@ -7,7 +7,7 @@ use Rattle.std.proofs.lemmas.List.{length-map}
 use Rattle.std.proofs.Math.Seq.{drop-cons, drop-length}
 use Rattle.std.proofs.lemmas.Bool.{false≢true}
 use Rattle.bp_text.specs.Lines.{position_at}
-use Rattle.bp_language.specs.Ast.{Block, Done, Then, Skips, GoesTo, Returns, Assigns, Branches, Loops, Asserts, Assumes, Prints, Calls, Choose, Decide, Program}
+use Rattle.bp_language.specs.Ast.{Block, Done, Then, Branches, Loops, Choose, Program}
 use Rattle.bp_language.specs.Texts.{IsTextOf}
 use Rattle.bp_flat.specs.Moves.{Configuration, chain}
 use Rattle.bp_flat.specs.StandsFor.{place, start_of_block, starts_of}
@@ -242,21 +242,9 @@ module _ (text : List ℕ) (t : Program) (is : IsTextOf text t) where
   by_ways (Some (Column line column)) a k other some both = absurd (not_both text t is line column (chain a k) other both)
 
   by_block : (left : Block) (next : Option Location) → IsFull left → IsAmbiguous t left (at_next next) → IsLineOf next
-  by_block Done next full both = absurd both
-  by_block (Then label at Skips r) next full both = absurd both
-  by_block (Then label at (GoesTo x) r) next full both = absurd both
-  by_block (Then label at Returns r) next full both = absurd both
-  by_block (Then label at (Assigns xs es) r) next full both = absurd both
   by_block (Then label at (Branches Choose a b) r) next full both = by_ways next a r (chain b r) full.0 both
-  by_block (Then label at (Branches (Decide d) a b) r) next full both = absurd both
   by_block (Then label at (Loops Choose a) r) next full both = by_ways next a (Then label at (Loops Choose a) r) r full.0 both
-  by_block (Then label at (Loops (Decide d) a) r) next full both = absurd both
-  by_block (Then label at (Asserts Choose) r) next full both = absurd both
-  by_block (Then label at (Asserts (Decide d)) r) next full both = absurd both
-  by_block (Then label at (Assumes Choose) r) next full both = absurd both
-  by_block (Then label at (Assumes (Decide d)) r) next full both = absurd both
-  by_block (Then label at (Prints es) r) next full both = absurd both
-  by_block (Then label at (Calls x es) r) next full both = absurd both
+  by_block left next full both = absurd both
 
   by_stack : (c : Configuration) (i : ℕ) (later : List StepLineOf) (number : Option ℕ) → GoesOnAt t c i number
       → IsAmbiguousOnStack t i (steps_of text later) (stack_of c i) → IsLineOf (next_location i later)

@@ -16,7 +16,7 @@ use Rattle.bp_machine.proofs.RunsAreHistories.{reply_granted, goes_there}
 use Rattle.bp_trace.specs.TraceText.{line_of_call}
 use Rattle.bp_trace.proofs.LinesDriveAgain.{same_call}
 use Rattle.bp_confirm.specs.declared.confirming.StepReason.{StepReason}
-use Rattle.bp_confirm.specs.declared.confirming.StepReason.TheVariants.{Elsewhere, Ambiguous, Finished, Refused, Differs}
+use Rattle.bp_confirm.specs.declared.confirming.StepReason.TheVariants.{Ambiguous}
 use Rattle.bp_confirm.specs.declared.confirming.StepRefusal.{StepRefusal}
 use Rattle.bp_confirm.specs.Confirms.{ForStuck, IsStepRefusal}
 use Rattle.bp_confirm.specs.Steps.{StepLineOf, step_of, steps_of, StepOf, TakeAfter, Takes, stands_at, SeesValues}
@@ -25,31 +25,27 @@ use Rattle.bp_confirm.specs.Laws.{OneConfirmed, RefusedIsNotTaken, MovesTake, Is
 use Rattle.bp_confirm.specs.declared.choices.LastChoice.{LastChoice}
 
 module _ (t : Program) (s : SetupOf) (last : LastBits) where
-  one_call : (h : List Call) (x : StepOf) (later : List StepOf) (a b : Call) → Follows t s last h x later a → Follows t s last h x later b → a ≡ b
+  pub one_call : (h : List Call) (x : StepOf) (later : List StepOf) (a b : Call) → Follows t s last h x later a → Follows t s last h x later b → a ≡ b
   one_call h x later a b p q =
       let thread : a.thread ≡ b.thread = p.takes.thread ∙ sym q.takes.thread in
       let bit : a.bit ≡ b.bit = p.bit ∙ sym q.bit in
       let line : line_of_call a ≡ line_of_call b = λ j. record { thread = thread j; bit = bit j } in
       same_call t s h a b line p.takes.allowed q.takes.allowed
 
-  pub one_history : (h : List Call) (xs later : List StepOf) (p q : List Call) → FollowAfter t s last h xs later p → FollowAfter t s last h xs later q → p ≡ q
+  one_history : (h : List Call) (xs later : List StepOf) (p q : List Call) → FollowAfter t s last h xs later p → FollowAfter t s last h xs later q → p ≡ q
   one_history h [] later [] [] f g = refl
-  one_history h [] later [] (b ∷ q) f g = absurd g
-  one_history h [] later (a ∷ p) q f g = absurd f
-  one_history h (x ∷ xs) later [] q f g = absurd f
-  one_history h (x ∷ xs) later (a ∷ p) [] f g = absurd g
   one_history h (x ∷ xs) later (a ∷ p) (b ∷ q) (f, fs) (g, gs) =
       let same = one_call h x (xs ++ later) a b f g in
       let rest = one_history (h ++ a ∷ []) xs later p q fs (subst (λ c. FollowAfter t s last (h ++ c ∷ []) xs later q) (sym same) gs) in
       λ j. same j ∷ rest j
+  one_history h xs later p q f g = absurd (assumption (f, g))
 
   -- the first of some steps that are taken
   front : (h : List Call) (xs : List StepOf) (x : StepOf) (later : List StepOf) (g : List Call) → TakeAfter t s h (xs ++ x ∷ later) g
       → (k : List Call) × TakeAfter t s h (xs ++ x ∷ []) k
-  front h [] x later [] taking = absurd taking
   front h [] x later (a ∷ g) taking = (a ∷ [], (taking.0, tt))
-  front h (z ∷ zs) x later [] taking = absurd taking
   front h (z ∷ zs) x later (a ∷ g) taking = let rest = front (h ++ a ∷ []) zs x later g taking.1 in (a ∷ rest.0, (taking.0, rest.1))
+  front h xs x later g taking = absurd (assumption (taking))
 
 pub one_confirmed : OneConfirmed
 one_confirmed t s steps h g choices others p q = by_ends p.ends q.ends
@@ -92,11 +88,8 @@ module _ (text : List ℕ) (t : Program) (s : SetupOf) (last : LastBits) (lines 
 
   by_reason : (reason : StepReason) → ForStuck reason ((g : List Call) → Takes t s (steps_of text (refused.before ++ refused.step ∷ [])) g → ⊥)
       → ForStuck reason ((g : List Call) → Takes t s (steps_of text lines) g → ⊥)
-  by_reason Elsewhere none = none_whole none
   by_reason Ambiguous none = tt
-  by_reason Finished none = none_whole none
-  by_reason (Refused q) none = none_whole none
-  by_reason (Differs d) none = none_whole none
+  by_reason reason none = none_whole none
 
 pub refused_is_not_taken : RefusedIsNotTaken
 refused_is_not_taken text t s last lines r refused = by_reason text t s last lines r refused r.reason refused.none
@@ -181,8 +174,6 @@ module _ (t : Program) (s : SetupOf) where
   takes_from : (p : List Call) (c : Configuration) (steps : List StepOf) (calls : List Call) (failed : Bool) → configuration_after t s p ≡ c
       → IsLegalAfter t s p (history_of_run calls failed) → MovesTake t c steps calls → TakeAfter t s p steps (history_of_run calls failed)
   takes_from p c [] [] failed is legal taking = tt
-  takes_from p c [] (a ∷ calls) failed is legal taking = absurd taking
-  takes_from p c (x ∷ xs) [] failed is legal taking = absurd taking
   takes_from p c (x ∷ xs) (a ∷ calls) failed is (allowed, rest) (first, others) =
       let own : Call = record a { reply = reply_of_step calls failed } in
       let there : configuration_after t s (p ++ own ∷ []) ≡ first.next =
@@ -198,6 +189,7 @@ module _ (t : Program) (s : SetupOf) where
         },
         takes_from (p ++ own ∷ []) first.next xs calls failed there rest others,
       )
+  takes_from p c steps calls failed is legal taking = absurd (assumption (taking))
 
   pub run_takes : RunsAreHistories → (steps : List StepOf) (calls : List Call) (run : IsRunOfSteps t s steps calls)
       → Takes t s steps (history_of_run calls run.last.failed)
@@ -209,11 +201,8 @@ module _ (t : Program) (s : SetupOf) where
 module _ (text : List ℕ) (t : Program) (s : SetupOf) (lines : List StepLineOf) (each : RunsAreHistories) where
   none_runs_by_reason : (reason : StepReason) → ForStuck reason ((g : List Call) → Takes t s (steps_of text lines) g → ⊥)
       → ForStuck reason ((calls : List Call) → IsRunOfSteps t s (steps_of text lines) calls → ⊥)
-  none_runs_by_reason Elsewhere none = none_runs t s each (steps_of text lines) none
   none_runs_by_reason Ambiguous none = tt
-  none_runs_by_reason Finished none = none_runs t s each (steps_of text lines) none
-  none_runs_by_reason (Refused q) none = none_runs t s each (steps_of text lines) none
-  none_runs_by_reason (Differs d) none = none_runs t s each (steps_of text lines) none
+  none_runs_by_reason reason none = none_runs t s each (steps_of text lines) none
 
 pub refused_front_has_no_run : RunsAreHistories → RefusedFrontHasNoRun
 refused_front_has_no_run each text t s last lines r refused = none_runs_by_reason text t s (refused.before ++ refused.step ∷ []) each r.reason refused.none

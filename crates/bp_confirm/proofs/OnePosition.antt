@@ -9,9 +9,9 @@ use Rattle.std.proofs.Math.Seq.{drop-cons}
 use Rattle.bp_text.specs.declared.lines.Position.{Position}
 use Rattle.bp_text.specs.Lines.{position_after, position_at}
 use Rattle.bp_text.proofs.PartsOfTexts.{regrouped}
-use Rattle.bp_language.specs.Ast.{Name, Block, Done, Then, Statement, Skips, GoesTo, Returns, Assigns, Branches, Loops, Asserts, Assumes, Prints, Calls, Procedure, Program}
+use Rattle.bp_language.specs.Ast.{Name, Block, Done, Then, Statement, Branches, Loops, Procedure, Program}
 use Rattle.bp_language.specs.Tokens.{Token}
-use Rattle.bp_language.specs.Grammar.{IsForm, skip, jump, returning, assignment, branch, loop, assertion, assumption, printing, call, IsStmt, labelled, unlabelled, IsStmts, one_stmt, more_stmts, IsProc, proc, IsProcs, no_proc, more_procs, Derives, program}
+use Rattle.bp_language.specs.Grammar.{IsForm, branch, loop, IsStmt, labelled, unlabelled, IsStmts, one_stmt, more_stmts, IsProc, proc, IsProcs, no_proc, more_procs, Derives, program}
 use Rattle.bp_flat.specs.Moves.{chain}
 use Rattle.bp_flat.specs.StandsFor.{Place, place, places, places_in, places_of}
 
@@ -99,16 +99,9 @@ IsFull (Then label at x t) = FullStatement x
 
 mutual
   form_full : {ts : List Token} {x : Statement} {r : List Token} → IsForm ts x r → FullStatement x
-  form_full (skip h c) = tt
-  form_full (jump h i c) = tt
-  form_full (returning h c) = tt
-  form_full (assignment names h exprs c) = tt
   form_full (branch h o is c i body j other g) = let one = stmts_full body in (one.0, one.1, (stmts_full other).1)
   form_full (loop h o is c i body g) = stmts_full body
-  form_full (assertion h o is c g) = tt
-  form_full (assumption h o is c g) = tt
-  form_full (printing h o are c g) = tt
-  form_full (call h o are c g) = tt
+  form_full is = tt
 
   stmt_full : {ts : List Token} {label : Option Name} {at : ℕ} {x : Statement} {r : List Token} → IsStmt ts label at x r → FullStatement x
   stmt_full (labelled h c is) = form_full is
@@ -134,14 +127,7 @@ mutual
   statement_full : (p : Procedure) (x : Statement) (label : Option Name) (at : ℕ) (k : Block) → FullStatement x → AreFull (places_in p x label at k)
   statement_full p (Branches d a b) label at k full = (full, both_full (places p a k) (places p b k) (block_full p a k full.1) (block_full p b k full.2))
   statement_full p (Loops d a) label at k full = (full, block_full p a (Then label at (Loops d a) k) full.1)
-  statement_full p Skips label at k full = (tt, tt)
-  statement_full p (GoesTo x) label at k full = (tt, tt)
-  statement_full p Returns label at k full = (tt, tt)
-  statement_full p (Assigns xs es) label at k full = (tt, tt)
-  statement_full p (Asserts d) label at k full = (tt, tt)
-  statement_full p (Assumes d) label at k full = (tt, tt)
-  statement_full p (Prints es) label at k full = (tt, tt)
-  statement_full p (Calls x es) label at k full = (tt, tt)
+  statement_full p x label at k full = (tt, tt)
 
 proc_full : {ts : List Token} {p : Procedure} {r : List Token} → IsProc ts p r → FullBlock p.body
 proc_full (proc h o formals c g locals body e) = (stmts_full body).1

@@ -1,9 +1,9 @@
 -- Steps have at most one refusal, and none where a history confirms them.
-use Rattle.std.proofs.Common.{◌≡◌, ◌≢◌, ◌∙◌, ℕ, zero, suc, Bool, true, List, [], ◌∷◌, ◌++◌, length, Option, None, Some, refl, ap, sym, subst, ◌⊎◌, inl, inr, ◌+◌}
+use Rattle.std.proofs.Common.{◌≡◌, ◌≢◌, ◌∙◌, ℕ, zero, suc, Bool, true, List, [], ◌∷◌, ◌++◌, length, Option, None, Some, refl, ap, sym, subst, ◌+◌, arith, length-append}
 use Rattle.std.proofs.lemmas.Bool.{false≢true}
 use Rattle.std.proofs.lemmas.List.{append-nil, map-append, map_push}
 use Rattle.bp_text.proofs.PartsOfTexts.{regrouped}
-use Rattle.bp_language.specs.Ast.{Block, Done, Then, Skips, GoesTo, Returns, Assigns, Branches, Loops, Asserts, Assumes, Prints, Calls, Choose, Decide, Program}
+use Rattle.bp_language.specs.Ast.{Block, Done, Then, Branches, Loops, Choose, Program}
 use Rattle.bp_flat.specs.Moves.{Configuration, chain, Valuation}
 use Rattle.bp_flat.specs.StandsFor.{place, start_of_block}
 use Rattle.bp_machine.specs.declared.calls.Call.{Call}
@@ -23,7 +23,8 @@ use Rattle.bp_confirm.proofs.LocalRefusals.{not_granted, other_values, seen_same
 use Rattle.bp_confirm.proofs.LastChanges.{one_change}
 use Rattle.bp_confirm.proofs.StepsFollowed.{unseen_not, follow_more, taken}
 use Rattle.bp_confirm.proofs.StartsInOrder.{starts_distinct}
-use Rattle.bp_confirm.proofs.OneConfirmed.{one_history, refused_is_not_taken}
+use Rattle.bp_confirm.proofs.OneConfirmed.{one_call, refused_is_not_taken}
+use Rattle.bp_trace.proofs.Walks.{Walk, Stays, Goes, IsSingle, Stops, one_end}
 use Rattle.bp_confirm.proofs.OneInstruction.{one_goes_on}
 use Rattle.bp_confirm.proofs.Agreeing.{same_stack_there}
 
@@ -42,21 +43,9 @@ module _ (text : List ℕ) (t : Program) (is : IsLawfulText text t) where
   by_ways (Some p) a k other some clear both = apart_starts p a k other some both (clear both.taken_at both.other_at)
 
   by_block : (left : Block) (next : Option Place) → IsFull left → IsClear left next → IsAmbiguous t left next → ⊥
-  by_block Done next full clear both = both
-  by_block (Then label at Skips r) next full clear both = both
-  by_block (Then label at (GoesTo x) r) next full clear both = both
-  by_block (Then label at Returns r) next full clear both = both
-  by_block (Then label at (Assigns xs es) r) next full clear both = both
   by_block (Then label at (Branches Choose a b) r) next full clear both = by_ways next a r (chain b r) full.0 clear both
-  by_block (Then label at (Branches (Decide d) a b) r) next full clear both = both
   by_block (Then label at (Loops Choose a) r) next full clear both = by_ways next a (Then label at (Loops Choose a) r) r full.0 clear both
-  by_block (Then label at (Loops (Decide d) a) r) next full clear both = both
-  by_block (Then label at (Asserts Choose) r) next full clear both = both
-  by_block (Then label at (Asserts (Decide d)) r) next full clear both = both
-  by_block (Then label at (Assumes Choose) r) next full clear both = both
-  by_block (Then label at (Assumes (Decide d)) r) next full clear both = both
-  by_block (Then label at (Prints es) r) next full clear both = both
-  by_block (Then label at (Calls x es) r) next full clear both = both
+  by_block left next full clear both = both
 
   pub not_clear : (c : Configuration) (i : ℕ) (later : List StepOf) (number : Option ℕ) → GoesOnAt t c i number
       → IsClearOnStack i later (stack_of c i) → IsAmbiguousOnStack t i later (stack_of c i) → ⊥
@@ -144,57 +133,20 @@ module _ (t : Program) (s : SetupOf) (h : List Call) (x : StepOf) (later : List 
 
   pub one_reason : (a b : StepReason) → IsReason t s h x later a → IsReason t s h x later b → a ≡ b
   one_reason Elsewhere Elsewhere p q = refl
-  one_reason Elsewhere Finished p q = here_or_elsewhere q.0 p
-  one_reason Elsewhere (Refused r) p q = here_or_elsewhere q.0 p
-  one_reason Elsewhere (Differs e) p q = here_or_elsewhere q.0 p
-  one_reason Elsewhere Ambiguous p q = taken_or_not q Elsewhere p
-  one_reason Finished Elsewhere p q = here_or_elsewhere p.0 q
   one_reason Finished Finished p q = refl
-  one_reason Finished (Refused r) p q = over_or_answered p.1 r q.1
-  one_reason Finished (Differs e) p q = over_or_seen p.1 e q.1
-  one_reason Finished Ambiguous p q = taken_or_not q Finished p
-  one_reason (Refused r) Elsewhere p q = here_or_elsewhere p.0 q
-  one_reason (Refused r) Finished p q = over_or_answered q.1 r p.1
   one_reason (Refused r) (Refused k) p q = ap Refused (one_reply r k p.1 q.1)
-  one_reason (Refused r) (Differs e) p q = refused_or_seen r p.1 e q.1
-  one_reason (Refused r) Ambiguous p q = taken_or_not q (Refused r) p
-  one_reason (Differs d) Elsewhere p q = here_or_elsewhere p.0 q
-  one_reason (Differs d) Finished p q = over_or_seen q.1 d p.1
-  one_reason (Differs d) (Refused r) p q = refused_or_seen r q.1 d p.1
   one_reason (Differs d) (Differs e) p q = one_seen d e p.1 q.1
-  one_reason (Differs d) Ambiguous p q = taken_or_not q (Differs d) p
-  one_reason Ambiguous Elsewhere p q = taken_or_not p Elsewhere q
-  one_reason Ambiguous Finished p q = taken_or_not p Finished q
-  one_reason Ambiguous (Refused r) p q = taken_or_not p (Refused r) q
-  one_reason Ambiguous (Differs d) p q = taken_or_not p (Differs d) q
   one_reason Ambiguous Ambiguous p q = refl
-
--- two cuts of a list before one of its elements are the same, or one is in the front of the other
-module _ {X : Type 0} where
-  pub record IsSameCut (a : List X) (x : X) (c b : List X) (y : X) (d : List X) : Type 0 where
-    pub front : a ≡ b
-    pub here : x ≡ y
-    pub rest : c ≡ d
-
-  pub record IsInFront (a : List X) (x : X) (c b : List X) (y : X) (d : List X) : Type 0 where
-    pub middle : List X
-    pub front : b ≡ a ++ x ∷ middle
-    pub rest : c ≡ middle ++ y ∷ d
-
-  pub cuts : (a : List X) (x : X) (c b : List X) (y : X) (d : List X) → a ++ x ∷ c ≡ b ++ y ∷ d
-      → IsSameCut a x c b y d ⊎ (IsInFront a x c b y d ⊎ IsInFront b y d a x c)
-  cuts [] x c [] y d e = inl (record { front = refl; here = cc; rest = cc })
-  cuts [] x c (z ∷ b) y d e = inr (inl (record { middle = b; front = (let head : z ≡ x = cc in ap (λ k. k ∷ b) head); rest = cc }))
-  cuts (z ∷ a) x c [] y d e = inr (inr (record { middle = a; front = (let head : z ≡ y = cc in ap (λ k. k ∷ a) head); rest = cc }))
-  cuts (z ∷ a) x c (w ∷ b) y d e =
-      let head : z ≡ w = cc in
-      elim (cuts a x c b y d cc) [
-        | inl same ↦ inl (record { front = (λ j. head j ∷ same.front j); here = same.here; rest = same.rest })
-        | inr other ↦ elim other [
-          | inl one ↦ inr (inl (record { middle = one.middle; front = (λ j. sym head j ∷ one.front j); rest = one.rest }))
-          | inr two ↦ inr (inr (record { middle = two.middle; front = (λ j. head j ∷ two.front j); rest = two.rest }))
-        ]
-      ]
+  one_reason Ambiguous b p q = taken_or_not p b q
+  one_reason a Ambiguous p q = taken_or_not q a p
+  one_reason Elsewhere b p q = here_or_elsewhere q.0 p
+  one_reason a Elsewhere p q = here_or_elsewhere p.0 q
+  one_reason Finished (Refused r) p q = over_or_answered p.1 r q.1
+  one_reason (Refused r) Finished p q = over_or_answered q.1 r p.1
+  one_reason Finished (Differs e) p q = over_or_seen p.1 e q.1
+  one_reason (Differs d) Finished p q = over_or_seen q.1 d p.1
+  one_reason (Refused r) (Differs e) p q = refused_or_seen r p.1 e q.1
+  one_reason (Differs d) (Refused r) p q = refused_or_seen r q.1 d p.1
 
 -- what follows some steps follows those before one of them, and then that one
 module _ (t : Program) (s : SetupOf) (last : LastBits) where
@@ -206,10 +158,8 @@ module _ (t : Program) (s : SetupOf) (last : LastBits) where
 
   pub follow_to : (h : List Call) (xs : List StepOf) (x : StepOf) (ys later : List StepOf) (g : List Call)
       → FollowAfter t s last h (xs ++ x ∷ ys) later g → FollowsTo h xs x (ys ++ later)
-  follow_to h [] x ys later [] f = absurd f
   follow_to h [] x ys later (a ∷ g) f =
       record { front = []; before = tt; call = a; here = subst (λ k. Follows t s last k x (ys ++ later) a) (sym (append-nil h)) f.0 }
-  follow_to h (z ∷ zs) x ys later [] f = absurd f
   follow_to h (z ∷ zs) x ys later (m ∷ ms) f =
       let rest = follow_to (h ++ m ∷ []) zs x ys later ms f.1 in
       let first : Follows t s last h z ((zs ++ x ∷ ys) ++ later) m = f.0 in
@@ -219,6 +169,46 @@ module _ (t : Program) (s : SetupOf) (last : LastBits) where
         call = rest.call;
         here = simp regrouped at rest.here;
       }
+  follow_to h xs x ys later g f = absurd (assumption (f))
+
+-- Some lines are followed to one end.
+
+module _ (text : List ℕ) (t : Program) (s : SetupOf) (last : LastBits) where
+  -- a history, and the lines that are left
+  abbrev State : Type 0
+  State = List Call × List StepLineOf
+
+  -- a call follows the first of them
+  record IsNext (a b : State) : Type 0 where
+    step : StepLineOf
+    call : Call
+    parts : a.1 ≡ step ∷ b.1
+    history : b.0 ≡ a.0 ++ call ∷ []
+    follows : Follows t s last a.0 (step_of text step) (steps_of text b.1) call
+
+  single : IsSingle IsNext
+  single a b c p q =
+      let parts : p.step ∷ b.1 ≡ q.step ∷ c.1 = sym p.parts ∙ q.parts in
+      let step : p.step ≡ q.step = cc in
+      let left : b.1 ≡ c.1 = cc in
+      let own = subst (λ (z : StepLineOf × List StepLineOf). Follows t s last a.0 (step_of text z.0) (steps_of text z.1) p.call)
+      (λ i. (step i, left i)) p.follows in
+      let call = one_call t s last a.0 (step_of text q.step) (steps_of text c.1) p.call q.call own q.follows in
+      λ i. ((p.history ∙ ap (λ z. a.0 ++ z ∷ []) call ∙ sym q.history) i, left i)
+
+  walk : (h : List Call) (xs later : List StepLineOf) (p : List Call) → FollowAfter t s last h (steps_of text xs) (steps_of text later) p
+      → Walk IsNext (h, xs ++ later) (h ++ p, later)
+  walk h [] later [] f = subst (λ q. Walk IsNext (h, later) (q, later)) (sym (append-nil h)) Stays
+  walk h (x ∷ xs) later (a ∷ p) f =
+      let next : IsNext (h, x ∷ (xs ++ later)) (h ++ a ∷ [], xs ++ later) = record {
+        step = x;
+        call = a;
+        parts = refl;
+        history = refl;
+        follows = subst (λ ys. Follows t s last h (step_of text x) ys a) (sym (map-append (step_of text) xs later)) f.0;
+      } in
+      Goes next (subst (λ q. Walk IsNext (h ++ a ∷ [], xs ++ later) (q, later)) (simp regrouped) (walk (h ++ a ∷ []) xs later p f.1))
+  walk h xs later p f = absurd (assumption (f))
 
 module _ (text : List ℕ) (t : Program) (is : IsLawfulText text t) (s : SetupOf) (last : LastBits) (lines : List StepLineOf)
     (r : StepRefusal) (refused : IsStepRefusal text t s last lines r) where
@@ -244,79 +234,67 @@ module _ (text : List ℕ) (t : Program) (is : IsLawfulText text t) (s : SetupOf
 
       by_reason : (reason : StepReason) → IsReason t s refused.history (step_of text refused.step) (steps_of text refused.later) reason
           → ForStuck reason ((g : List Call) → Takes t s (steps_of text (refused.before ++ refused.step ∷ [])) g → ⊥) → ⊥
-      by_reason Elsewhere why none = none (refused.history ++ a ∷ []) all_taken
       by_reason Ambiguous why none =
           not_clear text t is (configuration_after t s refused.history) (step_of text refused.step).thread
           (steps_of text refused.later) r.number goes_on follows.clear why.ambiguous
-      by_reason Finished why none = none (refused.history ++ a ∷ []) all_taken
-      by_reason (Refused q) why none = none (refused.history ++ a ∷ []) all_taken
-      by_reason (Differs d) why none = none (refused.history ++ a ∷ []) all_taken
+      by_reason reason why none = none (refused.history ++ a ∷ []) all_taken
 
-  -- nothing follows it and what comes before it
-  never_followed : (ys zs : List StepOf) (g : List Call) → ys ++ zs ≡ steps_of text refused.later
-      → FollowAfter t s last [] (steps_of text refused.before ++ step_of text refused.step ∷ ys) zs g → ⊥
-  never_followed ys zs g parts follows =
-      let x = step_of text refused.step in
-      let found = follow_to t s last [] (steps_of text refused.before) x ys zs g follows in
-      let before = subst (λ ws. FollowAfter t s last [] (steps_of text refused.before) (step_of text refused.step ∷ ws) found.front) parts found.before in
-      let same = one_history t s last [] (steps_of text refused.before)
-      (step_of text refused.step ∷ steps_of text refused.later) found.front refused.history before refused.follows in
-      not_followed found.call
-      (subst (λ ws. Follows t s last refused.history (step_of text refused.step) ws found.call) parts
-      (subst (λ k. Follows t s last k (step_of text refused.step) (ys ++ zs) found.call) same found.here))
+  abbrev end : State text t s last
+  end = (refused.history, refused.step ∷ refused.later)
+
+  -- so the lines are followed up to that step, and no further
+  walk_to : Walk (IsNext text t s last) ([], lines) (refused.history, refused.step ∷ refused.later)
+  walk_to =
+      subst (λ z. Walk (IsNext text t s last) ([], z) end) (sym refused.whole)
+      (walk text t s last [] refused.before (refused.step ∷ refused.later) refused.history refused.follows)
+
+  stops : Stops (IsNext text t s last) (refused.history, refused.step ∷ refused.later)
+  stops u next =
+      let parts = next.parts in
+      let step : next.step ≡ refused.step = cc in
+      let left : u.1 ≡ refused.later = cc in
+      not_followed next.call (subst (λ (z : StepLineOf × List StepLineOf). Follows t s last refused.history (step_of text z.0) (steps_of text z.1) next.call)
+      (λ i. (step i, left i)) next.follows)
 
   pub not_followed_too : (h : List Call) → IsFollowed t s last (steps_of text lines) h → ⊥
   not_followed_too h confirmed =
-      let whole : steps_of text lines ≡ steps_of text refused.before ++ step_of text refused.step ∷ steps_of text refused.later =
-      ap (steps_of text) refused.whole ∙ map-append (step_of text) refused.before (refused.step ∷ refused.later) in
-      never_followed (steps_of text refused.later) [] h (append-nil (steps_of text refused.later))
-      (subst (λ xs. FollowAfter t s last [] xs [] h) whole confirmed)
-
-  -- another one of the same steps is not of a later step
-  module _ (q : StepRefusal) (other : IsStepRefusal text t s last lines q) where
-    pub not_in_front : IsInFront refused.before refused.step refused.later other.before other.step other.later → ⊥
-    not_in_front cut =
-        let front : steps_of text other.before ≡ steps_of text refused.before ++ step_of text refused.step ∷ steps_of text cut.middle =
-        ap (steps_of text) cut.front ∙ map-append (step_of text) refused.before (refused.step ∷ cut.middle) in
-        let rest : steps_of text cut.middle ++ steps_of text (other.step ∷ other.later) ≡ steps_of text refused.later =
-        sym (map-append (step_of text) cut.middle (other.step ∷ other.later)) ∙ ap (steps_of text) (sym cut.rest) in
-        never_followed (steps_of text cut.middle) (steps_of text (other.step ∷ other.later)) other.history rest
-        (subst (λ xs. FollowAfter t s last [] xs (steps_of text (other.step ∷ other.later)) other.history) front other.follows)
-
-    -- nor does another one of the same step differ
-    pub same_refusal : IsSameCut refused.before refused.step refused.later other.before other.step other.later → r ≡ q
-    same_refusal cut =
-        let follows =
-        subst (λ b. FollowAfter t s last [] (steps_of text b) (steps_of text (refused.step ∷ refused.later)) other.history) (sym cut.front)
-        (subst (λ y. FollowAfter t s last [] (steps_of text other.before) (steps_of text (y ∷ refused.later)) other.history) (sym cut.here)
-        (subst (λ ys. FollowAfter t s last [] (steps_of text other.before) (steps_of text (other.step ∷ ys)) other.history) (sym cut.rest) other.follows)) in
-        let history = one_history t s last [] (steps_of text refused.before) (steps_of text (refused.step ∷ refused.later))
-        refused.history other.history refused.follows follows in
-        let line : r.line ≡ q.line = refused.line ∙ ap (λ b. length b + 1) cut.front ∙ sym other.line in
-        let thread : r.thread ≡ q.thread = refused.thread ∙ ap (λ y. y.thread) cut.here ∙ sym other.thread in
-        let location : r.location ≡ q.location = refused.location ∙ ap (λ y. y.location) cut.here ∙ sym other.location in
-        let number : r.number ≡ q.number =
-        one_goes_on text t is (configuration_after t s refused.history) r.thread r.number q.number refused.number
-        (subst (λ i. GoesOnAt t (configuration_after t s refused.history) i q.number) (sym thread)
-        (subst (λ k. GoesOnAt t (configuration_after t s k) q.thread q.number) (sym history) other.number)) in
-        let stand : r.stand ≡ q.stand = refused.stand ∙ ap (stand_of text t) number ∙ sym other.stand in
-        let reason : r.reason ≡ q.reason =
-        one_reason t s refused.history (step_of text refused.step) (steps_of text refused.later) r.reason q.reason refused.reason
-        (subst (λ k. IsReason t s k (step_of text refused.step) (steps_of text refused.later) q.reason) (sym history)
-        (subst (λ y. IsReason t s other.history (step_of text y) (steps_of text refused.later) q.reason) (sym cut.here)
-        (subst (λ ys. IsReason t s other.history (step_of text other.step) (steps_of text ys) q.reason) (sym cut.rest) other.reason))) in
-        λ j. record { line = line j; thread = thread j; location = location j; number = number j; stand = stand j; reason = reason j }
+      let whole = subst (λ z. Walk (IsNext text t s last) ([], z) (h, [])) (append-nil lines) (walk text t s last [] lines [] h confirmed) in
+      let same = one_end (IsNext text t s last) (single text t s last) ([], lines) end (h, []) walk_to whole stops
+      (λ u next. let parts = next.parts in absurd cc) in
+      let left : refused.step ∷ refused.later ≡ [] = ap (λ z. z.1) same in
+      absurd cc
 
 pub one_step_refusal : (text : List ℕ) (t : Program) → IsLawfulText text t → (s : SetupOf) (last : LastBits) (lines : List StepLineOf) (r q : StepRefusal)
     → IsStepRefusal text t s last lines r → IsStepRefusal text t s last lines q → r ≡ q
-one_step_refusal text t is s last lines r q one two =
-    elim (cuts one.before one.step one.later two.before two.step two.later (sym one.whole ∙ two.whole)) [
-      | inl same ↦ same_refusal text t is s last lines r one q two same
-      | inr other ↦ elim other [
-        | inl first ↦ absurd (not_in_front text t is s last lines r one q two first)
-        | inr second ↦ absurd (not_in_front text t is s last lines q two r one second)
-      ]
-    ]
+one_step_refusal text t is s last lines r q refused other =
+    let same = one_end (IsNext text t s last) (single text t s last) ([], lines) (end text t is s last lines r refused) (end text t is s last lines q other)
+    (walk_to text t is s last lines r refused) (walk_to text t is s last lines q other)
+    (stops text t is s last lines r refused) (stops text t is s last lines q other) in
+    let history : refused.history ≡ other.history = ap (λ z. z.0) same in
+    let left : refused.step ∷ refused.later ≡ other.step ∷ other.later = ap (λ z. z.1) same in
+    let step : refused.step ≡ other.step = cc in
+    let later : refused.later ≡ other.later = cc in
+    let front : length refused.before ≡ length other.before =
+    omega (
+      arith,
+      ap length (sym refused.whole ∙ other.whole),
+      length-append refused.before (refused.step ∷ refused.later),
+      length-append other.before (other.step ∷ other.later),
+      ap length left,
+    ) in
+    let line : r.line ≡ q.line = refused.line ∙ ap (λ n. n + 1) front ∙ sym other.line in
+    let thread : r.thread ≡ q.thread = refused.thread ∙ ap (λ y. y.thread) step ∙ sym other.thread in
+    let location : r.location ≡ q.location = refused.location ∙ ap (λ y. y.location) step ∙ sym other.location in
+    let number : r.number ≡ q.number =
+    one_goes_on text t is (configuration_after t s refused.history) r.thread r.number q.number refused.number
+    (subst (λ i. GoesOnAt t (configuration_after t s refused.history) i q.number) (sym thread)
+    (subst (λ k. GoesOnAt t (configuration_after t s k) q.thread q.number) (sym history) other.number)) in
+    let stand : r.stand ≡ q.stand = refused.stand ∙ ap (stand_of text t) number ∙ sym other.stand in
+    let reason : r.reason ≡ q.reason =
+    one_reason t s refused.history (step_of text refused.step) (steps_of text refused.later) r.reason q.reason refused.reason
+    (subst (λ (z : List Call × StepLineOf × List StepLineOf). IsReason t s z.0 (step_of text z.1) (steps_of text z.2) q.reason)
+    (λ i. (sym history i, sym step i, sym later i)) other.reason) in
+    λ j. record { line = line j; thread = thread j; location = location j; number = number j; stand = stand j; reason = reason j }
 
 -- Steps of a lawful text that are followed with some last bits are refused with none.
 
@@ -334,10 +312,6 @@ module _ (text : List ℕ) (t : Program) (is : IsLawfulText text t) (s : SetupOf
 
     by_reason : (reason : StepReason) → IsReason t s refused.history (step_of text refused.step) (steps_of text refused.later) reason
         → ForStuck reason ((k : List Call) → Takes t s (steps_of text lines) k → ⊥) → ⊥
-    by_reason Elsewhere why none = none g (taken t s some [] (steps_of text lines) [] g followed)
-    by_reason Finished why none = none g (taken t s some [] (steps_of text lines) [] g followed)
-    by_reason (Refused q) why none = none g (taken t s some [] (steps_of text lines) [] g followed)
-    by_reason (Differs d) why none = none g (taken t s some [] (steps_of text lines) [] g followed)
     by_reason Ambiguous why none =
         let before = steps_of text refused.before in
         let found = follow_to t s some [] before (step_of text refused.step) (steps_of text refused.later) [] g
@@ -351,6 +325,7 @@ module _ (text : List ℕ) (t : Program) (is : IsLawfulText text t) (s : SetupOf
         (goes_on text t is s last lines r refused)
         (subst (λ S. IsClearOnStack refused.step.thread (steps_of text refused.later) S) (sym same) clear)
         why.ambiguous
+    by_reason reason why none = none g (taken t s some [] (steps_of text lines) [] g followed)
 
     pub never_refused : ⊥
     never_refused = by_reason r.reason refused.reason (refused_is_not_taken text t s last lines r refused)

@@ -1,5 +1,5 @@
 -- A text of steps has at most one refusal, and none where a history confirms them.
-use Rattle.std.proofs.Common.{◌≡◌, ◌∙◌, ◌<◌, ◌+◌, ℕ, zero, suc, Bool, true, false, List, [], ◌∷◌, ◌++◌, length, take, drop, get_or, Some, refl, ap, sym, subst, arith, ◌≢◌, inl, inr, slice_get, take-append-drop}
+use Rattle.std.proofs.Common.{◌≡◌, ◌∙◌, ◌<◌, ◌+◌, ℕ, zero, suc, Bool, true, false, List, [], ◌∷◌, ◌++◌, length, take, drop, get_or, Some, refl, ap, sym, subst, arith, ◌≢◌, slice_get, take-append-drop}
 use Rattle.std.proofs.Math.ListN.{length-take}
 use Rattle.std.proofs.Math.Seq.{drop-cons}
 use Rattle.std.specs.List.{AllByRecursion}
@@ -24,7 +24,7 @@ use Rattle.bp_confirm.specs.declared.choices.LastChoice.{LastChoice}
 use Rattle.bp_confirm.specs.Inferred.{zeros}
 use Rattle.bp_confirm.specs.Laws.{NoRefusalOfConfirmed, OneRefusal}
 use Rattle.bp_text.proofs.WholeTexts.{none_bad, one_bad, one_reading}
-use Rattle.bp_confirm.proofs.OneStepRefusal.{cuts, not_followed_too, one_step_refusal}
+use Rattle.bp_confirm.proofs.OneStepRefusal.{not_followed_too, one_step_refusal}
 
 -- The first value, and the first line, of what is not declared.
 
@@ -36,14 +36,12 @@ parts_at xs n d within =
 
 -- the values
 parts_of : (vs : Valuation) (n : ℕ) (v : List ℕ × Bool) → slice_get vs n ≡ Some v → vs ≡ take n vs ++ v ∷ drop (suc n) vs
-parts_of [] zero v at = absurd cc
-parts_of [] (suc n) v at = absurd cc
+parts_of [] n v at = absurd cc
 parts_of (w ∷ ws) zero v at = let same : w ≡ v = cc in ap (λ x. x ∷ ws) same
 parts_of (w ∷ ws) (suc n) v at = ap (λ xs. w ∷ xs) (parts_of ws n v at)
 
 as_many_taken : (vs : Valuation) (n : ℕ) (v : List ℕ × Bool) → slice_get vs n ≡ Some v → length (take n vs) ≡ n
-as_many_taken [] zero v at = refl
-as_many_taken [] (suc n) v at = absurd cc
+as_many_taken [] n v at = absurd cc
 as_many_taken (w ∷ ws) zero v at = refl
 as_many_taken (w ∷ ws) (suc n) v at = ap suc (as_many_taken ws n v at)
 
@@ -60,8 +58,7 @@ module _ (t : Program) (v : List ℕ × Bool) where
   }
 
   one_more_declared : (vs : Valuation) (n : ℕ) → slice_get vs n ≡ Some v → AreDeclared t (take n vs) → declares t v.0 ≡ true → AreDeclared t (take (suc n) vs)
-  one_more_declared [] zero at first here = absurd cc
-  one_more_declared [] (suc n) at first here = absurd cc
+  one_more_declared [] n at first here = absurd cc
   one_more_declared (w ∷ ws) zero at first here = let same : v ≡ w = cc in (ap (λ x. declares t x.0) (sym same) ∙ here, tt)
   one_more_declared (w ∷ ws) (suc n) at first here = (first.0, one_more_declared ws n at first.1 here)
 
@@ -93,6 +90,14 @@ all_here : {X : Type 0} (P : X → Type 0) (a : List X) (x : X) (c : List X) →
 all_here P [] x c all = all.0
 all_here P (y ∷ a) x c all = all_here P a x c all.1
 
+-- the first element that has not this property is at one place
+first_once : {X : Type 0} (P : X → Type 0) (a b c d : List X) (x y : X) → AllByRecursion P a → (P x → ⊥) → AllByRecursion P b → (P y → ⊥)
+    → a ++ x ∷ c ≡ b ++ y ∷ d → (length a ≡ length b) × (x ≡ y)
+first_once P [] [] c d x y p not_x q not_y e = (refl, cc)
+first_once P [] (z ∷ b) c d x y p not_x q not_y e = let same : z ≡ x = cc in absurd (not_x (subst P same q.0))
+first_once P (z ∷ a) [] c d x y p not_x q not_y e = let same : z ≡ y = cc in absurd (not_y (subst P same p.0))
+first_once P (z ∷ a) (w ∷ b) c d x y p not_x q not_y e = let (size, same) = first_once P a b c d x y p.1 not_x q.1 not_y cc in (ap suc size, same)
+
 -- lines of what is not declared
 module _ (t : Program) (s : SetupOf) where
   not_both : (vs : Valuation) (n : ℕ) → IsFirstUndeclared t vs n → AreDeclared t vs → ⊥
@@ -101,17 +106,9 @@ module _ (t : Program) (s : SetupOf) where
 
   one_undeclared : (vs : Valuation) (m n : ℕ) → IsFirstUndeclared t vs m → IsFirstUndeclared t vs n → m ≡ n
   one_undeclared vs m n p q =
-      elim (cuts p.before p.value p.after q.before q.value q.after (sym p.parts ∙ q.parts)) [
-        | inl same ↦ p.number ∙ ap length same.front ∙ sym q.number
-        | inr other ↦ elim other [
-          | inl cut ↦
-              absurd (false≢true (sym p.undeclared ∙ all_here (λ v. declares t v.0 ≡ true) p.before p.value cut.middle
-              (subst (AreDeclared t) cut.front q.first)))
-          | inr cut ↦
-              absurd (false≢true (sym q.undeclared ∙ all_here (λ v. declares t v.0 ≡ true) q.before q.value cut.middle
-              (subst (AreDeclared t) cut.front p.first)))
-        ]
-      ]
+      let (size, same) = first_once (λ v. declares t v.0 ≡ true) p.before q.before p.after q.after p.value q.value p.first (λ e. false≢true (sym p.undeclared ∙ e))
+      q.first (λ e. false≢true (sym q.undeclared ∙ e)) (sym p.parts ∙ q.parts) in
+      p.number ∙ size ∙ sym q.number
 
   abbrev pub IsStray : (StepLineOf → Type 0) → Type 0
   IsStray Is = (x : StepLineOf) → Is x → IsDeclared t s x → ⊥
@@ -129,13 +126,9 @@ module _ (t : Program) (s : SetupOf) where
     one_stray : (m n : ℕ) (Is Are : StepLineOf → Type 0) → IsStray Is → IsStray Are → (p : IsFirstStray t s lines m Is) → (q : IsFirstStray t s lines n Are)
         → (m ≡ n) × (p.line ≡ q.line)
     one_stray m n Is Are one two p q =
-        elim (cuts p.before p.line p.later q.before q.line q.later (sym p.parts ∙ q.parts)) [
-          | inl same ↦ (p.number ∙ ap (λ b. length b + 1) same.front ∙ sym q.number, same.here)
-          | inr other ↦ elim other [
-            | inl cut ↦ absurd (one p.line p.is (all_here (IsDeclared t s) p.before p.line cut.middle (subst (AreDeclaredLines t s) cut.front q.first)))
-            | inr cut ↦ absurd (two q.line q.is (all_here (IsDeclared t s) q.before q.line cut.middle (subst (AreDeclaredLines t s) cut.front p.first)))
-          ]
-        ]
+        let (size, same) = first_once (IsDeclared t s) p.before q.before p.later q.later p.line q.line p.first (one p.line p.is)
+        q.first (two q.line q.is) (sym p.parts ∙ q.parts) in
+        (p.number ∙ ap (λ k. k + 1) size ∙ sym q.number, same)
 
 one_setup : (s : SetupOf) (lines : List StepLineOf) (bound : ContextBound) (a b : SetupOf) → IsSetupFor s lines bound a → IsSetupFor s lines bound b → a ≡ b
 one_setup s lines Kept a b p q = p ∙ sym q
@@ -247,12 +240,7 @@ module _ (text : List ℕ) (t : Program) (is : IsLawfulText text t) (s : SetupOf
 
     by_fault : (f : ConfirmFault) → IsStepsRefusal t s steps text bound f → f ≡ Memory
     by_fault Memory p = refl
-    by_fault TooLong p = absurd (none_sorted TooLong (of_length p))
-    by_fault NoSteps p = absurd (none_sorted NoSteps (of_nothing p))
-    by_fault (Line n) p = absurd (none_sorted (Line n) (of_line n p.0 p.1))
-    by_fault (NoThread n i) p = absurd (none_sorted (NoThread n i) (of_lines (NoThread n i) p.lines p.read (of_no_thread n i p.stray)))
-    by_fault (NoVariable n k) p = absurd (none_sorted (NoVariable n k) (of_lines (NoVariable n k) p.lines p.read (of_no_variable n k p.stray)))
-    by_fault (Step r) p = absurd (none_sorted (Step r) (of_lines (Step r) p.lines p.told.read (of_step r p.setup p.told.declared p.allows p.refused)))
+    by_fault f p = absurd (none_sorted f (sorted f (λ e. absurd cc) p))
 
 pub one_refusal : OneRefusal
 one_refusal text t s steps bound f g is one two p q =

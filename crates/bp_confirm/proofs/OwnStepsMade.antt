@@ -69,9 +69,8 @@ module _ (text : List ℕ) (t : Program) where
 
   pub all_moves : (c : Configuration) (calls : List Call) (lines : List StepLineOf) → AreOwnLines text t c calls lines → MovesTake t c (steps_of text lines) calls
   all_moves c [] [] own = tt
-  all_moves c [] (x ∷ xs) own = absurd own
-  all_moves c (call ∷ calls) [] own = absurd own
   all_moves c (call ∷ calls) (x ∷ xs) (here, (next, move, rest)) = (one_move c next call x here move, all_moves next calls xs rest)
+  all_moves c calls lines own = absurd (assumption (own))
 
   -- none of the lines is without a column
   abbrev IsExact : Location → Type 0
@@ -86,10 +85,9 @@ module _ (text : List ℕ) (t : Program) where
   all_exact : (c : Configuration) (calls : List Call) (lines : List StepLineOf) → AreOwnLines text t c calls lines
       → AllByRecursion (λ x. IsExact x.location) lines
   all_exact c [] [] own = tt
-  all_exact c [] (x ∷ xs) own = absurd own
-  all_exact c (call ∷ calls) [] own = absurd own
   all_exact c (call ∷ calls) (x ∷ xs) (here, (next, move, rest)) =
       (subst IsExact (sym here.location) (exact_is (next_start (stack_of c call.thread))), all_exact next calls xs rest)
+  all_exact c calls lines own = absurd (assumption (own))
 
   rest_exact : (xs ys : List StepLineOf) → AllByRecursion (λ x. IsExact x.location) (xs ++ ys) → AllByRecursion (λ x. IsExact x.location) ys
   rest_exact [] ys all = all

@@ -60,23 +60,21 @@ module _ (text : List ℕ) (few : length text ≤ TEXT_LIMIT) where
     each_line : (c : Configuration) (calls : List Call) (lines : List StepLineOf) → AreOwnLines text t c calls lines
         → AreDeclaredLines t s lines → EachFits (text_of step_line) (Fits step_line) lines []
     each_line c [] [] own all = no_step_in_nothing.none
-    each_line c [] (x ∷ xs) own all = absurd own
-    each_line c (call ∷ calls) [] own all = absurd own
     each_line c (call ∷ calls) (x ∷ xs) (here, (next, move, rest)) (declared, others) = (
       line_fits x [] _ (omega (arith, small, declared.thread))
           (subst IsShortLocation (sym here.location) (short_location (next_start (stack_of c call.thread))))
           (subst (λ vs. EachFits (text_of value) (Fits value) vs []) (sym here.values) (λ v more fits e. absurd cc)),
       each_line next calls xs rest others,
     )
+    each_line c calls lines own all = absurd (assumption (own))
 
 same_threads : (text : List ℕ) (t : Program) (c : Configuration) (calls : List Call) (lines : List StepLineOf) → AreOwnLines text t c calls lines
     → map (λ x. x.thread) calls ≡ map thread_of lines
 same_threads text t c [] [] own = refl
-same_threads text t c [] (x ∷ xs) own = absurd own
-same_threads text t c (call ∷ calls) [] own = absurd own
 same_threads text t c (call ∷ calls) (x ∷ xs) (here, (next, move, rest)) =
     let more = same_threads text t next calls xs rest in
     λ i. sym here.thread i ∷ more i
+same_threads text t c calls lines own = absurd (assumption (own))
 
 allowed_as_used : (used : ℕ) → used ≤ MAX_CONTEXTS → contexts_allowed used ≡ used
 allowed_as_used used within = ap (λ b. cond b MAX_CONTEXTS used) (let none : nat_lt MAX_CONTEXTS used ≡ false = grind (arith, nat_tests, within) in none)

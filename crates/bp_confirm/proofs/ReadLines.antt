@@ -1,6 +1,6 @@
 -- How a line of steps is read, whatever is after it.
-use Rattle.std.proofs.Common.{◌≡◌, ◌≢◌, ◌<◌, ◌≤◌, ◌+◌, ◌^◌, ◌∙◌, inl, inr, ℕ, Bool, List, [], ◌∷◌, ◌++◌, flat_map, length, length-append, refl, ap, sym, subst, arith, codes, decimal, append_assoc}
-use Rattle.bp_text.specs.Formats.{EachFits, EndsNumber, Fits, HasNone, IsAt, Lacks, text_of}
+use Rattle.std.proofs.Common.{◌≡◌, ◌≢◌, ◌<◌, ◌≤◌, ◌+◌, ◌^◌, ◌∙◌, inl, inr, ℕ, List, [], ◌∷◌, ◌++◌, flat_map, length, length-append, refl, ap, sym, subst, arith, codes, decimal, append_assoc}
+use Rattle.bp_text.specs.Formats.{EachFits, EndsNumber, Fits, HasNone, IsAt, text_of}
 use Rattle.bp_text.specs.Formats.Format.{Before, Many, Then}
 use Rattle.bp_text.proofs.NumbersInTurn.{ends_at, no_digit_first}
 use Rattle.bp_text.proofs.PartsOfTexts.{regrouped}

@@ -85,18 +85,16 @@ module _ (t : Program) (s : SetupOf) (last : LastBits) where
   -- what is followed is taken
   pub taken : (h : List Call) (xs later : List StepOf) (calls : List Call) → FollowAfter t s last h xs later calls → TakeAfter t s h xs calls
   taken h [] later [] follow = tt
-  taken h [] later (a ∷ more) follow = absurd follow
-  taken h (x ∷ xs) later [] follow = absurd follow
   taken h (x ∷ xs) later (a ∷ calls) (here, rest) = (here.takes, taken (h ++ a ∷ []) xs later calls rest)
+  taken h xs later calls follow = absurd (assumption (follow))
 
   pub follow_more : (h : List Call) (xs : List StepOf) (x : StepOf) (later : List StepOf) (calls : List Call) (a : Call)
       → FollowAfter t s last h xs (x ∷ later) calls → Follows t s last (h ++ calls) x later a → FollowAfter t s last h (xs ++ x ∷ []) later (calls ++ a ∷ [])
   follow_more h [] x later [] a follow next = (subst (λ k. Follows t s last k x later a) (append-nil h) next, tt)
-  follow_more h [] x later (m ∷ ms) a follow next = absurd follow
-  follow_more h (z ∷ zs) x later [] a follow next = absurd follow
   follow_more h (z ∷ zs) x later (m ∷ ms) a (here, rest) next =
       let grown : Follows t s last h z ((zs ++ x ∷ []) ++ later) m = simp regrouped here in
       (grown, follow_more (h ++ m ∷ []) zs x later ms a rest (simp regrouped next))
+  follow_more h xs x later calls a follow next = absurd (assumption (follow))
 
 -- the lines of steps, and what they say
 module _ (text : List ℕ) (t : Program) (s : SetupOf) (last : LastBits) (lines : List StepLineOf) (n : ℕ) where

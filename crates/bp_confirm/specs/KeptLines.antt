@@ -1,5 +1,5 @@
 -- A device: the lines of a text of steps. Most of those with the same text are kept once.
-use Rattle.std.specs.Prelude.{◌≡◌, ◌<◌, ◌≤◌, ◌++◌, ◌∷◌, ℕ, List, [], length, map, get_or}
+use Rattle.std.specs.Prelude.{◌≡◌, ◌<◌, ◌≤◌, ◌++◌, ℕ, List, [], length, map, get_or}
 use Rattle.std.specs.List.{AllByRecursion}
 use Rattle.bp_text.specs.Formats.{IsAt}
 use Rattle.bp_confirm.specs.declared.kept_lines.KeptLine.{KeptLine}

@@ -1,5 +1,5 @@
 -- The steps that a run makes, and the lists that it makes in their order.
-use Rattle.std.specs.Prelude.{◌≡◌, ℕ, List, [], ◌∷◌, Option, None, Some, option_map, if◌then◌else◌, ◌++◌, flat_map, map, ◌==◌, ◌&&◌, Bool, true, false, MatchOption, length, slice_get}
+use Rattle.std.specs.Prelude.{◌≡◌, ℕ, List, [], ◌∷◌, Option, None, Some, option_map, if◌then◌else◌, flat_map, map, ◌==◌, ◌&&◌, Bool, true, false, MatchOption, length, slice_get}
 use Rattle.std.specs.List.{list_all}
 use Rattle.std.specs.Option.{option_map_or}
 use Rattle.bp_text.specs.declared.lines.Position.{Position}

@@ -1,6 +1,6 @@
 -- Reported steps: places, steps, their lines and their text.
 use Rattle.std.proofs.Common.{inl, inr, refl}
-use Rattle.std.specs.Prelude.{ℕ, Bool, true, false, ◌&&◌, ◌||◌, ◌==◌, List, [], ◌∷◌, Option, None, Some, option_map, if◌then◌else◌, slice_get, take, ◌≢◌, ◌≡◌, ◌++◌, ◌⊎◌, map, ◌<◌, ◌^◌, ◌+◌, length, codes}
+use Rattle.std.specs.Prelude.{ℕ, Bool, true, false, ◌&&◌, ◌||◌, ◌==◌, List, [], ◌∷◌, Option, None, Some, option_map, if◌then◌else◌, slice_get, take, ◌≢◌, ◌≡◌, ◌++◌, ◌⊎◌, map, ◌^◌, codes}
 use Rattle.std.specs.Option.{option_or}
 use Rattle.bp_text.specs.declared.lines.Position.{Position}
 use Rattle.bp_text.specs.Lines.{position_at}

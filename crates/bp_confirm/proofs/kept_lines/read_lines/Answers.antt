@@ -1,4 +1,4 @@
-use Rattle.std.proofs.Common.{◌∙◌, ◌++◌, ◌∷◌, [], length, length-append, ap, sym, subst, arith, get_or}
+use Rattle.std.proofs.Common.{◌∙◌, ◌∷◌, [], length, length-append, ap, sym, subst, arith, get_or}
 use Rattle.std.proofs.lemmas.List.{length-map}
 use Rattle.bp_text.specs.Formats.{HasNone, IsAt}
 use Rattle.bp_text.specs.Formats.Format.{Many}

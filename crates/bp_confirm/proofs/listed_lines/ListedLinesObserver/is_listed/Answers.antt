@@ -2,7 +2,6 @@ use Rattle.std.proofs.Common.{◌≡◌, ◌∙◌, ◌<◌, [], length, ap, sym
 use Rattle.std.specs.Option.{option_map_or}
 use Rattle.bp_machine.specs.Histories.{stack_of}
 use Rattle.bp_machine.specs.Runs.{IsTop}
-use Rattle.bp_explore.specs.Searches.{ShowsStep}
 use Rattle.bp_confirm.specs.OwnSteps.{is_step, sees_values, AreShown}
 use Rattle.bp_confirm.specs.FollowedSteps.{is_there, source_points_of}
 use Rattle.bp_confirm.specs.Steps.{StepLineOf, step_of}
