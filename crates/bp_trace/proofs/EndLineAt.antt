@@ -1,25 +1,30 @@
 -- The decimals of any length, and the end line, that begin a text.
-use Rattle.std.proofs.Common.{◌≡◌, ◌≢◌, ℕ, ◌+◌, ◌-◌, ◌<◌, ◌≤◌, Bool, List, [], ◌∷◌, ◌++◌, length, drop, Some, ap, sym, ◌∙◌, arith, length-append, decimal, suc, take, get_or, refl, subst, codes, inl, inr, add-one, drop-cons, take-append-drop, map, flat_map, Option, slice_get}
-use Rattle.std.proofs.lemmas.List.{drop_at, get_or-take, get_or_at, get_or_append_left, length-take-le, map-append, take_more}
+use Rattle.std.proofs.Common.{None, true, false, cond, ◌==◌, ◌≡◌, ◌≢◌, ℕ, ◌+◌, ◌-◌, ◌<◌, ◌≤◌, Bool, List, [], ◌∷◌, ◌++◌, length, drop, Some, ap, sym, ◌∙◌, arith, length-append, decimal, take, get_or, refl, subst, codes, map, flat_map, Option, slice_get}
+use Rattle.std.proofs.lemmas.List.{drop_at, map-append, take_more}
 use Rattle.std.specs.Str.Parse.{AllDigits}
-use Rattle.std.proofs.lemmas.Bool.{cases_lt}
-use Rattle.std.proofs.lemmas.Option.{slice_get-get_or, slice_get_within, get_or_from_slice_get, same_Some}
-use Rattle.std.proofs.lemmas.Str.Parse.{digit_at}
+use Rattle.std.proofs.lemmas.Option.{same_Some}
+use Rattle.std.proofs.lemmas.Str.Parse.{digit_from_value}
 use Rattle.std.proofs.lemmas.List.Concat.{flat_map-append}
 use Rattle.bp_text.proofs.PartsOfTexts.{regrouped, both_added}
 use Rattle.bp_text.proofs.Givings.{flat_map_at}
 use Rattle.bp_machine.specs.declared.calls.Reply.{Reply}
 use Rattle.bp_machine.specs.declared.limits.TheConstants.{MAX_THREADS}
 use Rattle.bp_machine.specs.declared.calls.Call.{Call}
-use Rattle.bp_text.specs.Formats.{HasNone, IsAt}
+use Rattle.bp_text.specs.Formats.{HasNone, IsAt, SpanFits}
 use Rattle.bp_text.proofs.Readings.{one_at}
 use Rattle.bp_machine.specs.Histories.{letter_of}
-use Rattle.bp_trace.specs.Reading.{thread_field, IsTailAt, HasNoTail, IsCallAt, HasNoCall, IsNoDigit, IsDecimalAt, HasNoDecimal, IsEndAt, HasNoEnd, IsSymbolAt, HasSymbols, IsBodyLineAt, HasNoBodyLine}
+use Rattle.bp_trace.specs.Reading.{after_digit, end_numbers, is_whole, more_digits, thread_field, IsTailAt, HasNoTail, IsCallAt, HasNoCall, IsEndAt, HasNoEnd, IsSymbolAt, HasSymbols, IsBodyLineAt, HasNoBodyLine}
+use Rattle.bp_trace.specs.declared.end_lines.DecimalState.{DecimalState}
+use Rattle.bp_trace.specs.declared.end_lines.DecimalState.TheVariants.{Start, Zero, Digits}
+use Rattle.std.specs.Char.{digit_value, is_ascii_digit}
+use Rattle.std.proofs.lemmas.Str.{digit_value_digit}
+use Rattle.std.proofs.lemmas.Bool.Decides.{nat_tests}
+use Rattle.std.proofs.lemmas.Bool.{false≢true}
 use Rattle.bp_trace.specs.Replays.{IsDecimal, IsEndLine, IsBodyLine}
 use Rattle.bp_trace.specs.declared.traces.Version.TheVariants.{Two, One}
 use Rattle.bp_trace.specs.TraceText.{bit_digit, Symbol, Piece, call_of, symbol_text, piece_line, calls_of_piece, call_line}
 use Rattle.bp_trace.specs.declared.traces.Version.{Version}
-use Rattle.bp_trace.proofs.OneText.{call_then, one_cut, digits_without, front_cut, piece_then, symbols_alike, no_symbol_at_end, number_begins, one_call_line, one_piece_line}
+use Rattle.bp_trace.proofs.OneText.{call_then, front_cut, piece_then, symbols_alike, no_symbol_at_end, number_begins, one_call_line, one_piece_line}
 use Rattle.bp_trace.proofs.ScheduleLineAt.{thread_parts, thread_there}
 
 -- The thread that begins a text, with a space after it, and the call that does.
@@ -56,130 +61,109 @@ module _ (n : ℕ) (text : List ℕ) (few : n ≤ MAX_THREADS) where
       pub call_size : length text - length rest + 4 ≡ length (call_line call)
       call_size = omega (arith, size_of_front, length-append (decimal t) (32 ∷ bit_digit bit ∷ 32 ∷ letter_of reply ∷ 10 ∷ []))
 
--- ---- a decimal and the byte after it
+-- ---- a decimal of any length
 
-no_digit : (ds : List ℕ) (i : ℕ) → AllDigits 10 ds → i < length ds → IsNoDigit (get_or ds i 0) → ⊥
-no_digit ds i p within (inl low) = omega (arith, digit_at ds i p within)
-no_digit ds i p within (inr high) = omega (arith, digit_at ds i p within)
+digit_on : (b : ℕ) → 48 ≤ b → b ≤ 57 → more_digits b ≡ Some Digits
+digit_on b low high = let digit : is_ascii_digit b ≡ true = grind (arith, nat_tests) in ap (λ t. cond t (Some Digits) None) digit
 
--- the digits at the front of a text, as many as there are
-module _ (byte : ℕ) (low : byte < 48) (text : List ℕ) (count : ℕ) (within : count ≤ length text) (digits : AllDigits 10 (take count text))
-    (ends : (d : ℕ) → slice_get text count ≡ Some d → IsNoDigit d) where
-  module _ (ds more : List ℕ) (decimal : IsDecimal ds) (begins : text ≡ ds ++ byte ∷ more) where
-    long : length text ≡ length ds + 1 + length more
-    long = omega (arith, ap length begins, length-append ds (byte ∷ more))
+no_digit_on : (b : ℕ) → b < 48 → more_digits b ≡ None
+no_digit_on b low = let none : is_ascii_digit b ≡ false = grind (arith, nat_tests) in ap (λ t. cond t (Some Digits) None) none
 
-    byte_at : get_or text (length ds) 0 ≡ byte
-    byte_at = ap (λ t. get_or t (length ds) 0) begins ∙ get_or_at ds byte more 0 (length ds) refl
+only_digits : (b : ℕ) (t : DecimalState) → more_digits b ≡ Some t → (digit_value b < 10) × (Digits ≡ t)
+only_digits b t on = by_test (is_ascii_digit b) refl
+  where
+    by_test : (k : Bool) → is_ascii_digit b ≡ k → (digit_value b < 10) × (Digits ≡ t)
+    by_test true e =
+        let low : 48 ≤ b = grind (arith, nat_tests) in
+        let high : b ≤ 57 = grind (arith, nat_tests) in
+        let both : Some Digits ≡ Some t = sym (ap (λ k. cond k (Some Digits) None) e) ∙ on in
+        (omega (arith, digit_value_digit b (low, high), high), cc)
+    by_test false e = absurd (let both : None ≡ Some t = sym (ap (λ k. cond k (Some Digits) None) e) ∙ on in cc)
 
-    not_fewer : count < length ds → ⊥
-    not_fewer fewer =
-        let digit : get_or text count 0 ≡ get_or ds count 0 = ap (λ t. get_or t count 0) begins ∙ get_or_append_left ds (byte ∷ more) 0 count fewer in
-        let has = slice_get-get_or text count 0 (omega (arith, long, fewer)) in
-        no_digit ds count decimal.each fewer (subst IsNoDigit digit (ends (get_or text count 0) has))
+digits_fit : (ds : List ℕ) (byte : ℕ) (rest : List ℕ) → byte < 48 → AllDigits 10 ds → SpanFits after_digit is_whole Digits ds (byte ∷ rest)
+digits_fit [] byte rest low all = (refl, no_digit_on byte low)
+digits_fit (d ∷ ds) byte rest low all =
+    let range = digit_from_value d all.0 in
+    (Digits, digit_on d (omega (arith, range)) (omega (arith, range)), digits_fit ds byte rest low all.1)
 
-    not_more : length ds < count → ⊥
-    not_more longer =
-        let counted : length (take count text) ≡ count = length-take-le count text within in
-        let digit = digit_at (take count text) (length ds) digits (omega (arith, counted, longer)) in
-        omega (arith, digit, get_or-take count text (length ds) 0 longer, byte_at, low)
+decimal_fits : (ds : List ℕ) (byte : ℕ) (rest : List ℕ) → byte < 48 → IsDecimal ds → SpanFits after_digit is_whole Start ds (byte ∷ rest)
+decimal_fits [] byte rest low is = absurd (omega (arith, is.some))
+decimal_fits (d ∷ ds) byte rest low is = by_zero (d == 48) refl
+  where
+    by_zero : (b : Bool) → (d == 48) ≡ b → SpanFits after_digit is_whole Start (d ∷ ds) (byte ∷ rest)
+    by_zero true e =
+        let alone = is.first (grind (arith, nat_tests)) in
+        (Zero, ap (λ t. cond t (Some Zero) (more_digits d)) e, zero_alone ds (omega (arith, alone)))
+      where
+        zero_alone : (xs : List ℕ) → length xs ≡ 0 → SpanFits after_digit is_whole Zero xs (byte ∷ rest)
+        zero_alone [] none = (refl, refl)
+        zero_alone (x ∷ xs) none = absurd (omega (arith, none))
+    by_zero false e =
+        let range = digit_from_value d is.each.0 in
+        let on = digit_on d (omega (arith, range)) (omega (arith, range)) in
+        (Digits, ap (λ t. cond t (Some Zero) (more_digits d)) e ∙ on, digits_fit ds byte rest low is.each.1)
 
-    all_counted : count ≡ length ds
-    all_counted = elim (cases_lt count (length ds)) [
-      | inl fewer ↦ absurd (not_fewer fewer)
-      | inr le ↦ elim (cases_lt (length ds) count) [
-        | inl longer ↦ absurd (not_more longer)
-        | inr ge ↦ omega (arith, le, ge)
-      ]
-    ]
+of_digits : (ds rest : List ℕ) → SpanFits after_digit is_whole Digits ds rest → AllDigits 10 ds
+of_digits [] rest fits = tt
+of_digits (d ∷ ds) rest (t, on, fits) =
+    let is = only_digits d t on in
+    (is.0, of_digits ds rest (subst (λ z. SpanFits after_digit is_whole z ds rest) (sym is.1) fits))
 
-  pub no_field_here : (0 < count → slice_get text count ≡ Some byte → ⊥) → HasNoDecimal byte text
-  no_field_here none = λ ds more decimal begins.
-      let counted = all_counted ds more decimal begins in
-      let has = slice_get-get_or text count 0 (omega (arith, counted, long ds more decimal begins)) in
-      none (omega (arith, counted, decimal.some))
-      (has ∙ ap Some (ap (λ n. get_or text n 0) counted ∙ byte_at ds more decimal begins))
+none_after_zero : (ds rest : List ℕ) → SpanFits after_digit is_whole Zero ds rest → [] ≡ ds
+none_after_zero [] rest fits = refl
+none_after_zero (d ∷ ds) rest (t, on, fits) = absurd cc
 
-  pub no_field_of_zero : 1 < count → slice_get text 0 ≡ Some 48 → HasNoDecimal byte text
-  no_field_of_zero many zero = λ ds more decimal begins.
-      let counted = all_counted ds more decimal begins in
-      let first : get_or ds 0 0 ≡ 48 =
-      sym (get_or_append_left ds (byte ∷ more) 0 0 decimal.some) ∙ ap (λ t. get_or t 0 0) (sym begins)
-      ∙ get_or_from_slice_get text 0 48 0 zero in
-      omega (arith, many, counted, decimal.first first)
-
-  pub has_field : 0 < count → slice_get text count ≡ Some byte → (1 < count → slice_get text 0 ≡ Some 48 → ⊥) → IsDecimalAt byte text (count + 1)
-  has_field some here none =
-      let inside = slice_get_within text count byte here in
-      let counted : length (take count text) ≡ count = length-take-le count text within in
-      let rest : drop count text ≡ byte ∷ drop (count + 1) text = rw (add-one)
-      (drop-cons text count 0 inside ∙ ap (λ d. d ∷ drop (suc count) text) (get_or_from_slice_get text count byte 0 here)) in
-      record {
-        digits = take count text;
-        more = drop (count + 1) text;
-        decimal = record {
-          some = omega (arith, counted, some);
-          each = digits;
-          first = λ zero. elim (cases_lt 1 count) [
-            | inl many ↦ absurd (none many (slice_get-get_or text 0 0 (omega (arith, inside)) ∙ ap Some (sym (get_or-take count text 0 0 some) ∙ zero)))
-            | inr few ↦ omega (arith, few, some, counted)
-          ];
-        };
-        begins = sym (take-append-drop count text) ∙ ap (λ t. take count text ++ t) rest;
-        size_is = omega (arith, counted);
-      }
+decimal_of : (ds rest : List ℕ) → SpanFits after_digit is_whole Start ds rest → IsDecimal ds
+decimal_of [] rest fits = absurd (false≢true fits.0)
+decimal_of (d ∷ ds) rest (t, on, fits) = by_zero (d == 48) refl
+  where
+    by_zero : (b : Bool) → (d == 48) ≡ b → IsDecimal (d ∷ ds)
+    by_zero true e =
+        let both : Some Zero ≡ Some t = sym (ap (λ k. cond k (Some Zero) (more_digits d)) e) ∙ on in
+        let state : t ≡ Zero = cc in
+        let zero : d ≡ 48 = grind (arith, nat_tests) in
+        let none = none_after_zero ds rest (subst (λ z. SpanFits after_digit is_whole z ds rest) state fits) in
+        record {
+          some = omega arith;
+          each = (omega (arith, digit_value_digit d (omega (arith, zero), omega (arith, zero)), zero), subst (AllDigits 10) none tt);
+          first = λ _. ap (λ xs. length (d ∷ xs)) (sym none);
+        }
+    by_zero false e =
+        let is = only_digits d t (sym (ap (λ k. cond k (Some Zero) (more_digits d)) e) ∙ on) in
+        record {
+          some = omega arith;
+          each = (is.0, of_digits ds rest (subst (λ z. SpanFits after_digit is_whole z ds rest) (sym is.1) fits));
+          first = λ zero. absurd (grind (arith, nat_tests));
+        }
 
 -- ---- the end line
 
--- an end line, and what is after it
-pub end_then : (line more : List ℕ) (e : IsEndLine line) → line ++ more ≡ codes "end " ++ (e.calls ++ 32 ∷ (e.left_open ++ 10 ∷ more))
-end_then line more e =
-    ap (λ l. l ++ more) e.is
-    ∙ simp regrouped
+end_there : (line more text : List ℕ) (e : IsEndLine line) → text ≡ line ++ more → IsAt end_numbers text (e.calls, e.left_open) more
+end_there line more text e begins = record {
+  fits = (decimal_fits e.calls 32 _ (omega arith) e.first, decimal_fits e.left_open 10 _ (omega arith) e.second);
+  parts = begins ∙ ap (λ l. l ++ more) e.is ∙ simp regrouped;
+}
 
-module _ (text : List ℕ) where
-  -- after the word
-  module _ (word : text ≡ codes "end " ++ drop 4 text) where
-    both_then : (line more : List ℕ) (e : IsEndLine line) → text ≡ line ++ more → drop 4 text ≡ e.calls ++ 32 ∷ (e.left_open ++ 10 ∷ more)
-    both_then line more e begins = front_cut (codes "end ") _ _ (sym word ∙ begins ∙ end_then line more e)
+pub no_end : {text : List ℕ} → HasNone end_numbers text → HasNoEnd text
+no_end {text} lacks = λ line more e begins. let at = end_there line more text e begins in lacks.none (e.calls, e.left_open) more at.fits at.parts
 
-    module _ (calls : ℕ) (first : IsDecimalAt 32 (drop 4 text) calls) where
-      second_is : drop (4 + calls) text ≡ first.more
-      second_is =
-          let long : length (codes "end " ++ (first.digits ++ codes " ")) ≡ 4 + calls = omega (arith, first.size_is, length-append first.digits (codes " ")) in
-          let whole : text ≡ (codes "end " ++ (first.digits ++ codes " ")) ++ first.more =
-          word ∙ ap (λ t. codes "end " ++ t) first.begins ∙ simp regrouped in
-          ap (drop (4 + calls)) whole ∙ drop_at (codes "end " ++ (first.digits ++ codes " ")) first.more (4 + calls) long
+pub has_end : {text rest : List ℕ} {x : List ℕ × List ℕ} → IsAt end_numbers text x rest → IsEndAt text (length text - length rest)
+has_end {text} {rest} {x} at =
+    let line = codes "end " ++ (x.0 ++ (codes " " ++ (x.1 ++ codes "\n"))) in
+    let begins : text ≡ line ++ rest = at.parts ∙ simp regrouped in
+    record {
+      line = line;
+      more = rest;
+      is_end = record { calls = x.0; left_open = x.1; first = decimal_of x.0 _ at.fits.0; second = decimal_of x.1 _ at.fits.1; is = refl };
+      begins = begins;
+      size_is = let size = ap length begins ∙ length-append line rest in omega (arith, size);
+    }
 
-      pub no_second : HasNoDecimal 10 (drop (4 + calls) text) → HasNoEnd text
-      no_second none = λ line more e begins.
-          let cut = one_cut 32 first.digits e.calls first.more (e.left_open ++ 10 ∷ more)
-          (digits_without 32 (omega arith) first.digits first.decimal.each)
-          (digits_without 32 (omega arith) e.calls e.first.each)
-          (sym first.begins ∙ both_then line more e begins) in
-          none e.left_open more e.second (second_is ∙ cut.1)
-
-      pub has_end : (left_open : ℕ) → IsDecimalAt 10 (drop (4 + calls) text) left_open → IsEndAt text (4 + calls + left_open)
-      has_end left_open second =
-          let line = codes "end " ++ (first.digits ++ (codes " " ++ (second.digits ++ codes "\n"))) in
-          let e : IsEndLine line = record { calls = first.digits; left_open = second.digits; first = first.decimal; second = second.decimal; is = refl } in
-          record {
-            line = line;
-            more = second.more;
-            is_end = e;
-            begins =
-                word ∙ ap (λ t. codes "end " ++ t)
-                (first.begins ∙ ap (λ t. first.digits ++ 32 ∷ t) (sym second_is ∙ second.begins))
-                ∙ sym (end_then line second.more e);
-            size_is =
-                omega (
-                  arith,
-                  first.size_is,
-                  second.size_is,
-                  length-append first.digits (32 ∷ (second.digits ++ codes "\n")),
-                  length-append second.digits (codes "\n"),
-                );
-          }
+-- two end lines that begin one text are one
+pub one_end_line : (line other x y : List ℕ) → IsEndLine line → IsEndLine other → line ++ x ≡ other ++ y → (line ≡ other) × (x ≡ y)
+one_end_line line other x y p q e =
+    let (same, rest) = one_at (end_there line x _ p refl) (end_there other y _ q e) in
+    (p.is ∙ ap (λ (z : List ℕ × List ℕ). codes "end " ++ (z.0 ++ (codes " " ++ (z.1 ++ codes "\n")))) same ∙ sym q.is, rest)
 
 -- The line of calls that begins a text.
 
@@ -301,26 +285,10 @@ module _ (n : ℕ) (few : n ≤ MAX_THREADS) (last : Option ℕ) where
       → IsBodyLine n last line calls v → IsEndLine end → line ++ x ≢ end ++ y
   not_both One line end calls x y p q e =
       number_begins p.call.thread _ 101 _ (omega (arith, p.thread, few)) (omega arith)
-      (sym (call_then p.call x) ∙ ap (λ l. l ++ x) (sym p.is) ∙ e ∙ end_then end y q)
+      (sym (call_then p.call x) ∙ ap (λ l. l ++ x) (sym p.is) ∙ e ∙ ap (λ l. l ++ y) q.is)
   not_both Two line end calls x y p q e =
       number_begins p.piece.thread _ 101 _ (omega (arith, p.thread, few)) (omega arith)
-      (sym (piece_then p.piece x) ∙ ap (λ l. l ++ x) (sym p.is) ∙ e ∙ end_then end y q)
-
--- two end lines that begin one text are one
-pub one_end_line : (line other x y : List ℕ) → IsEndLine line → IsEndLine other → line ++ x ≡ other ++ y → (line ≡ other) × (x ≡ y)
-one_end_line line other x y p q e =
-    let both = front_cut (codes "end ") _ _ (sym (end_then line x p) ∙ e ∙ end_then other y q) in
-    let calls = one_cut 32 p.calls q.calls (p.left_open ++ 10 ∷ x) (q.left_open ++ 10 ∷ y)
-    (digits_without 32 (omega arith) p.calls p.first.each) (digits_without 32 (omega arith) q.calls q.first.each)
-    both in
-    let left_open = one_cut 10 p.left_open q.left_open x y (digits_without 10 (omega arith) p.left_open p.second.each)
-    (digits_without 10 (omega arith) q.left_open q.second.each) calls.1 in (
-      p.is
-          ∙ ap (λ t. codes "end " ++ (t ++ (codes " " ++ (p.left_open ++ codes "\n")))) calls.0
-          ∙ ap (λ t. codes "end " ++ (q.calls ++ (codes " " ++ (t ++ codes "\n")))) left_open.0
-          ∙ sym q.is,
-      left_open.1,
-    )
+      (sym (piece_then p.piece x) ∙ ap (λ l. l ++ x) (sym p.is) ∙ e ∙ ap (λ l. l ++ y) q.is)
 
 -- A text that is the texts of a list's elements, read one after the other.
 

@@ -1,49 +1,34 @@
 -- No two triples of version, setup and history have one text.
-use Rattle.std.proofs.Common.{◌≡◌, ℕ, ◌<◌, ◌^◌, List, [], ◌∷◌, ◌++◌, length, refl, sym, arith, decimal, Bool, true, false, flat_map, ap, ◌≤◌, ◌==◌, ◌∙◌, if◌then◌else◌}
+use Rattle.std.proofs.Common.{inl, ◌≡◌, ℕ, ◌<◌, ◌^◌, List, [], ◌∷◌, ◌++◌, length, refl, sym, arith, decimal, Bool, true, false, flat_map, ap, ◌≤◌, ◌==◌, ◌∙◌, if◌then◌else◌}
 use Rattle.std.specs.Str.Parse.{AllDigits}
 use Rattle.std.proofs.lemmas.Str.Parse.{digit_from_value}
-use Rattle.std.proofs.lemmas.Fmt.{digits_decimal, decimal_injective, decimal_nonempty}
+use Rattle.std.proofs.lemmas.Fmt.{digits_decimal, decimal_nonempty}
 use Rattle.std.specs.List.{AllByRecursion}
-use Rattle.bp_text.proofs.NumbersInTurn.{numerals}
+use Rattle.bp_text.proofs.NumbersInTurn.{ends_at, numerals}
+use Rattle.bp_text.proofs.NumbersInTurn as numbers
 use Rattle.bp_text.proofs.PartsOfTexts.{regrouped}
 use Rattle.bp_machine.specs.Setups.{SetupOf}
 use Rattle.bp_machine.specs.declared.calls.Call.{Call}
 use Rattle.bp_machine.specs.declared.calls.Reply.{Reply}
 use Rattle.bp_machine.specs.declared.calls.Reply.TheVariants.{Stopped, Ended, NoContexts, Full, Blocked, Failed, Stepped}
 use Rattle.bp_machine.specs.Histories.{letter_of, open_lines}
-use Rattle.bp_trace.specs.TraceText.{Without, bit_digit, Symbol, Piece, pieces_of, calls_of_pieces, call_line, symbol_text, piece_line, calls_text, end_line, text_of, IsWritable}
+use Rattle.bp_trace.specs.TraceText.{bit_digit, Symbol, Piece, pieces_of, calls_of_pieces, call_line, symbol_text, piece_line, calls_text, end_line, text_of, IsWritable}
 use Rattle.bp_trace.specs.declared.traces.Version.{Version}
 use Rattle.bp_trace.specs.declared.traces.Version.TheVariants.{One, Two}
 use Rattle.bp_trace.specs.Reading.{HasNoSymbol}
 use Rattle.bp_trace.proofs.PiecesAreFewest.{pieces_threads, pieces_whole}
 use Rattle.bp_trace.proofs.HeadsRead.{heads_alike}
 
--- The first of a byte cuts two lists alike; and texts of numbers, which hold digits alone.
+-- Numbers at the front of a text.
 
 pub same_head : {A : Type 0} (a b : A) (x y : List A) → a ∷ x ≡ b ∷ y → (a ≡ b) × (x ≡ y)
 same_head a b x y e = (cc, cc)
 
-pub one_cut : (byte : ℕ) (a b x y : List ℕ) → Without byte a → Without byte b → a ++ byte ∷ x ≡ b ++ byte ∷ y → (a ≡ b) × (x ≡ y)
-one_cut byte [] [] x y p q e = (refl, (same_head byte byte x y e).1)
-one_cut byte [] (d ∷ b) x y p q e = absurd (q.0 (sym (same_head byte d x (b ++ byte ∷ y) e).0))
-one_cut byte (c ∷ a) [] x y p q e = absurd (p.0 (same_head c byte (a ++ byte ∷ x) y e).0)
-one_cut byte (c ∷ a) (d ∷ b) x y p q e =
-    let heads = same_head c d (a ++ byte ∷ x) (b ++ byte ∷ y) e in
-    let rest = one_cut byte a b x y p.1 q.1 heads.1 in
-    (cc (heads.0, rest.0), rest.1)
-
-pub digits_without : (byte : ℕ) → byte < 48 → (ds : List ℕ) → AllDigits 10 ds → Without byte ds
-digits_without byte low [] p = tt
-digits_without byte low (d ∷ ds) p = (λ e. absurd (omega (arith, digit_from_value d p.0, e)), digits_without byte low ds p.1)
-
-pub decimal_without : (byte : ℕ) → byte < 48 → (n : ℕ) → n < 2 ^ 64 → Without byte (decimal n)
-decimal_without byte low n fits = digits_without byte low (decimal n) (digits_decimal numerals n fits)
-
 -- a number ends at such a byte
 pub one_number : (byte : ℕ) → byte < 48 → (m n : ℕ) (x y : List ℕ) → m < 2 ^ 64 → n < 2 ^ 64 → decimal m ++ byte ∷ x ≡ decimal n ++ byte ∷ y → (m ≡ n) × (x ≡ y)
 one_number byte low m n x y p q e =
-    let cut = one_cut byte (decimal m) (decimal n) x y (decimal_without byte low m p) (decimal_without byte low n q) e in
-    (decimal_injective m n p q cut.0, cut.1)
+    let (same, rest) = numbers.one_number m n (byte ∷ x) (byte ∷ y) p q (ends_at byte x (inl low)) (ends_at byte y (inl low)) e in
+    (same, (same_head byte byte x y rest).1)
 
 digits_begin : (ds rest : List ℕ) (letter : ℕ) (text : List ℕ) → AllDigits 10 ds → 0 < length ds → 57 < letter → ds ++ rest ≡ letter ∷ text → ⊥
 digits_begin [] rest letter text p some high e = absurd (omega arith)

@@ -1,20 +1,23 @@
 -- How the lines of traces are read and written: devices, but for what is read of a head.
 use Rattle.std.proofs.Common.{refl}
+use Rattle.std.specs.Char.{is_ascii_digit}
 use Rattle.std.specs.Prelude.{if◌then◌else◌, ◌==◌, ℕ, Bool, true, false, List, [], ◌∷◌, ◌++◌, Option, None, Some, codes, decimal, ◌≡◌, ◌≢◌, ◌<◌, length, map, flat_map, ◌⊎◌, ◌+◌}
 use Rattle.bp_machine.specs.declared.calls.Call.{Call}
 use Rattle.bp_machine.specs.declared.calls.Reply.{Reply}
 use Rattle.bp_machine.specs.Histories.{letter_of}
 use Rattle.bp_machine.specs.Setups.{SetupOf, setup_of}
 use Rattle.bp_text.specs.Formats.{bit, BreaksAt, Format}
-use Rattle.bp_text.specs.Formats.Format.{As, Before, Number, Then}
+use Rattle.bp_text.specs.Formats.Format.{After, As, Before, Number, Span, Then}
 use Rattle.bp_trace.specs.HeadFormat.{head}
 use Rattle.bp_trace.specs.TraceText.{symbol_of, symbol_text, bit_digit, call_line, HasHead, head_lines, head_text, Symbol, call_of, end_line}
 use Rattle.bp_trace.specs.declared.driving.ScheduleLine.{ScheduleLine}
+use Rattle.bp_trace.specs.declared.end_lines.DecimalState.{DecimalState}
+use Rattle.bp_trace.specs.declared.end_lines.DecimalState.TheVariants.{Start, Zero, Digits}
 use Rattle.bp_trace.specs.declared.heads.Head.{Head}
 use Rattle.bp_trace.specs.declared.faults.ReplayFault.{ReplayFault}
 use Rattle.bp_trace.specs.declared.faults.ReplayFault.TheVariants as fault
 use Rattle.bp_trace.specs.declared.traces.Version.{Version}
-use Rattle.bp_trace.specs.Replays.{IsBodyLine, IsDecimal, IsEndLine, HasOtherEnd, HasMoreAfter}
+use Rattle.bp_trace.specs.Replays.{IsBodyLine, IsEndLine, HasOtherEnd, HasMoreAfter}
 use Rattle.bp_trace.specs.declared.faults.EndCounts.{EndCounts}
 
 -- The text of the pieces of a history, call by call: a device of the writer, which no public clause
@@ -129,22 +132,27 @@ HasNoBodyLine v n last text =
 
 -- How the line that ends a trace is read: a device of the reader, which no public clause names.
 
--- the byte is no decimal digit
-abbrev pub IsNoDigit : ℕ → Type 0
-IsNoDigit byte = (byte < 48) ⊎ (57 < byte)
+-- a decimal of any length is a zero, or has digits of which the first is none
+abbrev pub more_digits : ℕ → Option DecimalState
+more_digits byte = if is_ascii_digit byte then Some Digits else None
 
--- a decimal and this byte after it begin the text, and have this size
-pub record IsDecimalAt (byte : ℕ) (text : List ℕ) (size : ℕ) : Type 0 where
-  pub digits : List ℕ
-  pub more : List ℕ
-  pub decimal : IsDecimal digits
-  pub begins : text ≡ digits ++ byte ∷ more
-  pub size_is : size ≡ length digits + 1
+abbrev pub after_digit : DecimalState → ℕ → Option DecimalState
+after_digit Start byte = if byte == 48 then Some Zero else more_digits byte
+after_digit Zero byte = None
+after_digit Digits byte = more_digits byte
 
--- no decimal with this byte after it begins the text
-abbrev pub HasNoDecimal : ℕ → List ℕ → Type 0
-HasNoDecimal byte text =
-    (digits more : List ℕ) → IsDecimal digits → text ≢ digits ++ byte ∷ more
+abbrev pub is_whole : DecimalState → Bool
+is_whole Start = false
+is_whole Zero = true
+is_whole Digits = true
+
+abbrev pub any_decimal : Format (List ℕ)
+any_decimal = Span after_digit is_whole Start
+
+-- an end line, by its two decimals
+abbrev pub end_numbers : Format (List ℕ × List ℕ)
+end_numbers =
+    After (codes "end ") (Then (Before any_decimal (codes " ")) (Before any_decimal (codes "\n")))
 
 -- an end line of this size begins the text
 pub record IsEndAt (text : List ℕ) (size : ℕ) : Type 0 where

@@ -1,58 +1,82 @@
 //! The line that ends a trace.
-ghost use Rattle.std.specs.Prelude.{◌≡◌, ◌↔◌, ◌<◌, ◌≤◌, ◌-◌, ◌^◌, ℕ, Some, IsTrue, take, length, flat_map, slice_get, MatchOption, MatchResult};
-ghost use Rattle.std.specs.Str.Parse.{AllDigits};
-ghost use Rattle.bp_trace.specs.Reading.{IsNoDigit, IsDecimalAt, HasNoDecimal, IsEndAt, HasNoEnd, IsEndRefusal};
+ghost use Rattle.std.specs.Prelude.{◌≡◌, ◌↔◌, ◌<◌, ◌-◌, ◌^◌, ◌∷◌, [], ℕ, List, IsTrue, flat_map, MatchOption, MatchResult};
+ghost use Rattle.bp_text.specs.Formats.{HasNone, IsAt};
+ghost use Rattle.bp_text.specs.Formats.Format.{Before};
+ghost use Rattle.bp_trace.specs.Reading.{after_digit, any_decimal, is_whole, more_digits, HasNoEnd, IsEndAt, IsEndRefusal};
 ghost use Rattle.bp_trace.specs.TraceText.{end_line};
 
-use crate::driving::text_from;
 use crate::faults::{EndCounts, ReplayFault};
-use crate::trace_lines::has_byte;
+use bp_text::{Machine, after, after_word, span_at};
 use itoa::Buffer;
 
-/// How many digits begin the text.
-fn digit_run(text: &[u8]) -> usize
-    ensures within { result ≤ length text.now }
-    ensures digits { AllDigits 10 (take result text.now) }
-    ensures ends { (d : ℕ) → slice_get text.now result ≡ Some d → IsNoDigit d }
-{
-    let mut count = 0;
-    while let Some(byte) = text.get(count) {
-        if !byte.is_ascii_digit() {
-            return count;
-        }
-        count += 1;
-    }
-    count
+/// How much of a decimal of any length was read.
+#[derive(Clone, Copy)]
+enum DecimalState {
+    Start,
+    Zero,
+    Digits,
 }
 
-/// How many bytes a decimal of any length and this byte after it have, where they begin the text.
-fn decimal_at(byte: u8, text: &[u8]) -> Option<usize>
-    requires { byte < 48 }
-    ensures { MatchOption result (HasNoDecimal byte text.now) (IsDecimalAt byte text.now) }
+/// The state after one more digit, if the byte is one.
+fn more_digits(byte: u8) -> Option<DecimalState>
+    ensures { result ≡ more_digits byte }
 {
-    let count = digit_run(text);
-    if count == 0 || !has_byte(byte, text, count) {
+    if !byte.is_ascii_digit() {
         return None;
     }
-    if count > 1 && has_byte(b'0', text, 0) {
-        return None;
+    Some(DecimalState::Digits)
+}
+
+impl Machine for DecimalState {
+    ghost takes = { after_digit };
+
+    ghost may_end = { is_whole };
+
+    fn after(self, byte: u8) -> Option<DecimalState> {
+        match self {
+            DecimalState::Start if byte == b'0' => Some(DecimalState::Zero),
+            DecimalState::Zero => None,
+            DecimalState::Start | DecimalState::Digits => more_digits(byte),
+        }
     }
-    Some(count + 1)
+
+    fn is_end(self) -> bool {
+        match self {
+            DecimalState::Start => false,
+            DecimalState::Zero | DecimalState::Digits => true,
+        }
+    }
+}
+
+/// What is after the decimal of any length and the byte after it that begin the text.
+fn after_decimal(text: &[u8], byte: u8) -> Option<&[u8]>
+    ensures { let decimal = Before any_decimal (byte ∷ []) in
+        MatchOption result
+        (HasNone decimal text.now)
+        (λ rest. (digits : List ℕ) × IsAt decimal text.now digits rest.now) }
+{
+    let Some((_, rest)) = span_at(DecimalState::Start, text) else {
+        return None;
+    };
+    match after(rest, byte) {
+        None => None,
+        Some(rest) => Some(rest),
+    }
 }
 
 /// How many bytes the end line has that begins the text, whatever its numbers.
 fn end_at(text: &[u8]) -> Option<usize>
     ensures { MatchOption result (HasNoEnd text.now) (IsEndAt text.now) }
 {
-    if !text.starts_with(b"end ") {
-        return None;
-    }
-    let Some(calls) = decimal_at(b' ', text_from(text, 4)) else {
+    let Some(numbers) = after_word(text, b"end ") else {
         return None;
     };
-    match decimal_at(b'\n', text_from(text, 4 + calls)) {
+    let Some(last) = after_decimal(numbers, b' ') else {
+        return None;
+    };
+    match after_decimal(last, b'\n') {
         None => None,
-        Some(left_open) => Some(4 + calls + left_open),
+        Some(rest) => Some(text.len() - rest.len()),
     }
 }
 
