@@ -19,3 +19,4 @@ pub mod OneStepRefusal
 pub mod OwnTextConfirmed
 pub mod LastWays
 pub mod DeadlocksTaken
+pub mod Elements

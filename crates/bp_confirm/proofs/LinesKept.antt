@@ -1,7 +1,7 @@
 -- Lines that are kept, and the places at which they are found.
 use Rattle.std.proofs.Common.{◌≡◌, ◌∙◌, ◌++◌, ◌∷◌, [], ◌<◌, ◌-◌, ◌≢◌, ℕ, zero, suc, List, Option, None, Some, Bor, length, take, get_or, refl, ap, sym, subst, arith, length-append, ◌&&◌, ◌==◌, Bool, true, false, not, ap₂, ◌≤◌, ◌+◌, inl, inr, slice_get, IfSome, MatchOption, option_map, is_some}
 use Rattle.std.specs.List.{AllByRecursion, list_all}
-use Rattle.std.proofs.lemmas.List.{append-nil, map-append, get_or_append_left, take_at, get_or_past}
+use Rattle.std.proofs.lemmas.List.{append-nil, map-append, get_or_append_left, get_or_push, take_at, get_or_past}
 use Rattle.std.proofs.lemmas.Option.{slice_get-get_or, slice_get-map}
 use Rattle.std.proofs.lemmas.Bool.{cases_lt}
 use Rattle.bp_language.specs.Ast.{Program}
@@ -15,7 +15,9 @@ use Rattle.bp_confirm.specs.declared.kept_lines.KeptLine.{KeptLine}
 use Rattle.bp_confirm.specs.KeptLines.{kept_lines, lines_at, no_line, AreWithin, GrowsByOne, IsKeptLine, IsStepThere}
 use Rattle.bp_text.specs.Formats.{IsAt, text_of}
 use Rattle.bp_confirm.specs.Steps.{StepLineOf, step_line, stands_at, step_of, steps_of, StepOf, value_seen, IsFirstUnseen, SeesValues}
+use Rattle.bp_confirm.proofs.Elements.{all_at_place}
 use Rattle.bp_confirm.proofs.ReadLines.{line_before}
+use Rattle.std.proofs.Math.Bool.{and-false}
 use Rattle.bp_confirm.specs.OwnSteps.{is_step, is_value, sees_values}
 use Rattle.bp_confirm.specs.Inferred.{waits_after}
 
@@ -96,12 +98,7 @@ step_at_end (y ∷ kept) x text rest at =
 -- where each line that is kept is such a one, so is each line
 pub all_at : (P : StepLineOf → Type 0) (xs : List StepLineOf) (ks : List ℕ) → AllByRecursion P xs → AreWithin xs ks → AllByRecursion P (lines_at xs ks)
 all_at P xs [] all within = tt
-all_at P xs (k ∷ ks) all within = (each_at xs k all within.0, all_at P xs ks all within.1)
-  where
-    each_at : (ys : List StepLineOf) (k : ℕ) → AllByRecursion P ys → k < length ys → P (get_or ys k no_line)
-    each_at [] k all inside = absurd (omega (arith, inside))
-    each_at (y ∷ ys) zero all inside = all.0
-    each_at (y ∷ ys) (suc k) all inside = each_at ys k all.1 (omega (arith, inside))
+all_at P xs (k ∷ ks) all within = (all_at_place P xs k no_line all within.0, all_at P xs ks all within.1)
 
 -- Values that are seen and places that are stood at, by tests and by relations.
 
@@ -115,10 +112,6 @@ no_other_value (Some true) true other = absurd (other refl)
 no_other_value (Some true) false other = refl
 no_other_value (Some false) true other = refl
 no_other_value (Some false) false other = absurd (other refl)
-
-and_off : (b : Bool) → (b && false) ≡ false
-and_off true = refl
-and_off false = refl
 
 module _ (c : Configuration) (i : ℕ) where
   abbrev test : List ℕ × Bool → Bool
@@ -134,7 +127,7 @@ module _ (c : Configuration) (i : ℕ) where
   one_unseen (w ∷ vs) zero v at off =
       let same : w ≡ v = cc in
       ap (λ b. b && list_all test vs) (ap test same ∙ off)
-  one_unseen (w ∷ vs) (suc n) v at off = ap (λ b. test w && b) (one_unseen vs n v at off) ∙ and_off (test w)
+  one_unseen (w ∷ vs) (suc n) v at off = ap (λ b. test w && b) (one_unseen vs n v at off) ∙ and-false (test w)
 
   pub seen_or_not : {X : Type 0} (o : Option X) (vs : Valuation) (place : X → ℕ) (seen : X → Option Bool) (all : Bool)
       → is_some o ≡ not all
@@ -153,7 +146,7 @@ module _ (x : StepOf) (c d : Configuration) (i : ℕ) where
   other_thread other = ap (λ b. (b && stands_at x.place (stack_of c i)) && sees_values d i x.values) other
 
   pub elsewhere : stands_at x.place (stack_of c i) ≡ false → is_step x c i d ≡ false
-  elsewhere away = ap (λ b. ((i == x.thread) && b) && sees_values d i x.values) away ∙ ap (λ b. b && sees_values d i x.values) (and_off (i == x.thread))
+  elsewhere away = ap (λ b. ((i == x.thread) && b) && sees_values d i x.values) away ∙ ap (λ b. b && sees_values d i x.values) (and-false (i == x.thread))
 
   pub if_it_sees : (i == x.thread) ≡ true → stands_at x.place (stack_of c i) ≡ true → is_step x c i d ≡ sees_values d i x.values
   if_it_sees own here = λ j. (own j && here j) && sees_values d i x.values
@@ -166,25 +159,16 @@ step_listed text lines n x within is =
 
 -- A table that tells of each thread whether it waits.
 
-at_front : (xs : List Bool) (b : Bool) (i : ℕ) → i < length xs → get_or (xs ++ b ∷ []) i false ≡ get_or xs i false
-at_front [] b i within = absurd (omega (arith, within))
-at_front (x ∷ xs) b zero within = refl
-at_front (x ∷ xs) b (suc i) within = at_front xs b i (omega (arith, within))
-
-at_end : (xs : List Bool) (b : Bool) → get_or (xs ++ b ∷ []) (length xs) false ≡ b
-at_end [] b = refl
-at_end (x ∷ xs) b = at_end xs b
-
 -- one more thread
 pub table_more : (f : ℕ → Bool) (xs new : List Bool) (b : Bool) (n : ℕ) → length xs ≡ n → new ≡ xs ++ b ∷ [] → b ≡ f n
     → ((i : ℕ) → i < n → get_or xs i false ≡ f i) → (i : ℕ) → i < n + 1 → get_or new i false ≡ f i
 table_more f xs new b n size is here each i within =
     ap (λ ys. get_or ys i false) is ∙ elim (cases_lt i n) [
-      | inl front ↦ at_front xs b i (omega (arith, front, size)) ∙ each i front
+      | inl front ↦ get_or_append_left xs (b ∷ []) false i (omega (arith, front, size)) ∙ each i front
       | inr past ↦
           let same : i ≡ n = omega (arith, within, past) in
           let last : i ≡ length xs = omega (arith, same, size) in
-          ap (λ k. get_or (xs ++ b ∷ []) k false) last ∙ at_end xs b ∙ here ∙ ap f (sym same)
+          ap (λ k. get_or (xs ++ b ∷ []) k false) last ∙ get_or_push xs b false (length xs) refl ∙ here ∙ ap f (sym same)
     ]
 
 -- no thread past the last one waits

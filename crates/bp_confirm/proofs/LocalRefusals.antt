@@ -1,5 +1,5 @@
 -- Where the call with the inferred bit does not take a step, no call with another bit does.
-use Rattle.std.proofs.Common.{◌≡◌, ◌↔◌, IsTrue, ◌++◌, ◌∷◌, ◌&&◌, nat_le, ℕ, Bool, true, false, cond, not, List, [], length, Option, None, Some, refl, ap, sym, ◌∙◌, subst, ◌<◌}
+use Rattle.std.proofs.Common.{◌≡◌, ◌++◌, ◌∷◌, ◌&&◌, nat_le, ℕ, Bool, true, false, cond, not, List, [], length, Option, None, Some, refl, ap, sym, ◌∙◌, subst, ◌<◌}
 use Rattle.std.proofs.lemmas.Bool.{false≢true}
 use Rattle.bp_language.specs.Ast.{Block, Then, Branches, Loops, Asserts, Assumes, Choose, Procedure, Program}
 use Rattle.bp_flat.specs.Moves.{Frame, Configuration, is_call, StatementEffect, Leaves, Fails, Blocks, Misses, effect, after_effect, Valuation}
@@ -11,6 +11,7 @@ use Rattle.bp_machine.specs.Histories.{stack_of, reply_to_effect, reply_on_stack
 use Rattle.bp_machine.specs.Setups.{SetupOf}
 use Rattle.bp_confirm.specs.Steps.{Place, StepOf, value_seen, SeesValues, IsStepOf}
 use Rattle.bp_confirm.specs.Inferred.{LastBits, bit_of_block, bit_of_stack, some_follow}
+use Rattle.bp_trace.proofs.LinesDriveAgain.{same_fits}
 use Rattle.bp_confirm.proofs.StepMoves.{move_of, has_left, has_failed}
 
 pub not_granted : (r q : Reply) → Some q ≡ Some r → is_granted q ≡ true → is_granted r ≡ false → ⊥
@@ -51,12 +52,6 @@ module _ (t : Program) (c : Configuration) (last : LastBits) (i : ℕ) (later : 
       → cond failed (Some Stopped) (reply_on_stack t fits c.globals (stack_of c i) b) ≡ Some r
   by_mark true fits inferred e = e
   by_mark false fits inferred e = on_stack fits (stack_of c i) inferred e
-
-same_fits : (W : Type 0) (p q : Bool) → IsTrue p ↔ W → IsTrue q ↔ W → p ≡ q
-same_fits W false false f g = refl
-same_fits W false true f g = f.1 (g.0 refl)
-same_fits W true false f g = sym (g.1 (f.0 refl))
-same_fits W true true f g = refl
 
 module _ (t : Program) (s : SetupOf) (last : LastBits) (h : List Call) (x : StepOf) (later : List StepOf) (a : Call) (thread : a.thread ≡ x.thread)
     (bit : a.bit ≡ bit_of_stack last x.thread later (stack_of (configuration_after t s h) x.thread)) where

@@ -3,8 +3,10 @@ use Rattle.std.proofs.Common.{◌≡◌, ◌≢◌, ◌==◌, ◌<◌, ◌+◌, 
 use Rattle.std.specs.List.{AllByRecursion}
 use Rattle.std.proofs.lemmas.Bool.Decides.{nat_tests}
 use Rattle.std.proofs.lemmas.Option.{slice_get-get_or, slice_get_past}
-use Rattle.std.proofs.lemmas.List.{length-map}
-use Rattle.std.proofs.Math.Seq.{drop-cons, drop-length}
+use Rattle.std.proofs.lemmas.List.{drop-set, length-map, map-set}
+use Rattle.bp_machine.proofs.HistoryWithCall.{set_other, set_same}
+use Rattle.bp_confirm.proofs.Elements.{all_at_place, rest_at}
+use Rattle.std.proofs.Math.Seq.{drop-length}
 use Rattle.std.proofs.lemmas.Bool.{false≢true}
 use Rattle.bp_text.specs.Lines.{position_at}
 use Rattle.bp_language.specs.Ast.{Block, Done, Then, Branches, Loops, Choose, Program}
@@ -93,37 +95,15 @@ none_yet size i xs within =
     let past : location_in xs (length xs) ≡ nowhere = ap (option_map (λ x. x.location)) (slice_get_past xs (length xs) (omega arith)) in
     none_at (location_in xs) size (length xs) i past within ∙ ap (λ ys. Some (next_location i ys)) (sym (drop-length xs))
 
-map_set : (f : ℕ → Option Location) (xs : List ℕ) (i v : ℕ) → map f (set xs i v) ≡ set (map f xs) i (f v)
-map_set f [] i v = refl
-map_set f (x ∷ xs) zero v = refl
-map_set f (x ∷ xs) (suc i) v = ap (λ ys. f x ∷ ys) (map_set f xs i v)
-
-drop_set : (xs : List ℕ) (i v : ℕ) → i < length xs → drop i (set xs i v) ≡ v ∷ drop (suc i) xs
-drop_set [] i v within = absurd (omega (arith, within))
-drop_set (x ∷ xs) zero v within = refl
-drop_set (x ∷ xs) (suc i) v within = drop_set xs i v (omega (arith, within))
-
 location_there : (xs : List StepLineOf) (n : ℕ) (d : StepLineOf) → n < length xs → location_in xs n ≡ Some (get_or xs n d).location
 location_there xs n d within = ap (option_map (λ x. x.location)) (slice_get-get_or xs n d within)
-
-set_same : (xs : List (Option Location)) (i : ℕ) (v : Option Location) → i < length xs → slice_get (set xs i v) i ≡ Some v
-set_same [] i v within = absurd (omega (arith, within))
-set_same (x ∷ xs) zero v within = refl
-set_same (x ∷ xs) (suc i) v within = set_same xs i v (omega (arith, within))
-
-set_other : (xs : List (Option Location)) (i j : ℕ) (v : Option Location) → i ≢ j → slice_get (set xs i v) j ≡ slice_get xs j
-set_other [] i j v other = refl
-set_other (x ∷ xs) zero zero v other = absurd (other refl)
-set_other (x ∷ xs) zero (suc j) v other = refl
-set_other (x ∷ xs) (suc i) zero v other = refl
-set_other (x ∷ xs) (suc i) (suc j) v other = set_other xs i j v (λ e. other (ap suc e))
 
 module _ (xs : List StepLineOf) (n : ℕ) (d : StepLineOf) (within : n - 1 < length xs) (some : 0 < n) where
   abbrev m : ℕ
   m = n - 1
 
   rest_is : drop (n - 1) xs ≡ get_or xs (n - 1) d ∷ drop n xs
-  rest_is = let one : suc (n - 1) ≡ n = omega (arith, some) in drop-cons xs (n - 1) d within ∙ ap (λ k. get_or xs (n - 1) d ∷ drop k xs) one
+  rest_is = let one : n - 1 + 1 ≡ n = omega (arith, some) in rest_at xs (n - 1) d within ∙ ap (λ k. get_or xs (n - 1) d ∷ drop k xs) one
 
   -- the table has one more location
   pub table_more : (table : List (Option Location)) (size : ℕ) (i : ℕ) → length table ≡ size → (get_or xs (n - 1) d).thread < size
@@ -139,19 +119,14 @@ module _ (xs : List StepLineOf) (n : ℕ) (d : StepLineOf) (within : n - 1 < len
       by_test true e =
           let same : (get_or xs (n - 1) d).thread ≡ i = grind (arith, nat_tests) in
           ap (slice_get (set table (get_or xs (n - 1) d).thread (Some (get_or xs (n - 1) d).location))) (sym same)
-          ∙ set_same table (get_or xs (n - 1) d).thread (Some (get_or xs (n - 1) d).location) (omega (arith, long, few))
+          ∙ set_same table (get_or xs (n - 1) d).thread _ (Some (get_or xs (n - 1) d).location)
+          (slice_get-get_or table (get_or xs (n - 1) d).thread nowhere (omega (arith, long, few)))
           ∙ ap Some (sym (ap (next_location i) rest_is ∙ ap (λ b. cond b (Some (get_or xs (n - 1) d).location) (next_location i (drop n xs))) e))
       by_test false e =
-          let apart : (get_or xs (n - 1) d).thread ≢ i = λ same. grind (arith, nat_tests) in
+          let apart : i ≢ (get_or xs (n - 1) d).thread = λ same. grind (arith, nat_tests) in
           set_other table (get_or xs (n - 1) d).thread i (Some (get_or xs (n - 1) d).location) apart
           ∙ old
           ∙ ap Some (sym (ap (next_location i) rest_is ∙ ap (λ b. cond b (Some (get_or xs (n - 1) d).location) (next_location i (drop n xs))) e))
-
-  -- the thread of each line has its entry
-  each_small : (size k : ℕ) (e : StepLineOf) (ys : List StepLineOf) → AllByRecursion (λ y. y.thread < size) ys → k < length ys → (get_or ys k e).thread < size
-  each_small size k e [] all inside = absurd (omega (arith, inside))
-  each_small size zero e (y ∷ ys) all inside = all.0
-  each_small size (suc k) e (y ∷ ys) all inside = each_small size k e ys all.1 (omega (arith, inside))
 
   pub table_next : (table : List ℕ) (thread : ℕ) → thread ≡ (get_or xs (n - 1) d).thread
       → AllByRecursion (λ y. y.thread < MAX_THREADS) xs → (i : ℕ) → length table ≡ MAX_THREADS
@@ -161,9 +136,9 @@ module _ (xs : List StepLineOf) (n : ℕ) (d : StepLineOf) (within : n - 1 < len
       let entries = map (location_in xs) table in
       let many : length entries ≡ MAX_THREADS = length-map table (location_in xs) ∙ long in
       ap (λ k. slice_get (map (location_in xs) (set table k (n - 1))) i) thread_is
-      ∙ ap (λ ys. slice_get ys i) (map_set (location_in xs) table (get_or xs (n - 1) d).thread (n - 1))
+      ∙ ap (λ ys. slice_get ys i) (map-set (location_in xs) table (get_or xs (n - 1) d).thread (n - 1))
       ∙ ap (λ v. slice_get (set entries (get_or xs (n - 1) d).thread v) i) (location_there xs (n - 1) d within)
-      ∙ table_more entries MAX_THREADS i many (each_small MAX_THREADS (n - 1) d xs all within) old
+      ∙ table_more entries MAX_THREADS i many (all_at_place (λ y. y.thread < MAX_THREADS) xs (n - 1) d all within) old
 
   -- and one more line is done
   pub done_next : (table : List ℕ) (thread k : ℕ) → thread ≡ (get_or xs (n - 1) d).thread
@@ -173,15 +148,15 @@ module _ (xs : List StepLineOf) (n : ℕ) (d : StepLineOf) (within : n - 1 < len
       → map (location_in xs) (drop (n - 1) (set steps (n - 1) (get_or table thread k))) ≡ next_locations (drop (n - 1) xs)
   done_next table thread k thread_is all long each steps many done =
       let i = (get_or xs (n - 1) d).thread in
-      let few = each_small MAX_THREADS (n - 1) d xs all within in
-      let one : suc (n - 1) ≡ n = omega (arith, some) in
+      let few = all_at_place (λ y. y.thread < MAX_THREADS) xs (n - 1) d all within in
+      let one : n - 1 + 1 ≡ n = omega (arith, some) in
       let entries = map (location_in xs) table in
       let wide : i < length entries = omega (arith, few, long, length-map table (location_in xs)) in
       let found : Some (get_or entries i nowhere) ≡ Some (next_location i (drop n xs)) = sym (slice_get-get_or entries i nowhere wide) ∙ each i few in
       let next : get_or entries i nowhere ≡ next_location i (drop n xs) = cc in
       let value : location_in xs (get_or table thread k) ≡ next_location i (drop n xs) =
       ap (λ m. location_in xs (get_or table m k)) thread_is ∙ sym (mapped_at (location_in xs) table i k nowhere (omega (arith, few, long))) ∙ next in
-      ap (map (location_in xs)) (drop_set steps (n - 1) (get_or table thread k) (omega (arith, many, within)))
+      ap (map (location_in xs)) (drop-set steps (n - 1) (get_or table thread k) (omega (arith, many, within)))
       ∙ (λ j. value j ∷ map (location_in xs) (drop (one j) steps))
       ∙ ap (λ ys. next_location i (drop n xs) ∷ ys) done
       ∙ sym (ap next_locations rest_is)

@@ -1,7 +1,7 @@
 -- A place in the lawful program of a text is that of one instruction.
-use Rattle.std.proofs.Common.{◌≡◌, ◌∙◌, ◌<◌, ◌||◌, subst, ◌⊎◌, inl, inr, ℕ, zero, suc, Bool, true, false, List, [], ◌∷◌, Option, None, Some, slice_get, map, take, refl, ap, sym, arith, option_map}
+use Rattle.std.proofs.Common.{◌≡◌, ◌∙◌, ◌<◌, ◌||◌, subst, inl, inr, ℕ, zero, suc, Bool, true, false, List, [], ◌∷◌, Option, None, Some, slice_get, map, take, refl, ap, sym, arith, option_map}
 use Rattle.std.specs.Str.{bytes_eq}
-use Rattle.std.proofs.lemmas.Bool.{false≢true}
+use Rattle.std.proofs.lemmas.Bool.{cases_order, false≢true}
 use Rattle.std.proofs.lemmas.Option.{slice_get-map}
 use Rattle.std.proofs.lemmas.Slice.Eq.{bytes_eq-Decides}
 use Rattle.bp_language.specs.Ast.{Name, Block, Done, Then, Procedure, Program}
@@ -13,15 +13,6 @@ use Rattle.bp_flat.specs.StandsFor.{Place, Remains, place, places_of, start_of_b
 use Rattle.bp_flat.proofs.ProceduresOfPlaces.{ends, starts, procedure_of}
 use Rattle.bp_confirm.specs.Confirms.{GoesOnAt}
 use Rattle.bp_confirm.proofs.StartsInOrder.{starts_distinct}
-
-order : (m n : ℕ) → (m < n) ⊎ ((m ≡ n) ⊎ (n < m))
-order zero zero = inr (inl refl)
-order zero (suc n) = inl (omega arith)
-order (suc m) zero = inr (inr (omega arith))
-order (suc m) (suc n) = elim (order m n) [
-  | inl less ↦ inl (omega (arith, less))
-  | inr rest ↦ elim rest [ inl same ↦ inr (inl (ap suc same)) | inr more ↦ inr (inr (omega (arith, more))) ]
-]
 
 -- after an end there is one more
 ends_grow : (xs : List (Option ℕ)) (m n : ℕ) → m < n → slice_get xs m ≡ Some None → ends (take m xs) < ends (take n xs)
@@ -72,9 +63,9 @@ module _ (text : List ℕ) (t : Program) (is : IsLawfulText text t) where
       starts_distinct text t is.derived m n at (start_at m p (Then label at s r) first)
       (start_at n p (Then label at s r) second)
   one_number m n p Done first second =
-      elim (order m n) [
-        | inl less ↦ absurd (end_before m n p less first second)
-        | inr rest ↦ elim rest [ inl same ↦ same | inr more ↦ absurd (end_before n m p more second first) ]
+      elim (cases_order m n) [
+        | inl same ↦ same
+        | inr rest ↦ elim rest [ inl less ↦ absurd (end_before m n p less first second) | inr more ↦ absurd (end_before n m p more second first) ]
       ]
 
   -- a thread goes on at one instruction

@@ -1,5 +1,5 @@
 -- No two bytes of a text have one position.
-use Rattle.std.proofs.Common.{◌≡◌, ◌≢◌, ◌<◌, ◌≤◌, ◌+◌, ◌-◌, ◌==◌, ◌++◌, ℕ, suc, Bool, true, false, cond, not, List, [], ◌∷◌, length, reverse, take, drop, get_or, refl, ap, sym, ◌∙◌, subst, arith, inl, inr, ◌⊎◌, length-append, zero, Option, Some, slice_get}
+use Rattle.std.proofs.Common.{◌≡◌, ◌≢◌, ◌<◌, ◌≤◌, ◌+◌, ◌-◌, ◌==◌, ◌++◌, ℕ, suc, Bool, true, false, cond, not, List, [], ◌∷◌, length, reverse, take, drop, get_or, refl, ap, sym, ◌∙◌, subst, arith, inl, inr, ◌⊎◌, length-append, Option, Some, slice_get}
 use Rattle.std.specs.List.{prefix_len, filter, AllByRecursion}
 use Rattle.std.proofs.lemmas.List.{take-take, drop-take, take-append-drop, reverse-append}
 use Rattle.std.proofs.lemmas.List.Elements.{filter-append}
@@ -12,6 +12,7 @@ use Rattle.bp_text.proofs.PartsOfTexts.{regrouped}
 use Rattle.bp_language.specs.Ast.{Name, Block, Done, Then, Statement, Branches, Loops, Procedure, Program}
 use Rattle.bp_language.specs.Tokens.{Token}
 use Rattle.bp_language.specs.Grammar.{IsForm, branch, loop, IsStmt, labelled, unlabelled, IsStmts, one_stmt, more_stmts, IsProc, proc, IsProcs, no_proc, more_procs, Derives, program}
+use Rattle.bp_confirm.proofs.Elements.{all_got}
 use Rattle.bp_flat.specs.Moves.{chain}
 use Rattle.bp_flat.specs.StandsFor.{Place, place, places, places_in, places_of}
 
@@ -137,13 +138,8 @@ procs_full no_proc = tt
 procs_full (more_procs {procedure = p} {more = ps} is more) =
     both_full (places p p.body Done) (place p Done ∷ places_of ps) (block_full p p.body Done (proc_full is)) (tt, procs_full more)
 
-full_at : (xs : List Place) (n : ℕ) (x : Place) → AreFull xs → slice_get xs n ≡ Some x → IsFull x.left
-full_at [] n x full at = absurd cc
-full_at (y ∷ xs) zero x full at = let same : y ≡ x = cc in subst (λ z. IsFull z.left) same full.0
-full_at (y ∷ xs) (suc n) x full at = full_at xs n x full.1 at
-
 derived_full : {ts : List Token} {t : Program} → Derives ts t → AreFull (places_of t.procedures)
 derived_full (program globals procs) = procs_full procs
 
 pub full_place : {ts : List Token} (t : Program) → Derives ts t → (n : ℕ) (x : Place) → slice_get (places_of t.procedures) n ≡ Some x → IsFull x.left
-full_place t is n x at = full_at (places_of t.procedures) n x (derived_full is) at
+full_place t is n x at = all_got (λ y. IsFull y.left) (places_of t.procedures) n x (derived_full is) at

@@ -1,8 +1,6 @@
 -- A text of steps has at most one refusal, and none where a history confirms them.
-use Rattle.std.proofs.Common.{◌≡◌, ◌∙◌, ◌<◌, ◌+◌, ℕ, zero, suc, Bool, true, false, List, [], ◌∷◌, ◌++◌, length, take, drop, get_or, Some, refl, ap, sym, subst, arith, ◌≢◌, slice_get, take-append-drop}
+use Rattle.std.proofs.Common.{◌≡◌, ◌∙◌, ◌<◌, ◌+◌, ℕ, Bool, true, false, List, [], ◌∷◌, length, take, drop, get_or, Some, refl, ap, sym, subst, arith, ◌≢◌, slice_get}
 use Rattle.std.proofs.Math.ListN.{length-take}
-use Rattle.std.proofs.Math.Seq.{drop-cons}
-use Rattle.std.specs.List.{AllByRecursion}
 use Rattle.std.proofs.lemmas.Bool.{false≢true}
 use Rattle.bp_language.specs.Ast.{Program}
 use Rattle.bp_flat.specs.Moves.{Valuation}
@@ -24,48 +22,27 @@ use Rattle.bp_confirm.specs.declared.choices.LastChoice.{LastChoice}
 use Rattle.bp_confirm.specs.Inferred.{zeros}
 use Rattle.bp_confirm.specs.Laws.{NoRefusalOfConfirmed, OneRefusal}
 use Rattle.bp_text.proofs.WholeTexts.{none_bad, one_bad, one_reading}
+use Rattle.bp_trace.proofs.HeadsRead.{all_of_both}
+use Rattle.bp_confirm.proofs.Elements.{all_here, first_once, parts_at, parts_got, take_got}
+use Rattle.std.proofs.lemmas.Option.{slice_get_within}
 use Rattle.bp_confirm.proofs.OneStepRefusal.{not_followed_too, one_step_refusal}
 
 -- The first value, and the first line, of what is not declared.
-
--- the elements before the n-th, it, and the others
-parts_at : {X : Type 0} (xs : List X) (n : ℕ) (d : X) → n < length xs → xs ≡ take n xs ++ get_or xs n d ∷ drop (n + 1) xs
-parts_at xs n d within =
-    let one : suc n ≡ n + 1 = omega arith in
-    sym (take-append-drop n xs) ∙ ap (λ ys. take n xs ++ ys) (drop-cons xs n d within ∙ ap (λ k. get_or xs n d ∷ drop k xs) one)
-
--- the values
-parts_of : (vs : Valuation) (n : ℕ) (v : List ℕ × Bool) → slice_get vs n ≡ Some v → vs ≡ take n vs ++ v ∷ drop (suc n) vs
-parts_of [] n v at = absurd cc
-parts_of (w ∷ ws) zero v at = let same : w ≡ v = cc in ap (λ x. x ∷ ws) same
-parts_of (w ∷ ws) (suc n) v at = ap (λ xs. w ∷ xs) (parts_of ws n v at)
-
-as_many_taken : (vs : Valuation) (n : ℕ) (v : List ℕ × Bool) → slice_get vs n ≡ Some v → length (take n vs) ≡ n
-as_many_taken [] n v at = absurd cc
-as_many_taken (w ∷ ws) zero v at = refl
-as_many_taken (w ∷ ws) (suc n) v at = ap suc (as_many_taken ws n v at)
 
 module _ (t : Program) (v : List ℕ × Bool) where
   pub first_undeclared : (vs : Valuation) (n : ℕ) → slice_get vs n ≡ Some v → AreDeclared t (take n vs) → declares t v.0 ≡ false → IsFirstUndeclared t vs n
   first_undeclared vs n at first none = record {
     before = take n vs;
     value = v;
-    after = drop (suc n) vs;
-    parts = parts_of vs n v at;
+    after = drop (n + 1) vs;
+    parts = parts_got vs n v at;
     first = first;
-    number = sym (as_many_taken vs n v at);
+    number = let within = slice_get_within vs n v at in let size : length (take n vs) ≡ n = simp length-take (omega arith) in sym size;
     undeclared = none;
   }
 
-  one_more_declared : (vs : Valuation) (n : ℕ) → slice_get vs n ≡ Some v → AreDeclared t (take n vs) → declares t v.0 ≡ true → AreDeclared t (take (suc n) vs)
-  one_more_declared [] n at first here = absurd cc
-  one_more_declared (w ∷ ws) zero at first here = let same : v ≡ w = cc in (ap (λ x. declares t x.0) (sym same) ∙ here, tt)
-  one_more_declared (w ∷ ws) (suc n) at first here = (first.0, one_more_declared ws n at first.1 here)
-
   pub declared_more : (vs : Valuation) (n : ℕ) → slice_get vs n ≡ Some v → AreDeclared t (take n vs) → declares t v.0 ≡ true → AreDeclared t (take (n + 1) vs)
-  declared_more vs n at first here =
-      let one : suc n ≡ n + 1 = omega arith in
-      subst (λ k. AreDeclared t (take k vs)) one (one_more_declared vs n at first here)
+  declared_more vs n at first here = subst (AreDeclared t) (sym (take_got vs n v at)) (all_of_both (λ x. declares t x.0 ≡ true) (take n vs) (v ∷ []) first (here, tt))
 
 -- the lines
 module _ (t : Program) (s : SetupOf) (xs : List StepLineOf) (n : ℕ) (d x : StepLineOf) (within : n < length xs)
@@ -85,18 +62,6 @@ module _ (t : Program) (s : SetupOf) (xs : List StepLineOf) (n : ℕ) (d x : Ste
 pub of_threads : (t : Program) (s : SetupOf) (xs : List StepLineOf) → AreDeclaredLines t s xs → AreOfThreads s xs
 of_threads t s [] all = tt
 of_threads t s (x ∷ xs) all = (all.0.thread, of_threads t s xs all.1)
-
-all_here : {X : Type 0} (P : X → Type 0) (a : List X) (x : X) (c : List X) → AllByRecursion P (a ++ x ∷ c) → P x
-all_here P [] x c all = all.0
-all_here P (y ∷ a) x c all = all_here P a x c all.1
-
--- the first element that has not this property is at one place
-first_once : {X : Type 0} (P : X → Type 0) (a b c d : List X) (x y : X) → AllByRecursion P a → (P x → ⊥) → AllByRecursion P b → (P y → ⊥)
-    → a ++ x ∷ c ≡ b ++ y ∷ d → (length a ≡ length b) × (x ≡ y)
-first_once P [] [] c d x y p not_x q not_y e = (refl, cc)
-first_once P [] (z ∷ b) c d x y p not_x q not_y e = let same : z ≡ x = cc in absurd (not_x (subst P same q.0))
-first_once P (z ∷ a) [] c d x y p not_x q not_y e = let same : z ≡ y = cc in absurd (not_y (subst P same p.0))
-first_once P (z ∷ a) (w ∷ b) c d x y p not_x q not_y e = let (size, same) = first_once P a b c d x y p.1 not_x q.1 not_y cc in (ap suc size, same)
 
 -- lines of what is not declared
 module _ (t : Program) (s : SetupOf) where

@@ -1,5 +1,5 @@
 -- The values on a line, and the part of a text that says them.
-use Rattle.std.proofs.Common.{zero, suc, None, Some, drop, ◌≡◌, ◌+◌, ◌-◌, ◌≤◌, ℕ, Bool, List, [], ◌∷◌, ◌++◌, length, length-append, take, flat_map, refl, sym, ap, ◌∙◌, subst, arith}
+use Rattle.std.proofs.Common.{suc, Some, drop, ◌≡◌, ◌+◌, ◌-◌, ◌≤◌, ℕ, Bool, List, [], ◌∷◌, ◌++◌, length, length-append, take, flat_map, refl, sym, ap, ◌∙◌, subst, arith}
 use Rattle.std.proofs.lemmas.List.{append-nil, take_at}
 use Rattle.bp_text.specs.Formats.{bit_again, bit_digit}
 use Rattle.std.specs.Prelude.{slice_get}
@@ -13,6 +13,7 @@ use Rattle.bp_confirm.specs.declared.fields.NameState.TheVariants.{Start}
 use Rattle.bp_confirm.specs.Steps.{after_byte, may_end}
 use Rattle.bp_flat.specs.Moves.{Valuation}
 use Rattle.bp_confirm.specs.Steps.{value}
+use Rattle.bp_confirm.proofs.Elements.{past_none}
 use Rattle.bp_confirm.specs.LineReading.{after_name, values_from, values_in, SaysValues}
 use Rattle.bp_confirm.specs.LineReading.Reading.{Name, Bit}
 
@@ -71,19 +72,13 @@ pub record AreReadTo (text rest : List ℕ) (n : ℕ) : Type 0 where
   pub all : AreAll value rest (drop n (values_in text))
   pub few : n + length rest ≤ length text
 
-all_taken : (vs : Valuation) (n : ℕ) → slice_get vs n ≡ None → take n vs ≡ vs
-all_taken [] zero none = refl
-all_taken [] (suc n) none = refl
-all_taken (v ∷ vs) zero none = absurd cc
-all_taken (v ∷ vs) (suc n) none = ap (λ ws. v ∷ ws) (all_taken vs n none)
-
 module _ (text : List ℕ) (is : SaysValues text) where
   pub none_read : AreReadTo text text 0
   none_read = record { all = is; few = omega arith }
 
 module _ (text rest : List ℕ) (n : ℕ) (read : AreReadTo text rest n) where
   pub all_read : HasNone value rest → take n (values_in text) ≡ values_in text
-  all_read none = all_taken (values_in text) n (no_next (values_in text) n n read.all none (omega arith))
+  all_read none = past_none (values_in text) n (no_next (values_in text) n n read.all none (omega arith))
 
   module _ (v : List ℕ × Bool) (more : List ℕ) (at : IsAt value rest v more) where
     next : IsNext value (values_in text) n v more

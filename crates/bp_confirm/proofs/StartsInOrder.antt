@@ -209,17 +209,13 @@ module _ (size : ℕ) where
 
   -- each start is within these
   within_order : (low high : ℕ) (xs : List (Option ℕ)) (n a : ℕ) → Increasing low high xs → slice_get xs n ≡ Some (Some a) → (low ≤ a) × (a < size)
-  within_order low high [] n a order at = absurd cc
-  within_order low high (None ∷ xs) zero a order at = absurd cc
   within_order low high (None ∷ xs) (suc n) a order at = within_order low high xs n a order at
   within_order low high (Some b ∷ xs) zero a order at = let same : b ≡ a = cc in (omega (arith, same, order.0), omega (arith, same, order.1))
   within_order low high (Some b ∷ xs) (suc n) a order at = let more = within_order (suc b) high xs n a order.2 at in (omega (arith, more.0, order.0), more.1)
+  within_order low high xs n a order at = absurd cc
 
   distinct : (low high : ℕ) (xs : List (Option ℕ)) (m n a : ℕ) → Increasing low high xs → slice_get xs m ≡ Some (Some a)
       → slice_get xs n ≡ Some (Some a) → m ≡ n
-  distinct low high [] m n a order p q = absurd cc
-  distinct low high (None ∷ xs) zero n a order p q = absurd cc
-  distinct low high (None ∷ xs) (suc m) zero a order p q = absurd cc
   distinct low high (None ∷ xs) (suc m) (suc n) a order p q = ap suc (distinct low high xs m n a order p q)
   distinct low high (Some b ∷ xs) zero zero a order p q = refl
   distinct low high (Some b ∷ xs) zero (suc n) a order p q =
@@ -227,6 +223,7 @@ module _ (size : ℕ) where
   distinct low high (Some b ∷ xs) (suc m) zero a order p q =
       let same : b ≡ a = cc in absurd (omega (arith, same, (within_order (suc b) high xs m a order.2 p).0))
   distinct low high (Some b ∷ xs) (suc m) (suc n) a order p q = ap suc (distinct (suc b) high xs m n a order.2 p q)
+  distinct low high xs m n a order p q = absurd cc
 
 -- the tokens of a text are in order
 one_token : (k : Option TokenKind) (at size : ℕ) (bytes : List ℕ) (ts : List Token) → at < size

@@ -4,7 +4,6 @@ use Rattle.std.specs.Option.{option_copied}
 use Rattle.std.proofs.lemmas.List.{take_more, take-append-drop, append-nil, map_push, take_all}
 use Rattle.std.proofs.lemmas.Bool.{false≢true}
 use Rattle.std.proofs.Math.ListN.{length-take, drop_of_length-le}
-use Rattle.std.proofs.Math.Seq.{drop-cons}
 use Rattle.bp_text.proofs.PartsOfTexts.{regrouped}
 use Rattle.bp_language.specs.Ast.{Block, Procedure, Program}
 use Rattle.bp_flat.specs.Moves.{Configuration, Valuation}
@@ -32,6 +31,7 @@ use Rattle.bp_confirm.specs.declared.confirming.StepFault.TheVariants as fault
 use Rattle.bp_confirm.specs.declared.confirming.StepReason.{StepReason}
 use Rattle.bp_confirm.specs.declared.confirming.StepReason.TheVariants.{Elsewhere, Ambiguous, Finished, Refused, Differs}
 use Rattle.bp_confirm.specs.declared.confirming.StepRefusal.{StepRefusal}
+use Rattle.bp_confirm.proofs.Elements.{parts_at, rest_at, take_got}
 use Rattle.bp_confirm.specs.Confirms.{IsDifference, GoesOnAt, StandsAtPlace, IsStuck, IsReason, ForStuck, IsStepRefusal, IsNotFollowed}
 use Rattle.bp_confirm.specs.declared.source_points.SourcePoint.{SourcePoint}
 use Rattle.bp_confirm.proofs.BitsOfEffects.{fork_is}
@@ -105,35 +105,27 @@ module _ (text : List ℕ) (t : Program) (s : SetupOf) (last : LastBits) (lines 
       → FollowAfter t s last [] (steps_of text (take (n + 1) lines)) (steps_of text (drop (n + 1) lines)) new
   follow_next d h new a within is follow next =
       let x = get_or lines n d in
-      let rest : drop n lines ≡ get_or lines n d ∷ drop (n + 1) lines =
-      (let one : suc n ≡ n + 1 = omega arith in drop-cons lines n d within ∙ ap (λ k. get_or lines n d ∷ drop k lines) one) in
       let front : steps_of text (take (n + 1) lines) ≡ steps_of text (take n lines) ++ step_of text x ∷ [] =
       ap (steps_of text) (take_more lines n d within) ∙ map_push (step_of text) (take n lines) x in
-      let before = subst (λ ys. FollowAfter t s last [] (steps_of text (take n lines)) ys h) (ap (steps_of text) rest) follow in
+      let before = subst (λ ys. FollowAfter t s last [] (steps_of text (take n lines)) ys h) (ap (steps_of text) (rest_at lines n d within)) follow in
       let after = follow_more t s last [] (steps_of text (take n lines)) (step_of text x) (steps_of text (drop (n + 1) lines)) h a before next in
       subst (λ xs. FollowAfter t s last [] xs (steps_of text (drop (n + 1) lines)) new) (sym front)
       (subst (λ k. FollowAfter t s last [] (steps_of text (take n lines) ++ step_of text x ∷ []) (steps_of text (drop (n + 1) lines)) k) (sym is) after)
 
   module _ (d : StepLineOf) (h : List Call) (within : n < length lines)
       (follow : FollowAfter t s last [] (steps_of text (take n lines)) (steps_of text (drop n lines)) h) where
-    rest_is : drop n lines ≡ get_or lines n d ∷ drop (n + 1) lines
-    rest_is = let one : suc n ≡ n + 1 = omega arith in drop-cons lines n d within ∙ ap (λ k. get_or lines n d ∷ drop k lines) one
-
     none_takes : IsStuck t s h (step_of text (get_or lines n d)) → (g : List Call) → Takes t s (steps_of text (take n lines ++ get_or lines n d ∷ [])) g → ⊥
     none_takes stuck g taking =
         let x = step_of text (get_or lines n d) in
-        let own = subst (λ ys. FollowAfter t s last [] (steps_of text (take n lines)) ys h) (ap (steps_of text) rest_is) follow in
+        let own = subst (λ ys. FollowAfter t s last [] (steps_of text (take n lines)) ys h) (ap (steps_of text) (rest_at lines n d within)) follow in
         let other = subst (λ xs. Takes t s xs g) (map_push (step_of text) (take n lines) (get_or lines n d)) taking in
         let found = transfer t s last (steps_of text (take n lines)) x (steps_of text (drop (n + 1) lines)) h g own other in
         stuck found.0 found.1
 
     for_all : (reason : StepReason) → ForStuck reason (IsStuck t s h (step_of text (get_or lines n d)))
         → ForStuck reason ((g : List Call) → Takes t s (steps_of text (take n lines ++ get_or lines n d ∷ [])) g → ⊥)
-    for_all Elsewhere stuck = none_takes stuck
     for_all Ambiguous stuck = tt
-    for_all Finished stuck = none_takes stuck
-    for_all (Refused r) stuck = none_takes stuck
-    for_all (Differs d) stuck = none_takes stuck
+    for_all reason stuck = none_takes stuck
 
     step_refused : (r : StepRefusal)
         → IsRefusedHere text t s h (get_or lines n d) (steps_of text (drop (n + 1) lines)) (n + 1) r
@@ -142,12 +134,12 @@ module _ (text : List ℕ) (t : Program) (s : SetupOf) (last : LastBits) (lines 
       before = take n lines;
       step = get_or lines n d;
       later = drop (n + 1) lines;
-      whole = sym (take-append-drop n lines) ∙ ap (λ ys. take n lines ++ ys) rest_is;
+      whole = parts_at lines n d within;
       line = let size : length (take n lines) ≡ n = simp length-take (omega arith) in omega (arith, size, here.line);
       thread = here.thread;
       location = here.location;
       history = h;
-      follows = subst (λ ys. FollowAfter t s last [] (steps_of text (take n lines)) ys h) (ap (steps_of text) rest_is) follow;
+      follows = subst (λ ys. FollowAfter t s last [] (steps_of text (take n lines)) ys h) (ap (steps_of text) (rest_at lines n d within)) follow;
       number = here.number;
       stand = here.stand;
       reason = here.reason;
@@ -180,18 +172,13 @@ unseen_not c i vs n seen unseen sees = unseen.differs (unseen.is_seen ∙ seen_a
 
 -- one more value is seen
 module _ (c : Configuration) (i : ℕ) (v : List ℕ × Bool) where
-  one_more_seen : (vs : Valuation) (n : ℕ) → slice_get vs n ≡ Some v → SeesValues c i (take n vs)
-      → value_seen c.globals (stack_of c i) v.0 ≡ Some v.1 → SeesValues c i (take (suc n) vs)
-  one_more_seen [] zero at sees here = absurd cc
-  one_more_seen [] (suc n) at sees here = absurd cc
-  one_more_seen (w ∷ ws) zero at sees here = let same : v ≡ w = cc in (subst (λ x. value_seen c.globals (stack_of c i) x.0 ≡ Some x.1) same here, tt)
-  one_more_seen (w ∷ ws) (suc n) at sees here = (sees.0, one_more_seen ws n at sees.1 here)
+  seen_too : (vs : Valuation) → SeesValues c i vs → value_seen c.globals (stack_of c i) v.0 ≡ Some v.1 → SeesValues c i (vs ++ v ∷ [])
+  seen_too [] sees here = (here, tt)
+  seen_too (w ∷ ws) sees here = (sees.0, seen_too ws sees.1 here)
 
   pub sees_more : (vs : Valuation) (n : ℕ) → slice_get vs n ≡ Some v → SeesValues c i (take n vs)
       → value_seen c.globals (stack_of c i) v.0 ≡ Some v.1 → SeesValues c i (take (n + 1) vs)
-  sees_more vs n at sees here =
-      let one : suc n ≡ n + 1 = omega arith in
-      subst (λ k. SeesValues c i (take k vs)) one (one_more_seen vs n at sees here)
+  sees_more vs n at sees here = subst (SeesValues c i) (sym (take_got vs n v at)) (seen_too (take n vs) sees here)
 
 -- the refusals of the step of one line, whose thread goes on at this instruction
 module _ (text : List ℕ) (t : Program) (s : SetupOf) (last : LastBits) (h : List Call) (x : StepLineOf) (later : List StepOf) (n : ℕ) (number : Option ℕ)

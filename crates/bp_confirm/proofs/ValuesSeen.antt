@@ -22,6 +22,7 @@ use Rattle.bp_confirm.specs.Confirms.{stand_at_point, stand_at_start, stand_in, 
 use Rattle.bp_confirm.specs.declared.step_lines.Location.{Location}
 use Rattle.bp_confirm.specs.Steps.{place_of, stands_at, local_seen, own_value, qualified_values}
 use Rattle.bp_confirm.specs.ConfirmedTexts.{AreKnown}
+use Rattle.bp_confirm.proofs.Elements.{all_got}
 use Rattle.bp_confirm.proofs.BitsOfEffects.{start_is_at, numbers_at}
 
 -- The point of an instruction tells where its statement begins in the text.
@@ -201,8 +202,4 @@ module _ (p : List ℕ) where
 
 pub known_there : (t : Program) (names : List (Bor (List ℕ))) (n : ℕ) (name : Bor (List ℕ)) → AreKnown t names → slice_get names n ≡ Some name
     → declares t name.now ≡ true
-known_there t [] n name known at = absurd cc
-known_there t (x ∷ xs) zero name known at =
-    let same : name ≡ x = cc in
-    subst (λ z. declares t z.now ≡ true) (sym same) known.0
-known_there t (x ∷ xs) (suc n) name known at = known_there t xs n name known.1 at
+known_there t names n name known at = all_got (λ x. declares t x.now ≡ true) names n name known at

@@ -62,7 +62,7 @@ not_empty x more e =
     omega (arith, none, length-append (line_text x) more, length-append (decimal x.thread) (32 ∷ bit_digit x.bit ∷ 10 ∷ []))
 
 -- the machine has one answer
-same_fits : (W : Type 0) (p q : Bool) → IsTrue p ↔ W → IsTrue q ↔ W → p ≡ q
+pub same_fits : (W : Type 0) (p q : Bool) → IsTrue p ↔ W → IsTrue q ↔ W → p ≡ q
 same_fits W false false f g = refl
 same_fits W false true f g = f.1 (g.0 refl)
 same_fits W true false f g = sym (g.1 (f.0 refl))

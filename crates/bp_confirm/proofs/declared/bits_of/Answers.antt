@@ -1,6 +1,6 @@
-use Rattle.std.proofs.Common.{◌≡◌, Some, None, arith, slice_get}
+use Rattle.std.proofs.Common.{◌≡◌, ◌∙◌, Some, None, arith, slice_get}
 use Rattle.std.proofs.lemmas.Option.{slice_get_within}
-use Rattle.bp_confirm.proofs.LastChanges.{take_and, take_whole}
+use Rattle.bp_confirm.proofs.Elements.{past_none, take_and}
 use Rattle.bp_confirm.proofs.declared.bits_of.Goals as goal
 
 pub overflow_add-n : goal.overflow_add-n
@@ -18,10 +18,10 @@ loop-bit-preserved c =
     let has : slice_get c.args.setup.now.init c.loop-bit.n ≡ Some c.in-Some.bit = cc in
     record {
       within = omega (arith, slice_get_within c.args.setup.now.init c.loop-bit.n c.in-Some.bit has);
-      bits = take_and _ _ c.args.setup.now.init c.loop-bit.n c.in-Some.bit has c.loop-bit.invariant.bits c.in_ok-push.ensures.items;
+      bits = take_and c.args.setup.now.init c.loop-bit.n c.in-Some.bit has _ _ c.loop-bit.invariant.bits c.in_ok-push.ensures.items;
     }
 
 pub returns : goal.returns
 returns c =
     let none : slice_get c.args.setup.now.init c.loop-bit.n ≡ None = cc in
-    take_whole _ c.args.setup.now.init c.loop-bit.n c.loop-bit.invariant.bits none
+    c.loop-bit.invariant.bits ∙ past_none c.args.setup.now.init c.loop-bit.n none
