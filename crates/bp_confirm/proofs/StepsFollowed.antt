@@ -20,11 +20,12 @@ use Rattle.bp_machine.specs.declared.calls.AskFault.{AskFault}
 use Rattle.bp_machine.specs.declared.calls.AskFault.TheVariants as refused
 use Rattle.bp_trace.specs.Replays.{IsPlayable}
 use Rattle.bp_trace.proofs.PlayableFronts.{front, own_is}
-use Rattle.bp_confirm.specs.FollowedSteps.{is_fork, is_fork_on, IsInferred, IsInferredOn, IsRefusedHere, IsNotTaken, refusal_of, source_points_of}
+use Rattle.bp_confirm.specs.FollowedSteps.{TellsNext, is_fork, is_fork_on, IsInferred, IsInferredOn, IsRefusedHere, IsNotTaken, refusal_of, source_points_of}
 use Rattle.bp_confirm.specs.Steps as point
 use Rattle.bp_confirm.specs.Steps.{StepOf, next_place, StepLineOf, step_of, steps_of, value_seen, IsFirstUnseen, SeesValues, IsStepOf, TakeAfter, Takes}
 use Rattle.bp_confirm.specs.declared.choices.Inferred.{Inferred}
-use Rattle.bp_confirm.specs.Inferred.{LastBits, some_follow, IsFollowed, bit_of_stack, IsAmbiguousOnStack, Follows, FollowAfter}
+use Rattle.bp_confirm.specs.declared.following.Next.{Next}
+use Rattle.bp_confirm.specs.Inferred.{IsClearOnStack, LastBits, some_follow, IsFollowed, bit_of_stack, IsAmbiguousOnStack, Follows, FollowAfter}
 use Rattle.bp_confirm.specs.declared.confirming.Difference.{Difference}
 use Rattle.bp_confirm.specs.declared.confirming.StepFault.{StepFault}
 use Rattle.bp_confirm.specs.declared.confirming.StepFault.TheVariants as fault
@@ -180,17 +181,16 @@ module _ (c : Configuration) (i : ℕ) (v : List ℕ × Bool) where
       → value_seen c.globals (stack_of c i) v.0 ≡ Some v.1 → SeesValues c i (take (n + 1) vs)
   sees_more vs n at sees here = subst (SeesValues c i) (sym (take_got vs n v at)) (seen_too (take n vs) sees here)
 
--- the refusals of the step of one line, whose thread goes on at this instruction
-module _ (text : List ℕ) (t : Program) (s : SetupOf) (last : LastBits) (h : List Call) (x : StepLineOf) (later : List StepOf) (n : ℕ) (number : Option ℕ)
-    (goes_on : GoesOnAt t (configuration_after t s h) x.thread number) (points : List SourcePoint) (are : points ≡ source_points_of text t) where
-  abbrev step : StepOf
-  step = step_of text x
+-- what is told of a line as it is read is told of the line
+pub tells_same : {text : List ℕ} {last : LastBits} {x z : StepLineOf} {later : List StepOf} {lines : List StepLineOf} {next : Next} → x ≡ z
+    → TellsNext text last (step_of text z) later lines next → TellsNext text last (step_of text x) later lines next
+tells_same {text} {last} {later = later} {lines = lines} {next = next} is tells = subst (λ w. TellsNext text last (step_of text w) later lines next) (sym is) tells
 
-  abbrev IsRefusedFor : StepReason → Type 0
-  IsRefusedFor reason = IsNotTaken text t s h x later n (refusal_of points x n number reason)
-
-  refused_for : (reason : StepReason) → IsReason t s h (step_of text x) later reason → ForStuck reason (IsStuck t s h (step_of text x)) → IsRefusedFor reason
-  refused_for reason why stuck = record {
+-- the refusals of the step of one line, which is x as it is read, and whose thread goes on at this instruction
+module _ (text : List ℕ) (t : Program) (s : SetupOf) (h : List Call) {x z : StepLineOf} (is : x ≡ z) (later : List StepOf) (n : ℕ) (number : Option ℕ)
+    (goes_on : GoesOnAt t (configuration_after t s h) x.thread number) {points : List SourcePoint} (are : points ≡ source_points_of text t) where
+  refused_for : (reason : StepReason) → IsReason t s h (step_of text x) later reason → ForStuck reason (IsStuck t s h (step_of text x)) → IsNotTaken text t s h z later n (refusal_of points z n number reason)
+  refused_for reason why stuck = subst (λ w. IsNotTaken text t s h w later n (refusal_of points w n number reason)) is (record {
     line = refl;
     thread = refl;
     location = refl;
@@ -198,38 +198,48 @@ module _ (text : List ℕ) (t : Program) (s : SetupOf) (last : LastBits) (h : Li
     stand = stands_as text t points number are;
     reason = why;
     stuck = stuck;
-  }
+  })
 
-  pub elsewhere : StandsAtPlace t s h (step_of text x) false → IsRefusedFor Elsewhere
+  pub elsewhere : StandsAtPlace t s h (step_of text x) false → IsNotTaken text t s h z later n (refusal_of points z n number Elsewhere)
   elsewhere other = refused_for Elsewhere other (λ y takes. false≢true (sym other ∙ takes.at))
 
   module _ (at : StandsAtPlace t s h (step_of text x) true) where
-    pub finished : is_finished s h x.thread ≡ true → IsRefusedFor Finished
+    pub finished : is_finished s h x.thread ≡ true → IsNotTaken text t s h z later n (refusal_of points z n number Finished)
     finished over = refused_for Finished (at, over) (λ y takes. false≢true (sym takes.allowed.unfinished ∙ ap (is_finished s h) takes.thread ∙ over))
 
-    module _ (a : Call) (thread : a.thread ≡ x.thread) (allowed : IsAllowed t s h a)
+    module _ (last : LastBits) {a : Call} (thread : a.thread ≡ x.thread) (allowed : IsAllowed t s h a)
         (bit : a.bit ≡ bit_of_stack last x.thread later (stack_of (configuration_after t s h) x.thread)) where
-      pub answered : is_granted a.reply ≡ false → IsRefusedFor (Refused a.reply)
+      pub answered : is_granted a.reply ≡ false → IsNotTaken text t s h z later n (refusal_of points z n number (Refused a.reply))
       answered none =
           refused_for (Refused a.reply)
-          (at, record { call = a; thread = thread; allowed = allowed; each = same_reply t s last h step later a thread bit allowed none; refused = none })
-          (refused_for_all t s last h step later a thread bit allowed none)
+          (at, record { call = a; thread = thread; allowed = allowed; each = same_reply t s last h (step_of text x) later a thread bit allowed none; refused = none })
+          (refused_for_all t s last h (step_of text x) later a thread bit allowed none)
 
-      module _ (granted : is_granted a.reply ≡ true) where
-        bare : IsStepOf t s h (record step { values = [] }) a
+      module _ (granted : is_granted a.reply ≡ true) {r : SetupOf} (same : r ≡ s) where
+        bare : IsStepOf t s h (record (step_of text x) { values = [] }) a
         bare = record { thread = thread; allowed = allowed; granted = granted; at = at; values = tt }
 
-        pub others_seen : (d : Difference) → IsDifference t s (h ++ a ∷ []) x.thread x.values d → IsRefusedFor (Differs d)
-        others_seen d differs =
+        pub others_seen : (d : Difference) → IsDifference t r (h ++ a ∷ []) z.thread z.values d → IsNotTaken text t s h z later n (refusal_of points z n number (Differs d))
+        others_seen d found =
+            let differs = subst (λ (w : SetupOf × StepLineOf). IsDifference t w.0 (h ++ a ∷ []) w.1.thread w.1.values d) (λ i. (same i, sym is i)) found in
             refused_for (Differs d) (at, record { call = a; takes = bare; differs = differs })
-            (other_values t s h step a bare (unseen_not (configuration_after t s (h ++ a ∷ [])) x.thread x.values d.place d.seen differs.unseen))
+            (other_values t s h (step_of text x) a bare (unseen_not (configuration_after t s (h ++ a ∷ [])) x.thread x.values d.place d.seen differs.unseen))
 
-        module _ (sees : SeesValues (configuration_after t s (h ++ a ∷ [])) x.thread x.values) where
-          pub takes : IsStepOf t s h step a
-          takes = record { thread = thread; allowed = allowed; granted = granted; at = at; values = sees }
+        module _ (found : SeesValues (configuration_after t r (h ++ a ∷ [])) z.thread z.values) where
+          takes : IsStepOf t s h (step_of text x) a
+          takes = record {
+            thread = thread;
+            allowed = allowed;
+            granted = granted;
+            at = at;
+            values = subst (λ (w : SetupOf × StepLineOf). SeesValues (configuration_after t w.0 (h ++ a ∷ [])) w.1.thread w.1.values) (λ i. (same i, sym is i)) found;
+          }
 
-          pub ambiguous : IsAmbiguousOnStack t x.thread later (stack_of (configuration_after t s h) x.thread) → IsRefusedFor Ambiguous
+          pub ambiguous : IsAmbiguousOnStack t x.thread later (stack_of (configuration_after t s h) x.thread) → IsNotTaken text t s h z later n (refusal_of points z n number Ambiguous)
           ambiguous both = refused_for Ambiguous (record { call = a; takes = takes; ambiguous = both }) tt
+
+          pub follows : IsClearOnStack x.thread later (stack_of (configuration_after t s h) x.thread) → Follows t s last h (step_of text z) later a
+          follows clear = subst (λ w. Follows t s last h (step_of text w) later a) is (record { takes = takes; bit = bit; clear = clear })
 
 -- a call that is refused to a thread that is there, where the setup has no seed
 pub ask_refused : (t : Program) (s : SetupOf) (h : List Call) (i : ℕ) (bit : Bool) (f : AskFault) → i < threads s
