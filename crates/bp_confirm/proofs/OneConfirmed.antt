@@ -1,5 +1,5 @@
 -- Steps have one history, and refused steps have none.
-use Rattle.std.proofs.Common.{◌≡◌, ◌∙◌, ◌⊎◌, inl, inr, ℕ, List, [], ◌∷◌, ◌++◌, refl, ap, sym, subst, ◌+◌, zero, suc, Bool, true, false, cond, not, get_or, arith, Option, Some, IfSome}
+use Rattle.std.proofs.Common.{◌≡◌, ◌∙◌, ◌⊎◌, inl, inr, ℕ, List, [], ◌∷◌, ◌++◌, refl, ap, sym, subst, ◌+◌, zero, suc, Bool, true, false, cond, not, get_or, arith}
 use Rattle.std.proofs.lemmas.List.{map-append, map_push}
 use Rattle.std.proofs.Math.Path.{fun_ext}
 use Rattle.bp_language.specs.Ast.{Program}
@@ -20,7 +20,7 @@ use Rattle.bp_confirm.specs.declared.confirming.StepReason.TheVariants.{Ambiguou
 use Rattle.bp_confirm.specs.declared.confirming.StepRefusal.{StepRefusal}
 use Rattle.bp_confirm.specs.Confirms.{ForStuck, IsStepRefusal}
 use Rattle.bp_confirm.specs.Steps.{StepLineOf, step_of, steps_of, StepOf, TakeAfter, Takes, stands_at, SeesValues}
-use Rattle.bp_confirm.specs.Inferred.{LastBits, zeros, ones, Follows, FollowAfter, IsFollowed, waits_after, waiting_bits, deciding, EndsDeadlocked, EndsOtherwise, differ, IsConfirmed, IsTaken}
+use Rattle.bp_confirm.specs.Inferred.{TakeEach, LastBits, zeros, ones, Follows, FollowAfter, IsFollowed, waits_after, waiting_bits, deciding, EndsDeadlocked, EndsOtherwise, differ, IsConfirmed, IsTaken}
 use Rattle.bp_confirm.specs.Laws.{OneConfirmed, RefusedIsNotTaken, MovesTake, IsRunOfSteps, RefusedFrontHasNoRun, RefusedHasNoRun}
 use Rattle.bp_confirm.specs.declared.choices.LastChoice.{LastChoice}
 
@@ -160,13 +160,22 @@ plain_confirmed t s steps h any dead choices none = record {
   ];
 }
 
--- what holds of what is there
-pub of_some : {X : Type 0} (P : X → Type 0) (o : Option X) (x : X) → o ≡ Some x → IfSome o P → P x
-of_some P o x is all = subst (λ o. IfSome o P) is all
-
 -- what a table says of each thread
-pub table_is : (xs : List Bool) (f : ℕ → Bool) → ((i : ℕ) → get_or xs i false ≡ f i) → (λ i. get_or xs i false) ≡ f
-table_is xs f each = fun_ext each
+pub table_is : (t : Program) {r s : SetupOf} (z : List Call) (xs : List Bool) → r ≡ s → ((i : ℕ) → get_or xs i false ≡ waits_after t r z i)
+    → (λ i. get_or xs i false) ≡ waits_after t s z
+table_is t z xs same each = fun_ext each ∙ ap (λ k. waits_after t k z) same
+
+-- the histories with 0, with 1, and with the bits of such a table
+pub taken_each : {t : Program} {r s : SetupOf} {steps : List StepOf} {z o w : List Call} {table xs : List Bool} → r ≡ s → xs ≡ table → IsFollowed t s zeros steps z
+    → IsFollowed t s ones steps o → ((i : ℕ) → get_or table i false ≡ waits_after t r z i)
+    → IsFollowed t s (waiting_bits (λ i. get_or xs i false)) steps w → TakeEach t s steps z o w
+taken_each {t} {s = s} {steps = steps} {z = z} {w = w} {table = table} same is by_zeros by_ones each by_table = record {
+  by_zeros = by_zeros;
+  by_ones = by_ones;
+  by_waiting =
+      subst (λ f. IsFollowed t s (waiting_bits f) steps w) (table_is t z table same each)
+      (subst (λ ys. IsFollowed t s (waiting_bits (λ i. get_or ys i false)) steps w) is by_table);
+}
 
 -- A run that takes steps is a history that takes them.
 

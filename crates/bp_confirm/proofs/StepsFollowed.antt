@@ -100,18 +100,19 @@ module _ (t : Program) (s : SetupOf) (last : LastBits) where
 -- the lines of steps, and what they say
 module _ (text : List ℕ) (t : Program) (s : SetupOf) (last : LastBits) (lines : List StepLineOf) (n : ℕ) where
   -- the first n of the lines are followed, and then one more
-  pub follow_next : (d : StepLineOf) (h new : List Call) (a : Call) → n < length lines → new ≡ h ++ a ∷ []
+  pub follow_next : {x : StepLineOf} {r : SetupOf} {g h new : List Call} {a : Call} → n < length lines → x ≡ get_or lines n x → r ≡ s → g ≡ h → new ≡ h ++ a ∷ []
       → FollowAfter t s last [] (steps_of text (take n lines)) (steps_of text (drop n lines)) h
-      → Follows t s last h (step_of text (get_or lines n d)) (steps_of text (drop (n + 1) lines)) a
+      → Follows t r last g (step_of text x) (steps_of text (drop (n + 1) lines)) a
       → FollowAfter t s last [] (steps_of text (take (n + 1) lines)) (steps_of text (drop (n + 1) lines)) new
-  follow_next d h new a within is follow next =
-      let x = get_or lines n d in
-      let front : steps_of text (take (n + 1) lines) ≡ steps_of text (take n lines) ++ step_of text x ∷ [] =
-      ap (steps_of text) (take_more lines n d within) ∙ map_push (step_of text) (take n lines) x in
-      let before = subst (λ ys. FollowAfter t s last [] (steps_of text (take n lines)) ys h) (ap (steps_of text) (rest_at lines n d within)) follow in
-      let after = follow_more t s last [] (steps_of text (take n lines)) (step_of text x) (steps_of text (drop (n + 1) lines)) h a before next in
-      subst (λ xs. FollowAfter t s last [] xs (steps_of text (drop (n + 1) lines)) new) (sym front)
-      (subst (λ k. FollowAfter t s last [] (steps_of text (take n lines) ++ step_of text x ∷ []) (steps_of text (drop (n + 1) lines)) k) (sym is) after)
+  follow_next {x} {h = h} {new = new} {a = a} within is setup made added follow next =
+      let y = get_or lines n x in
+      let front : steps_of text (take (n + 1) lines) ≡ steps_of text (take n lines) ++ step_of text y ∷ [] =
+      ap (steps_of text) (take_more lines n x within) ∙ map_push (step_of text) (take n lines) y in
+      let before = subst (λ ys. FollowAfter t s last [] (steps_of text (take n lines)) ys h) (ap (steps_of text) (rest_at lines n x within)) follow in
+      let own = subst (λ (w : SetupOf × List Call × StepLineOf). Follows t w.0 last w.1 (step_of text w.2) (steps_of text (drop (n + 1) lines)) a)
+      (λ i. (setup i, made i, is i)) next in
+      let after = follow_more t s last [] (steps_of text (take n lines)) (step_of text y) (steps_of text (drop (n + 1) lines)) h a before own in
+      subst (λ (w : List StepOf × List Call). FollowAfter t s last [] w.0 (steps_of text (drop (n + 1) lines)) w.1) (λ i. (sym front i, sym added i)) after
 
   module _ (d : StepLineOf) (h : List Call) (within : n < length lines)
       (follow : FollowAfter t s last [] (steps_of text (take n lines)) (steps_of text (drop n lines)) h) where
@@ -147,12 +148,18 @@ module _ (text : List ℕ) (t : Program) (s : SetupOf) (last : LastBits) (lines 
       none = for_all r.reason here.stuck;
     }
 
-    -- the refusal of a step is one of the lines
-    pub not_followed : (f : StepFault)
-        → IsNotTaken text t s h (get_or lines n d) (steps_of text (drop (n + 1) lines)) (n + 1) f
-        → IsNotFollowed text t s last lines f
-    not_followed (fault.Refusal r) here = step_refused r here
-    not_followed fault.Memory here = tt
+    by_fault : (f : StepFault) → IsNotTaken text t s h (get_or lines n d) (steps_of text (drop (n + 1) lines)) (n + 1) f → IsNotFollowed text t s last lines f
+    by_fault (fault.Refusal r) here = step_refused r here
+    by_fault fault.Memory here = tt
+
+  -- the refusal of a step is one of the lines
+  pub not_followed : {x : StepLineOf} {r : SetupOf} {g h : List Call} (f : StepFault) → n < length lines → x ≡ get_or lines n x → r ≡ s → g ≡ h → length h ≡ n
+      → FollowAfter t s last [] (steps_of text (take n lines)) (steps_of text (drop n lines)) h
+      → IsNotTaken text t r g x (steps_of text (drop (n + 1) lines)) (length g + 1) f → IsNotFollowed text t s last lines f
+  not_followed {x} {g = g} {h = h} f within is setup made size follow here =
+      by_fault x h within follow f
+      (subst (λ (w : SetupOf × List Call × StepLineOf × ℕ). IsNotTaken text t w.0 w.1 w.2 (steps_of text (drop (n + 1) lines)) (w.3 + 1) f)
+      (λ i. (setup i, made i, is i, (ap length made ∙ size) i)) here)
 
   pub followed : (h : List Call) → length lines ≤ n
       → FollowAfter t s last [] (steps_of text (take n lines)) (steps_of text (drop n lines)) h

@@ -3,7 +3,7 @@ use Rattle.std.proofs.lemmas.Result.{err_from_is_err_and}
 use Rattle.bp_flat.specs.StandsFor.{StandsFor}
 use Rattle.bp_machine.specs.Histories.{stack_of, configuration_after}
 use Rattle.bp_machine.specs.Sessions.{Stands}
-use Rattle.bp_confirm.specs.FollowedSteps.{is_fork_on, last_bits, IsNotTaken}
+use Rattle.bp_confirm.specs.FollowedSteps.{is_fork_on, last_bits}
 use Rattle.bp_confirm.specs.Inferred.{Follows}
 use Rattle.bp_confirm.specs.Steps.{place_of, step_of, steps_of}
 use Rattle.bp_confirm.proofs.LastWays.{no_place, unasked}
@@ -16,29 +16,18 @@ bounds-nexts-n c = let size = as_many_nexts c.args.lines.now c.args.nexts.now c.
 
 pub returns-in_err-call-clause-refused : goal.returns-in_err-call-clause-refused
 returns-in_err-call-clause-refused c = λ text are.
-    let t = c.args.checked.now in
-    let s = c.args.session.now.setup in
     let last = last_bits c.args.last in
     let lines = c.args.lines.now in
     let n = c.loop-n.n in
-    let x = c.at-line.result.now in
-    let later = steps_of text (drop (n + 1) lines) in
     let inv = c.loop-n.invariant in
-    let is = c.at-line.ensures in
     let within : n < length lines = omega (arith, c.loop-n-test.true, c.len.ensures) in
     let bit = ap (λ z. last_bits c.args.last z.thread) (sym c.line.view_is) ∙ sym c.last_bit_of.ensures in
-    let h = c.loop-n.history.items in
-    let f = c.in_err-call.field-0.0 in
-    let there = c.in_err-call.ensures.refused text last later are
-    (tells_next text last lines c.args.nexts.now n x x _ _ _ _ bit refl c.len-in-loop-n-2.ensures c.requires.nexts within is) in
-    let here = subst (λ k. IsNotTaken text t c.loop-n.session.setup h x later (k + 1) f) inv.made
-    (subst (λ g. IsNotTaken text t c.loop-n.session.setup g x later (length g + 1) f) c.as_slice-made.ensures.value there) in
+    let there = c.in_err-call.ensures.refused text last _ are
+    (tells_next text last lines c.args.nexts.now n _ _ _ _ _ _ bit refl c.len-in-loop-n-2.ensures c.requires.nexts within c.at-line.ensures) in
     let p = err_from_is_err_and c.from_residual-in_err-call.result c.from_residual-in_err-call.ensures.1 in
     rw (p.1, p.2)
-    (not_followed text t s last lines n x c.loop-n.history.items within
-    (inv.follow text are) c.in_err-call.field-0.0
-    (subst (λ z. IsNotTaken text t s c.loop-n.history.items z later (n + 1) c.in_err-call.field-0.0) is
-    (subst (λ z. IsNotTaken text t z c.loop-n.history.items x later (n + 1) c.in_err-call.field-0.0) inv.setup here)))
+    (not_followed text c.args.checked.now c.args.session.now.setup last lines n c.in_err-call.field-0.0 within c.at-line.ensures inv.setup
+    c.as_slice-made.ensures.value inv.made (inv.follow text are) there)
 
 pub loop-n-preserved : goal.loop-n-preserved
 loop-n-preserved c =
@@ -47,7 +36,6 @@ loop-n-preserved c =
     let last = last_bits c.args.last in
     let lines = c.args.lines.now in
     let n = c.loop-n.n in
-    let x = c.at-line.result.now in
     let inv = c.loop-n.invariant in
     let is = c.at-line.ensures in
     let within : n < length lines = omega (arith, c.loop-n-test.true, c.len.ensures) in
@@ -60,16 +48,12 @@ loop-n-preserved c =
       made = ap length c.in_ok-keep.ensures.kept ∙ length-append h (a ∷ []) ∙ ap (λ k. k + 1) inv.made;
       stands = subst (λ g. Stands t c.take_step.new.session g) (sym c.in_ok-keep.ensures.kept) stands;
       follow = λ text are.
-          let later = steps_of text (drop (n + 1) lines) in
-          let tells = tells_next text last lines c.args.nexts.now n x x _ _ _ _ bit refl c.len-in-loop-n-2.ensures c.requires.nexts within is in
-          let made = c.in_ok-call.ensures.follows text last later are tells in
-          let next = subst (λ g. Follows t c.loop-n.session.setup last g (step_of text x) later a) c.as_slice-made.ensures.value made in
-          follow_next text t s last lines n x c.loop-n.history.items c.keep.new.history.items c.in_ok-call.call
-          within c.in_ok-keep.ensures.kept (inv.follow text are)
-          (subst (λ z. Follows t s last c.loop-n.history.items (step_of text z) later c.in_ok-call.call) is
-          (subst (λ z. Follows t z last c.loop-n.history.items (step_of text x) later c.in_ok-call.call) inv.setup next));
+          let tells = tells_next text last lines c.args.nexts.now n _ _ _ _ _ _ bit refl c.len-in-loop-n-2.ensures c.requires.nexts within is in
+          follow_next text t s last lines n within is inv.setup c.as_slice-made.ensures.value c.in_ok-keep.ensures.kept (inv.follow text are)
+          (c.in_ok-call.ensures.follows text last _ are tells);
       any = λ text other are none.
           let later = steps_of text (drop (n + 1) lines) in
+          let x = c.at-line.result.now in
           let tells = tells_next text last lines c.args.nexts.now n x x _ _ _ _ bit refl c.len-in-loop-n-2.ensures c.requires.nexts within is in
           let made = c.in_ok-call.ensures.follows text last later are tells in
           let own = subst (λ g. Follows t c.loop-n.session.setup last g (step_of text x) later a) c.as_slice-made.ensures.value made in
@@ -77,10 +61,8 @@ loop-n-preserved c =
           (λ e. subst (λ z. is_fork_on (stack_of (configuration_after t c.loop-n.session.setup h) z.thread) ≡ false) c.line.view_is
           (c.asks_now-asks.ensures.here t h (subst (λ k. StandsFor k t) (sym inv.code) c.requires.code) inv.stands none
           (no_place (place_of text) _ (sym tells.place ∙ e)))) own in
-          follow_next text t s other lines n x c.loop-n.history.items c.keep.new.history.items c.in_ok-call.call
-          within c.in_ok-keep.ensures.kept (inv.any text other are (c.asks_now-asks.ensures.before none))
-          (subst (λ z. Follows t s other c.loop-n.history.items (step_of text z) later c.in_ok-call.call) is
-          (subst (λ z. Follows t z other c.loop-n.history.items (step_of text x) later c.in_ok-call.call) inv.setup next));
+          follow_next text t s other lines n within is inv.setup refl c.in_ok-keep.ensures.kept
+          (inv.any text other are (c.asks_now-asks.ensures.before none)) next;
       code = c.take_step.ensures.kept.0 ∙ inv.code;
       setup = c.take_step.ensures.kept.1 ∙ inv.setup;
     }

@@ -1,12 +1,11 @@
-use Rattle.std.proofs.Common.{◌≡◌, ◌∙◌, ◌⊎◌, inl, inr, ℕ, false, get_or, refl, sym, subst}
+use Rattle.std.proofs.Common.{◌∙◌, ◌⊎◌, inl, inr, false, get_or, refl, sym, subst}
 use Rattle.bp_flat.specs.StandsFor.{StandsFor}
 use Rattle.bp_machine.specs.Runs.{IsDeadlocked}
 use Rattle.bp_machine.specs.Histories.{configuration_after}
-use Rattle.bp_machine.specs.Sessions.{Stands}
 use Rattle.bp_machine.specs.Setups.{threads}
-use Rattle.bp_confirm.specs.Inferred.{ones, IsFollowed, deciding, waiting_bits, waits_after}
+use Rattle.bp_confirm.specs.Inferred.{deciding}
 use Rattle.bp_confirm.specs.Steps.{steps_of}
-use Rattle.bp_confirm.proofs.OneConfirmed.{decided, of_some, plain_confirmed, table_is, taken_by_zeros}
+use Rattle.bp_confirm.proofs.OneConfirmed.{decided, plain_confirmed, table_is, taken_by_zeros, taken_each}
 use Rattle.bp_confirm.proofs.histories.confirm_lines.Goals as goal
 
 pub returns-then-not-zeroed-clause-confirmed : goal.returns-then-not-zeroed-clause-confirmed
@@ -40,34 +39,23 @@ returns-then-not-is_deadlocked-clause-answer c =
 pub returns-then-not-is_deadlocked-clause-confirmed : goal.returns-then-not-is_deadlocked-clause-confirmed
 returns-then-not-is_deadlocked-clause-confirmed c = λ lawful.
     let t = c.args.checked.now in
-    let s = c.args.setup.now in
     let text = c.args.text.now in
-    let steps = steps_of text c.args.lines.now in
     let are = c.as_slice-points.ensures.value ∙ c.in_ok-points.ensures in
-    let z = c.in_ok-zeroed.zeroed.history.items in
     let w = c.in-Some-2.waiting.history.items in
-    let w_kept = of_some (λ f. (f.session.code ≡ c.args.code.now) × (f.session.setup ≡ s)) _ _ c.in-Some-2.is c.in_ok-waiting.ensures.kept in
-    let w_stands = of_some (λ f. Stands t f.session f.history.items) _ _ c.in-Some-2.is c.in_ok-waiting.ensures.stands in
-    let w_followed = of_some (λ f. IsFollowed t s (waiting_bits (λ i. get_or c.as_slice.result.now i false)) steps f.history.items) _ _ c.in-Some-2.is
-    (c.in_ok-waiting.ensures.followed text are) in
-    let o_followed = of_some (λ f. IsFollowed t s ones steps f.history.items) _ _ c.in-Some.is (c.in_ok-oned.ensures.followed text are) in
-    let after_0 = subst (λ k. (i : ℕ) → get_or c.in_ok-after_0.after_0.items i false ≡ waits_after t k z i) c.in_ok-zeroed.ensures.kept.1
-    (c.in_ok-after_0.ensures t z (subst (λ k. StandsFor k t) (sym c.in_ok-zeroed.ensures.kept.0) c.requires.code) c.in_ok-zeroed.ensures.stands) in
-    let by_waiting = subst (λ f. IsFollowed t s (waiting_bits f) steps w) (table_is c.in_ok-after_0.after_0.items (waits_after t s z) after_0)
-    (subst (λ xs. IsFollowed t s (waiting_bits (λ i. get_or xs i false)) steps w) c.as_slice.ensures.value w_followed) in
-    let decides = c.is_deadlocked.ensures t w (subst (λ k. StandsFor k t) (sym w_kept.0) c.requires.code) w_stands in
+    let zeroed = c.in_ok-zeroed.ensures in
+    let kept = rw c.in-Some-2.is at c.in_ok-waiting.ensures.kept in
+    let stands = rw c.in-Some-2.is at c.in_ok-waiting.ensures.stands in
+    let after_0 = c.in_ok-after_0.ensures t c.in_ok-zeroed.zeroed.history.items (subst (λ k. StandsFor k t) (sym zeroed.kept.0) c.requires.code) zeroed.stands in
+    let decides = c.is_deadlocked.ensures t w (subst (λ k. StandsFor k t) (sym kept.0) c.requires.code) stands in
     rw c.confirmed_with-then-not-is_deadlocked.ensures
     (record {
-      zeroed = z;
+      zeroed = c.in_ok-zeroed.zeroed.history.items;
       oned = c.in-Some.oned.history.items;
       waiting = w;
-      take = record {
-        by_zeros = c.in_ok-zeroed.ensures.followed text are;
-        by_ones = o_followed;
-        by_waiting = by_waiting;
-      };
+      take = taken_each zeroed.kept.1 c.as_slice.ensures.value (zeroed.followed text are) (rw c.in-Some.is at (c.in_ok-oned.ensures.followed text are))
+          after_0 (rw c.in-Some-2.is at (c.in_ok-waiting.ensures.followed text are));
       ends = inr (record {
-        none = λ dead. let is = decides.1 (subst (λ k. IsDeadlocked t (configuration_after t k w)) (sym w_kept.1) dead) in
+        none = λ dead. let is = decides.1 (subst (λ k. IsDeadlocked t (configuration_after t k w)) (sym kept.1) dead) in
             absurd (let no = c.if-not-is_deadlocked.true in cc);
         is = refl;
         depends = c.new-then-not-is_deadlocked.ensures.items;
@@ -77,62 +65,47 @@ returns-then-not-is_deadlocked-clause-confirmed c = λ lawful.
 pub returns-clause-answer : goal.returns-clause-answer
 returns-clause-answer c =
     let t = c.args.checked.now in
-    let s = c.args.setup.now in
-    let text = c.args.text.now in
-    let steps = steps_of text c.args.lines.now in
     let w = c.in-Some-2.waiting.history.items in
     let are = c.as_slice-points.ensures.value ∙ c.in_ok-points.ensures in
-    let w_kept = of_some (λ f. (f.session.code ≡ c.args.code.now) × (f.session.setup ≡ s)) _ _ c.in-Some-2.is c.in_ok-waiting.ensures.kept in
-    let w_stands = of_some (λ f. Stands t f.session f.history.items) _ _ c.in-Some-2.is c.in_ok-waiting.ensures.stands in
-    let w_followed = of_some (λ f. IsFollowed t s (waiting_bits (λ i. get_or c.as_slice.result.now i false)) steps f.history.items) _ _ c.in-Some-2.is
-    (c.in_ok-waiting.ensures.followed text are) in
-    let decides = c.is_deadlocked.ensures t w (subst (λ k. StandsFor k t) (sym w_kept.0) c.requires.code) w_stands in
-    let dead = subst (λ k. IsDeadlocked t (configuration_after t k w)) w_kept.1 (decides.0 c.if-not-is_deadlocked.false) in
+    let kept = rw c.in-Some-2.is at c.in_ok-waiting.ensures.kept in
+    let stands = rw c.in-Some-2.is at c.in_ok-waiting.ensures.stands in
+    let followed = rw c.in-Some-2.is at (c.in_ok-waiting.ensures.followed c.args.text.now are) in
+    let decides = c.is_deadlocked.ensures t w (subst (λ k. StandsFor k t) (sym kept.0) c.requires.code) stands in
+    let dead = subst (λ k. IsDeadlocked t (configuration_after t k w)) kept.1 (decides.0 c.if-not-is_deadlocked.false) in
     rw c.confirmed_with-2.ensures
-    (record { last = _; followed = w_followed; by_zeros = λ none. absurd (none dead) })
+    (record { last = _; followed = followed; by_zeros = λ none. absurd (none dead) })
 
 pub returns-clause-confirmed : goal.returns-clause-confirmed
 returns-clause-confirmed c = λ lawful.
     let t = c.args.checked.now in
-    let s = c.args.setup.now in
     let text = c.args.text.now in
-    let steps = steps_of text c.args.lines.now in
     let are = c.as_slice-points.ensures.value ∙ c.in_ok-points.ensures in
     let z = c.in_ok-zeroed.zeroed.history.items in
     let o = c.in-Some.oned.history.items in
     let w = c.in-Some-2.waiting.history.items in
-    let w_kept = of_some (λ f. (f.session.code ≡ c.args.code.now) × (f.session.setup ≡ s)) _ _ c.in-Some-2.is c.in_ok-waiting.ensures.kept in
-    let w_stands = of_some (λ f. Stands t f.session f.history.items) _ _ c.in-Some-2.is c.in_ok-waiting.ensures.stands in
-    let w_followed = of_some (λ f. IsFollowed t s (waiting_bits (λ i. get_or c.as_slice.result.now i false)) steps f.history.items) _ _ c.in-Some-2.is
-    (c.in_ok-waiting.ensures.followed text are) in
-    let o_kept = of_some (λ f. (f.session.code ≡ c.args.code.now) × (f.session.setup ≡ s)) _ _ c.in-Some.is c.in_ok-oned.ensures.kept in
-    let o_stands = of_some (λ f. Stands t f.session f.history.items) _ _ c.in-Some.is c.in_ok-oned.ensures.stands in
-    let o_followed = of_some (λ f. IsFollowed t s ones steps f.history.items) _ _ c.in-Some.is (c.in_ok-oned.ensures.followed text are) in
-    let first = table_is c.in_ok-after_0.after_0.items (waits_after t s z)
-    (subst (λ k. (i : ℕ) → get_or c.in_ok-after_0.after_0.items i false ≡ waits_after t k z i) c.in_ok-zeroed.ensures.kept.1
-    (c.in_ok-after_0.ensures t z (subst (λ k. StandsFor k t) (sym c.in_ok-zeroed.ensures.kept.0) c.requires.code) c.in_ok-zeroed.ensures.stands)) in
-    let second = table_is c.in_ok-after_1.after_1.items (waits_after t s o)
-    (subst (λ k. (i : ℕ) → get_or c.in_ok-after_1.after_1.items i false ≡ waits_after t k o i) o_kept.1
-    (c.in_ok-after_1.ensures t o (subst (λ k. StandsFor k t) (sym o_kept.0) c.requires.code) o_stands)) in
-    let by_waiting = subst (λ f. IsFollowed t s (waiting_bits f) steps w) first
-    (subst (λ xs. IsFollowed t s (waiting_bits (λ i. get_or xs i false)) steps w) c.as_slice.ensures.value w_followed) in
-    let decides = c.is_deadlocked.ensures t w (subst (λ k. StandsFor k t) (sym w_kept.0) c.requires.code) w_stands in
+    let zeroed = c.in_ok-zeroed.ensures in
+    let kept = rw c.in-Some-2.is at c.in_ok-waiting.ensures.kept in
+    let stands = rw c.in-Some-2.is at c.in_ok-waiting.ensures.stands in
+    let o_kept = rw c.in-Some.is at c.in_ok-oned.ensures.kept in
+    let o_stands = rw c.in-Some.is at c.in_ok-oned.ensures.stands in
+    let after_0 = c.in_ok-after_0.ensures t z (subst (λ k. StandsFor k t) (sym zeroed.kept.0) c.requires.code) zeroed.stands in
+    let after_1 = c.in_ok-after_1.ensures t o (subst (λ k. StandsFor k t) (sym o_kept.0) c.requires.code) o_stands in
+    let first = table_is t z c.in_ok-after_0.after_0.items zeroed.kept.1 after_0 in
+    let second = table_is t o c.in_ok-after_1.after_1.items o_kept.1 after_1 in
+    let decides = c.is_deadlocked.ensures t w (subst (λ k. StandsFor k t) (sym kept.0) c.requires.code) stands in
     rw c.confirmed_with-2.ensures
     (record {
       zeroed = z;
       oned = o;
       waiting = w;
-      take = record {
-        by_zeros = c.in_ok-zeroed.ensures.followed text are;
-        by_ones = o_followed;
-        by_waiting = by_waiting;
-      };
+      take = taken_each zeroed.kept.1 c.as_slice.ensures.value (zeroed.followed text are) (rw c.in-Some.is at (c.in_ok-oned.ensures.followed text are))
+          after_0 (rw c.in-Some-2.is at (c.in_ok-waiting.ensures.followed text are));
       ends = inl (record {
-        deadlock = subst (λ k. IsDeadlocked t (configuration_after t k w)) w_kept.1 (decides.0 c.if-not-is_deadlocked.false);
+        deadlock = subst (λ k. IsDeadlocked t (configuration_after t k w)) kept.1 (decides.0 c.if-not-is_deadlocked.false);
         is = refl;
         depends =
             c.in_ok-choices.ensures
             ∙ (λ j. deciding (λ i. get_or (c.as_slice-2.ensures.value j) i false) (λ i. get_or (c.as_slice-3.ensures.value j) i false) (c.threads.ensures j))
-            ∙ (λ j. deciding (first j) (second j) (threads s));
+            ∙ (λ j. deciding (first j) (second j) (threads c.args.setup.now));
       });
     })
