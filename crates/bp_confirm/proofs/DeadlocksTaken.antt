@@ -47,29 +47,32 @@ module _ (t : Program) (s : SetupOf) (given : LastBits) (x : StepOf) (later : Li
   abbrev i : ℕ
   i = x.thread
 
+  abbrev after : List Call → Configuration
+  after h = configuration_after t s h
+
   abbrev z : Configuration
-  z = configuration_after t s hz
+  z = after hz
 
   abbrev o : Configuration
-  o = configuration_after t s ho
+  o = after ho
 
   abbrev w : Configuration
-  w = configuration_after t s hw
+  w = after hw
 
   abbrev g : Configuration
-  g = configuration_after t s hg
+  g = after hg
 
   abbrev z' : Configuration
-  z' = configuration_after t s (hz ++ a ∷ [])
+  z' = after (hz ++ a ∷ [])
 
   abbrev o' : Configuration
-  o' = configuration_after t s (ho ++ b ∷ [])
+  o' = after (ho ++ b ∷ [])
 
   abbrev w' : Configuration
-  w' = configuration_after t s (hw ++ c ∷ [])
+  w' = after (hw ++ c ∷ [])
 
   abbrev g' : Configuration
-  g' = configuration_after t s (hg ++ y ∷ [])
+  g' = after (hg ++ y ∷ [])
 
   module _ (alike : Alike given (x ∷ later) z o w g) (fa : Follows t s zeros hz x later a) (fb : Follows t s ones ho x later b)
       (fc : Follows t s given hw x later c) (taken : IsStepOf t s hg x y) (going : g'.failed ≡ false) where
@@ -79,68 +82,36 @@ module _ (t : Program) (s : SetupOf) (given : LastBits) (x : StepOf) (later : Li
     first : IsMove t z i a.bit a.reply z'
     first = move_of t s hz x a fa.takes
 
-    second : IsMove t o i b.bit b.reply o'
-    second = move_of t s ho x b fb.takes
-
-    third : IsMove t w i c.bit c.reply w'
-    third = move_of t s hw x c fc.takes
-
-    fourth : IsMove t g i y.bit y.reply g'
-    fourth = move_of t s hg x y taken
-
-    abbrev f : Frame
-    f = first.frame
-
-    abbrev fs : List Frame
-    fs = first.below
-
-    stack_o : stack_of o i ≡ first.frame ∷ first.below
-    stack_o = sym here.0 ∙ first.stack
-
-    stack_w : stack_of w i ≡ first.frame ∷ first.below
-    stack_w = sym here.1 ∙ first.stack
-
     stack_g : stack_of g i ≡ first.frame ∷ first.below
     stack_g = sym (same_stack x.place (stack_of z i) (stack_of g i) here.2 taken.at) ∙ first.stack
 
     abbrev effect_here : Bool → StatementEffect
     effect_here bit = effect t.procedures first.frame.left z.globals first.frame first.below bit
 
-    moved_z : after_effect z i (effect_here a.bit) ≡ Some z'
-    moved_z = moved_from t z z' i a.bit a.reply first z.globals first.frame first.below refl first.stack
-
-    moved_o : after_effect o i (effect_here b.bit) ≡ Some o'
-    moved_o = moved_from t o o' i b.bit b.reply second z.globals first.frame first.below alike.oned stack_o
-
-    moved_w : after_effect w i (effect_here c.bit) ≡ Some w'
-    moved_w = moved_from t w w' i c.bit c.reply third z.globals first.frame first.below alike.third stack_w
-
-    moved_g : after_effect g i (effect_here y.bit) ≡ Some g'
-    moved_g = moved_from t g g' i y.bit y.reply fourth z.globals first.frame first.below alike.fourth stack_g
-
     abbrev bit_here : Bool → Bool
     bit_here last = bit_of_block first.frame.left (next_place i later) last (some_follow later)
 
-    bit_a : a.bit ≡ bit_here false
-    bit_a = fa.bit ∙ ap (λ S. bit_of_stack zeros i later S) first.stack
+    -- a call that follows after a history in which the thread has this stack
+    at : (last : LastBits) (h : List Call) (k : Call) → Follows t s last h x later k → (after h).globals ≡ z.globals → stack_of (after h) i ≡ first.frame ∷ first.below
+        → after_effect (after h) i (effect_here (bit_here (last i))) ≡ Some (after (h ++ k ∷ []))
+    at last h k follows globals stack =
+        subst (λ n. after_effect (after h) i (effect_here n) ≡ Some (after (h ++ k ∷ []))) (follows.bit ∙ ap (λ S. bit_of_stack last i later S) stack)
+        (moved_from t (after h) (after (h ++ k ∷ [])) i k.bit k.reply (move_of t s h x k follows.takes) z.globals first.frame first.below globals stack)
 
-    bit_b : b.bit ≡ bit_here true
-    bit_b = fb.bit ∙ ap (λ S. bit_of_stack ones i later S) stack_o
+    at_z : after_effect z i (effect_here (bit_here false)) ≡ Some z'
+    at_z = at zeros hz a fa refl first.stack
 
-    bit_c : c.bit ≡ bit_here (given i)
-    bit_c = fc.bit ∙ ap (λ S. bit_of_stack given i later S) stack_w
+    at_o : after_effect o i (effect_here (bit_here true)) ≡ Some o'
+    at_o = at ones ho b fb alike.oned (sym here.0 ∙ first.stack)
+
+    at_w : after_effect w i (effect_here (bit_here (given i))) ≡ Some w'
+    at_w = at given hw c fc alike.third (sym here.1 ∙ first.stack)
+
+    moved_g : after_effect g i (effect_here y.bit) ≡ Some g'
+    moved_g = moved_from t g g' i y.bit y.reply (move_of t s hg x y taken) z.globals first.frame first.below alike.fourth stack_g
 
     clear : IsClear first.frame.left (next_place i later)
     clear = subst (λ S. IsClearOnStack i later S) first.stack fa.clear
-
-    at_z : after_effect z i (effect_here (bit_here false)) ≡ Some z'
-    at_z = subst (λ k. after_effect z i (effect_here k) ≡ Some z') bit_a moved_z
-
-    at_o : after_effect o i (effect_here (bit_here true)) ≡ Some o'
-    at_o = subst (λ k. after_effect o i (effect_here k) ≡ Some o') bit_b moved_o
-
-    at_w : after_effect w i (effect_here (bit_here (given i))) ≡ Some w'
-    at_w = subst (λ k. after_effect w i (effect_here k) ≡ Some w') bit_c moved_w
 
     module _ (h : Valuation) (S : List Frame) (left_g : HasLeft g g' i h S)
         (ends : LeaveAmong (next_place i later) (given i) (effect_here (bit_here false)) (effect_here (bit_here true)) (effect_here (bit_here (given i))) h S) where
@@ -148,28 +119,27 @@ module _ (t : Program) (s : SetupOf) (given : LastBits) (x : StepOf) (later : Li
       left_z = has_left z z' i h ends.zeroed first.within (subst (λ e. after_effect z i e ≡ Some z') ends.zeroed_is at_z)
 
       left_o : HasLeft o o' i h ends.oned
-      left_o = has_left o o' i h ends.oned second.within (subst (λ e. after_effect o i e ≡ Some o') ends.oned_is at_o)
+      left_o = has_left o o' i h ends.oned (move_of t s ho x b fb.takes).within (subst (λ e. after_effect o i e ≡ Some o') ends.oned_is at_o)
 
       left_w : HasLeft w w' i h ends.given
-      left_w = has_left w w' i h ends.given third.within (subst (λ e. after_effect w i e ≡ Some w') ends.given_is at_w)
+      left_w = has_left w w' i h ends.given (move_of t s hw x c fc.takes).within (subst (λ e. after_effect w i e ≡ Some w') ends.given_is at_w)
+
+      abbrev Four : Type 0
+      Four = List Frame × List Frame × List Frame × List Frame
 
       stacks_at : (j : ℕ) (k : Bool) → (i == j) ≡ k
           → Among (next_place j later) (given j) (stack_of z' j) (stack_of o' j) (stack_of w' j) (stack_of g' j)
       stacks_at j true e =
           let same : i ≡ j = grind (arith, nat_tests) in
           subst (λ n. Among (next_place n later) (given n) (stack_of z' n) (stack_of o' n) (stack_of w' n) (stack_of g' n)) same
-          (subst (λ p. Among (next_place i later) (given i) p (stack_of o' i) (stack_of w' i) (stack_of g' i)) (sym left_z.own)
-          (subst (λ p. Among (next_place i later) (given i) ends.zeroed p (stack_of w' i) (stack_of g' i)) (sym left_o.own)
-          (subst (λ p. Among (next_place i later) (given i) ends.zeroed ends.oned p (stack_of g' i)) (sym left_w.own)
-          (subst (λ p. Among (next_place i later) (given i) ends.zeroed ends.oned ends.given p) (sym left_g.own) ends.among))))
+          (subst (λ (p : Four). Among (next_place i later) (given i) p.0 p.1 p.2 p.3)
+          (λ k. (sym left_z.own k, sym left_o.own k, sym left_w.own k, sym left_g.own k)) ends.among)
       stacks_at j false e =
           let apart : i ≢ j = λ same. grind (arith, nat_tests) in
           let back : j ≢ i = λ same. apart (sym same) in
           let old = subst (λ n. Among n (given j) (stack_of z j) (stack_of o j) (stack_of w j) (stack_of g j)) (next_other x later j apart) (alike.stacks j) in
-          subst (λ p. Among (next_place j later) (given j) p (stack_of o' j) (stack_of w' j) (stack_of g' j)) (sym (left_z.others j back))
-          (subst (λ p. Among (next_place j later) (given j) (stack_of z j) p (stack_of w' j) (stack_of g' j)) (sym (left_o.others j back))
-          (subst (λ p. Among (next_place j later) (given j) (stack_of z j) (stack_of o j) p (stack_of g' j)) (sym (left_w.others j back))
-          (subst (λ p. Among (next_place j later) (given j) (stack_of z j) (stack_of o j) (stack_of w j) p) (sym (left_g.others j back)) old)))
+          subst (λ (p : Four). Among (next_place j later) (given j) p.0 p.1 p.2 p.3)
+          (λ k. (sym (left_z.others j back) k, sym (left_o.others j back) k, sym (left_w.others j back) k, sym (left_g.others j back) k)) old
 
       goes_on : Alike given later z' o' w' g'
       goes_on = record {
@@ -182,7 +152,7 @@ module _ (t : Program) (s : SetupOf) (given : LastBits) (x : StepOf) (later : Li
     pub step_alike : Alike given later z' o' w' g' ⊎ Failed later z' w'
     step_alike =
         let left = leaves_some g g' i (effect_here y.bit) moved_g going in
-        let left_g = has_left g g' i left.globals left.stack fourth.within (subst (λ e. after_effect g i e ≡ Some g') left.is moved_g) in
+        let left_g = has_left g g' i left.globals left.stack (move_of t s hg x y taken).within (subst (λ e. after_effect g i e ≡ Some g') left.is moved_g) in
         by_ends left.globals left.stack left_g
         (leaves_among t.procedures z.globals first.frame first.below first.frame.left (next_place i later) (given i) (some_follow later) y.bit
         left.globals left.stack (λ p is. some_if_next i later p is) clear left.is)
@@ -220,9 +190,8 @@ module _ (t : Program) (s : SetupOf) (given : LastBits) where
       → (configuration_after t s (hg ++ mg)).failed ≡ false
       → EndAlike (hz ++ mz) (ho ++ mo) (hw ++ mw) (hg ++ mg)
   all_alike hz ho hw hg [] [] [] [] [] alike fz fo fw take going =
-      subst (λ k. EndAlike k (ho ++ []) (hw ++ []) (hg ++ [])) (sym (append-nil hz))
-      (subst (λ k. EndAlike hz k (hw ++ []) (hg ++ [])) (sym (append-nil ho))
-      (subst (λ k. EndAlike hz ho k (hg ++ [])) (sym (append-nil hw)) (subst (λ k. EndAlike hz ho hw k) (sym (append-nil hg)) (inl alike))))
+      subst (λ (k : List Call × List Call × List Call × List Call). EndAlike k.0 k.1 k.2 k.3)
+      (λ j. (sym (append-nil hz) j, sym (append-nil ho) j, sym (append-nil hw) j, sym (append-nil hg) j)) (inl alike)
   all_alike hz ho hw hg (x ∷ xs) (a ∷ mz) (b ∷ mo) (c ∷ mw) (y ∷ mg) alike fz fo fw take going =
       by_step xs mz mw fz.1 fw.1
       (λ more. simp regrouped at (all_alike (hz ++ a ∷ []) (ho ++ b ∷ []) (hw ++ c ∷ []) (hg ++ y ∷ []) xs mz mo mw mg more fz.1 fo.1 fw.1 take.1
