@@ -1,10 +1,8 @@
 pub mod Agreeing
 pub mod StepMoves
-pub mod LocalRefusals
 pub mod BitsOfEffects
 pub mod ValuesSeen
 pub mod NextLocations
-pub mod ReadValues
 pub mod ReadLines
 pub mod LinesKept
 pub mod LastChanges
@@ -14,7 +12,6 @@ pub mod OneTextRefusal
 pub mod StartsInOrder
 pub mod OnePosition
 pub mod OwnStepsMade
-pub mod OneInstruction
 pub mod OneStepRefusal
 pub mod OwnTextConfirmed
 pub mod LastWays

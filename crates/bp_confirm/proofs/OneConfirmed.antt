@@ -14,7 +14,7 @@ use Rattle.bp_machine.proofs.Deadlocks.{AreSeen, seen_none, seen_ended, seen_wai
 use Rattle.bp_machine.proofs.HistoryWithCall.{configuration_after-append}
 use Rattle.bp_machine.proofs.RunsAreHistories.{reply_granted, goes_there}
 use Rattle.bp_trace.specs.TraceText.{line_of_call}
-use Rattle.bp_trace.proofs.LinesDriveAgain.{same_call}
+use Rattle.bp_trace.proofs.ScheduleLines.{same_call}
 use Rattle.bp_confirm.specs.declared.confirming.StepReason.{StepReason}
 use Rattle.bp_confirm.specs.declared.confirming.StepReason.TheVariants.{Ambiguous}
 use Rattle.bp_confirm.specs.declared.confirming.StepRefusal.{StepRefusal}

@@ -19,13 +19,12 @@ use Rattle.bp_confirm.specs.Inferred.{AreBothAt, AreBothWays, IsAmbiguous, IsAmb
 use Rattle.bp_confirm.specs.Steps.{Place, StepOf, value_seen, IsFirstUnseen, next_place, StepLineOf, step_of, steps_of, Takes}
 use Rattle.bp_confirm.specs.declared.confirming.StepRefusal.{StepRefusal}
 use Rattle.bp_confirm.proofs.OnePosition.{IsFull, full_place}
-use Rattle.bp_confirm.proofs.LocalRefusals.{not_granted, other_values, seen_same}
+use Rattle.bp_confirm.proofs.StepMoves.{not_granted, other_values, seen_same}
 use Rattle.bp_confirm.proofs.LastChanges.{one_change}
 use Rattle.bp_confirm.proofs.StepsFollowed.{unseen_not, follow_more, taken}
-use Rattle.bp_confirm.proofs.StartsInOrder.{starts_distinct}
+use Rattle.bp_confirm.proofs.StartsInOrder.{starts_distinct, one_goes_on}
 use Rattle.bp_confirm.proofs.OneConfirmed.{one_call, refused_is_not_taken}
 use Rattle.bp_trace.proofs.Walks.{Walk, Stays, Goes, IsSingle, Stops, one_end}
-use Rattle.bp_confirm.proofs.OneInstruction.{one_goes_on}
 use Rattle.bp_confirm.proofs.Agreeing.{same_stack_there}
 
 -- A step has at most one reason against it.

@@ -37,7 +37,7 @@ use Rattle.bp_confirm.specs.Confirms.{IsDifference, GoesOnAt, StandsAtPlace, IsS
 use Rattle.bp_confirm.specs.declared.source_points.SourcePoint.{SourcePoint}
 use Rattle.bp_confirm.proofs.BitsOfEffects.{fork_is}
 use Rattle.bp_confirm.proofs.ValuesSeen.{stands_as}
-use Rattle.bp_confirm.proofs.LocalRefusals.{same_reply, refused_for_all, other_values}
+use Rattle.bp_confirm.proofs.StepMoves.{same_reply, refused_for_all, other_values}
 use Rattle.bp_confirm.proofs.Agreeing.{transfer}
 
 -- The bit that is inferred at an instruction is that of the stack which goes on there.

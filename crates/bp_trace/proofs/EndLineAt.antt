@@ -25,7 +25,7 @@ use Rattle.bp_trace.specs.declared.traces.Version.TheVariants.{Two, One}
 use Rattle.bp_trace.specs.TraceText.{bit_digit, Symbol, Piece, call_of, symbol_text, piece_line, calls_of_piece, call_line}
 use Rattle.bp_trace.specs.declared.traces.Version.{Version}
 use Rattle.bp_trace.proofs.OneText.{call_then, front_cut, piece_then, symbols_alike, no_symbol_at_end, number_begins, one_call_line, one_piece_line}
-use Rattle.bp_trace.proofs.ScheduleLineAt.{thread_parts, thread_there}
+use Rattle.bp_trace.proofs.ScheduleLines.{thread_parts, thread_there}
 
 -- The thread that begins a text, with a space after it, and the call that does.
 

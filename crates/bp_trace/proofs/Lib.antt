@@ -2,7 +2,7 @@ pub mod HeadsRead
 mod EndLineAt
 mod OneText
 mod PiecesAreFewest
-pub mod LinesDriveAgain
+pub mod ScheduleLines
 mod OneHistoryAfter
 mod LongestAccepted
 mod OneRefusal
@@ -11,4 +11,3 @@ mod OneScheduleRefusal
 pub mod Walks
 pub mod TraceLength
 mod ReplayedTexts
-mod ScheduleLineAt

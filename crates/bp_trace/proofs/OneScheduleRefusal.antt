@@ -16,8 +16,7 @@ use Rattle.bp_trace.specs.declared.driving.ScheduleLine.{ScheduleLine}
 use Rattle.bp_trace.specs.TraceText.{line_text, line_of_call, lines_of_history, schedule_text, IsLineAt, HasNoLine}
 use Rattle.bp_trace.specs.Drives.{DrivesUpTo, IsDriven, IsScheduleRefusal}
 use Rattle.bp_trace.specs.Laws.{DrivesTo, LinesDriveAgain, OneScheduleRefusal, RefusedDrivesNowhere, RunsDriveToHistories}
-use Rattle.bp_trace.proofs.LinesDriveAgain.{same_call, not_empty, schedule_short}
-use Rattle.bp_trace.proofs.ScheduleLineAt.{one_line}
+use Rattle.bp_trace.proofs.ScheduleLines.{same_call, not_empty, schedule_short, one_line}
 use Rattle.bp_trace.proofs.Walks.{Walk, Stays, Goes, IsSingle, Stops, one_end}
 
 module _ (t : Program) (s : SetupOf) (few : threads s ≤ MAX_THREADS) where

@@ -13,7 +13,7 @@ use Rattle.bp_trace.specs.declared.faults.ReplayFault.{ReplayFault}
 use Rattle.bp_trace.specs.declared.faults.ReplayFault.TheVariants as fault
 use Rattle.bp_trace.specs.Replays.{IsPlayable, IsDue, IsCallFault, IsRefusedAmong, IsOwnCall}
 use Rattle.bp_trace.specs.Judging.{IsDueCall, IsMismatch, IsCallRefusal}
-use Rattle.bp_trace.proofs.LinesDriveAgain.{same_answer}
+use Rattle.bp_trace.proofs.ScheduleLines.{same_answer}
 
 calls_after : (i : ℕ) (h g : List Call) → calls_of_thread i (h ++ g) ≡ calls_of_thread i h ++ calls_of_thread i g
 calls_after i [] g = refl

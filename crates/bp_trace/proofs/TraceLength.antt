@@ -20,7 +20,7 @@ use Rattle.bp_trace.specs.TraceText.{bit_digit, Symbol, Piece, calls_of_piece, c
 use Rattle.bp_trace.specs.Replays.{IsDecimal, IsEndLine}
 use Rattle.bp_trace.proofs.HeadsRead.{limits_text, setup_text, head_joined}
 use Rattle.bp_trace.proofs.PiecesAreFewest.{pieces_threads, pieces_whole}
-use Rattle.bp_trace.proofs.LinesDriveAgain.{few_digits}
+use Rattle.bp_trace.proofs.ScheduleLines.{few_digits}
 
 number_short : (n : ℕ) → n < 2 ^ 64 → length (decimal n) ≤ 20
 number_short n fits = length-decimal-le 20 n (omega arith) (omega (arith, fits)) fits

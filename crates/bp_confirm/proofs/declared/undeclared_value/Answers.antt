@@ -3,7 +3,7 @@ use Rattle.bp_confirm.specs.ConfirmedTexts.{AreDeclared}
 use Rattle.bp_confirm.specs.Steps.{value_of}
 use Rattle.bp_confirm.specs.LineReading.{values_in}
 use Rattle.bp_confirm.proofs.OneTextRefusal.{first_undeclared, declared_more}
-use Rattle.bp_confirm.proofs.ReadValues.{all_read, none_read, one_more_read, value_there}
+use Rattle.bp_confirm.proofs.ReadLines.{all_read, none_read, one_more_read, value_there}
 use Rattle.bp_confirm.proofs.declared.undeclared_value.Goals as goal
 
 pub loop-value-init : goal.loop-value-init

@@ -1,7 +1,7 @@
 use Rattle.std.proofs.Common.{length, take}
 use Rattle.bp_confirm.specs.ConfirmedTexts.{AreDeclared, AreKnown}
 use Rattle.bp_confirm.specs.LineReading.{values_in}
-use Rattle.bp_confirm.proofs.ReadValues.{AreReadTo}
+use Rattle.bp_confirm.proofs.ReadLines.{AreReadTo}
 use Rattle.bp_confirm.proofs.declared.undeclared_value.Given as goal
 
 abbrev pub invariant-loop-value : goal.invariant-loop-value

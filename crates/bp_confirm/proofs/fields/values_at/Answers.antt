@@ -1,6 +1,6 @@
 use Rattle.std.proofs.Common.{arith}
 use Rattle.bp_text.proofs.WholeTexts.{all_read, one_more_read}
-use Rattle.bp_confirm.proofs.ReadValues.{says, value_shorter, values_at}
+use Rattle.bp_confirm.proofs.ReadLines.{says, value_shorter, values_at}
 use Rattle.bp_confirm.proofs.fields.values_at.Goals as goal
 
 pub loop-more-preserved : goal.loop-more-preserved

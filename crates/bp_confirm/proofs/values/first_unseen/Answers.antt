@@ -2,7 +2,7 @@ use Rattle.std.proofs.Common.{◌∙◌, ap, sym, subst, option_map}
 use Rattle.bp_confirm.specs.Steps.{value_of, SeesValues}
 use Rattle.bp_confirm.specs.LineReading.{values_in}
 use Rattle.bp_confirm.proofs.StepsFollowed.{sees_more}
-use Rattle.bp_confirm.proofs.ReadValues.{all_read, none_read, one_more_read, value_there}
+use Rattle.bp_confirm.proofs.ReadLines.{all_read, none_read, one_more_read, value_there}
 use Rattle.bp_confirm.proofs.values.first_unseen.Goals as goal
 
 pub loop-value-init : goal.loop-value-init

@@ -4,7 +4,7 @@ use Rattle.bp_confirm.specs.OwnSteps.{AreShown}
 use Rattle.bp_confirm.specs.FollowedSteps.{source_points_of}
 use Rattle.bp_confirm.specs.Steps.{SeesValues}
 use Rattle.bp_confirm.specs.LineReading.{values_in}
-use Rattle.bp_confirm.proofs.ReadValues.{AreReadTo}
+use Rattle.bp_confirm.proofs.ReadLines.{AreReadTo}
 use Rattle.bp_confirm.proofs.values.first_unseen.Given as goal
 
 abbrev pub invariant-loop-value : goal.invariant-loop-value

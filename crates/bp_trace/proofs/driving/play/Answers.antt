@@ -3,8 +3,7 @@ use Rattle.std.proofs.lemmas.Result.{err_from_is_err_and}
 use Rattle.bp_text.proofs.PartsOfTexts.{none_left, some_left}
 use Rattle.bp_flat.specs.StandsFor.{IsOfProgram, StandsFor}
 use Rattle.bp_trace.specs.TraceText.{schedule_text, lines_of_history}
-use Rattle.bp_trace.proofs.LinesDriveAgain.{bad_line, next_front, next_few, line_refused}
-use Rattle.bp_trace.proofs.ScheduleLineAt.{line_found, line_parts, no_line}
+use Rattle.bp_trace.proofs.ScheduleLines.{bad_line, next_front, next_few, line_refused, line_found, line_parts, no_line}
 use Rattle.bp_trace.proofs.driving.play.Goals as goal
 
 pub play_line-requires-clause-program : goal.play_line-requires-clause-program

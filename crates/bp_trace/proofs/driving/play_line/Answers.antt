@@ -1,4 +1,4 @@
-use Rattle.bp_trace.proofs.LinesDriveAgain.{refused_line}
+use Rattle.bp_trace.proofs.ScheduleLines.{refused_line}
 use Rattle.bp_trace.proofs.driving.play_line.Goals as goal
 
 pub returns-in-Err-clause-refused : goal.returns-in-Err-clause-refused

@@ -1,5 +1,5 @@
 use Rattle.std.proofs.Common.{rules}
-use Rattle.bp_trace.proofs.ScheduleLineAt.{two_text}
+use Rattle.bp_trace.proofs.ScheduleLines.{two_text}
 use Rattle.bp_trace.proofs.trace_lines.put_with_two_digits.Goals as goal
 
 pub returns : goal.returns

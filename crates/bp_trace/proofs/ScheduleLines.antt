@@ -1,10 +1,17 @@
--- Lines of schedules: how long they are, which call they are of, and what a session that stands after them says of the next one.
-use Rattle.std.proofs.Common.{ℕ, ◌*◌, ◌<◌, ◌≤◌, List, [], ◌∷◌, length, arith, length-append, inl, inr, ◌≡◌, ◌≢◌, ◌↔◌, IsTrue, Bool, true, false, ◌++◌, Some, refl, ap, sym, ◌∙◌, subst, ◌+◌, Option, None, is_some, decimal}
+-- Lines of schedules: what begins them, how long they are, which call they are of, and what a session that stands after them says.
+use Rattle.std.proofs.Common.{◌≡◌, ℕ, ◌+◌, ◌/◌, ◌%◌, ◌<◌, ◌≤◌, ◌^◌, inl, List, [], ◌∷◌, ◌++◌, length, refl, ap, sym, ◌∙◌, arith, decimal, append_assoc, ◌*◌, length-append, inr, ◌≢◌, ◌↔◌, IsTrue, Bool, true, false, Some, subst, Option, None, is_some}
+use Rattle.std.proofs.lemmas.Fmt.{decimal_digit, decimal_step}
+use Rattle.bp_text.specs.Formats.{HasNone, IsAt}
+use Rattle.bp_text.proofs.NumbersInTurn.{ends_at}
+use Rattle.bp_text.proofs.PartsOfTexts.{regrouped}
+use Rattle.bp_text.proofs.Readings.{one_at}
+use Rattle.bp_trace.specs.declared.driving.ScheduleLine.{ScheduleLine}
+use Rattle.bp_trace.specs.Reading.{schedule_line, thread_field}
+use Rattle.bp_trace.specs.TraceText.{line_text, bit_digit, IsLineAt, HasNoLine, schedule_text, line_of_call, lines_of_history}
 use Rattle.std.proofs.Math.Nat.{mul-le-mul_left, mul-le-mul_right}
 use Rattle.std.proofs.lemmas.Bool.{cases_lt}
 use Rattle.std.proofs.lemmas.List.{append-nil, map-append}
 use Rattle.std.proofs.lemmas.List.Concat.{flat_map-append}
-use Rattle.bp_text.proofs.PartsOfTexts.{regrouped}
 use Rattle.bp_language.specs.Ast.{Program}
 use Rattle.bp_flat.specs.Moves.{Configuration}
 use Rattle.bp_flat.specs.StandsFor.{StandsFor, IsOfProgram}
@@ -19,12 +26,49 @@ use Rattle.bp_machine.specs.declared.calls.AskFault.TheVariants.{NoThread, Finis
 use Rattle.bp_machine.proofs.HistoriesAreRuns.{AllBelow, all_below, legal_length}
 use Rattle.bp_machine.proofs.SetupInRange.{is_true, is_false}
 use Rattle.bp_trace.specs.declared.limits.TheConstants.{MAX_SCHEDULE}
-use Rattle.bp_trace.specs.TraceText.{bit_digit, line_text, schedule_text, line_of_call, lines_of_history, IsLineAt, HasNoLine}
-use Rattle.bp_trace.specs.declared.driving.ScheduleLine.{ScheduleLine}
 use Rattle.bp_trace.specs.Drives.{IsBadLine, IsAfterFinish, IsRefusal, drive_fault_of, IsAdded, IsLineRefusal}
 use Rattle.bp_trace.specs.declared.faults.DriveFault.{DriveFault}
 use Rattle.bp_trace.specs.declared.faults.DriveFault.TheVariants as fault
-use Rattle.bp_trace.proofs.ScheduleLineAt.{one_digit, both_digits}
+
+pub two_text : (t : ℕ) → 10 ≤ t → t < 100 → decimal t ≡ (48 + t / 10) ∷ (48 + t % 10) ∷ []
+two_text t h k = decimal_step t h (omega arith) ∙ ap (λ x. x ++ (48 + t % 10) ∷ []) (decimal_digit (t / 10) (omega arith))
+
+pub one_digit : (t : ℕ) → t < 10 → 1 ≡ length (decimal t)
+one_digit t h = sym (ap length (decimal_digit t h))
+
+pub both_digits : (t : ℕ) → 10 ≤ t → t < 100 → 2 ≡ length (decimal t)
+both_digits t h k = sym (ap length (two_text t h k))
+
+module _ (n : ℕ) (few : n < 2 ^ 64) (text : List ℕ) where
+  pub thread_there : (i : ℕ) (more : List ℕ) → i < n → text ≡ decimal i ++ 32 ∷ more → IsAt (thread_field n) text i more
+  thread_there i more below e = record {
+    fits = (below, omega (arith, below, few), ends_at 32 more (inl (omega arith)));
+    parts = e ∙ sym (append_assoc (decimal i) (32 ∷ []) more);
+  }
+
+  pub thread_parts : (i : ℕ) (more : List ℕ) → IsAt (thread_field n) text i more → text ≡ decimal i ++ 32 ∷ more
+  thread_parts i more at = at.parts ∙ append_assoc (decimal i) (32 ∷ []) more
+
+  line_there : (x : ScheduleLine) (more : List ℕ) → x.thread < n → text ≡ line_text x ++ more → IsAt (schedule_line n) text x more
+  line_there x more below e = record {
+    fits = ((below, omega (arith, below, few), ends_at 32 _ (inl (omega arith))), tt);
+    parts = let regroup : line_text x ++ more ≡ ((decimal x.thread ++ 32 ∷ []) ++ bit_digit x.bit ∷ 10 ∷ []) ++ more = simp regrouped in e ∙ regroup;
+  }
+
+  pub line_parts : (x : ScheduleLine) (more : List ℕ) → IsAt (schedule_line n) text x more → text ≡ line_text x ++ more
+  line_parts x more at = let regroup : ((decimal x.thread ++ 32 ∷ []) ++ bit_digit x.bit ∷ 10 ∷ []) ++ more ≡ line_text x ++ more = simp regrouped in at.parts ∙ regroup
+
+  pub line_found : (x : ScheduleLine) (more : List ℕ) → IsAt (schedule_line n) text x more → IsLineAt n text x
+  line_found x more at = (more, at.fits.0.0, line_parts x more at)
+
+  pub no_line : HasNone (schedule_line n) text → HasNoLine n text
+  no_line none = λ x more below e. let at = line_there x more below e in none.none x more at.fits at.parts
+
+-- one line begins a text
+pub one_line : (x y : ScheduleLine) (a b : List ℕ) → x.thread < 100 → y.thread < 100 → line_text x ++ a ≡ line_text y ++ b → (x ≡ y) × (a ≡ b)
+one_line x y a b few_x few_y e = one_at (line_there 100 (omega arith) _ x a few_x refl) (line_there 100 (omega arith) _ y b few_y e)
+
+-- Lines of schedules: how long they are, which call they are of, and what a session that stands after them says of the next one.
 
 -- The schedule of a legal history is short enough to be driven.
 
