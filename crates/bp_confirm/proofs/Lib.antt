@@ -13,7 +13,6 @@ pub mod StartsInOrder
 pub mod OnePosition
 pub mod OwnStepsMade
 pub mod OneStepRefusal
-pub mod OwnTextConfirmed
 pub mod LastWays
 pub mod DeadlocksTaken
 pub mod Elements

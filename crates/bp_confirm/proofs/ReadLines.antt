@@ -160,11 +160,11 @@ module _ (text : List ℕ) (is : SaysValues text) where
   pub none_read : AreReadTo text text 0
   none_read = record { all = is; few = omega arith }
 
-module _ (text rest : List ℕ) (n : ℕ) (read : AreReadTo text rest n) where
+module _ {text rest : List ℕ} {n : ℕ} (read : AreReadTo text rest n) where
   pub all_read : HasNone value rest → take n (values_in text) ≡ values_in text
   all_read none = past_none (values_in text) n (no_next (values_in text) n n read.all none (omega arith))
 
-  module _ (v : List ℕ × Bool) (more : List ℕ) (at : IsAt value rest v more) where
+  module _ {v : List ℕ × Bool} {more : List ℕ} (at : IsAt value rest v more) where
     next : IsNext value (values_in text) n v more
     next = next_value (values_in text) n read.all at
 

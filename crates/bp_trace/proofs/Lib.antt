@@ -3,9 +3,8 @@ mod EndLineAt
 mod OneText
 mod PiecesAreFewest
 pub mod ScheduleLines
-mod OneHistoryAfter
-mod LongestAccepted
 mod OneRefusal
+mod LongestAccepted
 pub mod PlayableFronts
 mod OneScheduleRefusal
 pub mod Walks

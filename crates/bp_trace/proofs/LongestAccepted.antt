@@ -21,7 +21,7 @@ use Rattle.bp_trace.specs.TraceText.{calls_text, HasHead, head_text}
 use Rattle.bp_trace.specs.Replays.{IsPlayable, IsBodyLine, IsCallFault, line_count, IsAccepted, IsLongestAccepted, HasRefusedCall}
 use Rattle.bp_trace.proofs.PiecesAreFewest.{text_grows, count_grows, some_line, line_below, thread_of}
 use Rattle.bp_trace.proofs.HeadsRead.{all_of_both, all_of_second, one_head}
-use Rattle.bp_trace.proofs.OneHistoryAfter.{State, IsNextLine, single, grown, walk_of, below}
+use Rattle.bp_trace.proofs.OneRefusal.{State, IsNextLine, single, grown, walk_of, below}
 use Rattle.bp_trace.proofs.Walks.{Walk, Stays, Goes, compared, stays}
 use Rattle.bp_trace.proofs.OneText.{front_cut}
 use Rattle.bp_trace.proofs.PlayableFronts.{not_refused, one_place}
@@ -82,25 +82,18 @@ module _ (v : Version) (n first : ℕ) (text : List ℕ) (h : List Call) (size l
   module _ (calls new : List Call) (more : ℕ)
       (at : IsBodyLineAt v n (last_thread (map (λ (x : Call). x.thread) h)) (drop size text) calls more)
       (is : new ≡ h ++ calls) where
-    pub next_within : size + more ≤ length text
-    next_within =
-        let whole = ap length at.begins in
-        omega (arith, within, whole, at.size_is, length-append at.line at.more, length-drop size text)
-
     rest_is : drop (size + more) text ≡ at.more
     rest_is = sym (drop-drop more size text) ∙ ap (drop more) at.begins ∙ drop_at at.line at.more more (sym at.size_is)
 
-    pub next_parts : text ≡ calls_text v new ++ drop (size + more) text
-    next_parts =
-        parts
-        ∙ ap (λ r. calls_text v h ++ r) at.begins
-        ∙ rw (is, text_grows v n h at.line calls at.is_line, rest_is) (simp regrouped)
-
-    pub next_number : line + 1 ≡ first + line_count v new
-    next_number = omega (arith, number, ap (line_count v) is, count_grows v n h at.line calls at.is_line)
-
-    pub next_few : line ≤ first + size → line + 1 ≤ first + (size + more)
-    next_few few = omega (arith, few, at.size_is, some_line v n (last_thread (map (λ (x : Call). x.thread) h)) at.line calls at.is_line)
+    pub next_line : line ≤ first + size
+        → (size + more ≤ length text) × (text ≡ calls_text v new ++ drop (size + more) text) × (line + 1 ≡ first + line_count v new)
+        × (line + 1 ≤ first + (size + more))
+    next_line few = (
+      let whole = ap length at.begins in omega (arith, within, whole, at.size_is, length-append at.line at.more, length-drop size text),
+      parts ∙ ap (λ r. calls_text v h ++ r) at.begins ∙ rw (is, text_grows v n h at.line calls at.is_line, rest_is) (simp regrouped),
+      omega (arith, number, ap (line_count v) is, count_grows v n h at.line calls at.is_line),
+      omega (arith, few, at.size_is, some_line v n (last_thread (map (λ (x : Call). x.thread) h)) at.line calls at.is_line),
+    )
 
   module _ (t : Program) (s : SetupOf) (many : n ≡ threads s) (playable : IsPlayable t s h) (calls : List Call) (more : ℕ)
       (at : IsBodyLineAt v n (last_thread (map (λ (x : Call). x.thread) h)) (drop size text) calls more) where

@@ -1,5 +1,4 @@
-use Rattle.bp_confirm.proofs.OwnStepsMade.{steps_of_the_run, text_of_lines}
-use Rattle.bp_confirm.proofs.OwnTextConfirmed.{own_deadlock_confirmed, own_text_confirmed}
+use Rattle.bp_confirm.proofs.OwnStepsMade.{steps_of_the_run, text_of_lines, own_deadlock_confirmed, own_text_confirmed}
 use Rattle.bp_confirm.proofs.laws.steps_are_of_the_run.Goals as goal
 
 pub returns-clause-run : goal.returns-clause-run

@@ -10,13 +10,11 @@ loop-value-init c = record { read = none_read c.args.values.now c.requires; sees
 
 pub returns-then-not-is_value : goal.returns-then-not-is_value
 returns-then-not-is_value c =
-    let v = value_of c.in-Some.value in
-    let there = value_there c.args.values.now c.loop-value.rest.now c.loop-value.place
-    c.loop-value.invariant.read v c.in-Some.more.now c.in-Some.ensures in
+    let there = value_there c.loop-value.invariant.read c.in-Some.ensures in
     record {
       name = ap (option_map (λ x. x.0)) there;
       first = λ text now i are shown. record {
-        value = v;
+        value = value_of c.in-Some.value;
         at = there;
         first = c.loop-value.invariant.sees text now i are shown;
         is_seen = c.value_at_top-seen.ensures text now i are shown;
@@ -25,25 +23,17 @@ returns-then-not-is_value c =
     }
 
 pub loop-value-preserved : goal.loop-value-preserved
-loop-value-preserved c =
-    let values = c.args.values.now in
-    let rest = c.loop-value.rest.now in
-    let n = c.loop-value.place in
-    let v = value_of c.in-Some.value in
-    let read = c.loop-value.invariant.read in
-    let there = value_there values rest n read v c.in-Some.more.now c.in-Some.ensures in
-    record {
-      read = one_more_read values rest n read v c.in-Some.more.now c.in-Some.ensures;
-      sees = λ text now i are shown.
-          let seen = c.value_at_top-seen.ensures text now i are shown in
-          sees_more now i v (values_in values) n there (c.loop-value.invariant.sees text now i are shown)
-          (sym seen ∙ c.is_value.ensures.0 c.if-not-is_value.false);
-    }
+loop-value-preserved c = record {
+  read = one_more_read c.loop-value.invariant.read c.in-Some.ensures;
+  sees = λ text now i are shown.
+      let seen = c.value_at_top-seen.ensures text now i are shown in
+      sees_more now i (value_of c.in-Some.value) (values_in c.args.values.now) c.loop-value.place (value_there c.loop-value.invariant.read c.in-Some.ensures)
+      (c.loop-value.invariant.sees text now i are shown) (sym seen ∙ c.is_value.ensures.0 c.if-not-is_value.false);
+}
 
 pub returns : goal.returns
 returns c = record {
   name = tt;
   first = λ text now i are shown.
-      let all = all_read c.args.values.now c.loop-value.rest.now c.loop-value.place c.loop-value.invariant.read c.in_default.ensures in
-      subst (SeesValues now i) all (c.loop-value.invariant.sees text now i are shown);
+      subst (SeesValues now i) (all_read c.loop-value.invariant.read c.in_default.ensures) (c.loop-value.invariant.sees text now i are shown);
 }

@@ -2,7 +2,7 @@ use Rattle.std.proofs.lemmas.Grind.{common_steps}
 use Rattle.std.proofs.Common.{arith, ◌∙◌, sym, subst, refl}
 use Rattle.bp_flat.specs.StandsFor.{StandsFor}
 use Rattle.bp_trace.proofs.PiecesAreFewest.{line_below}
-use Rattle.bp_trace.proofs.LongestAccepted.{playable_of, next_within, next_parts, next_number, next_few, body_refused}
+use Rattle.bp_trace.proofs.LongestAccepted.{playable_of, next_line, body_refused}
 use Rattle.bp_trace.proofs.playing.play.Goals as goal
 
 pub returns-in_default-clause-body : goal.returns-in_default-clause-body
@@ -48,7 +48,8 @@ loop-calls-preserved g c =
     let after = rw c.as_slice-in-loop-calls.ensures.value at c.in-Ok.ensures.history in
     let new = c.judge_line.new.played.history.items in
     let old = c.loop-calls.played.history.items in
-    let calls = c.body_line_at.new.calls.items in
+    let (within, parts, number, few) = next_line c.args.version _ c.args.first c.args.text.now old c.loop-calls.size c.loop-calls.line
+    before.within before.parts before.number c.body_line_at.new.calls.items new c.in-Some.more at after before.few in
     record {
       played = c.in-Ok.ensures.played;
       watched = λ t is first begun.
@@ -56,18 +57,10 @@ loop-calls-preserved g c =
           let same = before.setup ∙ c.requires.setup in
           let seen = rw same at (c.in-Ok.ensures.watched t is_kept first) in
           seen (before.watched t is first begun);
-      within =
-          next_within c.args.version _ c.args.first c.args.text.now old c.loop-calls.size c.loop-calls.line
-          before.within before.parts before.number calls new c.in-Some.more at after;
-      parts =
-          next_parts c.args.version _ c.args.first c.args.text.now old c.loop-calls.size c.loop-calls.line before.within
-          before.parts before.number calls new c.in-Some.more at after;
-      number =
-          next_number c.args.version _ c.args.first c.args.text.now old c.loop-calls.size c.loop-calls.line
-          before.within before.parts before.number calls new c.in-Some.more at after;
-      few =
-          next_few c.args.version _ c.args.first c.args.text.now old c.loop-calls.size c.loop-calls.line before.within
-          before.parts before.number calls new c.in-Some.more at after before.few;
+      within = within;
+      parts = parts;
+      number = number;
+      few = few;
       code = c.judge_line.ensures.kept.0 ∙ before.code;
       setup = c.judge_line.ensures.kept.1 ∙ before.setup;
     }
