@@ -87,14 +87,6 @@ pub each_kept : (kept : List KeptLine) (x : KeptLine) → AllByRecursion IsKeptL
 each_kept [] x each here = (here, tt)
 each_kept (y ∷ kept) x each here = (each.0, each_kept kept x each.1 here)
 
--- and it is kept at the end
-pub step_at_end : (kept : List KeptLine) (x : KeptLine) (text rest : List ℕ) → IsAt step_line text x.line rest
-    → IsStepThere (kept_lines (kept ++ x ∷ [])) (length kept) text rest
-step_at_end [] x text rest at = record { within = omega arith; at = at }
-step_at_end (y ∷ kept) x text rest at =
-    let there = step_at_end kept x text rest at in
-    record { within = omega (arith, there.within); at = there.at }
-
 -- where each line that is kept is such a one, so is each line
 pub all_at : (P : StepLineOf → Type 0) (xs : List StepLineOf) (ks : List ℕ) → AllByRecursion P xs → AreWithin xs ks → AllByRecursion P (lines_at xs ks)
 all_at P xs [] all within = tt
@@ -142,9 +134,6 @@ module _ (c : Configuration) (i : ℕ) where
 
 -- a step of thread i from c to d, and a reported one
 module _ (x : StepOf) (c d : Configuration) (i : ℕ) where
-  pub other_thread : (i == x.thread) ≡ false → is_step x c i d ≡ false
-  other_thread other = ap (λ b. (b && stands_at x.place (stack_of c i)) && sees_values d i x.values) other
-
   pub elsewhere : stands_at x.place (stack_of c i) ≡ false → is_step x c i d ≡ false
   elsewhere away = ap (λ b. ((i == x.thread) && b) && sees_values d i x.values) away ∙ ap (λ b. b && sees_values d i x.values) (and-false (i == x.thread))
 

@@ -14,7 +14,7 @@ use Rattle.bp_tasks.specs.declared.tasks.ContextBound.{ContextBound}
 use Rattle.bp_tasks.specs.declared.tasks.ContextBound.TheVariants.{Kept, AsUsed}
 use Rattle.bp_confirm.specs.Steps.{StepLineOf, HasLines, IsBadLine}
 use Rattle.bp_confirm.specs.ConfirmedTexts.{AreDeclared, IsFirstUndeclared, AreDeclaredLines, IsFirstStray, AreRead, HasFitLength, IsConfirmedText, IsStepsRefusal, IsSetupFor, contexts_allowed, IsDeclared, IsOfNoThread, IsOfNoVariable}
-use Rattle.bp_confirm.specs.Confirms.{AreOfThreads, IsStepRefusal}
+use Rattle.bp_confirm.specs.Confirms.{IsStepRefusal}
 use Rattle.bp_confirm.specs.declared.confirming.ConfirmFault.{ConfirmFault}
 use Rattle.bp_confirm.specs.declared.confirming.ConfirmFault.TheVariants.{TooLong, NoSteps, Line, NoThread, NoVariable, Step, Memory}
 use Rattle.bp_confirm.specs.declared.confirming.StepRefusal.{StepRefusal}
@@ -57,11 +57,6 @@ module _ (t : Program) (s : SetupOf) (xs : List StepLineOf) (n : ℕ) (d x : Ste
     number = let size : length (take n xs) ≡ n = simp length-take (omega arith) in omega (arith, size);
     is = subst Is is here;
   }
-
--- declared lines are of threads of the setup
-pub of_threads : (t : Program) (s : SetupOf) (xs : List StepLineOf) → AreDeclaredLines t s xs → AreOfThreads s xs
-of_threads t s [] all = tt
-of_threads t s (x ∷ xs) all = (all.0.thread, of_threads t s xs all.1)
 
 -- lines of what is not declared
 module _ (t : Program) (s : SetupOf) where

@@ -1,5 +1,5 @@
 -- One more step that is followed, and one that is refused.
-use Rattle.std.proofs.Common.{◌≡◌, ◌∙◌, ℕ, Bool, List, ◌∷◌, false, Option, None, Some, ap, sym, subst, Bor, ◌<◌, ◌+◌, [], ◌++◌, length, take, drop, get_or, ◌≤◌, zero, suc, true, refl, arith, slice_get, is_some}
+use Rattle.std.proofs.Common.{◌≡◌, ◌∙◌, ℕ, Bool, List, ◌∷◌, false, Option, None, Some, ap, sym, subst, Bor, ◌<◌, ◌+◌, [], ◌++◌, length, take, drop, get_or, ◌≤◌, zero, suc, true, refl, arith, slice_get}
 use Rattle.std.specs.Option.{option_copied}
 use Rattle.std.proofs.lemmas.List.{take_more, take-append-drop, append-nil, map_push, take_all}
 use Rattle.std.proofs.lemmas.Bool.{false≢true}
@@ -14,10 +14,8 @@ use Rattle.bp_machine.specs.declared.tops.Top.{Top}
 use Rattle.bp_machine.specs.Histories.{stack_of, configuration_after, is_finished, IsAllowed, is_granted}
 use Rattle.bp_machine.specs.Runs.{IsTop}
 use Rattle.bp_machine.specs.declared.calls.Call.{Call}
-use Rattle.bp_machine.specs.Sessions.{IsNextCall, given_bit, IsAskRefusal}
-use Rattle.bp_machine.specs.Setups.{SetupOf, threads}
-use Rattle.bp_machine.specs.declared.calls.AskFault.{AskFault}
-use Rattle.bp_machine.specs.declared.calls.AskFault.TheVariants as refused
+use Rattle.bp_machine.specs.Sessions.{IsNextCall, given_bit}
+use Rattle.bp_machine.specs.Setups.{SetupOf}
 use Rattle.bp_trace.specs.Replays.{IsPlayable}
 use Rattle.bp_trace.proofs.PlayableFronts.{front, own_is}
 use Rattle.bp_confirm.specs.FollowedSteps.{TellsNext, is_fork, is_fork_on, IsInferred, IsInferredOn, IsRefusedHere, IsNotTaken, refusal_of, source_points_of}
@@ -247,14 +245,3 @@ module _ (text : List ℕ) (t : Program) (s : SetupOf) (h : List Call) {x z : St
 
           pub follows : IsClearOnStack x.thread later (stack_of (configuration_after t s h) x.thread) → Follows t s last h (step_of text z) later a
           follows clear = subst (λ w. Follows t s last h (step_of text w) later a) is (record { takes = takes; bit = bit; clear = clear })
-
--- a call that is refused to a thread that is there, where the setup has no seed
-pub ask_refused : (t : Program) (s : SetupOf) (h : List Call) (i : ℕ) (bit : Bool) (f : AskFault) → i < threads s
-    → s.seed ≡ None → IsAskRefusal t s h i (Some bit) f
-    → (f ≡ refused.Memory → ⊥) → is_finished s h i ≡ true
-ask_refused t s h i bit refused.NoThread inside unseeded why other = absurd (omega (arith, inside, why))
-ask_refused t s h i bit refused.Finished inside unseeded why other = why.1
-ask_refused t s h i bit refused.Seeded inside unseeded why other = absurd (false≢true (sym (ap (λ o. is_some o) unseeded) ∙ why.2))
-ask_refused t s h i bit refused.Unseeded inside unseeded why other = absurd (let e = why.1 in cc)
-ask_refused t s h i bit refused.Memory inside unseeded why other = absurd (other refl)
-ask_refused t s h i bit refused.Busy inside unseeded why other = absurd why

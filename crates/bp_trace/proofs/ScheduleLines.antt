@@ -9,7 +9,7 @@ use Rattle.bp_trace.specs.declared.driving.ScheduleLine.{ScheduleLine}
 use Rattle.bp_trace.specs.Reading.{schedule_line, thread_field}
 use Rattle.bp_trace.specs.TraceText.{line_text, bit_digit, IsLineAt, HasNoLine, schedule_text, line_of_call, lines_of_history}
 use Rattle.std.proofs.Math.Nat.{mul-le-mul_left, mul-le-mul_right}
-use Rattle.std.proofs.lemmas.Bool.{cases_lt}
+use Rattle.std.proofs.lemmas.Bool.{cases_lt, false≢true}
 use Rattle.std.proofs.lemmas.List.{append-nil, map-append}
 use Rattle.std.proofs.lemmas.List.Concat.{flat_map-append}
 use Rattle.bp_language.specs.Ast.{Program}
@@ -24,7 +24,7 @@ use Rattle.bp_machine.specs.Sessions.{SessionOf, Stands, StandsForAll, IsAskRefu
 use Rattle.bp_machine.specs.declared.calls.AskFault.{AskFault}
 use Rattle.bp_machine.specs.declared.calls.AskFault.TheVariants.{NoThread, Finished, Seeded, Unseeded, Memory, Busy}
 use Rattle.bp_machine.proofs.HistoriesAreRuns.{AllBelow, all_below, legal_length}
-use Rattle.bp_machine.proofs.SetupInRange.{is_true, is_false}
+use Rattle.bp_machine.proofs.SetupInRange.{is_true}
 use Rattle.bp_trace.specs.declared.limits.TheConstants.{MAX_SCHEDULE}
 use Rattle.bp_trace.specs.Drives.{IsBadLine, IsAfterFinish, IsRefusal, drive_fault_of, IsAdded, IsLineRefusal}
 use Rattle.bp_trace.specs.declared.faults.DriveFault.{DriveFault}
@@ -128,6 +128,17 @@ module _ (t : Program) (s : SetupOf) where
       let reply = same_answer t s.contexts (configuration_after t s h) (granted_threads h) y.thread y.bit x.reply y.reply other q.answers in
       λ i. record { thread = thread i; bit = bit i; reply = reply i }
 
+-- a call that is refused to a thread that is there, where the setup has no seed
+pub ask_refused : (t : Program) (s : SetupOf) (h : List Call) (i : ℕ) (bit : Bool) (f : AskFault) → i < threads s
+    → s.seed ≡ None → IsAskRefusal t s h i (Some bit) f
+    → (f ≡ Memory → ⊥) → is_finished s h i ≡ true
+ask_refused t s h i bit NoThread inside unseeded why other = absurd (omega (arith, inside, why))
+ask_refused t s h i bit Finished inside unseeded why other = why.1
+ask_refused t s h i bit Seeded inside unseeded why other = absurd (false≢true (sym (ap (λ o. is_some o) unseeded) ∙ why.2))
+ask_refused t s h i bit Unseeded inside unseeded why other = absurd (let e = why.1 in cc)
+ask_refused t s h i bit Memory inside unseeded why other = absurd (other refl)
+ask_refused t s h i bit Busy inside unseeded why other = absurd why
+
 -- What a session that stands after the calls of all lines says of them.
 
 module _ (x : SessionOf) (h : List Call) (of_some : IsOfProgram x.code) (stands : StandsForAll x h) where
@@ -135,25 +146,12 @@ module _ (x : SessionOf) (h : List Call) (of_some : IsOfProgram x.code) (stands 
   pub refused_line : (line : ScheduleLine) (n : ℕ) (f : AskFault) → line.thread < threads x.setup → x.setup.seed ≡ None
       → ((t : Program) (g : List Call) → StandsFor x.code t → Stands t x g
       → IsAskRefusal t x.setup g line.thread (Some line.bit) f) → IsLineRefusal x.setup h line n (drive_fault_of f n)
-  refused_line line n NoThread within unseeded refused =
-      absurd (is_false x.code (line.thread < threads x.setup) of_some (λ t is. past (refused t h is (stands t is))) within)
-    where
-      past : threads x.setup ≤ line.thread → line.thread < threads x.setup → ⊥
-      past beyond below = omega arith
-  refused_line line n Finished within unseeded refused =
-      (refl, is_true x.code (is_finished x.setup h line.thread) of_some (λ t is. (refused t h is (stands t is)).1))
-  refused_line line n Seeded within unseeded refused =
-      absurd (is_false x.code (x.setup.seed ≡ None) of_some (λ t is. seeded (refused t h is (stands t is)).2) unseeded)
-    where
-      seeded : is_some x.setup.seed ≡ true → x.setup.seed ≡ None → ⊥
-      seeded some none = let a = ap is_some none in cc
-  refused_line line n Unseeded within unseeded refused =
-      absurd (is_false x.code (x.setup.seed ≡ None) of_some (λ t is. ungiven (refused t h is (stands t is)).1) unseeded)
-    where
-      ungiven : Some line.bit ≡ None → x.setup.seed ≡ None → ⊥
-      ungiven e none = cc
   refused_line line n Memory within unseeded refused = tt
-  refused_line line n Busy within unseeded refused = absurd (is_false x.code (Unit {0}) of_some (λ t is u. refused t h is (stands t is)) tt)
+  refused_line line n f within unseeded refused = (
+    refl,
+    is_true x.code (is_finished x.setup h line.thread) of_some
+        (λ t is. ask_refused t x.setup h line.thread line.bit f within unseeded (refused t h is (stands t is)) (λ e. absurd cc)),
+  )
 
 -- one more line of the schedule
 module _ (schedule rest : List ℕ) (old new : List Call) (line : ScheduleLine)

@@ -1,6 +1,5 @@
-//! The lines of calls in a trace.
-//! Writing the line of a call: by one write, for each thread that a setup may have.
-//! The lines of calls in a trace of either version.
+//! The lines of calls in a trace of either version. A call is written by one write, for each thread
+//! that a setup may have.
 ghost use Rattle.std.specs.Prelude.{◌≡◌, ◌≢◌, ◌↔◌, ◌≤◌, Bool, Some, IsTrue, slice_get, MatchOption, ◌<◌, [], IfOk, length};
 ghost use Rattle.bp_text.specs.Writing.{Given, Writes};
 ghost use Rattle.bp_machine.specs.declared.limits.TheConstants.{MAX_THREADS};
