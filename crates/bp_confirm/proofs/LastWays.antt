@@ -90,16 +90,20 @@ module _ (ps : List Procedure) (g : Valuation) (f : Frame) (fs : List Frame) whe
       (effect_with left (bit_of_block left next b follow))
 
   -- all leave the same
-  same : (b : Bool) (e : StatementEffect) (h : Valuation) (S : List Frame) → e ≡ Leaves h S → LeaveAmong None b e e e h S
-  same b e h S is = record {
+  all_leave : {next : Option Place} {b : Bool} {d e k : StatementEffect} {h : Valuation} {S R : List Frame} → d ≡ Leaves h S → e ≡ Leaves h S → k ≡ Leaves h S
+      → Among next b S S S R → LeaveAmong next b d e k h R
+  all_leave {S = S} zeroed_is oned_is given_is among = record {
     zeroed = S;
     oned = S;
     given = S;
-    zeroed_is = is;
-    oned_is = is;
-    given_is = is;
-    among = (refl, λ p. refl, λ p. refl, inl refl);
+    zeroed_is = zeroed_is;
+    oned_is = oned_is;
+    given_is = given_is;
+    among = among;
   }
+
+  same : (b : Bool) (e : StatementEffect) (h : Valuation) (S : List Frame) → e ≡ Leaves h S → LeaveAmong None b e e e h S
+  same b e h S is = all_leave is is is (refl, λ p. refl, λ p. refl, inl refl)
 
   -- a `?` has two ways
   fork : (taken other : Block) (b y : Bool) (h : Valuation) (S : List Frame)
@@ -146,12 +150,4 @@ module _ (ps : List Procedure) (g : Valuation) (f : Frame) (fs : List Frame) whe
       let alike = leaves_alike ps g f fs left (Some p) false bit y h S (ap (bit_of_block left (Some p) false) (some p refl)) clear is in
       let one : effect_with left (bit_of_block left (Some p) true follow) ≡ Leaves h alike.stack = ap (effect_with left) (told left p true false follow) ∙ alike.is in
       let given : effect_with left (bit_of_block left (Some p) b follow) ≡ Leaves h alike.stack = ap (effect_with left) (told left p b false follow) ∙ alike.is in
-      inl (record {
-        zeroed = alike.stack;
-        oned = alike.stack;
-        given = alike.stack;
-        zeroed_is = alike.is;
-        oned_is = one;
-        given_is = given;
-        among = (refl, refl, alike.agree);
-      })
+      inl (all_leave alike.is one given (refl, refl, alike.agree))

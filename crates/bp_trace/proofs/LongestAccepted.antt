@@ -16,7 +16,7 @@ use Rattle.bp_machine.proofs.SetupInRange.{few_threads}
 use Rattle.bp_trace.specs.declared.faults.ReplayFault.{ReplayFault}
 use Rattle.bp_trace.specs.declared.traces.Version.{Version}
 use Rattle.bp_trace.specs.Reading.{IsBodyLineAt, HasNoBodyLine}
-use Rattle.bp_trace.specs.Judging.{IsCallRefusal, IsLineRefused, IsBodyRefusal}
+use Rattle.bp_trace.specs.Judging.{IsRefusedAfter, IsCallRefusal, IsLineRefused, IsBodyRefusal}
 use Rattle.bp_trace.specs.TraceText.{calls_text, HasHead, head_text}
 use Rattle.bp_trace.specs.Replays.{IsPlayable, IsBodyLine, IsCallFault, line_count, IsAccepted, IsLongestAccepted, HasRefusedCall}
 use Rattle.bp_trace.proofs.PiecesAreFewest.{text_grows, count_grows, some_line, line_below, thread_of}
@@ -99,7 +99,7 @@ module _ (v : Version) (n first : ℕ) (text : List ℕ) (h : List Call) (size l
       (at : IsBodyLineAt v n (last_thread (map (λ (x : Call). x.thread) h)) (drop size text) calls more) where
     pub body_refused : (played : List Call) (f : ReplayFault) → IsLineRefused t s h line calls played f → IsBodyRefusal t v s text first played f
     body_refused played f (inl memory) = inl memory
-    body_refused played f (inr after) = inr (record {
+    body_refused played f (inr after) = let moved = subst (λ k. IsRefusedAfter t s h k calls played f) number after in inr (record {
       history = h;
       rest = drop size text;
       playable = playable;
@@ -110,16 +110,9 @@ module _ (v : Version) (n first : ℕ) (text : List ℕ) (h : List Call) (size l
         more = at.more;
         is_line = subst (λ k. IsBodyLine k (last_thread (map (λ (x : Call). x.thread) h)) at.line calls v) many at.is_line;
         begins = at.begins;
-        among = record {
-          good = after.among.good;
-          call = after.among.call;
-          others = after.among.others;
-          parts = after.among.parts;
-          playable = after.among.playable;
-          refused = subst (λ k. IsCallFault t s (h ++ after.among.good) k after.among.call f) number after.among.refused;
-        };
+        among = moved.among;
       };
-      are = after.are;
+      are = moved.are;
     })
 
 -- one more of the calls of a line

@@ -1,5 +1,5 @@
 -- A history that may be played is played call by call: its fronts may be, and the call after a front is refused by nothing.
-use Rattle.std.proofs.Common.{◌≡◌, ◌≢◌, ℕ, ◌==◌, zero, suc, Bool, true, false, cond, List, [], ◌∷◌, ◌++◌, length, Option, None, Some, is_some, refl, ap, sym, ◌∙◌, ◌⊎◌, inl, inr, subst, arith, slice_get, append-nil}
+use Rattle.std.proofs.Common.{◌≡◌, ℕ, ◌==◌, zero, suc, Bool, true, false, cond, List, [], ◌∷◌, ◌++◌, length, Option, None, Some, is_some, refl, ap, sym, ◌∙◌, ◌⊎◌, inl, inr, subst, arith, slice_get, append-nil}
 use Rattle.std.proofs.lemmas.Bool.{false≢true}
 use Rattle.std.proofs.lemmas.Bool.Decides.{nat_tests}
 use Rattle.bp_text.proofs.PartsOfTexts.{regrouped}
@@ -126,32 +126,17 @@ module _ (t : Program) (s : SetupOf) where
     same_bit : (a b : Due) → IsDue t s h n x a → IsDue t s h n x b → a.call.bit ≡ b.call.bit
     same_bit a b p q = ap (λ (d : Due). d.call.bit) (one_due a b p q)
 
-    -- the three of them
-    abbrev Refused : ReplayFault → Type 0
-    Refused f =
-        ((f ≡ fault.AfterFinish n (length h)) × (is_finished s h x.thread ≡ true))
-        ⊎ (((d : Due) × (f ≡ fault.Bit n d) × IsDue t s h n x d × (d.call.bit ≢ x.bit))
-        ⊎ ((d : Due) × (f ≡ fault.Reply n d) × IsDue t s h n x d × (d.call.bit ≡ x.bit)))
-
-    refused : (f : ReplayFault) → IsCallFault t s h n x f → Refused f
-    refused (fault.AfterFinish m made) p = inl (λ i. fault.AfterFinish (p.0 i) (p.1 i), p.2)
-    refused (fault.Bit m d) p = inr (inl (d, ap (λ k. fault.Bit k d) p.0, p.1, p.2))
-    refused (fault.Reply m d) p = inr (inr (d, ap (λ k. fault.Reply k d) p.0, p.1, p.2))
-    refused f p = absurd p
-
-    one_refused : (f g : ReplayFault) → Refused f → Refused g → f ≡ g
-    one_refused f g (inl p) (inl q) = p.0 ∙ sym q.0
-    one_refused f g (inl p) (inr (inl q)) = absurd (finished_or_not p.1 (due_is_open q.0 q.2))
-    one_refused f g (inl p) (inr (inr q)) = absurd (finished_or_not p.1 (due_is_open q.0 q.2))
-    one_refused f g (inr (inl p)) (inl q) = absurd (finished_or_not q.1 (due_is_open p.0 p.2))
-    one_refused f g (inr (inl p)) (inr (inl q)) = p.1 ∙ ap (fault.Bit n) (one_due p.0 q.0 p.2 q.2) ∙ sym q.1
-    one_refused f g (inr (inl p)) (inr (inr q)) = absurd (p.3 (same_bit p.0 q.0 p.2 q.2 ∙ q.3))
-    one_refused f g (inr (inr p)) (inl q) = absurd (finished_or_not q.1 (due_is_open p.0 p.2))
-    one_refused f g (inr (inr p)) (inr (inl q)) = absurd (q.3 (same_bit q.0 p.0 q.2 p.2 ∙ p.3))
-    one_refused f g (inr (inr p)) (inr (inr q)) = p.1 ∙ ap (fault.Reply n) (one_due p.0 q.0 p.2 q.2) ∙ sym q.1
-
     pub one_call_fault : (f g : ReplayFault) → IsCallFault t s h n x f → IsCallFault t s h n x g → f ≡ g
-    one_call_fault f g p q = one_refused f g (refused f p) (refused g q)
+    one_call_fault (fault.AfterFinish m made) (fault.AfterFinish k also) p q = λ i. fault.AfterFinish ((p.0 ∙ sym q.0) i) ((p.1 ∙ sym q.1) i)
+    one_call_fault (fault.AfterFinish m made) (fault.Bit k e) p q = absurd (finished_or_not p.2 (due_is_open e q.1))
+    one_call_fault (fault.AfterFinish m made) (fault.Reply k e) p q = absurd (finished_or_not p.2 (due_is_open e q.1))
+    one_call_fault (fault.Bit m d) (fault.AfterFinish k also) p q = absurd (finished_or_not q.2 (due_is_open d p.1))
+    one_call_fault (fault.Bit m d) (fault.Bit k e) p q = λ i. fault.Bit ((p.0 ∙ sym q.0) i) (one_due d e p.1 q.1 i)
+    one_call_fault (fault.Bit m d) (fault.Reply k e) p q = absurd (p.2 (same_bit d e p.1 q.1 ∙ q.2))
+    one_call_fault (fault.Reply m d) (fault.AfterFinish k also) p q = absurd (finished_or_not q.2 (due_is_open d p.1))
+    one_call_fault (fault.Reply m d) (fault.Bit k e) p q = absurd (q.2 (same_bit e d q.1 p.1 ∙ p.2))
+    one_call_fault (fault.Reply m d) (fault.Reply k e) p q = λ i. fault.Reply ((p.0 ∙ sym q.0) i) (one_due d e p.1 q.1 i)
+    one_call_fault f g p q = absurd (assumption (p, q))
 
 -- Of the calls of a line at most one is refused, and with one refusal.
 
