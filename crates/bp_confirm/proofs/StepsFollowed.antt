@@ -194,7 +194,8 @@ tells_same {text} {last} {later = later} {lines = lines} {next = next} is tells 
 -- the refusals of the step of one line, which is x as it is read, and whose thread goes on at this instruction
 module _ (text : List ℕ) (t : Program) (s : SetupOf) (h : List Call) {x z : StepLineOf} (is : x ≡ z) (later : List StepOf) (n : ℕ) (number : Option ℕ)
     (goes_on : GoesOnAt t (configuration_after t s h) x.thread number) {points : List SourcePoint} (are : points ≡ source_points_of text t) where
-  refused_for : (reason : StepReason) → IsReason t s h (step_of text x) later reason → ForStuck reason (IsStuck t s h (step_of text x)) → IsNotTaken text t s h z later n (refusal_of points z n number reason)
+  refused_for : (reason : StepReason) → IsReason t s h (step_of text x) later reason → ForStuck reason (IsStuck t s h (step_of text x))
+      → IsNotTaken text t s h z later n (refusal_of points z n number reason)
   refused_for reason why stuck = subst (λ w. IsNotTaken text t s h w later n (refusal_of points w n number reason)) is (record {
     line = refl;
     thread = refl;
@@ -224,7 +225,8 @@ module _ (text : List ℕ) (t : Program) (s : SetupOf) (h : List Call) {x z : St
         bare : IsStepOf t s h (record (step_of text x) { values = [] }) a
         bare = record { thread = thread; allowed = allowed; granted = granted; at = at; values = tt }
 
-        pub others_seen : (d : Difference) → IsDifference t r (h ++ a ∷ []) z.thread z.values d → IsNotTaken text t s h z later n (refusal_of points z n number (Differs d))
+        pub others_seen : (d : Difference) → IsDifference t r (h ++ a ∷ []) z.thread z.values d
+            → IsNotTaken text t s h z later n (refusal_of points z n number (Differs d))
         others_seen d found =
             let differs = subst (λ (w : SetupOf × StepLineOf). IsDifference t w.0 (h ++ a ∷ []) w.1.thread w.1.values d) (λ i. (same i, sym is i)) found in
             refused_for (Differs d) (at, record { call = a; takes = bare; differs = differs })
@@ -240,7 +242,8 @@ module _ (text : List ℕ) (t : Program) (s : SetupOf) (h : List Call) {x z : St
             values = subst (λ (w : SetupOf × StepLineOf). SeesValues (configuration_after t w.0 (h ++ a ∷ [])) w.1.thread w.1.values) (λ i. (same i, sym is i)) found;
           }
 
-          pub ambiguous : IsAmbiguousOnStack t x.thread later (stack_of (configuration_after t s h) x.thread) → IsNotTaken text t s h z later n (refusal_of points z n number Ambiguous)
+          pub ambiguous : IsAmbiguousOnStack t x.thread later (stack_of (configuration_after t s h) x.thread)
+              → IsNotTaken text t s h z later n (refusal_of points z n number Ambiguous)
           ambiguous both = refused_for Ambiguous (record { call = a; takes = takes; ambiguous = both }) tt
 
           pub follows : IsClearOnStack x.thread later (stack_of (configuration_after t s h) x.thread) → Follows t s last h (step_of text z) later a

@@ -6,7 +6,8 @@ use Rattle.bp_confirm.proofs.declared.entries_of.Goals as goal
 
 pub overflow_add-thread : goal.overflow_add-thread
 overflow_add-thread c =
-    omega (arith, slice_get_within c.args.setup.now.entries c.loop-name.thread c.in-Some.name.now (sym c.in-Some.ensures), c.is_in_range.ensures.few, c.is_in_range.ensures.bits)
+    let within = slice_get_within c.args.setup.now.entries c.loop-name.thread c.in-Some.name.now (sym c.in-Some.ensures) in
+    omega (arith, within, c.is_in_range.ensures.few, c.is_in_range.ensures.bits)
 
 pub loop-name-smaller : goal.loop-name-smaller
 loop-name-smaller c =
