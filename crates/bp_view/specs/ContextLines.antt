@@ -1,6 +1,6 @@
--- The contexts of a history: what is shown of each, as plain facts, and a line for each: its thread,
--- its first and its last call, where its thread stands before and after it, and the globals that it
--- changed.
+-- The contexts of a history: what is shown of each, as plain facts, and a line for each: its
+-- thread, its first and its last call, where its thread stands before and after it, and the globals
+-- that it changed.
 use Rattle.std.specs.Prelude.{◌≡◌, ◌-◌, ℕ, suc, List, [], ◌∷◌, ◌++◌, Option, None, Some, codes, decimal, length, map, ◌≤◌, slice_get, take, if◌then◌else◌, ◌==◌, MatchOption}
 use Rattle.std.specs.List.{concat}
 use Rattle.bp_language.specs.Ast.{Program}
