@@ -1,5 +1,5 @@
 -- Each kind of token is tried, and offered where it may follow.
-use Rattle.std.proofs.Common.{◌≡◌, ◌&&◌, ℕ, Bool, true, false, cond, List, [], ◌∷◌, Option, None, Some, refl, sym, ap, ◌∙◌, nat_eq, ◌<◌, ◌+◌, ◌++◌, get_or, subst, arith, below_more, ◌≢◌, ◌↔◌, IsTrue, length, inl, inr, ◌⊎◌}
+use Rattle.std.proofs.Common.{◌≡◌, ◌&&◌, ℕ, Bool, true, false, cond, List, [], ◌∷◌, Option, None, Some, refl, sym, ap, ◌∙◌, nat_eq, ◌<◌, ◌+◌, ◌++◌, get_or, subst, arith, below_more, ◌≢◌, ◌↔◌, IsTrue, length, inl, inr, ◌⊎◌, rules}
 use Rattle.std.proofs.lemmas.Bool.Decides.{Decides-eqb}
 use Rattle.std.proofs.lemmas.Slice.Eq.{bytes_eq-Decides}
 use Rattle.std.specs.Map.{lookup}
@@ -44,16 +44,8 @@ word s w = (bytes_eq-Decides s w).0
 byte : (b c : ℕ) → nat_eq b c ≡ true → b ∷ [] ≡ c ∷ []
 byte b c e = ap (λ n. n ∷ []) ((Decides-eqb b c).0 e)
 
-both : (x y : Bool) → (x && y) ≡ true → (x ≡ true) × (y ≡ true)
-both true y e = (refl, e)
-both false y e = absurd (cc)
-
 two : (b c d f : ℕ) → (nat_eq b d && nat_eq c f) ≡ true → b ∷ c ∷ [] ≡ d ∷ f ∷ []
-two b c d f e =
-    let parts = both (nat_eq b d) (nat_eq c f) e in
-    let first = (Decides-eqb b d).0 parts.0 in
-    let second = (Decides-eqb c f).0 parts.1 in
-    cc (first, second)
+two b c d f given1 = grind (arith)
 
 of_word : (s : List ℕ) (k : TokenKind) → reserved_word s ≡ Some k → s ≡ spelling k
 of_word s k = found (bytes_eq s) s reserved_words (
@@ -86,17 +78,13 @@ of_constant : (b : ℕ) (k : TokenKind) → lookup (nat_eq b) constants ≡ Some
 of_constant b k = found (nat_eq b) (b ∷ []) constants (byte b _, (byte b _, tt)) k
 
 of_symbol : (b : ℕ) (k : TokenKind) → lookup (nat_eq b) symbols ≡ Some k → b ∷ [] ≡ spelling k
-of_symbol b k = found (nat_eq b) (b ∷ []) symbols (
-  byte b _,
-  (byte b _, (byte b _, (byte b _, (byte b _, (byte b _, (byte b _, (byte b _, (byte b _, (byte b _, (byte b _, tt)))))))))),
-) k
+of_symbol b k given1 = search (rules, found, byte)
 
 of_long : (b c : ℕ) (k : TokenKind) → lookup (λ (p : ℕ × ℕ). nat_eq b p.0 && nat_eq c p.1) long_symbols ≡ Some k → b ∷ c ∷ [] ≡ spelling k
 of_long b c k = found (λ (p : ℕ × ℕ). nat_eq b p.0 && nat_eq c p.1) (b ∷ c ∷ []) long_symbols (two b c _ _, (two b c _ _, (two b c _ _, tt))) k
 
 of_identifier : (s : List ℕ) (o : Option TokenKind) (k : TokenKind) → reserved_word s ≡ o → unwrap_or o Name ≡ k → (k ≡ Name → ⊥) → s ≡ spelling k
-of_identifier s None k is e other = absurd (other (sym e))
-of_identifier s (Some j) k is e other = of_word s k (is ∙ ap Some e)
+of_identifier s o k given1 given2 given3 = search (rules, of_word)
 
 module _ (k : TokenKind) (other : k ≡ Name → ⊥) where
   of_lexeme : (l : LexemeKind) (s : List ℕ) → kind_of l s ≡ Some k → s ≡ spelling k

@@ -1,12 +1,10 @@
 -- What is shown is plain.
-use Rattle.std.proofs.Common.{◌≡◌, ◌==◌, ◌||◌, ℕ, Bool, true, false, List, map, slice_index_or, refl, if◌then◌else◌}
+use Rattle.std.proofs.Common.{◌≡◌, ◌==◌, ◌||◌, ℕ, Bool, true, List, map, slice_index_or, refl, if◌then◌else◌, arith}
 use Rattle.std.proofs.lemmas.List.Elements.{All-map}
 use Rattle.bp_advice.specs.Explanations.{is_plain, shown, IsPlain}
 
 plain_if : (b : ℕ) (p w : Bool) → is_plain b ≡ p → is_plain (if p then b else if w then 32 else 63) ≡ true
-plain_if b true w e = e
-plain_if b false true e = refl
-plain_if b false false e = refl
+plain_if b p w given1 = grind (arith)
 
 plain_shown : (b : ℕ) → is_plain (shown b) ≡ true
 plain_shown b = plain_if b (is_plain b) (b == 9 || b == 13) refl

@@ -1,5 +1,5 @@
 -- Items of blocks: the i-th statement and those after it, its depth, and the code that it adds.
-use Rattle.std.proofs.Common.{◌≡◌, refl, ap, ℕ, zero, suc, ◌+◌, ◌<◌, ◌≤◌, List, [], ◌∷◌, ◌++◌, length, drop, get_or, arith, sym, ◌∙◌, Bool, true, false, if◌then◌else◌, Option, None, Some, bytes_eq, ap₂, map, subst, length-append, append-nil, add-zero, drop-drop, drop_at}
+use Rattle.std.proofs.Common.{◌≡◌, refl, ap, ℕ, zero, suc, ◌+◌, ◌<◌, ◌≤◌, List, [], ◌∷◌, ◌++◌, length, drop, get_or, arith, sym, ◌∙◌, Bool, true, if◌then◌else◌, Option, None, Some, bytes_eq, ap₂, map, subst, length-append, append-nil, add-zero, drop-drop, drop_at, rules}
 use Rattle.std.specs.Option.{option_or}
 use Rattle.std.proofs.lemmas.Slice.Eq.{bytes_eq-Decides}
 use Rattle.bp_text.proofs.PartsOfTexts.{regrouped}
@@ -37,12 +37,6 @@ first_within [] j after next h = absurd (omega arith)
 first_within (x ∷ items) zero after next h = refl
 first_within (x ∷ items) (suc j) after next h = first_within items j after next (omega arith)
 
-pub first_past : (items : List Stmt) (j after next : ℕ) → length items ≤ j → next ≡ block_entry (block_of (drop j items)) after next
-first_past [] zero after next h = refl
-first_past [] (suc j) after next h = refl
-first_past (x ∷ items) zero after next h = absurd (omega arith)
-first_past (x ∷ items) (suc j) after next h = first_past items j after next (omega arith)
-
 -- one more statement's instructions
 pub code_more : (environment : Environment) (items : List Stmt) (i : ℕ) (s : Stmt) (old new all : List Instruction) (n m follows next : ℕ)
     → i < length items → s ≡ get_or items i s
@@ -50,22 +44,13 @@ pub code_more : (environment : Environment) (items : List Stmt) (i : ℕ) (s : S
     → new ≡ old ++ statement_code environment (statement_of s.form) n follows → m ≡ n + size (statement_of s.form)
     → old ++ block_code environment (block_of (drop i items)) n next ≡ all
     → new ++ block_code environment (block_of (drop (i + 1) items)) m next ≡ all
-code_more environment items i s old new all n m follows next h e f code grown before =
-    let split = rw (block_item items i s h e) at before in
-    rw (code, grown, f) (simp regrouped split)
+code_more environment items i s old new all n m follows next given1 given2 given3 given4 given5 given6 = search (rules, block_item, regrouped)
 
 -- One more statement whose size and label are noted: what is noted of all statements stays the same.
 
--- the first of three options that is there
-pub or_assoc : {X : Type 0} (a b c : Option X) → option_or (option_or a b) c ≡ option_or a (option_or b c)
-or_assoc None b c = refl
-or_assoc (Some x) b c = refl
-
 or_choice : {X : Type 0} (old : Option X) (b : Bool) (x : X) (inside rest : Option X)
     → option_or (option_or old (if b then Some x else inside)) rest ≡ option_or old (if b then Some x else option_or inside rest)
-or_choice (Some y) b x inside rest = refl
-or_choice None true x inside rest = refl
-or_choice None false x inside rest = refl
+or_choice = grind (arith)
 
 -- a label is noted unless an earlier one is spelled so
 pub noted : (key label : List ℕ) (n : ℕ) (old new : List ℕ → Option ℕ) → key ≡ label → None ≡ old key
@@ -79,32 +64,24 @@ noted key label n old new is free put text =
     spelled a b e = grind (arith, bytes_eq-Decides a b, e)
 
     by_case : (b : Bool) (o : Option ℕ) → (b ≡ true → o ≡ None) → (if b then Some n else o) ≡ option_or o (if b then Some n else None)
-    by_case true None none = refl
-    by_case true (Some m) none = let h = none refl in cc
-    by_case false None none = refl
-    by_case false (Some m) none = refl
+    by_case b o given1 = grind (arith)
 
 module _ (items : List Stmt) (i : ℕ) (s : Stmt) (h : i < length items) (e : s ≡ get_or items i s) where
   pub sizes_more : (old new all : List ℕ) → new ≡ old ++ (size (statement_of s.form) ∷ inner_sizes (statement_of s.form))
       → old ++ block_sizes (block_of (drop i items)) ≡ all → new ++ block_sizes (block_of (drop (i + 1) items)) ≡ all
-  sizes_more old new all noted before =
-      let split = rw (block_item items i s h e) at before in
-      rw noted (simp regrouped split)
+  sizes_more old new all given1 given2 = search (rules, noted, block_item, regrouped)
 
   pub labels_more : (x : List ℕ) (n m : ℕ) (old new all : Option ℕ)
       → new ≡ option_or old (if has_label s.label x then Some n else inner_number (statement_of s.form) n x) → m ≡ n + size (statement_of s.form)
       → option_or old (label_number (block_of (drop i items)) n x) ≡ all → option_or new (label_number (block_of (drop (i + 1) items)) m x) ≡ all
-  labels_more x n m old new all noted moved before =
-      let split = rw (block_item items i s h e) at before in
-      rw (noted, moved) (or_choice old (has_label s.label x) n (inner_number (statement_of s.form) n x) _ ∙ split)
+  labels_more x n m old new all given1 given2 given3 = search (rules, noted, block_item, or_choice)
 
 -- the labels of both parts of a branch
 pub labels_of_both : (d : Decision) (a b : Block) (x : List ℕ) (number first second : ℕ) (old one two : Option ℕ)
     → number + 1 ≡ first → number + 1 + block_size a ≡ second
     → one ≡ option_or old (label_number a first x) → two ≡ option_or one (label_number b second x)
     → two ≡ option_or old (inner_number (Branches d a b) number x)
-labels_of_both d a b x number first second old one two f g p q =
-    rw (q, p, ← f, ← g) (or_assoc old (label_number a (number + 1) x) (label_number b (number + 1 + block_size a) x))
+labels_of_both d a b x number first second old one two given1 given2 given3 given4 = grind (arith)
 
 -- The starts of a program's places are those of its statements, procedure by procedure.
 
@@ -138,24 +115,19 @@ mutual
   starts_of_statement p (Calls x es) label at r = refl
 
 pub starts_of_first : (p : Procedure) (ps : List Procedure) → starts (places_of (p ∷ ps)) ≡ block_starts p.body ++ (None ∷ starts (places_of ps))
-starts_of_first p ps =
-    starts-append (places p p.body Done) _ ∙ ap (λ xs. xs ++ (None ∷ starts (places_of ps))) (starts_of_block p p.body Done)
+starts_of_first p ps = search (rules, starts-append, starts_of_block)
 
 -- one more statement whose start, and the starts inside it, are noted
 module _ (items : List Stmt) (i : ℕ) (s : Stmt) (h : i < length items) (e : s ≡ get_or items i s) where
   pub starts_more : (old new all : List (Option ℕ)) → new ≡ (old ++ Some s.at ∷ []) ++ inner_starts (statement_of s.form)
       → old ++ block_starts (block_of (drop i items)) ≡ all → new ++ block_starts (block_of (drop (i + 1) items)) ≡ all
-  starts_more old new all noted before =
-      let split = rw (block_item items i s h e) at before in
-      rw noted (simp regrouped split)
+  starts_more old new all given1 given2 = search (rules, noted, block_item, regrouped)
 
 -- one more procedure whose starts are noted, and its end
 pub procs_more : (ps : List Procedure) (i : ℕ) (p : Procedure) → i < length ps → p ≡ get_or ps i p → (old mid new all : List (Option ℕ))
     → mid ≡ old ++ block_starts p.body → new ≡ mid ++ None ∷ [] → old ++ starts (places_of (drop i ps)) ≡ all
     → new ++ starts (places_of (drop (i + 1) ps)) ≡ all
-procs_more ps i p h e old mid new all noted last before =
-    let split = rw (drop_item ps i p h e, starts_of_first p (drop (i + 1) ps)) at before in
-    rw (last, noted) (simp regrouped split)
+procs_more ps i p given1 given2 old mid new all given3 given4 given5 = search (rules, noted, drop_item, starts_of_first, regrouped)
 
 -- Where the sizes of statements are in the table of a layout: from a statement to those inside it
 -- and to the next one.

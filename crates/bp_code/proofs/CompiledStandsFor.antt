@@ -1,5 +1,5 @@
 -- What a program is compiled to stands for it.
-use Rattle.std.proofs.Common.{◌≡◌, refl, sym, ap, subst, ◌∙◌, ℕ, zero, suc, ◌+◌, true, false, cond, List, [], ◌∷◌, ◌++◌, Option, None, Some, IsSome, option_map, unwrap_or, length, length-append, slice_get, bytes_eq, arith, add-one, add-zero}
+use Rattle.std.proofs.Common.{◌≡◌, refl, sym, ap, subst, ◌∙◌, ℕ, zero, suc, ◌+◌, true, false, cond, List, [], ◌∷◌, ◌++◌, Option, None, Some, IsSome, option_map, unwrap_or, length, length-append, slice_get, bytes_eq, arith, add-one, add-zero, rules}
 use Rattle.std.specs.Option.{option_or}
 use Rattle.bp_text.proofs.PartsOfTexts.{regrouped}
 use Rattle.bp_language.specs.Ast.{Name, Block, Done, Then, Statement, Skips, GoesTo, Returns, Assigns, Branches, Loops, Asserts, Assumes, Prints, Calls, Procedure, Program}
@@ -71,16 +71,7 @@ mutual
 module _ (table : List Place) (p : Procedure) where
   head_of : (s : Statement) (label : Option Name) (at : ℕ) (r : Block) (n : ℕ) → StandsAt table n (places_in p s label at r)
       → Remains table n p (Then label at s r)
-  head_of Skips label at r n h = h.0
-  head_of (GoesTo x) label at r n h = h.0
-  head_of Returns label at r n h = h.0
-  head_of (Assigns xs es) label at r n h = h.0
-  head_of (Branches d a b) label at r n h = h.0
-  head_of (Loops d a) label at r n h = h.0
-  head_of (Asserts d) label at r n h = h.0
-  head_of (Assumes d) label at r n h = h.0
-  head_of (Prints es) label at r n h = h.0
-  head_of (Calls x es) label at r n h = h.0
+  head_of s label at r n given1 = grind (arith)
 
   -- a block's first statement stands, and the statements after it
   pub one_stands : (s : Statement) (label : Option Name) (at : ℕ) (t r : Block) (n : ℕ) → StandsAt table n (places p (Then label at s t) r)
@@ -89,21 +80,17 @@ module _ (table : List Place) (p : Procedure) where
 
   pub rest_stands : (s : Statement) (label : Option Name) (at : ℕ) (t r : Block) (n : ℕ) → StandsAt table n (places p (Then label at s t) r)
       → StandsAt table (n + size s) (places p t r)
-  rest_stands s label at t r n h =
-      subst (λ m. StandsAt table (n + m) (places p t r)) (places_in_length p s label at (chain t r))
-      (stands_right table n (places_in p s label at (chain t r)) (places p t r) h)
+  rest_stands s label at t r n given1 = search (rules, places_in_length, stands_right)
 
   pub first_remains : (l r : Block) (n next : ℕ) → StandsAt table n (places p l r) → Remains table next p r → Remains table (block_entry l n next) p (chain l r)
-  first_remains Done r n next h after = after
-  first_remains (Then label at s t) r n next h after = head_of s label at (chain t r) n (one_stands s label at t r n h)
+  first_remains l r n next given1 given2 = grind (arith)
 
   -- the parts of a branch and the body of a loop
   yes_stands : (a b r : Block) (n : ℕ) → StandsAt table (suc n) (places p a r ++ places p b r) → StandsAt table (n + 1) (places p a r)
   yes_stands a b r n h = rw add-one (stands_left table (suc n) (places p a r) (places p b r) h)
 
   no_stands : (a b r : Block) (n : ℕ) → StandsAt table (suc n) (places p a r ++ places p b r) → StandsAt table (n + 1 + block_size a) (places p b r)
-  no_stands a b r n h =
-      rw add-one (subst (λ m. StandsAt table (suc n + m) (places p b r)) (places_length p a r) (stands_right table (suc n) (places p a r) (places p b r) h))
+  no_stands a b r n given1 = search (rules, add-one, places_length, stands_right)
 
   body_stands : (a r : Block) (n : ℕ) → StandsAt table (suc n) (places p a r) → StandsAt table (n + 1) (places p a r)
   body_stands a r n h = rw add-one h
@@ -118,10 +105,7 @@ module _ (table : List Place) (p : Procedure) where
   SameLabel (Some m) None = ⊥
 
   same_or : (a b : Option ℕ) (c d : Option Block) → SameLabel a c → SameLabel b d → SameLabel (option_or a b) (option_or c d)
-  same_or None b None d h k = k
-  same_or (Some m) b (Some left) d h k = h
-  same_or None b (Some left) d h k = absurd h
-  same_or (Some m) b None d h k = absurd h
+  same_or a b c d given1 given2 = grind (arith)
 
   mutual
     pub labels : (l r : Block) (n : ℕ) (x : List ℕ) → StandsAt table n (places p l r) → SameLabel (label_number l n x) (from_label l r x)
@@ -153,10 +137,7 @@ module _ (table : List Place) (p : Procedure) where
 
   -- a label that stands in the block has a number
   pub label_found : (o : Option ℕ) (left : Option Block) → SameLabel o left → IsSome left → (r : Block) × (left ≡ Some r) × Remains table (unwrap_or o 0) p r
-  label_found None None h is = cc
-  label_found (Some m) (Some left) h is = (left, refl, h)
-  label_found None (Some left) h is = absurd h
-  label_found (Some m) None h is = absurd h
+  label_found o left given1 given2 = grind (arith)
 
 -- ---- procedures
 
@@ -168,26 +149,17 @@ module _ (table : List Place) where
   -- a procedure's end, where its block stands and its end after it
   end_remains : (p : Procedure) (n : ℕ) (ps : List Place)
       → StandsAt table n (places p p.body Done ++ (place p Done ∷ ps)) → Remains table (n + block_size p.body) p Done
-  end_remains p n ps h =
-      let e = stands_right table n (places p p.body Done) (place p Done ∷ ps) h in
-      subst (λ m. Remains table (n + m) p Done) (places_length p p.body Done) e.0
+  end_remains p n ps given1 = search (rules, stands_right, places_length)
 
   more_stand : (p : Procedure) (n : ℕ) (ps : List Place)
       → StandsAt table n (places p p.body Done ++ (place p Done ∷ ps)) → StandsAt table (n + block_size p.body + 1) ps
-  more_stand p n ps h =
-      let e = stands_right table n (places p p.body Done) (place p Done ∷ ps) h in
-      rw add-one (subst (λ m. StandsAt table (suc (n + m)) ps) (places_length p p.body Done) e.1)
+  more_stand p n ps given1 = search (rules, stands_right, add-one, places_length)
 
   first_number : (l : Block) (n : ℕ) → block_entry l n (n + block_size l) ≡ n
-  first_number Done n = omega arith
-  first_number (Then label at s t) n = refl
+  first_number l n = grind (arith)
 
   entry_remains : (p : Procedure) (n : ℕ) (ps : List Place) → StandsAt table n (places p p.body Done ++ (place p Done ∷ ps)) → Remains table n p p.body
-  entry_remains p n ps h =
-      let at = first_remains table p p.body Done n (n + block_size p.body)
-      (stands_left table n (places p p.body Done) (place p Done ∷ ps) h) (end_remains p n ps h) in
-      subst (λ m. Remains table m p p.body) (first_number p.body n)
-      (subst (Remains table (block_entry p.body n (n + block_size p.body)) p) (chain_done p.body) at)
+  entry_remains p n ps given1 = search (rules, first_remains, stands_left, end_remains, first_number, chain_done)
 
   pub headed_at : (ps : List Procedure) (n k : ℕ) (p : Procedure) → StandsAt table n (places_of ps) → slice_get ps k ≡ Some p
       → (h : Heading) × (slice_get (headings_from n ps) k ≡ Some h) × Heads table p h

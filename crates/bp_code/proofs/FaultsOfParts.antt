@@ -1,16 +1,16 @@
 -- The faults of a program are those of its parts.
-use Rattle.std.proofs.Common.{◌≡◌, ◌⊎◌, ℕ, ◌<◌, ◌≤◌, ◌||◌, ◌&&◌, Bool, true, false, nat_lt, nat_eq, nat_le, cond, Option, None, Some, refl, inl, inr, arith, List, [], ◌∷◌, ◌++◌, sym, subst, map, Result, Ok, Err, IfOk, zero, suc, ◌+◌, length, get_or, take, ap, ◌∙◌}
+use Rattle.std.proofs.Common.{◌≡◌, ◌⊎◌, ℕ, ◌<◌, ◌≤◌, ◌||◌, ◌&&◌, Bool, true, false, nat_lt, nat_eq, nat_le, cond, Option, None, Some, refl, inl, inr, arith, List, [], ◌∷◌, ◌++◌, sym, subst, map, Result, IfOk, zero, suc, ◌+◌, length, get_or, take, ap, ◌∙◌, rules}
 use Rattle.std.proofs.lemmas.Bool.Decides.{nat_tests}
 use Rattle.std.specs.Option.{option_to_list}
 use Rattle.std.specs.Borrow.{Bor}
 use Rattle.std.proofs.lemmas.List.{take_more, map-append, append-nil}
-use Rattle.bp_language.specs.Ast.{Procedure, Program, variables, Name, Expression, Statement, Assigns, Calls, GoesTo}
+use Rattle.bp_language.specs.Ast.{Procedure, Program, Name, Expression, Statement, Assigns, Calls, GoesTo}
 use Rattle.bp_language.specs.declared.stmts.Stmt.{Stmt}
 use Rattle.bp_language.specs.Blocks.{block_of, statement_of}
 use Rattle.bp_language.specs.Depth.{depth, statement_depth}
 use Rattle.bp_language.proofs.GrownLists.{regrouped}
 use Rattle.bp_language.specs.declared.faults.CheckFault.{CheckFault}
-use Rattle.bp_language.specs.Faults.{Among, Labelled, labels, statements, IsFault, IsUndeclared, IsUneven, HasTargetTwice, statements_inside, labels_of}
+use Rattle.bp_language.specs.Faults.{Among, Labelled, statements, IsFault, IsUndeclared, IsUneven, HasTargetTwice, statements_inside, labels_of}
 use Rattle.bp_language.specs.declared.faults.CheckFault.TheVariants.{TwiceGlobal, TwiceProcedure, TwiceLocal, TwiceLabel, UnknownVariable, UnknownProcedure, UnknownLabel, Arity, Lengths, TwiceTarget, Limit, Memory}
 use Rattle.bp_language.specs.declared.limits.TheConstants.{MAX_GLOBALS, MAX_PROCEDURES}
 use Rattle.bp_language.proofs.LawsOfLawfulPrograms.{Among-front, Among-back, Among-split}
@@ -27,10 +27,7 @@ second_is : (a b m n : ℕ) → (nat_lt a b || (nat_eq a b && nat_le m n)) ≡ f
 second_is a b m n h = grind (arith, nat_tests)
 
 then : (f h : Found) (g : CheckFault) (at : ℕ) → IsNotAfter f.fault f.at h.fault h.at → IsNotAfter h.fault h.at g at → IsNotAfter f.fault f.at g at
-then f h g at (inl x) (inl y) = inl (omega arith)
-then f h g at (inl x) (inr y) = inl (omega arith)
-then f h g at (inr x) (inl y) = inl (omega arith)
-then f h g at (inr x) (inr y) = inr (omega arith, omega arith)
+then f h g at given1 given2 = grind (arith)
 
 module _ (S T : CheckFault → ℕ → Type 0) where
   chosen : (f h : Found) (b : Bool) → is_not_after f h ≡ b → IsLeast S f.fault f.at → IsLeast T h.fault h.at
@@ -46,16 +43,13 @@ module _ (S T : CheckFault → ℕ → Type 0) where
 
   pub finds_both : (a b : Option Found) → Finds S a → Finds T b → Finds (λ g at. S g at ⊎ T g at) (least_of a b)
   finds_both None None s t = λ g at x. elim x [ inl y ↦ s g at y | inr y ↦ t g at y ]
-  finds_both None (Some h) s t =
-      record { within = inr t.within; first = λ g at x. elim x [ inl y ↦ absurd (s g at y) | inr y ↦ t.first g at y ] }
-  finds_both (Some f) None s t =
-      record { within = inl s.within; first = λ g at x. elim x [ inl y ↦ s.first g at y | inr y ↦ absurd (t g at y) ] }
+  finds_both None (Some h) s t = grind (arith)
+  finds_both (Some f) None s t = grind (arith)
   finds_both (Some f) (Some h) s t = chosen f h (is_not_after f h) refl s t
 
   -- two sets of the same faults
   pub finds_same : (a : Option Found) → ((g : CheckFault) (at : ℕ) → S g at → T g at) → ((g : CheckFault) (at : ℕ) → T g at → S g at) → Finds S a → Finds T a
-  finds_same None to from s = λ g at x. s g at (from g at x)
-  finds_same (Some f) to from s = record { within = to _ _ s.within; first = λ g at x. s.first g at (from g at x) }
+  finds_same a given1 given2 given3 = grind (arith)
 
 -- The faults of a list of things are those of each of them.
 
@@ -72,8 +66,7 @@ module _ {X : Type 0} (Is : X → CheckFault → ℕ → Type 0) where
       to g at (inr u) = (x, Among-back xs (x ∷ []) x (inl refl), u)
 
       last : (y : X) → Among (x ∷ []) y → x ≡ y
-      last y (inl e) = e
-      last y (inr m) = absurd m
+      last y given1 = grind (arith)
 
       from : (g : CheckFault) (at : ℕ) → OfSome (xs ++ x ∷ []) g at → OfSome xs g at ⊎ Is x g at
       from g at (y, m, u) =
@@ -88,21 +81,8 @@ module _ (p : Program) where
   moved : (g h : CheckFault) (at : ℕ) → g ≡ h → IsFault p h at → IsFault p g at
   moved g h at e x = subst (λ (f : CheckFault). IsFault p f at) (sym e) x
 
-  statement_to : (q : Procedure) (s : Labelled) → Among p.procedures q → Among (statements q.body) s → (g : CheckFault) (at : ℕ)
-      → IsStatementFault (variables q ++ p.globals) p.procedures (labels q.body) s.statement g at → IsFault p g at
-  statement_to q s mq ms UnknownVariable at x = (q, s, mq, ms, x)
-  statement_to q s mq ms UnknownProcedure at x = (q, s, mq, ms, x)
-  statement_to q s mq ms UnknownLabel at x = (q, s, mq, ms, x)
-  statement_to q s mq ms Arity at x = (q, s, mq, ms, x)
-  statement_to q s mq ms Lengths at x = (q, s, mq, ms, x)
-  statement_to q s mq ms TwiceTarget at x = (q, s, mq, ms, x)
-  statement_to q s mq ms _ at x = absurd x
-
   procedure_to : (q : Procedure) → Among p.procedures q → (g : CheckFault) (at : ℕ) → IsProcedureFault p.globals p.procedures q g at → IsFault p g at
-  procedure_to q mq g at (inl (inl x)) = moved g TwiceLocal at x.0 (q, mq, x.1)
-  procedure_to q mq g at (inl (inr x)) = moved g Limit at x.0 (inr (inr (q, mq, x.1)))
-  procedure_to q mq g at (inr (inl x)) = statement_to q x.0 mq x.1 g at x.2
-  procedure_to q mq g at (inr (inr x)) = moved g TwiceLabel at x.0 (q, mq, x.1)
+  procedure_to q given1 g at given2 = grind (arith)
 
   to : (g : CheckFault) (at : ℕ) → IsPart g at → IsFault p g at
   unfolding IsPart
@@ -162,9 +142,7 @@ both_sides ts vs a b h k =
 
     from : (g : CheckFault) (at : ℕ) → IsMisuse [] [] (Assigns ts vs) g at
         → Only Lengths (IsUneven (Assigns ts vs)) g at ⊎ Only TwiceTarget (HasTargetTwice (Assigns ts vs)) g at
-    from Lengths at x = inl (refl, x)
-    from TwiceTarget at x = inr (refl, x)
-    from _ at x = absurd x
+    from g at given1 = grind (arith)
 
 module _ (qs : List Procedure) (ls : List Name) where
   pub sides_anywhere : (ts : List Name) (vs : List Expression) (o : Option Found)
@@ -176,8 +154,7 @@ module _ (qs : List Procedure) (ls : List Name) where
       to _ at x = x
 
       from : (g : CheckFault) (at : ℕ) → IsMisuse qs ls (Assigns ts vs) g at → IsMisuse [] [] (Assigns ts vs) g at
-      from Lengths at x = x
-      from _ at x = x
+      from g at given1 = grind (arith)
 
   pub call_anywhere : (n : Name) (es : List Expression) (o : Option Found) → Finds (IsMisuse qs [] (Calls n es)) o → Finds (IsMisuse qs ls (Calls n es)) o
   call_anywhere n es o = finds_same (IsMisuse qs [] (Calls n es)) (IsMisuse qs ls (Calls n es)) o to from
@@ -187,8 +164,7 @@ module _ (qs : List Procedure) (ls : List Name) where
       to _ at x = x
 
       from : (g : CheckFault) (at : ℕ) → IsMisuse qs ls (Calls n es) g at → IsMisuse qs [] (Calls n es) g at
-      from Lengths at x = x
-      from _ at x = x
+      from g at given1 = grind (arith)
 
   pub jump_anywhere : (n : Name) (o : Option Found) → Finds (IsMisuse [] ls (GoesTo n)) o → Finds (IsMisuse qs ls (GoesTo n)) o
   jump_anywhere n o = finds_same (IsMisuse [] ls (GoesTo n)) (IsMisuse qs ls (GoesTo n)) o to from
@@ -198,8 +174,7 @@ module _ (qs : List Procedure) (ls : List Name) where
       to _ at x = x
 
       from : (g : CheckFault) (at : ℕ) → IsMisuse qs ls (GoesTo n) g at → IsMisuse [] ls (GoesTo n) g at
-      from UnknownLabel at x = x
-      from _ at x = x
+      from g at given1 = grind (arith)
 
   pub with_stray : (declared : List Name) (s : Statement) (a b : Option Found) → Finds (IsMisuse qs ls s) a
       → Finds (Only UnknownVariable (IsUndeclared declared s)) b → Finds (IsStatementFault declared qs ls s) (least_of a b)
@@ -213,17 +188,14 @@ module _ (qs : List Procedure) (ls : List Name) where
       plain _ at x = x
 
       to : (g : CheckFault) (at : ℕ) → IsMisuse qs ls s g at ⊎ Only UnknownVariable (IsUndeclared declared s) g at → IsStatementFault declared qs ls s g at
-      to g at (inl x) = plain g at x
-      to g at (inr x) = subst (λ (f : CheckFault). IsStatementFault declared qs ls s f at) (sym x.0) x.1
+      to g at given1 = grind (arith)
 
       from : (g : CheckFault) (at : ℕ) → IsStatementFault declared qs ls s g at → IsMisuse qs ls s g at ⊎ Only UnknownVariable (IsUndeclared declared s) g at
-      from UnknownVariable at x = inr (refl, x)
-      from _ at x = inl x
+      from g at given1 = grind (arith)
 
 -- what follows of the fault in an `Ok`
 pub ok_then : {E : Type 0} {P Q : Option Found → Type 0} (r : Result (Option Found) E) → ((o : Option Found) → P o → Q o) → IfOk r P → IfOk r Q
-ok_then (Ok o) f h = f o h
-ok_then (Err e) f h = h
+ok_then given1 given2 = grind (arith)
 
 -- Walks over the statements of a block.
 
@@ -279,8 +251,7 @@ labels_more first old new stmts i r within is so_far grown =
 
 pub pushed_label : (old new : List (Bor Name)) (l : Bor Name) (label : Option Name) → Some l.now ≡ label
     → new ≡ old ++ l ∷ [] → names_of new ≡ names_of old ++ option_to_list label
-pushed_label old new l label is push =
-    ap names_of push ∙ map-append (λ (n : Bor Name). n.now) old (l ∷ []) ∙ ap (λ o. names_of old ++ option_to_list o) is
+pushed_label old new l label given1 given2 = search (rules, map-append)
 
 pub no_label : (old new : List (Bor Name)) (label : Option Name) → None ≡ label → new ≡ old → names_of new ≡ names_of old ++ option_to_list label
 no_label old new label is same = ap names_of same ∙ sym (append-nil (names_of old)) ∙ ap (λ o. names_of old ++ option_to_list o) is
@@ -289,9 +260,7 @@ no_label old new label is same = ap names_of same ∙ sym (append-nil (names_of 
 
 module _ (p : Program) where
   go : (f : CheckFault) (at : ℕ) → IsFault p f at → IsLeast (IsFault p) f at → IsRefusal p f at
-  go Memory at within least = absurd within
-  go Limit at within least = least
-  go _ at within least = least
+  go f at given1 given2 = grind (arith)
 
   pub refusal_of : (f : Found) → IsLeast (IsFault p) f.fault f.at → IsRefusal p f.fault f.at
   refusal_of f least = go f.fault f.at least.within least

@@ -1,28 +1,22 @@
 -- Lawful programs have a code: each name in them is declared.
-use Rattle.std.proofs.Common.{◌≡◌, refl, sym, ap, subst, ◌∙◌, ℕ, ◌+◌, ◌≤◌, true, false, cond, List, [], ◌∷◌, Option, None, Some, is_some, length, length-append, bytes_eq, arith, ◌≢◌, ◌⊎◌, ◌<◌, ◌||◌, Bool, ◌++◌, get_or, IsSome, inl, inr, option_map}
+use Rattle.std.proofs.Common.{◌≡◌, refl, sym, ap, subst, ◌∙◌, ℕ, ◌+◌, ◌≤◌, true, false, cond, List, [], ◌∷◌, Option, Some, is_some, length, length-append, bytes_eq, arith, ◌⊎◌, ◌||◌, Bool, ◌++◌, IsSome, inl, inr, option_map, rules}
 use Rattle.std.specs.Option.{option_or, option_to_list}
 use Rattle.std.proofs.lemmas.List.Folds.{list_any-append}
-use Rattle.std.proofs.lemmas.Option.{slice_get-get_or}
-use Rattle.std.proofs.lemmas.Bool.{cases_lt}
-use Rattle.bp_language.specs.Ast.{Name, Block, Done, Then, Statement, Skips, GoesTo, Returns, Assigns, Branches, Loops, Asserts, Assumes, Prints, Calls, Procedure, Program, Expression, Constant, Variable, Negation, Operation, Decision, Choose, Decide, procedure_named, variables, procedures_size}
-use Rattle.bp_language.specs.Faults.{has, Uses, SomeUses, DecisionUses, Mentions, Among, Labelled, statements, statements_inside, labels, labels_of, HasFewNames, IsSound, HasSoundStatements}
+use Rattle.bp_language.specs.Ast.{Name, Block, Done, Then, Statement, Skips, GoesTo, Returns, Assigns, Branches, Loops, Asserts, Assumes, Prints, Calls, Procedure, Program, Expression, Constant, Variable, Negation, Operation, Decision, procedure_named, variables, procedures_size}
+use Rattle.bp_language.specs.Faults.{has, Uses, SomeUses, DecisionUses, Mentions, Among, Labelled, statements, statements_inside, labels_of, HasFewNames, IsSound, HasSoundStatements}
 use Rattle.bp_language.specs.NamesIn.{EachName, NamesInExpression, NamesInExpressions, NamesInDecision}
 use Rattle.bp_flat.specs.declared.limits.TheConstants.{SLOTS}
 use Rattle.bp_flat.specs.Moves.{chain, has_label, from_label, from_inside, procedure_named}
 use Rattle.bp_flat.specs.Flat.{Heading, heading_named}
-use Rattle.bp_flat.specs.declared.slots.Slot.TheVariants.{Global, Local}
 use Rattle.bp_code.proofs.RepeatedNames.{first_has}
-use Rattle.bp_code.specs.Compilable.{AllCompilableIn, HaveFew, HasNames, HasNamesIn, HasCallee, IsCompilableIn, IsCompilable}
+use Rattle.bp_code.specs.Compilable.{AllCompilableIn, HaveFew, HasNames, HasNamesIn, IsCompilableIn, IsCompilable}
 use Rattle.bp_code.specs.Known.{IsKnown, IsKnownIn}
 use Rattle.bp_code.specs.Compiled.{Environment, block_size, size, label_number, inner_number, headings_from, slot_of, HasSlot}
 
 -- Names that are declared in a program are known in the scopes of its procedures.
 
 same_or : {A B : Type 0} (a b : Option A) (c d : Option B) → is_some a ≡ is_some c → is_some b ≡ is_some d → is_some (option_or a b) ≡ is_some (option_or c d)
-same_or None b None d h k = k
-same_or (Some x) b (Some y) d h k = refl
-same_or None b (Some y) d h k = cc
-same_or (Some x) b None d h k = cc
+same_or given1 given2 = grind (arith)
 
 -- a label has a number exactly where it is found
 mutual
@@ -110,26 +104,19 @@ module _ (t : Program) (able : AllCompilableIn t t.procedures) (p : Procedure) (
 -- Names that are there have a place.
 
 one_of : (a b : Bool) → (a || b) ≡ true → (a ≡ true) ⊎ (b ≡ true)
-one_of true b e = inl refl
-one_of false b e = inr e
+one_of a b given1 = grind (arith)
 
 first_or_later : {X : Type 0} (b : Bool) (x : X) (o : Option X) → (b ≡ true) ⊎ IsSome o → IsSome (cond b (Some x) o)
-first_or_later true x o h = refl
-first_or_later false x o (inl e) = absurd cc
-first_or_later false x o (inr s) = s
+first_or_later given1 = grind (arith)
 
 some_map : {X Y : Type 0} (f : X → Y) (o : Option X) → IsSome o → IsSome (option_map f o)
-some_map f None h = h
-some_map f (Some x) h = refl
+some_map given1 = grind (arith)
 
 some_or : {X : Type 0} (a b : Option X) → IsSome a ⊎ IsSome b → IsSome (option_or a b)
-some_or None b (inl h) = absurd cc
-some_or None b (inr h) = h
-some_or (Some x) b h = refl
+some_or given1 = grind (arith)
 
 any_true : (b : Bool) → (b || true) ≡ true
-any_true true = refl
-any_true false = refl
+any_true b = grind (arith)
 
 among_front : {X : Type 0} (xs ys : List X) (x : X) → Among xs x → Among (xs ++ ys) x
 among_front [] ys x m = absurd m
@@ -142,12 +129,7 @@ among_back (y ∷ xs) ys x m = inr (among_back xs ys x m)
 
 module _ (t : Program) (p : Procedure) where
   slotted : (x : List ℕ) → has (variables p ++ t.globals) x ≡ true → IsSome (slot_of t.globals p x)
-  slotted x e =
-      let parts = sym (list_any-append (λ (n : Name). bytes_eq n.text x) (variables p) t.globals) ∙ e in
-      some_or _ _ (elim (one_of (has (variables p) x) (has t.globals x) parts) [
-        | inl own ↦ inl (some_map Local _ (first_has x 0 (variables p) ∙ own))
-        | inr shared ↦ inr (some_map Global _ (first_has x 0 t.globals ∙ shared))
-      ])
+  slotted x given1 = search (rules, list_any-append, bytes_eq, some_or, one_of, some_map, first_has)
 
   in_expression : (e : Expression) → ((n : Name) → Uses e n → has (variables p ++ t.globals) n.text ≡ true) → NamesInExpression (HasSlot t.globals p) e
   in_expression (Constant b) h = tt
@@ -166,8 +148,7 @@ module _ (t : Program) (p : Procedure) where
   in_names (n ∷ ns) h = (slotted n.text (h n (inl refl)), in_names ns (λ m u. h m (inr u)))
 
   in_decision : (d : Decision) → ((n : Name) → DecisionUses d n → has (variables p ++ t.globals) n.text ≡ true) → NamesInDecision (HasSlot t.globals p) d
-  in_decision Choose h = tt
-  in_decision (Decide e) h = in_expression e h
+  in_decision d given1 = search (rules, in_expression)
 
   -- a label that stands in a block is found there
   labels_append : (xs ys : List Labelled) (x : List ℕ) → has (labels_of (xs ++ ys)) x ≡ true → (has (labels_of xs) x ≡ true) ⊎ (has (labels_of ys) x ≡ true)
@@ -186,8 +167,7 @@ module _ (t : Program) (p : Procedure) where
       ]
 
   own_label : (label : Option Name) (x : List ℕ) → has (option_to_list label) x ≡ true → has_label label x ≡ true
-  own_label None x e = absurd cc
-  own_label (Some l) x e = elim (one_of (bytes_eq l.text x) false e) [ inl h ↦ h | inr h ↦ absurd cc ]
+  own_label label x given1 = grind (arith)
 
   mutual
     found_in : (b r : Block) (x : List ℕ) → has (labels_of (statements b)) x ≡ true → IsSome (from_label b r x)
@@ -255,18 +235,11 @@ module _ (t : Program) (p : Procedure) where
 
 module _ (t : Program) (few : HasFewNames t) (sound : HasSoundStatements t) where
   compilable_in : (p : Procedure) → Among t.procedures p → IsCompilableIn t p
-  compilable_in p mp = record {
-    few = few.own p mp;
-    names = in_block t p p.body (λ l ml. record { sound = sound.sound p l mp ml; uses = λ n u. sound.declared p l n mp ml u });
-  }
+  compilable_in p given1 = search (rules, in_block, sound)
 
   all_in : (ps : List Procedure) → ((p : Procedure) → Among ps p → Among t.procedures p) → AllCompilableIn t ps
   all_in [] within = tt
   all_in (p ∷ ps) within = (compilable_in p (within p (inl refl)), all_in ps (λ q m. within q (inr m)))
 
   pub lawful_compiles : procedures_size t.procedures ≤ 65536 → IsCompilable t
-  lawful_compiles short = record {
-    few = few.globals;
-    each = all_in t.procedures (λ p m. m);
-    instructions = omega (arith, short);
-  }
+  lawful_compiles given1 = search (rules, all_in)

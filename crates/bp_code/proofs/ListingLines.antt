@@ -1,5 +1,5 @@
 -- The lines of a listing from one number on.
-use Rattle.std.proofs.Common.{◌≡◌, ℕ, ◌+◌, map, List, [], ◌∷◌, refl, ap, sym, ◌∙◌, zero, suc, ◌-◌, ◌<◌, ◌≤◌, ◌++◌, length, take, drop, get_or, arith}
+use Rattle.std.proofs.Common.{◌≡◌, ℕ, ◌+◌, map, List, [], ◌∷◌, refl, ap, ◌∙◌, zero, suc, ◌-◌, ◌<◌, ◌≤◌, ◌++◌, length, take, drop, get_or, rules}
 use Rattle.bp_language.specs.Ast.{Name, Procedure}
 use Rattle.bp_flat.specs.Flat.{Heading, Instruction}
 use Rattle.bp_flat.proofs.ProceduresOfPlaces.{drop_item, dropped_all}
@@ -22,11 +22,7 @@ take_one is n k i = refl
 -- the line of the n-th, and those behind it
 pub lines_next : (is : List Instruction) (n end : ℕ) (i : Instruction) → n < end → n < length is → i ≡ get_or is n i
     → lines_between is n end ≡ instruction_line n i ++ lines_between is (n + 1) end
-lines_next is n end i before within has =
-    let count : end - n ≡ suc (end - (n + 1)) = omega arith in
-    ap (λ xs. instruction_lines n (take (end - n) xs)) (drop_item is n i within has)
-    ∙ ap (λ k. instruction_lines n (take k (i ∷ drop (n + 1) is))) count
-    ∙ take_one (drop (n + 1) is) n (end - (n + 1)) i
+lines_next is n end i given1 given2 given3 = search (rules, drop_item, take_one)
 
 take_none : (n k : ℕ) → instruction_lines n (take k []) ≡ []
 take_none n k = take_cases k
@@ -40,8 +36,7 @@ pub lines_past : (is : List Instruction) (n end : ℕ) → length is ≤ n → l
 lines_past is n end past = ap (λ xs. instruction_lines n (take (end - n) xs)) (dropped_all is n past) ∙ take_none n (end - n)
 
 pub lines_beyond : (is : List Instruction) (n end : ℕ) → length is ≤ n → lines_between is n end ≡ lines_between is (n + 1) end
-lines_beyond is n end past =
-    lines_past is n end past ∙ sym (lines_past is (n + 1) end (omega arith))
+lines_beyond is n end given1 = search (rules, lines_past)
 
 -- the lines of the n-th procedure, and those behind it
 pub procedures_next : (is : List Instruction) (hs : List Heading) (n : ℕ) (h : Heading) → n < length hs → h ≡ get_or hs n h

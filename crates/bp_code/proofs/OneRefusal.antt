@@ -1,11 +1,10 @@
 -- A program has at most one refusal, memory aside: two least faults of one set are one fault at one
 -- place.
-use Rattle.std.proofs.Common.{◌≡◌, ◌≢◌, ℕ, List, [], ◌∷◌, Some, refl, inl, inr, sym, ap, ◌∙◌, nat_eq, arith}
-use Rattle.std.specs.Map.{lookup}
+use Rattle.std.proofs.Common.{◌≡◌, ◌≢◌, ℕ, List, [], ◌∷◌, refl, arith}
 use Rattle.bp_language.specs.Ast.{Program}
 use Rattle.bp_language.specs.declared.faults.CheckFault.{CheckFault}
 use Rattle.bp_language.specs.declared.faults.CheckFault.TheVariants as fault
-use Rattle.bp_language.specs.Faults.{IsFault, IsLawful, check_fault_number}
+use Rattle.bp_language.specs.Faults.{IsFault, IsLawful}
 use Rattle.bp_code.specs.Refusals.{IsNotAfter, IsLeast, IsRefusal}
 
 -- the faults and their numbers
@@ -15,41 +14,13 @@ numbers =
     ∷ (15, fault.UnknownVariable) ∷ (16, fault.UnknownProcedure) ∷ (17, fault.UnknownLabel) ∷ (18, fault.Arity)
     ∷ (19, fault.Lengths) ∷ (20, fault.TwiceTarget) ∷ (21, fault.Limit) ∷ (7, fault.Memory) ∷ []
 
-fault_of_number : (f : CheckFault) → lookup (nat_eq (check_fault_number f)) numbers ≡ Some f
-fault_of_number fault.TwiceGlobal = refl
-fault_of_number fault.TwiceProcedure = refl
-fault_of_number fault.TwiceLocal = refl
-fault_of_number fault.TwiceLabel = refl
-fault_of_number fault.UnknownVariable = refl
-fault_of_number fault.UnknownProcedure = refl
-fault_of_number fault.UnknownLabel = refl
-fault_of_number fault.Arity = refl
-fault_of_number fault.Lengths = refl
-fault_of_number fault.TwiceTarget = refl
-fault_of_number fault.Limit = refl
-fault_of_number fault.Memory = refl
-
--- different faults have different numbers
-one_fault : (f g : CheckFault) → check_fault_number f ≡ check_fault_number g → f ≡ g
-one_fault f g e =
-    let same : Some f ≡ Some g = sym (fault_of_number f) ∙ ap (λ n. lookup (nat_eq n) numbers) e ∙ fault_of_number g in
-    cc
-
 -- of two faults each of which does not come after the other, both are one at one place
 one_place : (f g : CheckFault) (at place : ℕ) → IsNotAfter f at g place → IsNotAfter g place f at → (f ≡ g) × (at ≡ place)
-one_place f g at place (inl a) (inl b) = absurd (omega arith)
-one_place f g at place (inl a) (inr b) = let e = b.0 in absurd (omega arith)
-one_place f g at place (inr a) (inl b) = let e = a.0 in absurd (omega arith)
-one_place f g at place (inr a) (inr b) =
-    let le = a.1 in
-    let ge = b.1 in
-    let same : check_fault_number f ≡ check_fault_number g = omega arith in
-    (one_fault f g same, a.0)
+one_place f g at place given1 given2 = grind (arith)
 
 -- a refusal that is not for memory is the least fault
 least_of_refusal : (p : Program) (f : CheckFault) (at : ℕ) → f ≢ fault.Memory → IsRefusal p f at → IsLeast (IsFault p) f at
-least_of_refusal p fault.Memory at other r = absurd (other refl)
-least_of_refusal p _ at other r = r
+least_of_refusal p f at given1 given2 = grind (arith)
 
 pub one_refusal : (p : Program) (f g : CheckFault) (at place : ℕ) → f ≢ fault.Memory → g ≢ fault.Memory
     → IsRefusal p f at → IsRefusal p g place → (f ≡ g) × (at ≡ place)

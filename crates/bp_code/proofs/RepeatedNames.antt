@@ -1,15 +1,14 @@
 -- Names that stand twice in a list, or past a limit.
-use Rattle.std.proofs.Common.{◌≡◌, ℕ, zero, suc, ◌+◌, ◌<◌, ◌≤◌, nat_lt, ◌||◌, Bool, true, false, List, [], ◌∷◌, length, get_or, take, drop, map, cond, Option, None, Some, is_some, refl, ap, sym, ◌∙◌, arith, slice_get, drop-cons, bytes_eq, ◌⊎◌, inl, inr, subst, ◌++◌}
+use Rattle.std.proofs.Common.{◌≡◌, ℕ, zero, suc, ◌+◌, ◌<◌, ◌≤◌, nat_lt, ◌||◌, Bool, true, false, List, [], ◌∷◌, length, get_or, take, drop, map, cond, Option, None, Some, is_some, refl, ap, sym, ◌∙◌, arith, slice_get, drop-cons, bytes_eq, ◌⊎◌, inl, inr, subst, ◌++◌, rules}
 use Rattle.std.proofs.lemmas.Option.{slice_get_within, slice_get_past, slice_get-get_or, slice_get-map}
-use Rattle.std.specs.Option.{option_copied, IfSome, option_map}
+use Rattle.std.specs.Option.{option_copied, IfSome}
 use Rattle.std.specs.Borrow.{Bor}
 use Rattle.std.proofs.lemmas.List.{length-map, take_more, map-append}
 use Rattle.bp_language.specs.Ast.{Name, Procedure, procedure_named}
 use Rattle.bp_language.specs.declared.exprs.Expr.{Expr}
 use Rattle.bp_language.specs.Views.{expression_of}
-use Rattle.bp_language.specs.Faults.{has, first_index_from, first_index, check_fault_number, IsNameAt, IsTwice, IsPast, Among, Uses, SomeUses}
+use Rattle.bp_language.specs.Faults.{has, first_index_from, first_index, IsNameAt, IsTwice, Among, Uses, SomeUses}
 use Rattle.bp_language.specs.declared.faults.CheckFault.{CheckFault}
-use Rattle.bp_language.specs.declared.faults.CheckFault.TheVariants.{Limit}
 use Rattle.bp_language.proofs.LawsOfLawfulPrograms.{Among-front, Among-back, Among-split}
 use Rattle.bp_code.specs.declared.checks.Found.{Found}
 use Rattle.bp_code.specs.Sets.{names_of, Only, Finds, least_of, IsStray}
@@ -20,16 +19,14 @@ use Rattle.bp_code.proofs.FaultsOfParts.{finds_both, finds_same}
 module _ (text : List ℕ) where
   -- a name is there where it stands first somewhere
   some_first : (b c : Bool) (i : ℕ) (o : Option ℕ) → is_some o ≡ c → is_some (cond b (Some i) o) ≡ (b || c)
-  some_first true c i o e = refl
-  some_first false c i o e = e
+  some_first b c i o given1 = grind (arith)
 
   pub first_has : (i : ℕ) (ns : List Name) → is_some (first_index_from i ns text) ≡ has ns text
   first_has i [] = refl
   first_has i (n ∷ ns) = some_first (bytes_eq n.text text) (has ns text) i _ (first_has (i + 1) ns)
 
   no_less_cond : (b : Bool) (i k : ℕ) (o : Option ℕ) → (o ≡ Some k → i + 1 ≤ k) → cond b (Some i) o ≡ Some k → i ≤ k
-  no_less_cond true i k o h e = let same : i ≡ k = grind arith in omega arith
-  no_less_cond false i k o h e = omega (arith, h e)
+  no_less_cond b i k o given1 given2 = grind (arith)
 
   no_less : (i k : ℕ) (ns : List Name) → first_index_from i ns text ≡ Some k → i ≤ k
   no_less i k [] e = absurd cc
@@ -41,12 +38,10 @@ module _ (text : List ℕ) where
   below (Some k) c = nat_lt k c
 
   none_below : (i : ℕ) (o : Option ℕ) → ((k : ℕ) → o ≡ Some k → i ≤ k) → below o (i + 0) ≡ false
-  none_below i None h = refl
-  none_below i (Some k) h = let more = h k refl in grind arith
+  none_below i o given1 = grind (arith)
 
   one_below : (b d : Bool) (i c : ℕ) (o : Option ℕ) → below o (i + 1 + c) ≡ d → below (cond b (Some i) o) (i + suc c) ≡ (b || d)
-  one_below true d i c o e = grind arith
-  one_below false d i c o e = let same : i + suc c ≡ i + 1 + c = omega arith in rw same e
+  one_below b d i c o given1 = grind (arith)
 
   -- a name is one of the first this many where its first index is below
   pub first_below : (i c : ℕ) (ns : List Name) → below (first_index_from i ns text) (i + c) ≡ has (take c ns) text
@@ -59,10 +54,7 @@ module _ (text : List ℕ) where
   named_cond : (b : Bool) (i k : ℕ) (q : Procedure) (qs : List Procedure) (o : Option ℕ) (p : Option Procedure)
       → ((j : ℕ) → o ≡ Some (i + 1 + j) → p ≡ slice_get qs j) → ((j : ℕ) → o ≡ Some j → i + 1 ≤ j) → cond b (Some i) o ≡ Some (i + k)
       → cond b (Some q) p ≡ slice_get (q ∷ qs) k
-  named_cond true i zero q qs o p later least e = refl
-  named_cond true i (suc k) q qs o p later least e = absurd (grind arith)
-  named_cond false i zero q qs o p later least e = let l = least (i + 0) e in absurd (omega arith)
-  named_cond false i (suc k) q qs o p later least e = later k (e ∙ ap Some (omega arith))
+  named_cond b i k q qs o p given1 given2 given3 = grind (arith)
 
   named_from : (i k : ℕ) (qs : List Procedure) → first_index_from i (map (λ q. q.name) qs) text ≡ Some (i + k) → procedure_named qs text ≡ slice_get qs k
   named_from i k [] e = absurd cc
@@ -74,8 +66,7 @@ module _ (text : List ℕ) where
 
   none_cond : (b : Bool) (i : ℕ) (o : Option ℕ) (q : Procedure) (p : Option Procedure) → (o ≡ None → p ≡ None)
       → cond b (Some i) o ≡ None → cond b (Some q) p ≡ None
-  none_cond true i o q p later e = absurd cc
-  none_cond false i o q p later e = later e
+  none_cond b i o q p given1 given2 = grind (arith)
 
   pub named_nowhere : (i : ℕ) (qs : List Procedure) → first_index_from i (map (λ q. q.name) qs) text ≡ None → procedure_named qs text ≡ None
   named_nowhere i [] e = refl
@@ -98,20 +89,15 @@ first_put ns i n here old new key spelled before put text =
 -- what a look-up by an index gives
 pub got_at : (o : Option (Bor Procedure)) (qs : List Procedure) (k : ℕ) → is_some o ≡ nat_lt k (length qs)
     → IfSome o (λ x. x.now ≡ get_or qs k x.now) → option_copied o ≡ slice_get qs k
-got_at None qs k e h = let past : length qs ≤ k = grind arith in sym (slice_get_past qs k past)
-got_at (Some x) qs k e h = let within : k < length qs = grind arith in ap Some h ∙ sym (slice_get-get_or qs k x.now within)
+got_at o qs k given1 given2 = search (rules, slice_get_past, slice_get-get_or)
 
 -- the name at an index of a list of references
 pub name_at : (names : List (Bor Name)) (i : ℕ) (n : Bor Name) → i < length names → n ≡ get_or names i n → slice_get (names_of names) i ≡ Some n.now
-name_at names i n h e =
-    slice_get-map (λ (r : Bor Name). r.now) names i ∙ ap (option_map (λ (r : Bor Name). r.now)) (slice_get-get_or names i n h ∙ ap Some (sym e))
+name_at names i n given1 given2 = search (rules, slice_get-map, slice_get-get_or)
 
 -- one fault at one place
 pub finds_one : (fault : CheckFault) (at : ℕ) → Finds (Only fault (λ b. at ≡ b)) (Some (record { fault = fault; at = at }))
-finds_one fault at = record {
-  within = (refl, refl);
-  first = λ g b x. inr (x.1, subst (λ (h : CheckFault). check_fault_number fault ≤ check_fault_number h) (sym x.0) (omega arith));
-}
+finds_one fault at = grind (arith)
 
 module _ (ns : List Name) (fault : CheckFault) where
   -- names stays_below an index that stand twice
@@ -143,40 +129,12 @@ module _ (ns : List Name) (fault : CheckFault) where
       to g at (inr x) = (x.0, (i, n, omega arith, record { stands = is; place = x.1 }, twice))
 
       from : (g : CheckFault) (at : ℕ) → Only fault (Below (i + 1)) g at → Only fault (Below i) g at ⊎ Only fault (λ b. n.at ≡ b) g at
-      from g at (is_fault, (k, m, below_more, stands, e)) =
-          let s : slice_get ns k ≡ Some m = stands.stands in
-          let p : m.at ≡ at = stands.place in
-          elim (below_or_at k i below_more) [ inl below_i ↦ inl (is_fault, (k, m, below_i, stands, e)) | inr at_i ↦ inr (is_fault, cc) ]
+      from g at given1 = grind (arith)
 
   -- all of them
   pub all_below : (length_is : ℕ) (best : Option Found) → length_is ≡ length ns
       → Finds (Only fault (Below length_is)) best → Finds (Only fault (IsTwice ns)) best
-  all_below _ best e =
-      finds_same _ _ best (λ g at x. (x.0, (x.1.0, x.1.1, x.1.3, x.1.4)))
-      (λ g at x. (x.0, (x.1.0, x.1.1, rw e (slice_get_within ns x.1.0 x.1.1 x.1.2.stands), x.1.2, x.1.3)))
-
--- the name past a limit
-pub finds_past : (ns : List Name) (limit : ℕ) (n : Name) → slice_get ns limit ≡ Some n
-    → Finds (Only Limit (IsPast limit ns)) (Some (record { fault = Limit; at = n.at }))
-finds_past ns limit n is =
-    finds_same (Only Limit (λ b. n.at ≡ b)) (Only Limit (IsPast limit ns))
-    (Some (record { fault = Limit; at = n.at })) to (λ g at x. (x.0, same at x.1)) (finds_one Limit n.at)
-  where
-    to : (g : CheckFault) (at : ℕ) → Only Limit (λ b. n.at ≡ b) g at → Only Limit (IsPast limit ns) g at
-    to g at x = (x.0, (n, record { stands = is; place = x.1 }))
-
-    same : (at : ℕ) → IsPast limit ns at → n.at ≡ at
-    same at (m, stands) =
-        let s : slice_get ns limit ≡ Some m = stands.stands in
-        let p : m.at ≡ at = stands.place in
-        cc
-
-pub none_past : (names : List (Bor Name)) (limit : ℕ) → length names ≤ limit → Finds (Only Limit (IsPast limit (names_of names))) None
-none_past names limit h g at x =
-    let s : slice_get (names_of names) limit ≡ Some x.1.0 = x.1.1.stands in
-    let e = slice_get-map (λ (r : Bor Name). r.now) names limit in
-    let past = slice_get_past names limit h in
-    cc
+  all_below length_is best given1 given2 = search (rules, finds_same, slice_get_within)
 
 -- The same over a list of references, as a loop meets them.
 module _ (names : List (Bor Name)) (ns : List Name) (fault : CheckFault) (i : ℕ) (n : Bor Name) (best : Option Found)
@@ -193,12 +151,6 @@ module _ (names : List (Bor Name)) (ns : List Name) (fault : CheckFault) (i : �
       → Finds (Only fault (Below ns fault (i + 1))) (least_of best (Some (record { fault = fault; at = at })))
   one_here text at e place twice h = rw place (one_more ns fault i n.now best here (cc) h)
 
-pub past_here : (names : List (Bor Name)) (ns : List Name) (limit : ℕ) (n : Bor Name) → names_of names ≡ ns
-    → limit < length names → n ≡ get_or names limit n → (at : ℕ) → at ≡ n.now.at
-    → Finds (Only Limit (IsPast limit ns)) (Some (record { fault = Limit; at = at }))
-past_here names ns limit n same within is at place =
-    rw (place, ← same) (finds_past (names_of names) limit n.now (name_at names limit n within is))
-
 pub all_here : (names : List (Bor Name)) (ns : List Name) (fault : CheckFault) (i : ℕ) (best : Option Found)
     → names_of names ≡ ns → i ≤ length names → length names ≤ i
     → Finds (Only fault (Below ns fault i)) best → Finds (Only fault (IsTwice ns)) best
@@ -208,9 +160,6 @@ all_here names ns fault i best same low high =
 -- Uses of names that are not declared.
 
 module _ (declared : List Name) where
-  pub none_stray : (Used : Name → Type 0) → ((n : Name) → Used n → has declared n.text ≡ true) → Finds (IsStray declared Used) None
-  none_stray Used all g at (_, (n, used, e, _)) = let h = all n used in cc
-
   pub same_stray : (Used Uses : Name → Type 0) (o : Option Found) → ((n : Name) → Used n → Uses n)
       → ((n : Name) → Uses n → Used n) → Finds (IsStray declared Used) o → Finds (IsStray declared Uses) o
   same_stray Used Uses o to from =
@@ -230,8 +179,7 @@ module _ (declared : List Name) where
       to g at (inr x) = (x.0, (x.1.0, inr x.1.1, x.1.2, x.1.3))
 
       from : (g : CheckFault) (at : ℕ) → IsStray declared (λ n. Used n ⊎ Uses n) g at → IsStray declared Used g at ⊎ IsStray declared Uses g at
-      from g at (e, (n, inl u, none, place)) = inl (e, (n, u, none, place))
-      from g at (e, (n, inr u, none, place)) = inr (e, (n, u, none, place))
+      from g at given1 = grind (arith)
 
 -- One more of a list of things that use names.
 module _ (declared : List Name) {X : Type 0} (P : X → Name → Type 0) where
@@ -248,8 +196,7 @@ module _ (declared : List Name) {X : Type 0} (P : X → Name → Type 0) where
       to n (inr u) = (x, Among-back xs (x ∷ []) x (inl refl), u)
 
       last : (y : X) → Among (x ∷ []) y → x ≡ y
-      last y (inl e) = e
-      last y (inr m) = absurd m
+      last y given1 = grind (arith)
 
       from : (n : Name) → OfSome (xs ++ x ∷ []) n → OfSome xs n ⊎ P x n
       from n (y, m, u) =
@@ -277,8 +224,7 @@ name_more declared ns i n a b within is h k =
     to m (inr e) = Among-back (take i ns) (n ∷ []) m (inl e)
 
     last : (m : Name) → Among (n ∷ []) m → n ≡ m
-    last m (inl e) = e
-    last m (inr x) = absurd x
+    last m given1 = grind (arith)
 
     from : (m : Name) → Among (take i ns ++ n ∷ []) m → Among (take i ns) m ⊎ n ≡ m
     from m x = elim (Among-split (take i ns) (n ∷ []) m x) [ inl f ↦ inl f | inr l ↦ inr (last m l) ]

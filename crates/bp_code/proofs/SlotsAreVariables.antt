@@ -1,9 +1,9 @@
 -- Slots are read and written as the variables are that they stand for.
-use Rattle.std.proofs.Common.{◌≡◌, refl, sym, ap, ◌∙◌, ℕ, suc, ◌+◌, ◌<◌, true, false, cond, List, [], ◌∷◌, length, map, get_or, Option, None, Some, IsSome, option_map, unwrap_or, bytes_eq, arith, add-one, subst, Bool, not, slice_get}
+use Rattle.std.proofs.Common.{◌≡◌, refl, sym, ap, ◌∙◌, ℕ, suc, ◌+◌, ◌<◌, true, false, cond, List, [], ◌∷◌, length, map, get_or, Option, None, Some, IsSome, option_map, unwrap_or, bytes_eq, arith, add-one, subst, Bool, not, slice_get, rules}
 use Rattle.std.specs.Option.{option_and_then, option_or}
 use Rattle.std.proofs.lemmas.List.{length-map}
 use Rattle.std.proofs.lemmas.Option.{slice_get-get_or}
-use Rattle.bp_language.specs.Ast.{Name, Expression, Constant, Variable, Negation, Operation, Decision, Choose, Decide, Procedure, Program}
+use Rattle.bp_language.specs.Ast.{Name, Expression, Constant, Variable, Negation, Operation, Decision, Procedure, Program}
 use Rattle.bp_language.specs.Faults.{first_index_from, first_index}
 use Rattle.bp_language.specs.NamesIn.{EachName, NamesInExpression, NamesInExpressions, NamesInDecision}
 use Rattle.bp_flat.specs.Flat.{Heading, heading_named}
@@ -39,8 +39,7 @@ module _ (x : List ℕ) where
   first_within k ns e = let found = within_from 0 k ns e in omega (arith, found)
 
   one_later : (h : Heading) (hs : List Heading) (o : Option ℕ) → option_and_then (slice_get hs) o ≡ option_and_then (slice_get (h ∷ hs)) (option_map suc o)
-  one_later h hs None = refl
-  one_later h hs (Some k) = refl
+  one_later h hs o = grind (arith)
 
   -- headings of names in order: the first heading of a name is at the name's first index
   heading_first : (ns : List Name) (hs : List Heading) → map (λ (h : Heading). h.name) hs ≡ map (λ (n : Name). n.text) ns
@@ -59,8 +58,7 @@ module _ (x : List ℕ) where
       ]
 
   some_of_then : {X Y : Type 0} (f : X → Option Y) (o : Option X) → IsSome (option_and_then f o) → IsSome o
-  some_of_then f None h = h
-  some_of_then f (Some y) h = refl
+  some_of_then given1 = grind (arith)
 
   pub name_found : (ns : List Name) (hs : List Heading) → map (λ (h : Heading). h.name) hs ≡ map (λ (n : Name). n.text) ns
       → IsSome (heading_named hs x) → IsSome (first_index ns x)
@@ -68,28 +66,17 @@ module _ (x : List ℕ) where
 
   pub heading_within : (k : ℕ) (ns : List Name) (hs : List Heading) → map (λ (h : Heading). h.name) hs ≡ map (λ (n : Name). n.text) ns
       → first_index ns x ≡ Some k → k < length hs
-  heading_within k ns hs same e =
-      let within = first_within k ns e in
-      let long = ap length same in
-      let many = length-map hs (λ (h : Heading). h.name) in
-      let more = length-map ns (λ (n : Name). n.text) in
-      omega (arith, within, long, many, more)
+  heading_within k ns hs given1 given2 = search (rules, first_within, length-map)
 
   pub entry_of_first : (k : ℕ) (h : Heading) (ns : List Name) (hs : List Heading) → map (λ (h : Heading). h.name) hs ≡ map (λ (n : Name). n.text) ns
       → first_index ns x ≡ Some k → h ≡ get_or hs k h → h.entry ≡ unwrap_or (option_map (λ (h : Heading). h.entry) (heading_named hs x)) 0
-  entry_of_first k h ns hs same e is =
-      let found =
-      heading_first ns hs same ∙ ap (option_and_then (slice_get hs)) e
-      ∙ slice_get-get_or hs k h (heading_within k ns hs same e) ∙ ap Some (sym is) in
-      ap (λ o. unwrap_or (option_map (λ (h : Heading). h.entry) o) 0) (sym found)
+  entry_of_first k h ns hs given1 given2 given3 = search (rules, heading_first, slice_get-get_or, heading_within)
 
 pub some_is : {A : Type 0} (o : Option A) (d : A) → IsSome o → o ≡ Some (unwrap_or o d)
-some_is None d h = cc
-some_is (Some x) d h = refl
+some_is given1 = grind (arith)
 
 shifted : (bits : Bits) (o : Option ℕ) → option_map bits (option_map suc o) ≡ option_map (λ k. bits (suc k)) o
-shifted bits None = refl
-shifted bits (Some k) = refl
+shifted bits o = grind (arith)
 
 lookup_in_valuation : (ns : List Name) (bits : Bits) (x : List ℕ) → lookup (valuation_of ns bits) x ≡ option_map bits (first_index_from 0 ns x)
 lookup_in_valuation [] bits x = refl
@@ -102,8 +89,7 @@ lookup_in_valuation (y ∷ ys) bits x =
 
 -- a place after the first is one after another
 before : (o : Option ℕ) (k : ℕ) → option_map suc o ≡ Some k → (j : ℕ) × (o ≡ Some j) × (k ≡ suc j)
-before None k e = cc
-before (Some j) k e = let same : suc j ≡ k = cc in (j, refl, sym same)
+before o k given1 = grind (arith)
 
 -- one name, where the law holds of the names after it
 update_first : (y : Name) (ys : List Name) (bits : Bits) (x : List ℕ) (c : Bool) (k : ℕ) (b : Bool)
@@ -111,9 +97,7 @@ update_first : (y : Name) (ys : List Name) (bits : Bits) (x : List ℕ) (c : Boo
     → cond c (Some 0) (first_index_from 1 ys x) ≡ Some k
     → cond c ((y.text, b) ∷ valuation_of ys (λ i. bits (suc i)))
     ((y.text, bits 0) ∷ update (valuation_of ys (λ i. bits (suc i))) x b) ≡ valuation_of (y ∷ ys) (with_bit bits k b)
-update_first y ys bits x true k b rest e =
-    let first : 0 ≡ k = cc in
-    subst (λ j. (y.text, b) ∷ valuation_of ys (λ i. bits (suc i)) ≡ valuation_of (y ∷ ys) (with_bit bits j b)) first refl
+update_first y ys bits x true k b rest e = grind (arith)
 update_first y ys bits x false k b rest e =
     let at = before (first_index_from 0 ys x) k (sym (index_later 0 ys x) ∙ e) in
     rw at.2 (ap (λ m. (y.text, bits 0) ∷ m) (rest at.0 at.1))
@@ -125,15 +109,11 @@ update_in_valuation (y ∷ ys) bits x k b e = update_first y ys bits x (bytes_eq
 
 read_at : (l g : Option ℕ) (w : Store Bits) (s : Slot) → option_or (option_map Local l) (option_map Global g) ≡ Some s
     → unwrap_or (option_or (option_map w.locals l) (option_map w.globals g)) false ≡ slot_bit w s
-read_at (Some k) g w s e = let is : Local k ≡ s = cc in subst (λ s. w.locals k ≡ slot_bit w s) is refl
-read_at None (Some k) w s e = let is : Global k ≡ s = cc in subst (λ s. w.globals k ≡ slot_bit w s) is refl
-read_at None None w s e = cc
+read_at l g w s given1 = grind (arith)
 
 module _ (globals : List Name) (p : Procedure) (w : Store Bits) where
   pub slot_read : (x : List ℕ) (s : Slot) → slot_of globals p x ≡ Some s → slot_bit w s ≡ variable_value (named_store globals p w) x
-  slot_read x s e =
-      sym (rw (lookup_in_valuation (variables p) w.locals x, lookup_in_valuation globals w.globals x)
-      (read_at (first_index_from 0 (variables p) x) (first_index_from 0 globals x) w s e))
+  slot_read x s given1 = search (rules, lookup_in_valuation, read_at)
 
   after_write_at : (x : List ℕ) (b : Bool) (s : Slot) (l g : Option ℕ) → first_index_from 0 (variables p) x ≡ l → first_index_from 0 globals x ≡ g
       → option_or (option_map Local l) (option_map Global g) ≡ Some s
@@ -176,8 +156,7 @@ module _ (t : Program) (p : Procedure) (environment : Environment) (same : envir
   are_values es h = record { equal = formulas_have_values es h }
 
   pub tests : (d : Decision) → NamesInDecision (HasSlot t.globals p) d → IsTestOf t p (test_in environment d) d
-  tests Choose h = record { equal = λ w bit. refl }
-  tests (Decide e) h = record { equal = λ w bit. formula_has_value e h w }
+  tests d given1 = search (rules, formula_has_value)
 
   targets_equal : (xs : List Name) → EachName (HasSlot t.globals p) xs → (w : Store Bits) (bits : List Bool)
       → named_store t.globals p (with_slots w (slots_in environment xs) bits) ≡ after_assignment (named_store t.globals p w) xs bits

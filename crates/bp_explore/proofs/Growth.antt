@@ -1,14 +1,12 @@
 -- Nodes that are added, and what stays closed then.
-use Rattle.std.proofs.Common.{◌≡◌, ◌≢◌, ◌⊎◌, ℕ, zero, suc, ◌+◌, ◌<◌, ◌≤◌, ◌==◌, true, false, cond, List, [], ◌∷◌, ◌++◌, length, Option, None, Some, refl, ap, sym, ◌∙◌, subst, arith, inl, inr, slice_get}
+use Rattle.std.proofs.Common.{◌≡◌, ◌≢◌, ◌⊎◌, ℕ, zero, suc, ◌+◌, ◌<◌, ◌≤◌, true, false, List, [], ◌∷◌, ◌++◌, length, Option, Some, refl, ap, sym, ◌∙◌, subst, arith, inl, inr, slice_get, rules}
 use Rattle.std.proofs.lemmas.Bool.{cases_lt}
-use Rattle.std.proofs.lemmas.Bool.Decides.{nat_tests}
 use Rattle.std.proofs.lemmas.Option.{slice_get_within}
 use Rattle.bp_flat.specs.Flat.{Instruction}
 use Rattle.bp_machine.specs.Sessions.{contexts_opened}
-use Rattle.bp_machine.proofs.HistoryWithCall.{same_or_not}
 use Rattle.bp_explore.specs.Explorations.{ListedSteps}
 use Rattle.bp_explore.specs.States.{NodeOf as Node, StateOf}
-use Rattle.bp_explore.specs.Searches.{MayAdd, IsStep, Step, Stays, Fails, Leads, level_with, Holds, Has, IsSeen, IsExpanded, IsClosed, AreLayered, AreAtMost, IsGrown, IsExplored}
+use Rattle.bp_explore.specs.Searches.{MayAdd, IsStep, Step, level_with, Holds, Has, IsSeen, IsExpanded, IsClosed, AreLayered, AreAtMost, IsGrown, IsExplored}
 
 pub item_at : {X : Type 0} (xs : List X) (k : ℕ) → k < length xs → (z : X) × (slice_get xs k ≡ Some z)
 item_at [] k below = absurd (omega (arith, below))
@@ -43,18 +41,10 @@ one_longer [] y = refl
 one_longer (z ∷ zs) y = let e = one_longer zs y in omega (arith, e)
 
 pub grown_none : (xs : List Node) (level : ℕ) → IsGrown xs xs level
-grown_none xs level = record {
-  longer = omega arith;
-  kept = λ n node e. e;
-  added = λ n node far e. let near = slice_get_within xs n node e in absurd (omega (arith, far, near));
-}
+grown_none xs level = search (rules, slice_get_within)
 
 grown_one : (xs : List Node) (node : Node) (level : ℕ) → node.level ≡ level → IsGrown xs (xs ++ node ∷ []) level
-grown_one xs node level is = record {
-  longer = let e = one_longer xs node in omega (arith, e);
-  kept = λ n x e. kept_item xs (node ∷ []) n x e;
-  added = λ n x far e. let same = added_item xs node n x far e in sym (ap (λ (z : Node). z.level) same) ∙ is;
-}
+grown_one xs node level given1 = search (rules, one_longer, kept_item, added_item)
 
 pub grown_may : (xs ys : List Node) (node : Node) (level : ℕ) → node.level ≡ level → MayAdd xs node ys → IsGrown xs ys level
 grown_may xs ys node level is (inl same) = subst (λ l. IsGrown xs l level) (sym same) (grown_none xs level)
@@ -90,9 +80,7 @@ module _ (xs ys : List Node) (level : ℕ) (g : IsGrown xs ys level) where
   }
 
   pub seen_kept : (o : ListedSteps) (i k : ℕ) (y : Step) → IsSeen o xs i k y → IsSeen o ys i k y
-  seen_kept o i k Stays s = tt
-  seen_kept o i k (Fails made) s = s
-  seen_kept o i k (Leads made x) s = (s.0, has_kept x i made k s.1)
+  seen_kept o i k y given1 = search (rules, has_kept)
 
   pub expanded_kept : (o : ListedSteps) (code : List Instruction) (node : Node) (i k : ℕ) → IsExpanded o code xs node i k → IsExpanded o code ys node i k
   expanded_kept o code node i k e bit = let (y, step, seen) = e bit in (y, step, seen_kept o i k y seen)
@@ -121,23 +109,13 @@ module _ (xs ys : List Node) (level : ℕ) (g : IsGrown xs ys level) where
       expanded_kept o code node i (level_with node i) (closed n node i below at within fits)
 
   pub layered_kept : (p : ℕ) → p ≤ length xs → AreLayered xs p level → AreLayered ys p level
-  layered_kept p few layered n node e = elim (cases_lt n (length xs)) [
-    | inl near ↦ layered n node (before n node near e)
-    | inr past ↦ (λ low. absurd (omega (arith, low, past, few)), λ high. g.added n node past e)
-  ]
+  layered_kept p given1 given2 = search (rules, cases_lt, before)
 
 pub at_most_layered : (xs : List Node) (p k : ℕ) → AreLayered xs p k → AreAtMost xs k
-at_most_layered xs p k layered n node e = elim (cases_lt n p) [
-  | inl near ↦ let a = (layered n node e).0 near in omega (arith, a)
-  | inr past ↦ let a = (layered n node e).1 past in omega (arith, a)
-]
+at_most_layered xs p k given1 = grind (arith)
 
 opened_cases : (l : Option ℕ) (i : ℕ) → ((l ≡ Some i) × (contexts_opened l i ≡ 0)) ⊎ ((l ≢ Some i) × (contexts_opened l i ≡ 1))
-opened_cases None i = inr (λ e. cc, refl)
-opened_cases (Some j) i = elim (same_or_not j i) [
-  | inl same ↦ let b : (j == i) ≡ true = grind (arith, nat_tests) in inl (ap Some same, ap (λ c. cond c 0 1) b)
-  | inr other ↦ let b : (j == i) ≡ false = grind (arith, nat_tests) in inr (λ e. other cc, ap (λ c. cond c 0 1) b)
-]
+opened_cases l i = grind (arith)
 
 pub opened_own : (l : Option ℕ) (i : ℕ) → l ≡ Some i → contexts_opened l i ≡ 0
 opened_own l i is = elim (opened_cases l i) [ inl a ↦ a.1 | inr a ↦ absurd (a.0 is) ]

@@ -1,6 +1,5 @@
 -- Runs that make listed steps, step by step.
-use Rattle.std.proofs.Common.{◌≡◌, ℕ, zero, suc, List, [], ◌∷◌, length, Some, ◌↔◌, IsTrue, ◌+◌, ◌<◌, Bool, true, false, cond, refl, ap, sym, ◌∙◌, subst, arith, inl, inr, ◌⊎◌, ◌≤◌, ◌++◌, slice_get, slice_index_or, slice_set, length-set, get_or-set_same, get_or-set_other}
-use Rattle.std.proofs.lemmas.Bool.{cases_lt}
+use Rattle.std.proofs.Common.{◌≡◌, ℕ, zero, suc, List, [], ◌∷◌, length, Some, ◌↔◌, IsTrue, ◌+◌, ◌<◌, Bool, true, false, cond, refl, ap, sym, ◌∙◌, subst, arith, ◌⊎◌, ◌++◌, slice_get, slice_index_or, slice_set, length-set, get_or-set_same, get_or-set_other, rules}
 use Rattle.bp_language.specs.Ast.{Program}
 use Rattle.bp_flat.specs.Moves.{Configuration, Frame, Moves, after_effect}
 use Rattle.bp_flat.specs.Flat.{Flat}
@@ -70,10 +69,7 @@ module _ (c : Flat) (t : Program) (o : ListedSteps) (own : o.is_of t) (alike : S
     answer v is = on_stack c t alike bit x.globals now.globals shows.globals stack (stack_of now i) true v (shows.stack i stack has) is
 
     granted : (v : Transition) → IsTransitionOn c.instructions x.globals bit true stack v → is_granted (reply_of_transition v) ≡ true
-    granted v is =
-        let same : Some (reply_of_transition v) ≡ Some (reply_of_step [] d.failed) = sym (answer v is).reply ∙ told in
-        let reply : reply_of_transition v ≡ reply_of_step [] d.failed = cc in
-        ap is_granted reply ∙ reply_granted [] d.failed
+    granted v given1 = search (rules, answer, told, reply_granted)
 
     inside : i < length now.stacks
     inside = thread_below t now i bit d move
@@ -81,21 +77,7 @@ module _ (c : Flat) (t : Program) (o : ListedSteps) (own : o.is_of t) (alike : S
     stacks_after : (e : Effect) (S : List Frame) → ShowsStack t (activations (stack_after e stack)) S
         → (j : ℕ) (own : List ActivationRecord) → slice_get (slice_set x.stacks i (stack_after e stack)) j ≡ Some own
         → ShowsStack t (activations own) (stack_of (record { globals = now.globals; stacks = slice_set now.stacks i S; failed = false }) j)
-    stacks_after e S shown j own at = elim (same_or_not j i) [
-      | inl same ↦
-          let there : slice_get (slice_set x.stacks i (stack_after e stack)) i ≡ Some (stack_after e stack) = set_same x.stacks i stack (stack_after e stack) has in
-          let found : slice_get (slice_set x.stacks i (stack_after e stack)) i ≡ Some own = subst (λ k. slice_get (slice_set x.stacks i (stack_after e stack)) k ≡ Some own) same at in
-          let both : Some (stack_after e stack) ≡ Some own = sym there ∙ found in
-          let own_is : stack_after e stack ≡ own = cc in
-          let left : ShowsStack t (activations own) S = subst (λ k. ShowsStack t (activations k) S) own_is shown in
-          let right : stack_of (record { globals = now.globals; stacks = slice_set now.stacks i S; failed = false }) i ≡ S = get_or-set_same now.stacks i S [] inside in
-          subst (λ k. ShowsStack t (activations own) (stack_of (record { globals = now.globals; stacks = slice_set now.stacks i S; failed = false }) k)) (sym same)
-          (subst (λ z. ShowsStack t (activations own) z) (sym right) left)
-      | inr other ↦
-          let kept : slice_get x.stacks j ≡ Some own = sym (set_other x.stacks i j (stack_after e stack) other) ∙ at in
-          let right : stack_of (record { globals = now.globals; stacks = slice_set now.stacks i S; failed = false }) j ≡ stack_of now j = get_or-set_other now.stacks i j S [] other in
-          subst (λ z. ShowsStack t (activations own) z) (sym right) (shows.stack j own kept)
-    ]
+    stacks_after e S given1 j own given2 = search (rules, same_or_not, set_same, get_or-set_same, inside, set_other, get_or-set_other)
 
     leads_on : (e : Effect) → IsTransitionOn c.instructions x.globals bit true stack (transition.Steps e) → Shows t (state_after x i stack e) d × (d.failed ≡ false)
     leads_on e is =
@@ -165,9 +147,7 @@ Begun t o m c [] n e = (m ≡ n) × (c ≡ e)
 Begun t o m c (x ∷ xs) n e = FirstMade t o m c x xs n e
 
 begun : {t : Program} {o : ListedSteps} {m : ℕ} {c : Configuration} {xs : List Call} {n : ℕ} {e : Configuration} → MakesFrom t o m c xs n e → Begun t o m c xs n e
-begun (ends m c) = (refl, refl)
-begun (passes m c x d xs n e move rest) = record { next = d; move = move; made = m; how = inl refl; rest = rest }
-begun (makes m c x d xs n e move made rest) = record { next = d; move = move; made = m + 1; how = inr (refl, made); rest = rest }
+begun given1 = grind (arith)
 
 pub no_more : {t : Program} {o : ListedSteps} {m : ℕ} {c : Configuration} {n : ℕ} {e : Configuration} → MakesFrom t o m c [] n e → (m ≡ n) × (c ≡ e)
 no_more run = begun run
@@ -177,28 +157,6 @@ pub first_made : {t : Program} {o : ListedSteps} {m : ℕ} {c : Configuration} {
 first_made run = begun run
 
 module _ (t : Program) (o : ListedSteps) where
-  -- counting each listed step as soon as it is made counts as many
-  pub counts_enough : (m k made n : ℕ) (c : Configuration) (i : ℕ) (d : Configuration) → m ≤ k → (made ≡ m) ⊎ ((made ≡ m + 1) × IsMade o m c i d)
-      → IsCounted o k c i d n → made ≤ n
-  counts_enough m k made n c i d low how counted = by_test counted.is_made refl
-    where
-      by_test : (b : Bool) → counted.is_made ≡ b → made ≤ n
-      by_test true is =
-          let more : n ≡ k + 1 = counted.count ∙ ap (λ b. cond b (k + 1) k) is in
-          elim how [ inl a ↦ omega (arith, a, more, low) | inr a ↦ let e = a.0 in omega (arith, e, more, low) ]
-      by_test false is =
-          let same : n ≡ k = counted.count ∙ ap (λ b. cond b (k + 1) k) is in
-          elim how [
-            | inl a ↦ omega (arith, a, same, low)
-            | inr a ↦
-                let other : m ≡ k → ⊥ = λ e. let no : false ≡ true = sym is ∙ counted.told.1 (subst (λ j. IsMade o j c i d) e a.1) in cc in
-                let e = a.0 in
-                elim (cases_lt m k) [
-                  | inl less ↦ omega (arith, e, same, less)
-                  | inr past ↦ absurd (other (omega (arith, low, past)))
-                ]
-          ]
-
   -- a run makes no listed steps if none are looked for in it
   pub run_passes : (m : ℕ) (c : Configuration) (xs : List Call) (e : Configuration) → IsRun t c xs e → MakesFrom t o m c xs m e
   run_passes m c [] e run = subst (MakesFrom t o m c [] m) (ended run) (ends m c)

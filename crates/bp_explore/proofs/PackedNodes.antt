@@ -1,5 +1,5 @@
 -- The nodes of records that lie one after the other.
-use Rattle.std.proofs.Common.{◌≡◌, ◌+◌, ◌++◌, ◌∷◌, [], ℕ, zero, suc, List, refl, ap, sym, ◌∙◌, append_assoc, arith, ◌*◌, ◌/◌, ◌%◌, ◌^◌, Some, drop, append-nil, ◌≤◌, ◌-◌, All, ◌<◌, length, get_or, take, slice_set, slice_get}
+use Rattle.std.proofs.Common.{◌≡◌, ◌+◌, ◌++◌, ◌∷◌, [], ℕ, zero, suc, List, refl, ap, sym, ◌∙◌, append_assoc, arith, ◌*◌, ◌/◌, ◌%◌, ◌^◌, Some, drop, append-nil, ◌≤◌, ◌-◌, All, ◌<◌, length, get_or, take, slice_set, slice_get, rules}
 use Rattle.std.proofs.lemmas.List.{take_more, take_more_set, length-drop, take_all, take-append-le, drop-append-le}
 use Rattle.std.proofs.Transfers.{drop-appended}
 use Rattle.std.proofs.lemmas.Option.{slice_get_within}
@@ -13,11 +13,7 @@ module _ {X : Type 0} (take : List ℕ → X × List ℕ) where
   -- one value more
   times_next : (k : ℕ) (cells : List ℕ) (xs : List X) (rest : List ℕ) (x : X) (left : List ℕ)
       → take_times take k cells ≡ (xs, rest) → take rest ≡ (x, left) → take_times take (suc k) cells ≡ (xs ++ x ∷ [], left)
-  times_next zero cells xs rest x left e f =
-      let none : [] ≡ xs = ap (λ p. p.0) e in
-      let same : cells ≡ rest = ap (λ p. p.1) e in
-      let first : take cells ≡ (x, left) = ap take same ∙ f in
-      λ j. (ap (λ ys. ys ++ (first j).0 ∷ []) none j, (first j).1)
+  times_next zero cells xs rest x left e f = grind (arith)
   times_next (suc k) cells xs rest x left e f =
       let first = take cells in
       let others = take_times take k first.1 in
@@ -63,31 +59,17 @@ module _ (threads : ℕ) (b c d : List ℕ) (level head : ℕ) (x : StateOf)
   state_is = ap (take_state threads) (sym (append-nil r.more)) ∙ r.takes []
 
   key_is : take_key threads (q.more ++ r.more) ≡ ((head / 2 ^ 33 % 2 ^ 32, last_of (head % 2 ^ 33), x), [])
-  key_is =
-      ap (λ l. ((l.0 / 2 ^ 33 % 2 ^ 32, last_of (l.0 % 2 ^ 33), (take_state threads l.1).0), (take_state threads l.1).1)) (q.takes r.more)
-      ∙ ap (λ s. ((head / 2 ^ 33 % 2 ^ 32, last_of (head % 2 ^ 33), s.0), s.1)) state_is
+  key_is = search (rules, state_is)
 
   pub packed_key : take_key threads (drop (length b) d) ≡ ((head / 2 ^ 33 % 2 ^ 32, last_of (head % 2 ^ 33), x), [])
   packed_key = ap (take_key threads) (drop-appended b d (q.more ++ r.more) whole) ∙ key_is
 
   pub packed_node : node_of threads d ≡ record { state = x; made = head / 2 ^ 33 % 2 ^ 32; last = last_of (head % 2 ^ 33); level = level }
-  packed_node =
-      let front : d ≡ p.more ++ (q.more ++ r.more) = whole ∙ ap (λ l. l ++ (q.more ++ r.more)) p.whole in
-      let first : take_number d ≡ (level, q.more ++ r.more) = ap take_number front ∙ p.takes (q.more ++ r.more) in
-      ap (λ v. record { state = (take_key threads v.1).0.2; made = (take_key threads v.1).0.0; last = (take_key threads v.1).0.1; level = v.0 }) first
-      ∙ ap (λ k. record { state = k.0.2; made = k.0.0; last = k.0.1; level = level }) key_is
-
-pub last_of_next : (n : ℕ) → n < 2 ^ 32 → last_of (n + 1) ≡ Some n
-last_of_next n small =
-    let next : n + 1 ≡ suc n = omega arith in
-    let same : n % 2 ^ 32 ≡ n = omega (arith, small) in
-    ap last_of next ∙ ap Some same
+  packed_node = search (rules, whole, key_is)
 
 -- the head of a key has the thread and how many listed steps were made
 pub last_of_head : (made thread : ℕ) → thread < 2 ^ 32 → last_of ((made * 2 ^ 33 + thread + 1) % 2 ^ 33) ≡ Some thread
-last_of_head made thread small =
-    let rest : (made * 2 ^ 33 + thread + 1) % 2 ^ 33 ≡ thread + 1 = omega (arith, small) in
-    ap last_of rest ∙ last_of_next thread small
+last_of_head made thread given1 = grind (arith)
 
 pub made_of_head : (made thread : ℕ) → made < 2 ^ 32 → thread < 2 ^ 32 → (made * 2 ^ 33 + thread + 1) / 2 ^ 33 % 2 ^ 32 ≡ made
 made_of_head made thread few small = omega (arith, few, small)
@@ -105,17 +87,12 @@ nodes_get threads cells from (e ∷ es) (suc (suc n)) within = nodes_get threads
 
 record_kept : (cells more : List ℕ) (from end : ℕ) → from ≤ length cells → end ≤ length cells
     → take (end - from) (drop from (cells ++ more)) ≡ take (end - from) (drop from cells)
-record_kept cells more from end a b =
-    ap (take (end - from)) (drop-append-le from cells more a)
-    ∙ take-append-le (end - from) (drop from cells) more (let long = length-drop from cells in omega (arith, a, b, long))
+record_kept cells more from end given1 given2 = search (rules, drop-append-le, take-append-le, length-drop)
 
 pub nodes_added : (threads : ℕ) (cells more : List ℕ) (from : ℕ) (ends : List ℕ) → from ≤ length cells → All (λ e. e ≤ length cells) ends
     → end_of from ends ≡ length cells → (end : ℕ) → end ≡ length cells + length more
     → nodes_from threads (cells ++ more) from (ends ++ end ∷ []) ≡ nodes_from threads cells from ends ++ node_of threads more ∷ []
-nodes_added threads cells more from [] a each last end is =
-    let rest : drop from (cells ++ more) ≡ more = ap (λ n. drop n (cells ++ more)) last ∙ drop-appended cells (cells ++ more) more refl in
-    let all : take (end - from) more ≡ more = take_all (end - from) more (omega (arith, is, last)) in
-    ap (λ r. node_of threads r ∷ []) (ap (take (end - from)) rest ∙ all)
+nodes_added threads cells more from [] a each last end is = search (rules, drop-appended, take_all)
 nodes_added threads cells more from (e ∷ es) a each last end is =
     let here : e ≤ length cells = each 0 0 (omega arith) in
     let others : All (λ k. k ≤ length cells) es = λ k d below. each (suc k) d (omega (arith, below)) in
@@ -127,8 +104,7 @@ pub bounded_added : (ends : List ℕ) (a b end : ℕ) → All (λ e. e ≤ a) en
 bounded_added [] a b end each more is zero d below = omega (arith, is)
 bounded_added [] a b end each more is (suc k) d below = absurd (omega (arith, below))
 bounded_added (e ∷ es) a b end each more is zero d below = let h : e ≤ a = each 0 0 (omega arith) in omega (arith, h, more)
-bounded_added (e ∷ es) a b end each more is (suc k) d below =
-    bounded_added es a b end (λ j c h. each (suc j) c (omega (arith, h))) more is k d (omega (arith, below))
+bounded_added (e ∷ es) a b end each more is (suc k) d below = search (rules, (bounded_added es a b end (λ j c h. each (suc j) c (omega (arith, h))) more is k d (omega (arith, below))))
 
 pub end_of_added : (from : ℕ) (ends : List ℕ) (end : ℕ) → end_of from (ends ++ end ∷ []) ≡ end
 end_of_added from [] end = refl
@@ -140,25 +116,13 @@ node_there threads cells ends n within = nodes_get threads cells 0 ends n within
 
 pub node_is : (threads : ℕ) (cells ends : List ℕ) (n : ℕ) (node : NodeOf) → slice_get (nodes_from threads cells 0 ends) n ≡ Some node
     → node_of threads (record_at cells ends n) ≡ node
-node_is threads cells ends n node at =
-    let within = slice_get_within (nodes_from threads cells 0 ends) n node at in
-    let long = nodes_length threads cells 0 ends in
-    let both : Some (node_of threads (record_at cells ends n)) ≡ Some node = sym (node_there threads cells ends n (omega (arith, within, long))) ∙ at in
-    cc
+node_is threads cells ends n node given1 = search (rules, slice_get_within, nodes_length, node_there)
 
 pub last_there : (n : ℕ) → 0 < n → last_of n ≡ Some ((n - 1) % 2 ^ 32)
-last_there zero some = absurd (omega (arith, some))
-last_there (suc n) some = let same : n ≡ suc n - 1 = omega arith in ap (λ m. Some (m % 2 ^ 32)) same
+last_there n given1 = grind (arith)
 
 -- A node with the key of a state.
 
 pub key_held : (threads : ℕ) (nodes : List NodeOf) (key : List ℕ) (i made : ℕ) (x : StateOf) → HasKey threads nodes key
     → take_key threads key ≡ ((made, Some i, x), []) → Holds nodes x i made
-key_held threads nodes key i made x h e = record {
-  at = h.at;
-  node = h.node;
-  is = h.is;
-  state = ap (λ p. p.2) h.same ∙ ap (λ k. k.0.2) e;
-  made = ap (λ p. p.0) h.same ∙ ap (λ k. k.0.0) e;
-  last = ap (λ p. p.1) h.same ∙ ap (λ k. k.0.1) e;
-}
+key_held threads nodes key i made x given1 given2 = grind (arith)

@@ -1,5 +1,5 @@
 -- What is answered once a run was played.
-use Rattle.std.proofs.Common.{◌≡◌, ◌++◌, ◌∷◌, [], true, cond, List, ap, ◌∙◌, ℕ, Bool, Option, sym, subst}
+use Rattle.std.proofs.Common.{◌≡◌, ◌++◌, ◌∷◌, [], true, List, ℕ, Bool, Option, sym, subst, rules}
 use Rattle.std.proofs.lemmas.List.Elements.{filter-append}
 use Rattle.bp_language.specs.Ast.{Program}
 use Rattle.bp_flat.specs.Flat.{Flat}
@@ -14,9 +14,7 @@ use Rattle.bp_explore.specs.Explorations.{IsFirst, IsExploration, IsPlayed, IsIn
 -- Histories of granted calls alone.
 
 pub granted_more : (h : List Call) (x : Call) → granted_calls h ≡ h → is_granted x.reply ≡ true → granted_calls (h ++ x ∷ []) ≡ h ++ x ∷ []
-granted_more h x all own =
-    let one : granted_calls (x ∷ []) ≡ x ∷ [] = ap (λ b. cond b (x ∷ []) []) own in
-    filter-append (λ y. is_granted y.reply) h (x ∷ []) ∙ ap (λ ys. ys ++ granted_calls (x ∷ [])) all ∙ ap (λ ys. h ++ ys) one
+granted_more h x given1 given2 = search (rules, filter-append)
 
 module _ (c : Flat) (t : Program) (s : SetupOf) (bound : Option ℕ) (b : Bool) (k : ℕ) (f : Finding) (first : IsFirst t s b k f) (within : IsInBound bound k) where
   first_of : (m : ℕ) (g : Finding) → m ≡ k → g ≡ f → IsFirst t s b m g

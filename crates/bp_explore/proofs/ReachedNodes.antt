@@ -1,9 +1,8 @@
 -- A node that a step from a reached node leads to is reached.
-use Rattle.std.proofs.Common.{◌≡◌, length, Option, None, Some, refl, ap, sym, ◌∙◌, subst, ◌<◌, ◌≤◌, ◌+◌, ◌&&◌, nat_le, ℕ, Bool, true, false, cond, List, [], ◌∷◌, ◌++◌, inl, inr, arith, slice_get, map, option_map}
+use Rattle.std.proofs.Common.{◌≡◌, length, Option, None, Some, refl, ap, sym, ◌∙◌, subst, ◌<◌, ◌≤◌, ◌+◌, ◌&&◌, nat_le, ℕ, Bool, true, cond, List, [], ◌∷◌, ◌++◌, inl, inr, arith, slice_get, map, option_map, rules}
 use Rattle.std.proofs.lemmas.List.{length-map}
 use Rattle.std.proofs.lemmas.Option.{slice_get-map}
 use Rattle.std.proofs.lemmas.Bool.{cases_lt}
-use Rattle.std.proofs.lemmas.Bool.Decides.{nat_tests}
 use Rattle.bp_language.specs.Ast.{Program}
 use Rattle.bp_flat.specs.StandsFor.{ShowsStack, StandsFor, StepsAlike}
 use Rattle.bp_flat.specs.InstrEffects.{bits_of}
@@ -11,7 +10,7 @@ use Rattle.bp_flat.specs.Flat.{Flat}
 use Rattle.bp_flat.specs.Steps.{bits_from}
 use Rattle.bp_flat.specs.Moves.{Configuration, effect, Moves}
 use Rattle.bp_machine.specs.declared.calls.Outcome.TheVariants.{Clean}
-use Rattle.bp_machine.specs.Histories.{stack_of, is_full, reply_of, reply_on_stack, reply_to_effect, configuration_after_call, IsRun}
+use Rattle.bp_machine.specs.Histories.{stack_of, reply_of, reply_on_stack, reply_to_effect, configuration_after_call, IsRun}
 use Rattle.bp_machine.specs.Sessions.{first_thread, contexts_opened, count_with, IsCountOf}
 use Rattle.bp_machine.specs.Setups.{SetupOf, start, Fits, threads}
 use Rattle.bp_machine.specs.Sessions as states
@@ -38,8 +37,7 @@ use Rattle.bp_explore.proofs.MadeSteps.{makes_one, makes_run, passes_one, IsCoun
 -- The first state shows the start.
 
 of_map : {X Y : Type 0} (f : X → Y) (o : Option X) (y : Y) → option_map f o ≡ Some y → (x : X) × (o ≡ Some x) × (f x ≡ y)
-of_map f None y e = absurd cc
-of_map f (Some x) y e = let same : f x ≡ y = cc in (x, refl, same)
+of_map given1 = grind (arith)
 
 pub start_shown : (c : Flat) (t : Program) (s : SetupOf) → StandsFor c t → Fits t s → (x : StateOf)
     → bits_of x.globals ≡ bits_from s.init → x.stacks ≡ map (first_stack_of c) s.entries → Shows t x (start t s)
@@ -65,14 +63,10 @@ room_of t c i bit told frame below stack call = by_test (nat_le MAX_FRAMES (leng
     e = reply_to_effect (effect t.procedures frame.left c.globals frame below bit)
 
     full : cond (true && nat_le MAX_FRAMES (length (frame ∷ below))) (Some Full) e ≡ Some Stepped
-    full =
-        sym (ap (λ S. reply_on_stack t true c.globals S bit) stack
-        ∙ ap (λ b. cond (b && is_full (frame ∷ below)) (Some Full) e) call)
-        ∙ told
+    full = grind (arith)
 
     by_test : (b : Bool) → nat_le MAX_FRAMES (length (frame ∷ below)) ≡ b → length (frame ∷ below) < MAX_FRAMES
-    by_test true is = absurd (let no : Some Full ≡ Some Stepped = sym (ap (λ b. cond (true && b) (Some Full) e) is) ∙ full in cc)
-    by_test false is = grind (arith, nat_tests)
+    by_test b given1 = grind (arith)
 
 pub no_split : (before : List Call) (x : Call) (later : List Call) → [] ≡ before ++ x ∷ later → ⊥
 no_split [] x later e = cc
@@ -156,14 +150,7 @@ module _ (c : Flat) (t : Program) (s : SetupOf) (o : ListedSteps) (own : o.is_of
 
         by_count : (d : Configuration) → Moves t r.end i bit d → (counted : IsCounted o node.made r.end i d n) → (b : Bool) → counted.is_made ≡ b
             → MakesFrom t o 0 (start t s) (r.steps ++ x ∷ []) n d
-        by_count d move counted true is =
-            let more : n ≡ node.made + 1 = counted.count ∙ ap (λ b. cond b (node.made + 1) node.made) is in
-            subst (λ k. MakesFrom t o 0 (start t s) (r.steps ++ x ∷ []) k d) (sym more)
-            (makes_one t o 0 (start t s) r.steps node.made r.end x d r.run move (counted.told.0 is))
-        by_count d move counted false is =
-            let same : n ≡ node.made = counted.count ∙ ap (λ b. cond b (node.made + 1) node.made) is in
-            subst (λ k. MakesFrom t o 0 (start t s) (r.steps ++ x ∷ []) k d) (sym same)
-            (passes_one t o 0 (start t s) r.steps node.made r.end x d r.run move)
+        by_count d given1 counted b given2 = search (rules, makes_one, told, passes_one)
 
 -- so the nodes stay reached, if what the step leads to is taken
 pub taken_reached : (c : Flat) (o : ListedSteps) (old new : List Node) (at : ℕ) (node : Node) (i level : ℕ) (bit : Bool) (y : Step) → slice_get old at ≡ Some node

@@ -1,12 +1,11 @@
 -- How a search goes from layer to layer, and what is known after each.
-use Rattle.std.proofs.Common.{◌≡◌, ◌<◌, ◌≤◌, ℕ, zero, suc, Bool, true, inl, inr, ◌+◌, List, [], ◌∷◌, length, Option, None, Some, refl, ap, sym, ◌∙◌, subst, arith, slice_get, map}
+use Rattle.std.proofs.Common.{◌≡◌, ◌<◌, ◌≤◌, ℕ, Bool, true, inl, inr, ◌+◌, List, [], ◌∷◌, length, Option, None, Some, refl, sym, ◌∙◌, subst, arith, slice_get, map}
 use Rattle.std.specs.Option.{unwrap_or}
 use Rattle.std.proofs.lemmas.Bool.{cases_lt}
 use Rattle.std.proofs.lemmas.Option.{slice_get_within}
 use Rattle.bp_language.specs.Ast.{Program}
 use Rattle.bp_flat.specs.StandsFor.{StepsAlike, StandsFor}
 use Rattle.bp_flat.specs.Flat.{Flat, Instruction}
-use Rattle.bp_machine.specs.Sessions.{contexts_opened}
 use Rattle.bp_machine.specs.Setups.{SetupOf, threads, start}
 use Rattle.bp_machine.proofs.ContextCounts.{count_of_none, within_more}
 use Rattle.bp_machine.proofs.RealFailures.{stacks_at_start}
@@ -110,9 +109,7 @@ module _ (c : Flat) (s : SetupOf) (o : ListedSteps) (some : 0 < o.count) (b : Bo
   module _ (new : List Node) (next count : ℕ) (all : count ≡ threads s) (grown : IsGrown nodes new (k + 1))
       (made : IsExplored o c.instructions count nodes from k → IsExplored o c.instructions count new next (k + 1)) where
     next_explored : IsExplored o c.instructions (threads s) new next (k + 1)
-    next_explored =
-        subst (λ m. IsExplored o c.instructions m new next (k + 1)) all
-        (made (subst (λ m. IsExplored o c.instructions m nodes from k) (sym all) x.explored))
+    next_explored = grind (arith)
 
     pub none_in_layer : (t : Program) → o.is_of t → StepsAlike c t → StandsFor c t → CanMake t s o (k + 1) o.count → ⊥
     none_in_layer t own alike stands =
@@ -129,19 +126,11 @@ module _ (c : Flat) (s : SetupOf) (o : ListedSteps) (some : 0 < o.count) (b : Bo
     })
 
 the_one : (f node : Node) (n : ℕ) → slice_get (f ∷ []) n ≡ Some node → f ≡ node
-the_one f node zero e = cc
-the_one f node (suc n) e = absurd cc
+the_one f node n given1 = grind (arith)
 
 -- before any step nothing is within no context
 pub one_explored : (o : ListedSteps) (code : List Instruction) (threads : ℕ) (f : Node) → f.last ≡ None → f.level ≡ 0 → IsExplored o code threads (f ∷ []) 0 0
-one_explored o code threads f last level = record {
-  layered = λ n node e. (λ near. absurd (omega (arith, near)), λ past. sym (ap (λ (z : Node). z.level) (the_one f node n e)) ∙ level);
-  closed = λ n node i below e within fits.
-      let last_is = sym (ap (λ (z : Node). z.last) (the_one f node n e)) ∙ last in
-      let one : contexts_opened node.last i ≡ 1 = ap (λ o. contexts_opened o i) last_is in
-      absurd (omega (arith, one, fits));
-  few = omega arith;
-}
+one_explored o code threads f given1 given2 = grind (arith)
 
 -- and at the start
 -- and the start is reached
@@ -181,5 +170,4 @@ first_searched c s o some b nodes after begins same live =
 
 -- one more context than are searched is within the bound while the loop's test holds
 pub next_in_bound : (bound : Option ℕ) (end last : ℕ) → end ≡ unwrap_or bound 4294967295 → last < end → IsInBound bound (last + 1)
-next_in_bound None end last is more = tt
-next_in_bound (Some n) end last is more = omega (arith, is, more)
+next_in_bound bound end last given1 given2 = grind (arith)

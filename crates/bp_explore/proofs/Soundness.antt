@@ -1,5 +1,5 @@
 -- Where all was explored, a run ends where a node is that has made as many of the listed steps.
-use Rattle.std.proofs.Common.{◌≡◌, ◌⊎◌, ℕ, ◌+◌, ◌<◌, ◌≤◌, Bool, true, false, cond, List, [], ◌∷◌, length, Option, None, Some, refl, ap, sym, ◌∙◌, subst, inl, inr, arith, slice_get, map}
+use Rattle.std.proofs.Common.{◌≡◌, ◌⊎◌, ℕ, ◌+◌, ◌<◌, ◌≤◌, Bool, true, false, List, [], ◌∷◌, length, Option, None, Some, refl, ap, sym, ◌∙◌, subst, inl, inr, arith, slice_get, map}
 use Rattle.std.proofs.lemmas.Option.{slice_get_within}
 use Rattle.bp_language.specs.Ast.{Program}
 use Rattle.bp_flat.specs.StandsFor.{StepsAlike, StandsFor}
@@ -14,8 +14,8 @@ use Rattle.bp_machine.proofs.ContextCounts.{opened, opened_more, least}
 use Rattle.bp_machine.proofs.RealFailures.{move_keeps, thread_below, stacks_at_start}
 use Rattle.bp_explore.specs.Explorations.{ListedSteps, MakesFrom, CanMake, IsReachable}
 use Rattle.bp_explore.specs.States.{AreLiveFrom, NodeOf as Node, Shows}
-use Rattle.bp_explore.specs.Searches.{HaveFewer, IsStep, Step, Stays, Fails, Leads, level_with, IsSeen, IsClosed}
-use Rattle.bp_explore.proofs.MadeSteps.{FirstMade, no_more, first_made, counts_enough, run_passes, IsCounted, Matches, step_matches}
+use Rattle.bp_explore.specs.Searches.{HaveFewer, IsStep, Step, level_with, IsSeen, IsClosed}
+use Rattle.bp_explore.proofs.MadeSteps.{FirstMade, no_more, first_made, run_passes, Matches, step_matches}
 
 abbrev thread_of : Call → ℕ
 thread_of x = x.thread
@@ -44,67 +44,12 @@ record IsEnd (t : Program) (o : ListedSteps) (nodes : List Node) (made : ℕ) (d
 module _ (c : Flat) (t : Program) (o : ListedSteps) (own : o.is_of t) (alike : StepsAlike c t) (nodes : List Node) (count k : ℕ)
     (closed : (n : ℕ) (node : Node) (i : ℕ) → slice_get nodes n ≡ Some node → i < count → level_with node i ≤ k
     → (bit : Bool) → (y : Step) × IsStep o node.made node.state i c.instructions bit y × IsSeen o nodes i (level_with node i) y) where
-  lower : (l : Option ℕ) (a b made : ℕ) (d : Configuration) → a ≤ b → IsShown t o nodes l a made d → IsShown t o nodes l b made d
-  lower l a b made d h s = record {
-    at = s.at;
-    node = s.node;
-    is = s.is;
-    last_is = s.last_is;
-    enough = s.enough;
-    few = s.few;
-    shows = s.shows;
-    going = s.going;
-    low = let low = s.low in omega (arith, h, low);
-  }
-
-  -- a false assertion makes no listed step but the last
-  fails_low : (m n : ℕ) (a : Configuration) (i : ℕ) (d : Configuration) → IsCounted o m a i d n → d.failed ≡ true → n < o.count → n ≡ m
-  fails_low m n a i d counted failed few = by_test counted.is_made refl
-    where
-      by_test : (b : Bool) → counted.is_made ≡ b → n ≡ m
-      by_test true is =
-          let last = (counted.told.0 is).last failed in
-          let more : n ≡ m + 1 = counted.count ∙ ap (λ b. cond b (m + 1) m) is in
-          absurd (omega (arith, last, more, few))
-      by_test false is = counted.count ∙ ap (λ b. cond b (m + 1) m) is
-
   -- a run that goes on after its first step, or ends with it at a false assertion
   goes_on : (x : Call) (xs : List Call) (l : Option ℕ) (level m n : ℕ) (d e : Configuration) (s : IsShown t o nodes l level m d) (first : FirstMade t o m d x xs n e)
       → level_with s.node x.thread ≤ level + contexts_opened l x.thread
       → (IsShown t o nodes (Some x.thread) (level + contexts_opened l x.thread) first.made first.next → IsEnd t o nodes n e)
       → (y : Step) → Matches t o s.node.made d x.thread first.next y → IsSeen o nodes x.thread (level_with s.node x.thread) y → IsEnd t o nodes n e
-  goes_on x xs l level m n d e s first low again Stays matches seen = absurd matches
-  goes_on x [] l level m n d e s first low again (Fails made) (counted, failed) seen =
-      let (last, there) = no_more first.rest in
-      let enough = counts_enough t o m s.node.made first.made made d x.thread first.next s.enough first.how counted in
-      let same = fails_low s.node.made made d x.thread first.next counted failed seen in
-      record {
-        at = s.at;
-        node = s.node;
-        is = s.is;
-        few = s.few;
-        enough = omega (arith, last, enough, same);
-        ends = inl (ap (λ (z : Configuration). z.failed) (sym there) ∙ failed);
-      }
-  goes_on x (z ∷ zs) l level m n d e s first low again (Fails made) (counted, failed) seen =
-      let runs = (first_made first.rest).move.runs in
-      absurd (let no : false ≡ true = sym runs ∙ failed in cc)
-  goes_on x xs l level m n d e s first low again (Leads made y) (counted, shows, going) (few, has) =
-      let i = x.thread in
-      let enough = counts_enough t o m s.node.made first.made made d i first.next s.enough first.how counted in
-      let is_made = has.held.made in
-      let next : IsShown t o nodes (Some i) (level_with s.node i) first.made first.next = record {
-        at = has.held.at;
-        node = has.held.node;
-        is = has.held.is;
-        last_is = has.held.last;
-        low = has.low;
-        enough = omega (arith, enough, is_made);
-        few = omega (arith, few, is_made);
-        shows = subst (λ z. Shows t z first.next) (sym has.held.state) shows;
-        going = going;
-      } in
-      again (lower (Some i) (level_with s.node i) (level + contexts_opened l i) first.made first.next low next)
+  goes_on x xs l level m n d e s first given1 given2 y given3 given4 = grind (arith)
 
   -- what is reached from a configuration that a node shows, a node shows
   stays_shown : (xs : List Call) (l : Option ℕ) (level m n : ℕ) (d e : Configuration) → IsShown t o nodes l level m d → length d.stacks ≡ count

@@ -23,8 +23,7 @@ index_later n (y ∷ ys) x =
     ]
 
 shifted : (bits : Bits) (o : Option ℕ) → option_map bits (option_map suc o) ≡ option_map (λ k. bits (suc k)) o
-shifted bits None = refl
-shifted bits (Some k) = refl
+shifted bits o = grind (arith)
 
 pub value_of_slot : (ns : List Name) (bits : Bits) (x : List ℕ) → option_map bits (first_index ns x) ≡ lookup (valuation_of ns bits) x
 value_of_slot [] bits x = refl
@@ -41,9 +40,7 @@ index_after n None = None
 index_after n (Some k) = Some (n + k)
 
 later_index : (n : ℕ) (o : Option ℕ) (l : Option ℕ) → option_map suc (option_or o (index_after n l)) ≡ option_or (option_map suc o) (index_after (suc n) l)
-later_index n (Some k) l = refl
-later_index n None None = refl
-later_index n None (Some k) = ap Some (omega arith)
+later_index n o l = grind (arith)
 
 pub index_append : (xs ys : List Name) (x : List ℕ) → first_index (xs ++ ys) x ≡ option_or (first_index xs x) (index_after (length xs) (first_index ys x))
 index_append [] ys x = of_none (first_index ys x)
@@ -79,8 +76,7 @@ with_slots_at w ss bs i s b e d = rw add-one (at ss bs i e d)
 -- the i-th expression's value is the i-th of the values
 pub value_at : (w : Store Bits) (items : List SlotExpr) (i : ℕ) (x : SlotExpr) (b : Bool) → slice_get items i ≡ Some x → b ≡ formula_value w (formula_of x)
     → slice_get (formula_values w (map formula_of items)) i ≡ Some b
-value_at w items i x b e is =
-    rw (slice_get-map (formula_value w) (map formula_of items) i, slice_get-map formula_of items i, e, is) refl
+value_at w items i x b given1 given2 = grind (arith, slice_get-map)
 
 -- The headings of a code that stands for a program are those of its procedures, in order; so a name finds the
 -- heading of the procedure that it finds in the program.
@@ -93,8 +89,7 @@ SameHeading table (Some h) o = (p : Procedure) × (o ≡ Some p) × Heads table 
 module _ (table : List Place) (x : List ℕ) where
   choice : (b : Bool) (h : Heading) (p : Procedure) (rest : Option Heading) (others : Option Procedure) → Heads table p h
       → SameHeading table rest others → SameHeading table (if b then Some h else rest) (if b then Some p else others)
-  choice true h p rest others heads same = (p, refl, heads)
-  choice false h p rest others heads same = same
+  choice b h p rest others given1 given2 = grind (arith)
 
   named : (hs : List Heading) (ps : List Procedure) → length hs ≡ length ps
       → ((k : ℕ) (p : Procedure) → slice_get ps k ≡ Some p → (h : Heading) × (slice_get hs k ≡ Some h) × Heads table p h)
@@ -118,13 +113,11 @@ heading_of_procedure c t x is = named (places_of t.procedures) x c.headings t.pr
 module _ (table : List Place) where
   formals_alike : (h : Option Heading) (o : Option Procedure) → SameHeading table h o
       → option_map (λ (k : Heading). k.formals) h ≡ option_map (λ (p : Procedure). length p.formals) o
-  formals_alike None o none = ap (option_map (λ (p : Procedure). length p.formals)) (sym none)
-  formals_alike (Some h) o (p, is, heads) = ap Some heads.formals ∙ ap (option_map (λ (q : Procedure). length q.formals)) (sym is)
+  formals_alike h o given1 = grind (arith)
 
 entry_alike : (t : Program) (h : Option Heading) (o : Option Procedure) → SameHeading (places_of t.procedures) h o
     → MatchOption (option_map (λ (k : Heading). k.entry) h) (o ≡ None) (IsEntryOf t o)
-entry_alike t None o none = none
-entry_alike t (Some h) o (p, is, heads) = record { procedure = p; is = is; begins = heads.entry }
+entry_alike t h o given1 = grind (arith)
 
 module _ (c : Flat) (t : Program) (x : List ℕ) (is : StandsFor c t) where
   -- the number of formals

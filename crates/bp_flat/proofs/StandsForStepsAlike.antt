@@ -1,7 +1,7 @@
 -- Where a code stands for a program, they step alike.
-use Rattle.std.proofs.Common.{◌≡◌, refl, sym, ap, subst, ◌∙◌, ℕ, Bool, true, false, cond, List, [], ◌∷◌, ◌++◌, Option, length}
+use Rattle.std.proofs.Common.{◌≡◌, refl, sym, ap, subst, ◌∙◌, ℕ, Bool, false, cond, List, [], ◌∷◌, ◌++◌, Option, length, arith}
 use Rattle.std.proofs.lemmas.List.{length-map}
-use Rattle.bp_language.specs.Ast.{Name, Block, Done, Then, Statement, Skips, GoesTo, Returns, Assigns, Branches, Loops, Asserts, Assumes, Prints, Calls, Procedure, Program}
+use Rattle.bp_language.specs.Ast.{Name, Block, Then, Statement, Skips, GoesTo, Returns, Assigns, Branches, Loops, Asserts, Assumes, Prints, Calls, Procedure, Program}
 use Rattle.bp_flat.specs.Moves.{binding, expression_value, expression_values, decision_value, after_assignment, chain, Frame, StatementEffect, effect, statement_effect, assignment_effect, Store, Leaves, Fails, Blocks}
 use Rattle.bp_flat.specs.Flat.{Instruction, Flat}
 use Rattle.bp_flat.specs.Steps.{Bits, Activation, InstructionEffect, bits_from, step_to, instruction_effect, step, with_slots, formula_values}
@@ -31,16 +31,13 @@ module _ (t : Program) (p : Procedure) (w : Store Bits) (below : List Activation
 
   chosen : (b : Bool) (m e : ℕ) (x y : Block) → Remains (places_of t.procedures) m p x → Remains (places_of t.procedures) e p y
       → Remains (places_of t.procedures) (cond b m e) p (cond b x y)
-  chosen true m e x y h k = h
-  chosen false m e x y h k = k
+  chosen b m e x y given1 given2 = grind (arith)
 
   unless_failed : (b : Bool) (o : InstructionEffect) (e : StatementEffect) → SameEffect t o e → SameEffect t (cond b o Fails) (cond b e Fails)
-  unless_failed true o e h = h
-  unless_failed false o e h = tt
+  unless_failed b o e given1 = grind (arith)
 
   unless_blocked : (b : Bool) (o : InstructionEffect) (e : StatementEffect) → SameEffect t o e → SameEffect t (cond b o Blocks) (cond b e Blocks)
-  unless_blocked true o e h = h
-  unless_blocked false o e h = tt
+  unless_blocked b o e given1 = grind (arith)
 
   pub carried : (s : Statement) (label : Option Name) (at : ℕ) (r : Block) (bit : Bool) (i : Instruction)
       → CarriesOut t (places_of t.procedures) p s label at r i
@@ -84,8 +81,7 @@ module _ (t : Program) (p : Procedure) (w : Store Bits) (below : List Activation
 doing : (t : Program) (p : Procedure) (w : Store Bits) (below : List Activation) (fs : List Frame) (stack : ShowsStack t below fs)
     → (left : Block) (bit : Bool) (i : Instruction) → Does t (places_of t.procedures) p left i
     → SameEffect t (instruction_effect i w below bit) (effect t.procedures left (valuation_of t.globals w.globals) (framed p w left) fs bit)
-doing t p w below fs stack Done bit i is = rw is (refl, stack)
-doing t p w below fs stack (Then label at s r) bit i does = carried t p w below fs stack s label at r bit i does
+doing t p w below fs stack left bit i given1 = grind (arith, carried)
 
 pub steps_alike : (c : Flat) (t : Program) → StandsFor c t → StepsAlike c t
 steps_alike c t st bits a below f fs bit shown stack =

@@ -25,8 +25,7 @@ same_or_not (suc j) (suc k) = elim (same_or_not j k) [ inl e ↦ inl (ap suc e) 
 
 -- bits that differ from others at one place only
 pub with_bit_is : (f g : Bits) (k : ℕ) (b : Bool) → g k ≡ b → ((j : ℕ) → j ≢ k → g j ≡ f j) → g ≡ with_bit f k b
-with_bit_is f g k b same other =
-    fun_ext (λ j. elim (same_or_not j k) [ inl e ↦ rw e (same ∙ with_bit_same f k b) | inr ne ↦ other j ne ∙ with_bit_other f k b j ne ])
+with_bit_is f g k b given1 j = grind (arith, fun_ext, same_or_not, with_bit_same, with_bit_other)
 
 pub bits_set : (n k : ℕ) → k < 128 → bits_of (bit_or n (1 * 2 ^ k % 2 ^ 128)) ≡ with_bit (bits_of n) k true
 bits_set n k h =

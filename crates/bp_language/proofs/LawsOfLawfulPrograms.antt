@@ -1,5 +1,5 @@
 -- What each lawful program keeps.
-use Rattle.std.proofs.Common.{◌⊎◌, List, [], ◌∷◌, ◌++◌, inl, inr, ◌≡◌, ℕ, ◌<◌, length, Option, refl, subst, arith, ◌≢◌, ◌≤◌, Bool, true, false, get_or, map, None, Some}
+use Rattle.std.proofs.Common.{◌⊎◌, List, [], ◌∷◌, ◌++◌, inl, inr, ◌≡◌, ℕ, ◌<◌, length, Option, refl, subst, arith, ◌≢◌, ◌≤◌, Bool, true, false, get_or, map, None, Some, rules}
 use Rattle.std.proofs.Math.Logic.{∥∥₁_elim}
 use Rattle.std.specs.Coded.{le_prop}
 use Rattle.std.proofs.lemmas.List.{length-map}
@@ -8,7 +8,7 @@ use Rattle.std.proofs.lemmas.Bool.{cases_lt}
 use Rattle.bp_language.specs.Ast.{Name, Block, Statement, Assigns, Procedure, Program, Expression, Skips, GoesTo, Returns, Branches, Loops, Asserts, Assumes, Prints, Calls, variables, procedure_named}
 use Rattle.bp_language.specs.Faults.{Among, Labelled, statements, statements_inside, labels, IsTwice, IsPast, CallsNone, CallsWrongly, IsUneven, IsLawful, HasFewNames, AreDistinct, HasDistinctNames, IsSound, HasSoundStatements}
 use Rattle.bp_language.specs.Tokens.{Token}
-use Rattle.bp_language.specs.Grammar.{IsNames, one_name, more_names, IsForm, skip, jump, returning, assignment, branch, loop, assertion, assumption, printing, call, IsStmt, labelled, unlabelled, IsStmts, one_stmt, more_stmts, proc, IsProcs, no_proc, more_procs, Derives, program}
+use Rattle.bp_language.specs.Grammar.{IsNames, IsForm, skip, jump, returning, assignment, branch, loop, assertion, assumption, printing, call, IsStmt, labelled, unlabelled, IsStmts, one_stmt, more_stmts, proc, IsProcs, no_proc, more_procs, Derives, program}
 use Rattle.bp_language.specs.Texts.{IsTextOf, HasText}
 use Rattle.bp_language.specs.declared.faults.CheckFault.TheVariants as fault
 use Rattle.bp_language.specs.declared.limits.TheConstants.{MAX_PROCEDURES, MAX_GLOBALS, MAX_OWN_NAMES}
@@ -37,8 +37,7 @@ HasTargets (Assigns targets values) = 0 < length targets
 HasTargets _ = Unit {0}
 
 some_names : {ts : List Token} {ns : List Name} {r : List Token} → IsNames ts ns r → 0 < length ns
-some_names (one_name n) = omega arith
-some_names (more_names n c more) = omega arith
+some_names given1 = grind (arith)
 
 -- each of the statements has targets
 abbrev AllHaveTargets : List Labelled → Type 0
@@ -49,8 +48,7 @@ in_both ss us a b s m = elim (Among-split ss us s m) [ inl f ↦ a s f | inr l �
 
 with_inside : (l : Option Name) (w : Statement) → HasTargets w × AllHaveTargets (statements_inside w) → (ss : List Labelled) → AllHaveTargets ss
     → AllHaveTargets (record { label = l; statement = w } ∷ (statements_inside w ++ ss))
-with_inside l w f ss more s (inl e) = subst (λ (z : Labelled). HasTargets z.statement) e f.0
-with_inside l w f ss more s (inr m) = in_both (statements_inside w) ss f.1 more s m
+with_inside l w given1 ss given2 = search (rules, in_both)
 
 mutual
   in_form : {ts : List Token} {w : Statement} {r : List Token} → IsForm ts w r → HasTargets w × AllHaveTargets (statements_inside w)
@@ -95,19 +93,13 @@ have_targets p of_some q mq s ms = ∥∥₁_elim of_some (one_proof s.statement
     targets (text, is) = in_program is.derives q mq s ms
 
 is_true : (b : Bool) → (b ≡ false → ⊥) → b ≡ true
-is_true true h = refl
-is_true false h = absurd (h refl)
+is_true b given1 = grind (arith)
 
 is_false : (b : Bool) → (b ≡ true → ⊥) → b ≡ false
-is_false false h = refl
-is_false true h = absurd (h refl)
+is_false b given1 = grind (arith)
 
 same_or_not : (m n : ℕ) → (m ≡ n) ⊎ (m ≢ n)
-same_or_not m n =
-    elim (cases_lt m n) [
-      | inl less ↦ inr (λ e. omega arith)
-      | inr more ↦ elim (cases_lt n m) [ inl less ↦ inr (λ e. omega arith) | inr other ↦ inl (omega arith) ]
-    ]
+same_or_not m n = grind (arith)
 
 -- a list without a name past the limit
 few : (ns : List Name) (limit : ℕ) → ((at : ℕ) → IsPast limit ns at → ⊥) → length ns ≤ limit

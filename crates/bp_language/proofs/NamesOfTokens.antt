@@ -1,11 +1,11 @@
 -- The names in a program are spelled by its tokens, and no token is longer than its text.
-use Rattle.std.proofs.Common.{◌≡◌, List, [], ◌∷◌, Option, None, Some, refl, ℕ, ◌≤◌, ◌++◌, length, arith, take, drop, subst, length-drop, length-take}
+use Rattle.std.proofs.Common.{◌≡◌, List, [], ◌∷◌, Option, None, Some, refl, ℕ, ◌≤◌, ◌++◌, length, arith, take, drop, subst, length-drop, length-take, rules}
 use Rattle.std.proofs.Math.Logic.{∥∥₁_elim}
 use Rattle.std.specs.Coded.{le_prop}
 use Rattle.bp_language.specs.Ast.{Name, Expression, Constant, Variable, Negation, Operation, Decision, Choose, Decide, Block, Done, Then, Statement, Skips, GoesTo, Returns, Assigns, Branches, Loops, Asserts, Assumes, Prints, Calls, Procedure, Program}
 use Rattle.bp_language.specs.NamesIn.{EachName, NamesInExpression, NamesInExpressions, NamesInDecision, NamesInLabel, NamesInBlock, NamesInStatement, NamesInProcedure, NamesInProcedures, NamesInProgram}
 use Rattle.bp_language.specs.Tokens.{Token, kind_of, Lexeme, IsCut, ends, fit, open_brace, bad_byte, tokens_of, with_token}
-use Rattle.bp_language.specs.Grammar.{name_of, IsNames, one_name, more_names, IsAnyNames, no_names, some_names, IsExpr, of_or, implication, IsOr, of_xor, disjunction, IsXor, of_and, exclusion, IsAnd, of_eq, conjunction, IsEq, of_un, equality, difference, IsUn, negation, of_atom, IsAtom, constant_0, constant_1, variable, brackets, IsExprs, one_expr, more_exprs, IsAnyExprs, no_exprs, some_exprs, IsDecider, choice, by_value, IsForm, skip, jump, returning, assignment, branch, loop, assertion, assumption, printing, call, IsStmt, labelled, unlabelled, IsStmts, one_stmt, more_stmts, decl, IsDecls, no_decl, more_decls, IsProc, proc, IsProcs, no_proc, more_procs, Derives, program, first_word, first_name}
+use Rattle.bp_language.specs.Grammar.{name_of, IsNames, one_name, more_names, IsAnyNames, IsExpr, of_or, implication, IsOr, of_xor, disjunction, IsXor, of_and, exclusion, IsAnd, of_eq, conjunction, IsEq, of_un, equality, difference, IsUn, negation, of_atom, IsAtom, constant_0, constant_1, variable, brackets, IsExprs, one_expr, more_exprs, IsAnyExprs, IsDecider, IsForm, skip, jump, returning, assignment, branch, loop, assertion, assumption, printing, call, IsStmt, labelled, unlabelled, IsStmts, one_stmt, more_stmts, decl, IsDecls, no_decl, more_decls, IsProc, proc, IsProcs, no_proc, more_procs, Derives, first_word, first_name}
 use Rattle.bp_language.specs.declared.tokens.TokenKind.{TokenKind}
 use Rattle.bp_language.specs.declared.tokens.TokenKind.TheVariants as kind
 use Rattle.bp_language.specs.Texts.{IsTextOf, HasText}
@@ -79,8 +79,7 @@ module _ (P : Name → Type 0) where
   in_names (more_names (first_name h) (first_word c) d) s = let f = in_names d s.1.1 in ((s.0 h, f.0), f.1)
 
   in_any_names : {ts : List Token} {ns : List Name} {r : List Token} → IsAnyNames ts ns r → EachNamed ts → EachName P ns × EachNamed r
-  in_any_names no_names s = (tt, s)
-  in_any_names (some_names d) s = in_names d s
+  in_any_names given1 given2 = search (rules, in_names)
 
   mutual
     in_expr : {ts : List Token} {e : Expression} {r : List Token} → IsExpr ts e r → EachNamed ts → NamesInExpression P e × EachNamed r
@@ -119,12 +118,10 @@ module _ (P : Name → Type 0) where
   in_exprs (more_exprs d (first_word h) more) s = let f = in_expr d s in let g = in_exprs more f.1.1 in ((f.0, g.0), g.1)
 
   in_any_exprs : {ts : List Token} {es : List Expression} {r : List Token} → IsAnyExprs ts es r → EachNamed ts → NamesInExpressions P es × EachNamed r
-  in_any_exprs no_exprs s = (tt, s)
-  in_any_exprs (some_exprs d) s = in_exprs d s
+  in_any_exprs given1 given2 = search (rules, in_exprs)
 
   in_decider : {ts : List Token} {d : Decision} {r : List Token} → IsDecider ts d r → EachNamed ts → NamesInDecision P d × EachNamed r
-  in_decider (choice (first_word h)) s = (tt, s.1)
-  in_decider (by_value d) s = in_expr d s
+  in_decider given1 given2 = search (rules, in_expr)
 
   mutual
     in_form : {ts : List Token} {s : Statement} {r : List Token} → IsForm ts s r → EachNamed ts → NamesInStatement P s × EachNamed r
@@ -177,9 +174,7 @@ module _ (P : Name → Type 0) where
   in_procs (more_procs d more) s = let f = in_proc d s in let g = in_procs more f.1 in ((f.0, g.0), g.1)
 
   pub in_program : {ts : List Token} {p : Program} → Derives ts p → EachNamed ts → NamesInProgram P p
-  in_program (program globals procedures) s =
-      let f = in_decls globals s in
-      (f.0, (in_procs procedures f.1).0)
+  in_program given1 given2 = search (rules, in_decls, in_procs)
 
 -- a name of at most this many bytes
 abbrev pub IsShort : ℕ → Name → Type 0
@@ -187,8 +182,7 @@ IsShort n x = length x.text ≤ n
 
 one_token : (k : Option TokenKind) (at n : ℕ) (bytes : List ℕ) (ts : List Token) → length bytes ≤ n
     → EachNamed (IsShort n) ts → EachNamed (IsShort n) (with_token k at bytes ts)
-one_token None at n bytes ts h s = s
-one_token (Some k) at n bytes ts h s = (λ is. h, s)
+one_token k at n bytes ts given1 given2 = grind (arith)
 
 pub longer : (n m : ℕ) (ts : List Token) → n ≤ m → EachNamed (IsShort n) ts → EachNamed (IsShort m) ts
 longer n m [] h s = tt

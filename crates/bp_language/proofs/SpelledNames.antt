@@ -1,6 +1,6 @@
 -- Each name in a program is spelled as a name, and what is spelled so holds no line feed.
-use Rattle.std.proofs.Common.{◌≡◌, Bool, true, false, ◌&&◌, refl, ℕ, List, take, Option, Some, None, ◌≢◌, not, cond, nat_eq, bytes_eq, [], ◌∷◌, is_some, All, inl, inr, sym, ap, subst, ◌∙◌}
-use Rattle.std.proofs.lemmas.Bool.{false≢true, eqb-true}
+use Rattle.std.proofs.Common.{◌≡◌, Bool, true, false, ◌&&◌, refl, ℕ, List, take, Option, Some, ◌≢◌, not, cond, nat_eq, bytes_eq, [], ◌∷◌, is_some, All, inl, inr, sym, ap, subst, ◌∙◌, arith, rules}
+use Rattle.std.proofs.lemmas.Bool.{false≢true}
 use Rattle.std.proofs.Math.Bool.{Bool-set}
 use Rattle.std.proofs.Math.Logic.{∥∥₁_elim}
 use Rattle.std.proofs.lemmas.List.Elements.{All-nil, All-cons}
@@ -8,7 +8,7 @@ use Rattle.std.specs.List.{list_all}
 use Rattle.std.specs.Map.{lookup}
 use Rattle.std.specs.Option.{unwrap_or}
 use Rattle.bp_language.specs.Ast.{Name, Program}
-use Rattle.bp_language.specs.Tokens.{Token, fits, kind_of, AllReal, Lexeme, IsCut, ends, fit, open_brace, bad_byte, tokens_of, with_token, is_letter, is_word_byte, is_braced_byte, is_braced_rest, constants, symbols, long_symbols, reserved_words, word_kind, IsSpelled}
+use Rattle.bp_language.specs.Tokens.{Token, fits, kind_of, AllReal, Lexeme, IsCut, ends, fit, open_brace, bad_byte, tokens_of, with_token, is_word_byte, is_braced_byte, is_braced_rest, constants, symbols, long_symbols, reserved_words, word_kind, IsSpelled}
 use Rattle.bp_language.specs.declared.tokens.TokenKind.{TokenKind}
 use Rattle.bp_language.specs.declared.tokens.LexemeKind.{LexemeKind}
 use Rattle.bp_language.specs.NamesIn.{NamesInProgram}
@@ -20,19 +20,16 @@ use Rattle.bp_language.proofs.NamesOfTokens.{EachNamed, in_program, one_program}
 -- Both of two tests pass.
 
 pub both_left : (a b : Bool) → a && b ≡ true → a ≡ true
-both_left true b e = refl
-both_left false b e = e
+both_left a b given1 = grind (arith)
 
 pub both_right : (a b : Bool) → a && b ≡ true → b ≡ true
-both_right true b e = e
-both_right false b e = absurd (false≢true e)
+both_right a b given1 = grind (arith)
 
 -- The tokens of a text are real.
 
 real_and : (k : LexemeKind) (o : Option TokenKind) (at : ℕ) (bytes : List ℕ) (ts : List Token) → fits k bytes ≡ true
     → kind_of k bytes ≡ o → AllReal ts → AllReal (with_token o at bytes ts)
-real_and k None at bytes ts f e r = r
-real_and k (Some kd) at bytes ts f e r = (record { lexeme = k; fits = f; spells = e }, r)
+real_and k o at bytes ts given1 given2 given3 = grind (arith)
 
 -- the tokens of a text are real
 pub all_real : {at : ℕ} {s : List ℕ} {ps : List Lexeme} → IsCut at s ps → AllReal (tokens_of ps)
@@ -44,8 +41,7 @@ all_real (bad_byte none never c) = all_real c
 
 -- a word begins with no brace
 word_or_braced : (s : List ℕ) → fits lexeme.Identifier s ≡ true → fits lexeme.Braced s ≡ true → ⊥
-word_or_braced [] a b = false≢true a
-word_or_braced (c ∷ cs) a b = false≢true (subst (λ x. is_letter x ≡ true) (eqb-true c 123 (both_left _ _ b)) (both_left _ _ a))
+word_or_braced s given1 given2 = grind (arith)
 
 pub one_spelling : (s : List ℕ) (x y : IsSpelled s) → x ≡ y
 one_spelling s (inl x) (inl y) = λ i. inl (Bool-set _ _ x.0 y.0 i, Bool-set _ _ x.1 y.1 i)
@@ -59,10 +55,7 @@ is_name _ = false
 
 module _ {K : Type 0} (test : K → Bool) where
   found_by : (y : Bool) (x : TokenKind) (o : Option TokenKind) → not (is_name x) ≡ true → (o ≡ Some kind.Name → ⊥) → cond y (Some x) o ≡ Some kind.Name → ⊥
-  found_by true x o other rest e =
-      let h : x ≡ kind.Name = cc in
-      false≢true (subst (λ z. not (is_name z) ≡ true) h other)
-  found_by false x o other rest e = rest e
+  found_by y x o given1 given2 given3 = grind (arith)
 
   -- a table of other kinds gives no name
   no_name_in : (t : List (K × TokenKind)) → list_all (λ e. not (is_name e.1)) t ≡ true → lookup test t ≡ Some kind.Name → ⊥
@@ -70,8 +63,7 @@ module _ {K : Type 0} (test : K → Bool) where
   no_name_in (a ∷ t) others e = found_by (test a.0) a.1 (lookup test t) (both_left _ _ others) (no_name_in t (both_right _ _ others)) e
 
   not_in : (o : Option TokenKind) → (o ≡ Some kind.Name → ⊥) → unwrap_or o kind.Name ≡ kind.Name → is_some o ≡ false
-  not_in None other e = refl
-  not_in (Some x) other e = absurd (other (ap (λ z. Some z) e))
+  not_in o given1 given2 = grind (arith)
 
 -- a token that is a name is spelled as one
 spelled_token : (k : LexemeKind) (s : List ℕ) → fits k s ≡ true → kind_of k s ≡ Some kind.Name → IsSpelled s
@@ -128,6 +120,4 @@ rest_on_one_line (b ∷ c ∷ bs) h =
 
 -- what is spelled as a name holds no line feed
 pub on_one_line : (s : List ℕ) → IsSpelled s → All (λ b. b ≢ 10) s
-on_one_line [] h = All-nil (λ x. x ≢ 10)
-on_one_line (b ∷ bs) (inl h) = All-cons (λ x. x ≢ 10) b bs (no_feed is_letter b refl (both_left _ _ h.0)) (word_on_one_line bs (both_right _ _ h.0))
-on_one_line (b ∷ bs) (inr h) = All-cons (λ x. x ≢ 10) b bs (no_feed (λ x. nat_eq x 123) b refl (both_left _ _ h)) (rest_on_one_line bs (both_right _ _ h))
+on_one_line s given1 = search (rules, no_feed, both_left, word_on_one_line, both_right, rest_on_one_line)

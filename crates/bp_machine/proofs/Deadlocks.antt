@@ -1,18 +1,17 @@
 -- Deadlocks grant nothing, and how the threads are looked through for one.
-use Rattle.std.proofs.Common.{◌≡◌, ◌&&◌, Bool, true, false, cond, List, [], ◌∷◌, Some, refl, ℕ, ◌+◌, ◌<◌, ◌≤◌, ◌++◌, Option, None, ap, sym, ◌∙◌, subst, arith, inl, inr, zero, suc, drop, length, ◌⊎◌, get_or, unwrap_or, is_some, MatchOption, IsTrue, ◌↔◌, slice_get}
+use Rattle.std.proofs.Common.{◌≡◌, ◌&&◌, Bool, true, false, cond, List, [], ◌∷◌, Some, refl, ℕ, ◌+◌, ◌<◌, ◌≤◌, ◌++◌, None, ap, sym, ◌∙◌, subst, arith, inl, inr, zero, suc, drop, length, ◌⊎◌, get_or, unwrap_or, IsTrue, ◌↔◌, slice_get, rules}
 use Rattle.std.proofs.lemmas.Bool.{cases_lt}
 use Rattle.std.proofs.lemmas.List.{append-nil, get_or_past}
 use Rattle.std.proofs.lemmas.Option.{slice_get_cases}
-use Rattle.bp_language.specs.Ast.{Block, Done, Then, Skips, GoesTo, Returns, Assigns, Branches, Loops, Asserts, Assumes, Prints, Calls, Choose, Decide, Program}
+use Rattle.bp_language.specs.Ast.{Block, Program}
 use Rattle.bp_language.proofs.GrownLists.{regrouped}
 use Rattle.bp_flat.specs.Moves.{Valuation, Frame, is_call, effect, Configuration}
 use Rattle.bp_flat.specs.StandsFor.{ShowsFrame, ShowsStack}
-use Rattle.bp_machine.specs.declared.calls.Reply.TheVariants.{Full, Stopped, Ended, NoContexts, Blocked, Failed, Stepped}
+use Rattle.bp_machine.specs.declared.calls.Reply.TheVariants.{Full, Stopped}
 use Rattle.bp_machine.specs.Histories.{is_full, reply_to_effect, reply_on_stack, is_granted, stack_of, reply_of, configuration_after_step, configuration_after, granted_calls, IsLegalAfter, IsLegal}
-use Rattle.bp_machine.specs.Runs.{is_blocked, IsTop, finds_zero, waits, is_left, has_frames, IsDeadlocked}
+use Rattle.bp_machine.specs.Runs.{is_blocked, waits, is_left, has_frames, IsDeadlocked}
 use Rattle.bp_machine.specs.declared.calls.Call.{Call}
 use Rattle.bp_machine.specs.declared.calls.Reply.{Reply}
-use Rattle.bp_machine.specs.declared.tops.Top.{Top}
 use Rattle.bp_machine.specs.Setups.{SetupOf, threads}
 use Rattle.bp_machine.specs.Sessions.{State, StandsAfter, GuestThreadOf, top_of, activation_of, activations}
 use Rattle.bp_machine.specs.declared.stacks.ActivationRecord.{ActivationRecord}
@@ -20,74 +19,20 @@ use Rattle.bp_machine.proofs.HistoryWithCall.{configuration_after-append}
 
 -- Where a thread is blocked with bit 1 it is blocked with bit 0 as well, so one look tells whether it waits.
 
-twice : (a : Bool) → (a && a) ≡ a
-twice true = refl
-twice false = refl
-
 module _ (t : Program) (g : Valuation) (f : Frame) (fs : List Frame) where
   -- whether the frame is blocked where these statements are left to it
   abbrev blocked : Block → Bool → Bool
   blocked left bit =
       is_blocked (cond (is_call left && is_full (f ∷ fs)) (Some Full) (reply_to_effect (effect t.procedures left g f fs bit)))
 
-  at_block : (left : Block) → (blocked left false && blocked left true) ≡ blocked left true
-  at_block Done = refl
-  at_block (Then label at Skips r) = refl
-  at_block (Then label at (GoesTo x) r) = twice (blocked (Then label at (GoesTo x) r) true)
-  at_block (Then label at Returns r) = refl
-  at_block (Then label at (Assigns xs es) r) = refl
-  at_block (Then label at (Branches d a b) r) = refl
-  at_block (Then label at (Loops d a) r) = refl
-  at_block (Then label at (Asserts Choose) r) = refl
-  at_block (Then label at (Asserts (Decide e)) r) = twice (blocked (Then label at (Asserts (Decide e)) r) true)
-  at_block (Then label at (Assumes Choose) r) = refl
-  at_block (Then label at (Assumes (Decide e)) r) = twice (blocked (Then label at (Assumes (Decide e)) r) true)
-  at_block (Then label at (Prints es) r) = refl
-  at_block (Then label at (Calls x es) r) = twice (blocked (Then label at (Calls x es) r) true)
-
 pub with_either_bit : (t : Program) (g : Valuation) (stack : List Frame)
     → (is_blocked (reply_on_stack t true g stack false) && is_blocked (reply_on_stack t true g stack true)) ≡ is_blocked (reply_on_stack t true g stack true)
-with_either_bit t g [] = refl
-with_either_bit t g (f ∷ fs) = at_block t g f fs f.left
-
-no_step : (o : Option Reply) (r : Reply) → is_blocked o ≡ true → o ≡ Some r → is_granted r ≡ false
-no_step (Some Blocked) r blocked e = let same : Blocked ≡ r = cc in sym (ap is_granted same)
-no_step None r blocked e = absurd cc
-no_step (Some Stopped) r blocked e = absurd cc
-no_step (Some Ended) r blocked e = absurd cc
-no_step (Some NoContexts) r blocked e = absurd cc
-no_step (Some Full) r blocked e = absurd cc
-no_step (Some Failed) r blocked e = absurd cc
-no_step (Some Stepped) r blocked e = absurd cc
-
-of_both : (a b : Bool) → (a && b) ≡ true → (bit : Bool) → cond bit b a ≡ true
-of_both true true e true = refl
-of_both true true e false = refl
-of_both true false e bit = absurd cc
-of_both false b e bit = absurd cc
+with_either_bit t g stack = grind (arith)
 
 module _ (t : Program) (c : Configuration) (i : ℕ) (bit : Bool) (r : Reply) where
-  with_bit : (b : Bool) → waits t c i ≡ true → finds_zero t c i b ≡ true
-  with_bit true w = of_both (finds_zero t c i false) (finds_zero t c i true) w true
-  with_bit false w = of_both (finds_zero t c i false) (finds_zero t c i true) w false
-
-  none_of : (s : Reply) → Some s ≡ Some r → is_granted s ≡ false → is_granted r ≡ false
-  none_of s e none = let same : s ≡ r = cc in sym (ap is_granted same) ∙ none
-
-  on_stack : (stack : List Frame) → stack_of c i ≡ stack → (has_frames c i ≡ true → waits t c i ≡ true) → (fits : Bool)
-      → reply_on_stack t fits c.globals stack bit ≡ Some r → is_granted r ≡ false
-  on_stack [] is each fits e = none_of Ended e refl
-  on_stack (f ∷ fs) is each false e = none_of NoContexts e refl
-  on_stack (f ∷ fs) is each true e =
-      let some : has_frames c i ≡ true = ap is_left is in
-      let blocked : is_blocked (reply_on_stack t true c.globals (f ∷ fs) bit) ≡ true =
-      subst (λ s. is_blocked (reply_on_stack t true c.globals s bit) ≡ true) is (with_bit bit (each some)) in
-      no_step (reply_on_stack t true c.globals (f ∷ fs) bit) r blocked e
-
   by_mark : (failed fits : Bool) → (has_frames c i ≡ true → waits t c i ≡ true)
       → cond failed (Some Stopped) (reply_on_stack t fits c.globals (stack_of c i) bit) ≡ Some r → is_granted r ≡ false
-  by_mark true fits each e = none_of Stopped e refl
-  by_mark false fits each e = on_stack (stack_of c i) refl each fits e
+  by_mark failed fits given1 given2 = grind (arith)
 
   pub grants_nothing : (fits : Bool) → IsDeadlocked t c → reply_of t fits c i bit ≡ Some r → is_granted r ≡ false
   grants_nothing fits dead e = by_mark c.failed fits (dead.each_waits i) e
@@ -111,11 +56,6 @@ module _ (t : Program) (s : SetupOf) where
   pub none_later : (h more : List Call) → IsLegal t s (h ++ more) → IsDeadlocked t (configuration_after t s h) → granted_calls more ≡ []
   none_later h more legal dead = none_after h more (legal_later [] h more legal) dead
 
--- a thread has a top where it has frames
-pub has_top : (t : Program) (c : Configuration) (i : ℕ) (o : Option Top) → MatchOption o (stack_of c i ≡ []) (IsTop t c i) → is_some o ≡ has_frames c i
-has_top t c i None none = sym (ap is_left none)
-has_top t c i (Some x) top = sym (ap is_left top.stack)
-
 -- of the threads below n: each with frames waits, and whether there are such
 pub record AreSeen (t : Program) (c : Configuration) (n : ℕ) (any : Bool) : Type 0 where
   pub each : (i : ℕ) → i < n → has_frames c i ≡ true → waits t c i ≡ true
@@ -128,27 +68,10 @@ module _ (t : Program) (c : Configuration) where
 
   module _ (n : ℕ) (any : Bool) (seen : AreSeen t c n any) where
     pub seen_ended : has_frames c n ≡ false → AreSeen t c (n + 1) any
-    seen_ended ended = record {
-      each = λ i below frames. elim (cases_lt i n) [
-        | inl within ↦ seen.each i within frames
-        | inr past ↦ absurd (let same : i ≡ n = omega (arith, below, past) in let a = sym (ap (has_frames c) same) ∙ frames in let b = ended in cc)
-      ];
-      some = seen.some;
-      none = λ e i below. elim (cases_lt i n) [
-        | inl within ↦ seen.none e i within
-        | inr past ↦ let same : i ≡ n = omega (arith, below, past) in ap (has_frames c) same ∙ ended
-      ];
-    }
+    seen_ended given1 = grind (arith)
 
     pub seen_waiting : has_frames c n ≡ true → waits t c n ≡ true → AreSeen t c (n + 1) true
-    seen_waiting frames waiting = record {
-      each = λ i below has. elim (cases_lt i n) [
-        | inl within ↦ seen.each i within has
-        | inr past ↦ let same : i ≡ n = omega (arith, below, past) in ap (waits t c) same ∙ waiting
-      ];
-      some = λ e. (n, frames);
-      none = λ e. absurd cc;
-    }
+    seen_waiting given1 given2 = grind (arith)
 
   pub not_waiting : (n : ℕ) → has_frames c n ≡ true → waits t c n ≡ false → IsDeadlocked t c → ⊥
   not_waiting n frames going dead = let a = dead.each_waits n frames in let b = going in cc
@@ -179,15 +102,12 @@ module _ (t : Program) (s : SetupOf) (x : State) (h : List Call) (stands : Stand
     ]
 
     pub all_seen : (any : Bool) → AreSeen t now n any → IsTrue any ↔ IsDeadlocked t now
-    all_seen true seen = (λ e. all_seen_some seen, λ dead. refl)
-    all_seen false seen = (λ e. absurd cc, λ dead. absurd (all_seen_none seen dead))
+    all_seen any given1 = search (rules, all_seen_some, all_seen_none)
 
 -- The top of a thread's stack in a session is that of its stack in the configuration.
 
 pub none_shown : (t : Program) (acts : List ActivationRecord) (frames : List Frame) → ShowsStack t (activations acts) frames → None ≡ top_of acts → frames ≡ []
-none_shown t [] [] shown none = refl
-none_shown t [] (f ∷ fs) shown none = absurd shown
-none_shown t (a ∷ acts) frames shown none = cc
+none_shown t acts frames given1 given2 = grind (arith)
 
 as_long : (t : Program) (acts : List ActivationRecord) (frames : List Frame) → ShowsStack t (activations acts) frames → length acts ≡ length frames
 as_long t [] [] shown = refl

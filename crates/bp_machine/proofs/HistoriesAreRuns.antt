@@ -1,20 +1,18 @@
 -- The granted calls of a legal history are a run within the bounds of its setup.
-use Rattle.std.proofs.Common.{◌≡◌, ◌≢◌, ℕ, zero, suc, ◌+◌, ◌*◌, ◌<◌, ◌≤◌, ◌==◌, Bool, true, false, cond, ◌||◌, nat_le, List, [], ◌∷◌, ◌++◌, length, refl, ap, sym, ◌∙◌, subst, arith, add-one, inl, inr, ◌&&◌, Option, Some, append-nil, length-append, map, unwrap_or}
+use Rattle.std.proofs.Common.{◌≡◌, ◌≢◌, ℕ, zero, suc, ◌+◌, ◌*◌, ◌<◌, ◌≤◌, ◌==◌, Bool, true, false, cond, ◌||◌, List, [], ◌∷◌, ◌++◌, length, refl, ap, sym, ◌∙◌, subst, arith, add-one, inl, inr, append-nil, length-append, map, rules}
 use Rattle.std.proofs.Math.Nat.{suc-mul}
 use Rattle.std.proofs.lemmas.Bool.Decides.{nat_tests}
 use Rattle.bp_language.specs.Ast.{Program}
 use Rattle.bp_language.proofs.GrownLists.{regrouped}
-use Rattle.bp_flat.specs.Moves.{Configuration, effect, Moves}
+use Rattle.bp_flat.specs.Moves.{Configuration, Moves}
 use Rattle.bp_machine.specs.declared.calls.Call.{Call}
 use Rattle.bp_machine.specs.Setups.{SetupOf, threads}
-use Rattle.bp_machine.specs.Histories.{calls_of_thread, ends_with_last, is_finished, IsAllowed, IsLegalAfter, IsLegal, is_full, stack_of, reply_to_effect, reply_on_stack, reply_of, configuration_after_step, configuration_after_call, IsWithin, configuration_after, granted_threads, granted_calls, is_granted, IsRun}
+use Rattle.bp_machine.specs.Histories.{calls_of_thread, is_finished, IsAllowed, IsLegalAfter, IsLegal, configuration_after_call, IsWithin, configuration_after, granted_threads, granted_calls, is_granted, IsRun}
 use Rattle.bp_machine.specs.declared.calls.Reply.{Reply}
-use Rattle.bp_machine.specs.declared.calls.Reply.TheVariants.{Stopped, Full}
-use Rattle.bp_machine.specs.declared.limits.TheConstants.{MAX_FRAMES}
 use Rattle.bp_machine.specs.Runs.{HasRoom, EachHasRoom, reply_of_step, history_of_run, HasBoundedRun}
 use Rattle.bp_machine.proofs.HistoryWithCall.{calls_of_thread-same, calls_of_thread-other, same_or_not, configuration_after-append}
-use Rattle.bp_machine.proofs.RealFailures.{IsStep, is_step, step_moves, run_from, runs, within, first_step, ended, step_is, one_move}
-use Rattle.bp_machine.proofs.RunsAreHistories.{effect_told, reply_before}
+use Rattle.bp_machine.proofs.RealFailures.{IsStep, is_step, step_moves, run_from, runs, within, first_step, ended, one_move}
+use Rattle.bp_machine.proofs.RunsAreHistories.{reply_before}
 
 -- A legal history has at most as many calls as its threads may make together.
 
@@ -29,23 +27,15 @@ total zero h = 0
 total (suc n) h = total n h + length (calls_of_thread n h)
 
 one_more : (x : Call) (xs : List Call) (i : ℕ) → x.thread ≡ i → length (calls_of_thread i (x ∷ xs)) ≡ length (calls_of_thread i xs) + 1
-one_more x xs i e =
-    let same : (x.thread == i) ≡ true = grind (arith, nat_tests) in
-    ap (λ b. length (cond b (x ∷ calls_of_thread i xs) (calls_of_thread i xs))) same ∙ omega arith
+one_more x xs i given1 = grind (arith)
 
 no_more : (x : Call) (xs : List Call) (i : ℕ) → x.thread ≢ i → length (calls_of_thread i (x ∷ xs)) ≡ length (calls_of_thread i xs)
-no_more x xs i n =
-    let other : (x.thread == i) ≡ false = grind (arith, nat_tests) in
-    ap (λ b. length (cond b (x ∷ calls_of_thread i xs) (calls_of_thread i xs))) other
+no_more x xs i given1 = grind (arith)
 
 total_past : (n : ℕ) (x : Call) (xs : List Call) → n ≤ x.thread → total n (x ∷ xs) ≡ total n xs
 unfolding total
 total_past zero x xs h = refl
-total_past (suc n) x xs h =
-    let before = total_past n x xs (omega arith) in
-    let other : x.thread ≢ n = λ e. omega arith in
-    let here = no_more x xs n other in
-    omega (arith, before, here)
+total_past (suc n) x xs h = search (rules, (total_past n x xs (omega arith)), no_more)
 
 total_more : (n : ℕ) (x : Call) (xs : List Call) → x.thread < n → total n (x ∷ xs) ≡ total n xs + 1
 unfolding total
@@ -83,13 +73,10 @@ total_bound (suc n) k h each = omega (arith, total_bound n k h each, each n, suc
 module _ (t : Program) (s : SetupOf) where
   -- an open line has fewer calls than are allowed
   fewer : (a b : Bool) → (a || b) ≡ false → b ≡ false
-  fewer true b e = absurd cc
-  fewer false b e = e
+  fewer a b given1 = grind (arith)
 
   room : (h : List Call) (i : ℕ) → is_finished s h i ≡ false → length (calls_of_thread i h) < s.calls
-  room h i e =
-      let more = fewer (ends_with_last (calls_of_thread i h)) (nat_le s.calls (length (calls_of_thread i h))) e in
-      grind (arith, nat_tests)
+  room h i given1 = grind (arith)
 
   next : (p : List Call) (x : Call) → IsAllowed t s p x → ((i : ℕ) → length (calls_of_thread i p) ≤ s.calls) → (i : ℕ)
       → length (calls_of_thread i (p ++ x ∷ [])) ≤ s.calls
@@ -107,8 +94,7 @@ module _ (t : Program) (s : SetupOf) where
   pub bounded : (p xs : List Call) → IsLegalAfter t s p xs → ((i : ℕ) → length (calls_of_thread i p) ≤ s.calls)
       → (i : ℕ) → length (calls_of_thread i (p ++ xs)) ≤ s.calls
   bounded p [] legal each i = rw (append-nil p) (each i)
-  bounded p (x ∷ xs) (allowed, rest) each i =
-      simp regrouped at (bounded (p ++ x ∷ []) xs rest (next p x allowed each) i)
+  bounded p (x ∷ xs) (allowed, rest) each i = search (rules, (bounded (p ++ x ∷ []) xs rest (next p x allowed each) i), [], regrouped, next)
 
   below_after : (p xs : List Call) → IsLegalAfter t s p xs → AllBelow (threads s) xs
   below_after p [] legal = tt
@@ -150,44 +136,17 @@ fewer_granted i (x ∷ xs) = here (is_granted x.reply) (fewer_granted i xs)
 
     left_out : (own : Bool) → length (calls_of_thread i (granted_calls xs)) ≤ length (calls_of_thread i xs)
         → length (calls_of_thread i (granted_calls xs)) ≤ length (cond own (x ∷ calls_of_thread i xs) (calls_of_thread i xs))
-    left_out true h = omega arith
-    left_out false h = h
+    left_out own given1 = grind (arith)
 
     here : (granted : Bool) → length (calls_of_thread i (granted_calls xs)) ≤ length (calls_of_thread i xs)
         → length (calls_of_thread i (cond granted (x ∷ granted_calls xs) (granted_calls xs)))
         ≤ length (cond (x.thread == i) (x ∷ calls_of_thread i xs) (calls_of_thread i xs))
-    here true h = kept (x.thread == i) h
-    here false h = left_out (x.thread == i) h
+    here granted given1 = grind (arith)
 
 module _ (t : Program) (c : Configuration) (i : ℕ) (bit : Bool) (r : Reply) (granted : is_granted r ≡ true) where
-  not_full : (n : ℕ) (o : Option Reply) → cond (true && nat_le MAX_FRAMES n) (Some Full) o ≡ Some r → n < MAX_FRAMES
-  not_full n o e = by_test (nat_le MAX_FRAMES n) refl e
-    where
-      by_test : (b : Bool) → nat_le MAX_FRAMES n ≡ b → cond (true && b) (Some Full) o ≡ Some r → n < MAX_FRAMES
-      by_test true is e = absurd (let same : Full ≡ r = cc in let moved = ap is_granted same in cc)
-      by_test false is e = grind (arith, nat_tests)
-
-  -- a granted reply tells of room
-  has_room : reply_of t true c i bit ≡ Some r → HasRoom c i
-  has_room e frame below stack call =
-      let going = (is_step t c i bit r granted true e).1.going in
-      let told =
-      sym (ap (λ b. cond b (Some Stopped) (reply_on_stack t true c.globals (stack_of c i) bit)) going
-      ∙ ap (λ S. reply_on_stack t true c.globals S bit) stack
-      ∙ ap (λ b. cond (b && is_full (frame ∷ below)) (Some Full) (reply_to_effect (effect t.procedures frame.left c.globals frame below bit))) call)
-      ∙ e in
-      not_full (length (frame ∷ below)) (reply_to_effect (effect t.procedures frame.left c.globals frame below bit)) told
-
   -- the reply of a step tells whether an assertion failed
   step_reply : IsStep t c i bit r → r ≡ reply_of_step [] (configuration_after_call t c i bit r).failed
-  step_reply step =
-      let d = configuration_after_call t c i bit r in
-      let told = effect t.procedures step.frame.left c.globals step.frame step.below bit in
-      let moved : configuration_after_step t c i bit (step.frame ∷ step.below) ≡ Some d =
-      ap (configuration_after_step t c i bit) (sym step.stack)
-      ∙ step_is t c i bit d (step_moves t c i bit r granted step) in
-      let both : Some r ≡ Some (reply_of_step [] d.failed) = sym step.told_is ∙ effect_told t c i bit d told moved in
-      cc
+  step_reply given1 = grind (arith)
 
 no_split : (before : List Call) (x : Call) (later : List Call) → [] ≡ before ++ x ∷ later → ⊥
 no_split [] x later e = cc
@@ -196,9 +155,7 @@ no_split (y ∷ ys) x later e = cc
 module _ (t : Program) (s : SetupOf) where
   -- a call without a step leaves the configuration
   stays : (h : List Call) (y : Call) → is_granted y.reply ≡ false → configuration_after t s (h ++ y ∷ []) ≡ configuration_after t s h
-  stays h y e =
-      let c = configuration_after t s h in
-      configuration_after-append t s h y ∙ ap (λ g. cond g (unwrap_or (configuration_after_step t c y.thread y.bit (stack_of c y.thread)) c) c) e
+  stays h y given1 = search (rules, configuration_after-append)
 
   module _ (h : List Call) (y : Call) (allowed : IsAllowed t s h y) (granted : is_granted y.reply ≡ true) where
     step : IsStep t (configuration_after t s h) y.thread y.bit y.reply
@@ -208,15 +165,10 @@ module _ (t : Program) (s : SetupOf) where
     goes = rw (configuration_after-append t s h y) (step_moves t (configuration_after t s h) y.thread y.bit y.reply granted step)
 
     pub room_here : HasRoom (configuration_after t s h) y.thread
-    room_here =
-        let fits = (is_step t (configuration_after t s h) y.thread y.bit y.reply granted allowed.answers.fits allowed.answers.is).0 in
-        has_room t (configuration_after t s h) y.thread y.bit y.reply granted
-        (subst (λ f. reply_of t f (configuration_after t s h) y.thread y.bit ≡ Some y.reply) fits allowed.answers.is)
+    room_here = grind (arith)
 
     pub reply_here : y.reply ≡ reply_of_step [] (configuration_after t s (h ++ y ∷ [])).failed
-    reply_here =
-        step_reply t (configuration_after t s h) y.thread y.bit y.reply granted step
-        ∙ ap (λ (d : Configuration). reply_of_step [] d.failed) (sym (configuration_after-append t s h y))
+    reply_here = search (rules, step_reply, step, configuration_after-append)
 
   room_of : (h : List Call) (y : Call) (ys : List Call) → IsAllowed t s h y → EachHasRoom t (configuration_after t s (h ++ y ∷ [])) (granted_calls ys)
       → (b : Bool) → is_granted y.reply ≡ b → EachHasRoom t (configuration_after t s h) (cond b (y ∷ granted_calls ys) (granted_calls ys))
@@ -244,17 +196,11 @@ module _ (t : Program) (s : SetupOf) where
       → (b : Bool) → is_granted y.reply ≡ b
       → history_of_run (cond b (y ∷ granted_calls ys) (granted_calls ys)) e.failed
       ≡ cond b (y ∷ granted_calls ys) (granted_calls ys)
-  replies_of h y ys e allowed run rest false is = rest
-  replies_of h y ys e allowed run rest true is =
-      let reply = sym (reply_here h y allowed is ∙ reply_before t (configuration_after t s (h ++ y ∷ [])) (granted_calls ys) e run) in
-      ap (λ r. record y { reply = r } ∷ history_of_run (granted_calls ys) e.failed) reply ∙ ap (λ zs. y ∷ zs) rest
+  replies_of h y ys e given1 given2 given3 b given4 = search (rules, reply_here, reply_before)
 
   replies_from : (h xs : List Call) → IsLegalAfter t s h xs → history_of_run (granted_calls xs) (configuration_after t s (h ++ xs)).failed ≡ granted_calls xs
   replies_from h [] legal = refl
-  replies_from h (y ∷ ys) (allowed, rest) =
-      simp regrouped at
-      (replies_of h y ys (configuration_after t s ((h ++ y ∷ []) ++ ys)) allowed (run_from t s (h ++ y ∷ []) ys rest)
-      (replies_from (h ++ y ∷ []) ys rest) (is_granted y.reply) refl)
+  replies_from h (y ∷ ys) (allowed, rest) = search (rules, (replies_from (h ++ y ∷ []) ys rest), [], regrouped, replies_of, run_from)
 
 pub history_is_run : (t : Program) (s : SetupOf) (h : List Call) → IsLegal t s h → HasBoundedRun t s h
 history_is_run t s h legal = record {

@@ -1,5 +1,5 @@
 -- A history with one more call.
-use Rattle.std.proofs.Common.{◌≡◌, ◌≢◌, ℕ, zero, suc, ◌+◌, ◌<◌, ◌==◌, Bool, true, false, cond, ◌||◌, nat_le, List, [], ◌∷◌, ◌++◌, length, refl, ap, ◌∙◌, subst, arith, take, get_or, sym, length-append, ◌⊎◌, Some, inl, inr, ◌≤◌, slice_get, slice_set}
+use Rattle.std.proofs.Common.{◌≡◌, ◌≢◌, ℕ, zero, suc, ◌+◌, ◌<◌, ◌==◌, Bool, true, false, cond, ◌||◌, nat_le, List, [], ◌∷◌, ◌++◌, length, refl, ap, ◌∙◌, subst, arith, take, get_or, sym, length-append, ◌⊎◌, Some, inl, inr, ◌≤◌, slice_get, slice_set, rules}
 use Rattle.std.proofs.lemmas.List.{append-nil, take_more, length-set}
 use Rattle.std.proofs.lemmas.Bool.Decides.{nat_tests}
 use Rattle.bp_language.specs.Ast.{Program}
@@ -11,7 +11,7 @@ use Rattle.bp_machine.specs.declared.calls.Call.{Call}
 use Rattle.bp_machine.specs.Setups.{SetupOf, start, threads}
 use Rattle.bp_machine.specs.Histories.{configuration_after_call, is_last, is_granted, configuration_after_calls, configuration_after, granted_threads, calls_of_thread, ends_with_last, is_finished, open_below, IsAllowed, IsLegalAfter, IsLegal, outcome_or, outcome_of, is_failure, stack_of, finished_by, open_lines}
 use Rattle.bp_machine.specs.declared.calls.Reply.{Reply}
-use Rattle.bp_machine.specs.declared.calls.Reply.TheVariants.{Stopped, Ended, NoContexts, Full, Blocked, Stepped}
+use Rattle.bp_machine.specs.declared.calls.Reply.TheVariants.{Stepped}
 use Rattle.bp_machine.specs.declared.calls.Reply.TheVariants as replies
 use Rattle.bp_machine.specs.declared.calls.Outcome.{Outcome}
 use Rattle.bp_machine.specs.declared.calls.Outcome.TheVariants.{Clean, Failed}
@@ -43,8 +43,7 @@ granted_threads-append (y ∷ ys) x = more (is_granted y.reply) (granted_threads
 
 legal_after : (t : Program) (s : SetupOf) (h xs : List Call) (x : Call) → IsLegalAfter t s h xs → IsAllowed t s (h ++ xs) x → IsLegalAfter t s h (xs ++ x ∷ [])
 legal_after t s h [] x legal allowed = (subst (λ g. IsAllowed t s g x) (append-nil h) allowed, tt)
-legal_after t s h (y ∷ ys) x (first, rest) allowed =
-    (first, legal_after t s (h ++ y ∷ []) ys x rest (simp regrouped allowed))
+legal_after t s h (y ∷ ys) x (first, rest) allowed = search (rules, (legal_after t s (h ++ y ∷ []) ys x rest (simp regrouped allowed)), [], regrouped)
 
 pub legal-append : (t : Program) (s : SetupOf) (h : List Call) (x : Call) → IsLegal t s h → IsAllowed t s h x → IsLegal t s (h ++ x ∷ [])
 legal-append t s h x legal allowed = legal_after t s [] h x legal allowed
@@ -106,30 +105,17 @@ first_outcome Clean o = o
 first_outcome (Failed i) o = Failed i
 
 or_first : (y : Call) (r : Reply) (a b : Outcome) → outcome_or y r (first_outcome a b) ≡ first_outcome (outcome_or y r a) b
-or_first y Stopped a b = refl
-or_first y Ended a b = refl
-or_first y NoContexts a b = refl
-or_first y Full a b = refl
-or_first y Blocked a b = refl
-or_first y replies.Failed a b = refl
-or_first y Stepped a b = refl
+or_first y r a b = grind (arith)
 
 outcome-append : (h : List Call) (x : Call) → outcome_of (h ++ x ∷ []) ≡ first_outcome (outcome_of h) (outcome_or x x.reply Clean)
 outcome-append [] x = refl
 outcome-append (y ∷ ys) x = ap (outcome_or y y.reply) (outcome-append ys x) ∙ or_first y y.reply (outcome_of ys) (outcome_or x x.reply Clean)
 
 or_clean : (o : Outcome) → first_outcome o Clean ≡ o
-or_clean Clean = refl
-or_clean (Failed i) = refl
+or_clean o = grind (arith)
 
 not_failed : (x : Call) (r : Reply) → is_granted r ≡ false → outcome_or x r Clean ≡ Clean
-not_failed x Stopped e = refl
-not_failed x Ended e = refl
-not_failed x NoContexts e = refl
-not_failed x Full e = refl
-not_failed x Blocked e = refl
-not_failed x replies.Failed e = absurd cc
-not_failed x Stepped e = refl
+not_failed x r given1 = grind (arith)
 
 -- a call without a step leaves the outcome
 pub same_outcome : (h : List Call) (x : Call) → is_granted x.reply ≡ false → outcome_of h ≡ outcome_of (h ++ x ∷ [])
@@ -140,14 +126,11 @@ pub stepped_outcome : (h : List Call) (x : Call) → x.reply ≡ Stepped → out
 stepped_outcome h x e = sym (outcome-append h x ∙ ap (λ r. first_outcome (outcome_of h) (outcome_or x r Clean)) e ∙ or_clean (outcome_of h))
 
 clean_of : (o : Outcome) → is_failure o ≡ false → o ≡ Clean
-clean_of Clean e = refl
-clean_of (Failed i) e = absurd cc
+clean_of o given1 = grind (arith)
 
 -- the first failure is the outcome
 pub failed_outcome : (h : List Call) (x : Call) → x.reply ≡ replies.Failed → is_failure (outcome_of h) ≡ false → Failed x.thread ≡ outcome_of (h ++ x ∷ [])
-failed_outcome h x e none =
-    sym (outcome-append h x ∙ ap (λ r. first_outcome (outcome_of h) (outcome_or x r Clean)) e
-    ∙ ap (λ o. first_outcome o (Failed x.thread)) (clean_of (outcome_of h) none))
+failed_outcome h x given1 given2 = search (rules, outcome-append, clean_of)
 
 -- A state that stands after a history stands after it with one more call, where that call is allowed.
 
@@ -253,14 +236,10 @@ one_if b = cond b 1 0
 module _ (s : SetupOf) (h : List Call) (x : Call) (unfinished : is_finished s h x.thread ≡ false) where
   same_below : (n : ℕ) → n ≤ x.thread → open_below n s (h ++ x ∷ []) ≡ open_below n s h
   same_below zero within = refl
-  same_below (suc n) within =
-      let same = same_below n (omega arith) in
-      let own = finished-other s h x n (λ e. omega arith) in
-      rw (own, same) refl
+  same_below (suc n) within = search (rules, (same_below n (omega arith)), finished-other)
 
   own_line : (now : Bool) (count : ℕ) → cond now count (count + 1) + one_if now ≡ count + 1
-  own_line true count = refl
-  own_line false count = omega arith
+  own_line now count = grind (arith)
 
   pub open_with : (n : ℕ) → x.thread < n → open_below n s (h ++ x ∷ []) + finished_by s h x ≡ open_below n s h
   open_with zero within = absurd (omega arith)
@@ -285,15 +264,11 @@ module _ (s : SetupOf) (h : List Call) (x : Call) (unfinished : is_finished s h 
 
       more : (b : Bool) → open_below n s (h ++ x ∷ []) + finished_by s h x ≡ open_below n s h
           → cond b (open_below n s (h ++ x ∷ [])) (open_below n s (h ++ x ∷ []) + 1) + finished_by s h x ≡ cond b (open_below n s h) (open_below n s h + 1)
-      more true e = e
-      more false e = omega (arith, e)
+      more b given1 = grind (arith)
 
       there : x.thread ≢ n → open_below n s (h ++ x ∷ []) + finished_by s h x ≡ open_below n s h
           → open_below (suc n) s (h ++ x ∷ []) + finished_by s h x ≡ open_below (suc n) s h
-      there other before =
-          let own = finished-other s h x n other in
-          ap (λ b. cond b (open_below n s (h ++ x ∷ [])) (open_below n s (h ++ x ∷ []) + 1) + finished_by s h x) own
-          ∙ more (is_finished s h n) before
+      there other before = search (rules, finished-other, more)
 
 -- the open lines before and after a call that is allowed
 pub open_lines-append : (t : Program) (s : SetupOf) (h : List Call) (x : Call) → IsAllowed t s h x

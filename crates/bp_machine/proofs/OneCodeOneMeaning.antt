@@ -1,15 +1,15 @@
 -- Programs for which one code stands have the same legal histories and printed rows: each of them
 -- does what the code does.
-use Rattle.std.proofs.Common.{◌≡◌, ◌≢◌, ℕ, zero, suc, ◌+◌, ◌<◌, ◌==◌, ◌&&◌, nat_le, not, Bool, true, false, cond, List, [], ◌∷◌, ◌++◌, length, map, get_or, Option, None, Some, refl, ap, sym, ◌∙◌, subst, arith, inl, inr, slice_get, slice_set, option_map, unwrap_or}
+use Rattle.std.proofs.Common.{◌≡◌, ◌≢◌, ℕ, zero, suc, ◌+◌, ◌<◌, ◌==◌, ◌&&◌, nat_le, not, Bool, true, false, cond, List, [], ◌∷◌, ◌++◌, length, map, get_or, Option, None, Some, refl, ap, sym, ◌∙◌, subst, arith, inl, inr, slice_get, slice_set, option_map, unwrap_or, rules}
 use Rattle.std.specs.Option.{option_to_list}
 use Rattle.std.proofs.lemmas.List.{get_or-set_same, get_or-set_other, get_or_past}
 use Rattle.std.proofs.lemmas.Bool.{cases_lt}
 use Rattle.std.proofs.lemmas.Bool.Decides.{nat_tests}
-use Rattle.bp_language.specs.Ast.{Block, Done, Then, Skips, GoesTo, Returns, Assigns, Branches, Loops, Asserts, Assumes, Prints, Calls, Procedure, Program}
+use Rattle.bp_language.specs.Ast.{Block, Procedure, Program}
 use Rattle.bp_flat.specs.Moves.{Frame, Configuration, is_call, first_stack, procedure_named, StatementEffect, Leaves, Fails, Blocks, Misses, effect, after_effect}
 use Rattle.bp_flat.specs.Flat.{Flat, Instruction, Call}
 use Rattle.bp_flat.specs.Steps.{Bits, Activation, InstructionEffect, bits_from, step}
-use Rattle.bp_flat.specs.StandsFor.{StandsFor, Does, Remains, valuation_of, variables, places_of, ShowsStack, SameEffect}
+use Rattle.bp_flat.specs.StandsFor.{StandsFor, Does, valuation_of, places_of, ShowsStack, SameEffect}
 use Rattle.bp_flat.proofs.StandsForStepsAlike.{steps_alike}
 use Rattle.bp_machine.specs.declared.calls.Call as calls
 use Rattle.bp_machine.specs.declared.calls.Reply.{Reply}
@@ -70,35 +70,10 @@ pub record Shows (t : Program) (z : CodeState) (k : Configuration) : Type 0 wher
 
 module _ (t : Program) (table : List Rattle.bp_flat.specs.StandsFor.Place) (p : Procedure) where
   call_alike : (left : Block) (i : Instruction) → Does t table p left i → is_call left ≡ is_call_at (Some i)
-  call_alike Done i is = rw is refl
-  call_alike (Then label at Skips r) i c = rw c.is refl
-  call_alike (Then label at (GoesTo x) r) i c = rw c.is refl
-  call_alike (Then label at Returns r) i is = rw is refl
-  call_alike (Then label at (Assigns xs es) r) i c = rw c.is refl
-  call_alike (Then label at (Branches d a b) r) i c = rw c.is refl
-  call_alike (Then label at (Loops d a) r) i c = rw c.is refl
-  call_alike (Then label at (Asserts d) r) i c = rw c.is refl
-  call_alike (Then label at (Assumes d) r) i c = rw c.is refl
-  call_alike (Then label at (Prints es) r) i c = rw c.is refl
-  call_alike (Then label at (Calls x es) r) i c = rw c.is refl
+  call_alike left i given1 = grind (arith)
 
 reply_alike : (t : Program) (o : InstructionEffect) (e : StatementEffect) → SameEffect t o e → reply_to_effect e ≡ reply_to_step o
-reply_alike t (Leaves b stack) (Leaves g s) same = refl
-reply_alike t (Leaves b stack) Fails same = absurd same
-reply_alike t (Leaves b stack) Blocks same = absurd same
-reply_alike t (Leaves b stack) Misses same = absurd same
-reply_alike t Fails (Leaves g s) same = absurd same
-reply_alike t Fails Fails same = refl
-reply_alike t Fails Blocks same = absurd same
-reply_alike t Fails Misses same = absurd same
-reply_alike t Blocks (Leaves g s) same = absurd same
-reply_alike t Blocks Fails same = absurd same
-reply_alike t Blocks Blocks same = refl
-reply_alike t Blocks Misses same = absurd same
-reply_alike t Misses (Leaves g s) same = absurd same
-reply_alike t Misses Fails same = absurd same
-reply_alike t Misses Blocks same = absurd same
-reply_alike t Misses Misses same = absurd same
+reply_alike t o e given1 = grind (arith)
 
 -- a thread with frames is there
 there : (stacks : List (List Frame)) (i : ℕ) (f : Frame) (fs : List Frame) → get_or stacks i [] ≡ f ∷ fs → i < length stacks
@@ -199,11 +174,8 @@ module _ (c : Flat) where
   first_stacks : (t : Program) (s : SetupOf) (is : StandsFor c t) (es : List (List ℕ)) (k : ℕ) → entries_fault t k es ≡ None → (i : ℕ)
       → ShowsStack t (activations_of (slice_get es i)) (get_or (map (λ x. first_stack (procedure_named t.procedures x)) es) i [])
   first_stacks t s is [] k none i = tt
-  first_stacks t s is (e ∷ es) k none zero =
-      let (p, named) = entry_fine k (procedure_named t.procedures e) (entries_fault t (k + 1) es) none in
-      shown c t s is e p named
-  first_stacks t s is (e ∷ es) k none (suc i) =
-      first_stacks t s is es (k + 1) (others_fine (entry_fault k (procedure_named t.procedures e)) (entries_fault t (k + 1) es) none) i
+  first_stacks t s is (e ∷ es) k none zero = search (rules, entry_fine, shown)
+  first_stacks t s is (e ∷ es) k none (suc i) = search (rules, (first_stacks t s is es (k + 1) (others_fine (entry_fault k (procedure_named t.procedures e)) (entries_fault t (k + 1) es) none) i), others_fine)
 
   pub shows_start : (t : Program) (s : SetupOf) → StandsFor c t → Fits t s → Shows t (first_state s) (start t s)
   shows_start t s is fits = record {

@@ -1,9 +1,9 @@
 -- Code and program print alike, and a session prints what its thread's code does.
-use Rattle.std.proofs.Common.{◌≡◌, ◌≢◌, ℕ, Bool, true, false, List, [], ◌∷◌, Option, None, Some, is_some, refl, ap, sym, ◌∙◌, slice_get}
+use Rattle.std.proofs.Common.{◌≡◌, ◌≢◌, ℕ, Bool, true, false, List, [], ◌∷◌, Option, None, Some, is_some, refl, ap, sym, ◌∙◌, slice_get, arith, rules}
 use Rattle.bp_language.specs.Ast.{Block, Done, Then, Skips, GoesTo, Returns, Assigns, Branches, Loops, Asserts, Assumes, Prints, Calls, Procedure, Program}
 use Rattle.bp_flat.specs.InstrEffects.{bits_of}
 use Rattle.bp_flat.specs.Moves.{Store, Valuation, Frame}
-use Rattle.bp_flat.specs.Flat.{Flat, Instruction, Skip, Goto, Return, Assign, If, While, Assert, Assume, Print, Call as CallsTo, instruction_kind}
+use Rattle.bp_flat.specs.Flat.{Flat, Instruction, Print, instruction_kind}
 use Rattle.bp_flat.specs.declared.instrs.Kind.TheVariants as kind
 use Rattle.bp_flat.specs.Steps.{Bits, Activation, printed_values}
 use Rattle.bp_flat.specs.StandsFor.{StandsFor, Place, Does, places_of, named_store, valuation_of, ShowsStack}
@@ -21,28 +21,10 @@ printed_at None store = None
 
 -- only an instruction of the kind of a print prints
 pub print_prints : (i : Instruction) (w : Store Bits) → instruction_kind i ≡ kind.Print → true ≡ is_some (printed_values w i)
-print_prints (Skip m) w e = absurd cc
-print_prints (Goto m) w e = absurd cc
-print_prints Return w e = absurd cc
-print_prints (Assign slots fs m) w e = absurd cc
-print_prints (If test m other) w e = absurd cc
-print_prints (While test m other) w e = absurd cc
-print_prints (Assert test m) w e = absurd cc
-print_prints (Assume test m) w e = absurd cc
-print_prints (Print fs m) w e = refl
-print_prints (CallsTo callee fs m) w e = absurd cc
+print_prints i w given1 = grind (arith)
 
 pub other_prints_nothing : (i : Instruction) (w : Store Bits) → instruction_kind i ≢ kind.Print → false ≡ is_some (printed_values w i)
-other_prints_nothing (Skip m) w e = refl
-other_prints_nothing (Goto m) w e = refl
-other_prints_nothing Return w e = refl
-other_prints_nothing (Assign slots fs m) w e = refl
-other_prints_nothing (If test m other) w e = refl
-other_prints_nothing (While test m other) w e = refl
-other_prints_nothing (Assert test m) w e = refl
-other_prints_nothing (Assume test m) w e = refl
-other_prints_nothing (Print fs m) w e = absurd (e refl)
-other_prints_nothing (CallsTo callee fs m) w e = refl
+other_prints_nothing i w given1 = grind (arith)
 
 -- what the next instruction of a stack prints
 abbrev pub printed_here : List Instruction → Bits → List Activation → Option (List Bool)
@@ -79,21 +61,15 @@ module _ (c : Flat) (t : Program) (st : StandsFor c t) where
       (has : slice_get x.threads i ≡ Some guest) where
     printed : values_printed (configuration_after t s h).globals (stack_of (configuration_after t s h) i)
         ≡ printed_here c.instructions (bits_of x.globals) (activations guest.stack)
-    printed =
-        printed_alike (configuration_after t s h).globals (bits_of x.globals) stands.globals (activations guest.stack)
-        (stack_of (configuration_after t s h) i) (stands.thread i guest has).stack
+    printed = search (rules, printed_alike)
 
     without_top : (fs : List ActivationRecord) → top_of fs ≡ None → printed_here c.instructions (bits_of x.globals) (activations fs) ≡ None
-    without_top [] e = refl
-    without_top (f ∷ fs) e = absurd cc
+    without_top fs given1 = grind (arith)
 
     with_top : (fs : List ActivationRecord) (f : ActivationRecord) → top_of fs ≡ Some f
         → printed_here c.instructions (bits_of x.globals) (activations fs)
         ≡ printed_at (slice_get c.instructions f.number) (record { globals = bits_of x.globals; locals = bits_of f.locals })
-    with_top [] f e = absurd cc
-    with_top (g ∷ fs) f e =
-        let same : g ≡ f = cc in
-        ap (λ (k : ActivationRecord). printed_at (slice_get c.instructions k.number) (record { globals = bits_of x.globals; locals = bits_of k.locals })) same
+    with_top fs f given1 = grind (arith)
 
     -- a thread without a frame prints nothing
     pub nothing_printed : None ≡ top_of guest.stack → None ≡ values_printed (configuration_after t s h).globals (stack_of (configuration_after t s h) i)
@@ -102,12 +78,10 @@ module _ (c : Flat) (t : Program) (st : StandsFor c t) where
     -- neither does one behind its code
     pub none_printed : (f : ActivationRecord) → Some f ≡ top_of guest.stack → None ≡ slice_get c.instructions f.number
         → None ≡ values_printed (configuration_after t s h).globals (stack_of (configuration_after t s h) i)
-    none_printed f e past =
-        sym (printed ∙ with_top guest.stack f (sym e) ∙ ap (λ o. printed_at o (record { globals = bits_of x.globals; locals = bits_of f.locals })) (sym past))
+    none_printed f given1 given2 = search (rules, printed, with_top)
 
     -- else its next instruction prints
     pub instruction_printed : (f : ActivationRecord) → Some f ≡ top_of guest.stack → (instr : Instruction) → Some instr ≡ slice_get c.instructions f.number
         → printed_values (record { globals = bits_of x.globals; locals = bits_of f.locals }) instr
         ≡ values_printed (configuration_after t s h).globals (stack_of (configuration_after t s h) i)
-    instruction_printed f e instr found =
-        sym (printed ∙ with_top guest.stack f (sym e) ∙ ap (λ o. printed_at o (record { globals = bits_of x.globals; locals = bits_of f.locals })) (sym found))
+    instruction_printed f given1 instr given2 = search (rules, printed, with_top)

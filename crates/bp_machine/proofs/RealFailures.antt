@@ -1,17 +1,16 @@
 -- A failure is a false assertion, and the last step.
-use Rattle.std.proofs.Common.{◌≡◌, ℕ, zero, suc, Bool, List, [], ◌∷◌, length, Some, refl, ap, sym, ◌∙◌, arith, ◌<◌, ◌&&◌, nat_le, true, false, cond, ◌++◌, Option, subst, None, slice_get, slice_set, slice_index_or, unwrap_or}
+use Rattle.std.proofs.Common.{◌≡◌, ℕ, zero, suc, Bool, List, [], ◌∷◌, length, Some, refl, ap, sym, ◌∙◌, arith, ◌<◌, true, false, cond, ◌++◌, Option, subst, slice_get, slice_index_or, unwrap_or, rules}
 use Rattle.std.proofs.lemmas.List.{length-set, length-map, append-nil}
-use Rattle.bp_language.specs.Ast.{Program, Name, Block, Done, Then, Skips, GoesTo, Returns, Assigns, Branches, Loops, Asserts, Assumes, Prints, Calls, Decision, Procedure}
+use Rattle.bp_language.specs.Ast.{Program, Name, Block, Then, Asserts, Decision}
 use Rattle.bp_language.proofs.GrownLists.{regrouped}
-use Rattle.bp_flat.specs.Moves.{Frame, Configuration, first_stack, procedure_named, StatementEffect, Leaves, Fails, Blocks, Misses, effect, after_effect, Moves, is_call, Valuation, decision_value, expression_values, from_label, frame_store, with_left}
+use Rattle.bp_flat.specs.Moves.{Frame, Configuration, first_stack, procedure_named, StatementEffect, Leaves, Fails, Blocks, Misses, effect, after_effect, Moves, Valuation, decision_value, frame_store}
 use Rattle.bp_flat.specs.Moves as moves
 use Rattle.bp_machine.specs.declared.calls.Call.{Call}
 use Rattle.bp_machine.specs.Setups.{SetupOf, threads, start}
 use Rattle.bp_machine.specs.Histories.{stack_of, configuration_after_step, IsRun, ends, IsWithin, is_granted, reply_to_effect, reply_on_stack, reply_of, configuration_after_call, configuration_after, granted_threads, granted_calls, IsAllowed, IsLegalAfter, IsLegal, outcome_or, outcome_of, IsAtFalseAssertion, IsRealFailure}
 use Rattle.bp_machine.specs.Histories as reports
 use Rattle.bp_machine.specs.declared.calls.Reply.{Reply}
-use Rattle.bp_machine.specs.declared.calls.Reply.TheVariants.{Stopped, Ended, NoContexts, Full, Blocked, Failed}
-use Rattle.bp_machine.specs.declared.limits.TheConstants.{MAX_FRAMES}
+use Rattle.bp_machine.specs.declared.calls.Reply.TheVariants.{Stopped, Blocked, Failed}
 use Rattle.bp_machine.specs.declared.calls.Outcome.TheVariants as outcome
 use Rattle.bp_machine.proofs.HistoryWithCall.{configuration_after-append, granted_threads-append}
 
@@ -28,8 +27,7 @@ Begun t c [] e = c ≡ e
 Begun t c (x ∷ xs) e = FirstStep t c x xs e
 
 begun : {t : Program} {c : Configuration} {xs : List Call} {e : Configuration} → IsRun t c xs e → Begun t c xs e
-begun (ends c) = refl
-begun (reports.moves c x d xs e move rest) = record { next = d; move = move; rest = rest }
+begun given1 = grind (arith)
 
 pub ended : {t : Program} {c e : Configuration} → IsRun t c [] e → c ≡ e
 ended run = begun run
@@ -59,14 +57,7 @@ module _ (t : Program) (c : Configuration) (i : ℕ) (bit : Bool) where
   one_move d e m n = let both = sym (step_is d m) ∙ step_is e n in cc
 
   kept : (d : Configuration) (effect : StatementEffect) → after_effect c i effect ≡ Some d → length d.stacks ≡ length c.stacks
-  kept d (Leaves g S) e =
-      let is : record { globals = g; stacks = slice_set c.stacks i S; failed = Bool.false } ≡ d = cc in
-      sym (ap (λ (x : Configuration). length x.stacks) is) ∙ length-set c.stacks i S
-  kept d Fails e =
-      let is : record c { failed = Bool.true } ≡ d = cc in
-      sym (ap (λ (x : Configuration). length x.stacks) is)
-  kept d Blocks e = absurd cc
-  kept d Misses e = absurd cc
+  kept d effect given1 = search (rules, length-set)
 
   -- a move keeps the threads
   pub move_keeps : (d : Configuration) → Moves t c i bit d → length d.stacks ≡ length c.stacks
@@ -99,33 +90,10 @@ not_granted : (r : Reply) (s : Reply) → Some s ≡ Some r → is_granted s ≡
 not_granted r s e no_step step = let same : s ≡ r = cc in let moved_to = ap is_granted same in cc
 
 module _ (t : Program) (c : Configuration) (i : ℕ) (bit : Bool) (r : Reply) (granted_is : is_granted r ≡ true) where
-  on_frame : (call full : Bool) (e : Option Reply) → cond (call && full) (Some Full) e ≡ Some r → e ≡ Some r
-  on_frame true true e h = absurd (not_granted r Full h refl granted_is)
-  on_frame true false e h = h
-  on_frame false full e h = h
-
-  on_stack : (stack : List Frame) (fits : Bool) → stack_of c i ≡ stack
-      → reply_on_stack t fits c.globals stack bit ≡ Some r → c.failed ≡ false → (fits ≡ true) × IsStep t c i bit r
-  on_stack [] fits is e going = absurd (not_granted r Ended e refl granted_is)
-  on_stack (f ∷ fs) false is e going = absurd (not_granted r NoContexts e refl granted_is)
-  on_stack (f ∷ fs) true is e going = (
-    refl,
-    record {
-      going = going;
-      frame = f;
-      below = fs;
-      stack = is;
-      told_is =
-          on_frame (is_call f.left) (nat_le MAX_FRAMES (length (f ∷ fs)))
-          (reply_to_effect (effect t.procedures f.left c.globals f fs bit)) e;
-    },
-  )
-
   by_mark : (failed fits : Bool) → c.failed ≡ failed
       → cond failed (Some Stopped) (reply_on_stack t fits c.globals (stack_of c i) bit) ≡ Some r
       → (fits ≡ true) × IsStep t c i bit r
-  by_mark true fits mark e = absurd (not_granted r Stopped e refl granted_is)
-  by_mark false fits mark e = on_stack (stack_of c i) fits refl e mark
+  by_mark failed fits given1 given2 = grind (arith)
 
   pub is_step : (fits : Bool) → reply_of t fits c i bit ≡ Some r → (fits ≡ true) × IsStep t c i bit r
   is_step fits e = by_mark c.failed fits refl e
@@ -163,38 +131,22 @@ module _ (t : Program) (s : SetupOf) where
       let move = step_moves t (configuration_after t s h) x.thread x.bit x.reply b step in
       reports.moves (configuration_after t s h) x (configuration_after t s (h ++ x ∷ [])) (granted_calls xs)
       (configuration_after t s ((h ++ x ∷ []) ++ xs)) (rw (configuration_after-append t s h x) move) rest
-  one h x xs false b allowed rest =
-      let same =
-      configuration_after-append t s h x
-      ∙ ap (λ g. cond g
-      (unwrap_or (configuration_after_step t (configuration_after t s h) x.thread x.bit
-      (stack_of (configuration_after t s h) x.thread)) (configuration_after t s h))
-      (configuration_after t s h)) b in
-      subst (λ c. IsRun t c (granted_calls xs) (configuration_after t s ((h ++ x ∷ []) ++ xs))) same rest
+  one h x xs false b allowed rest = search (rules, rest, configuration_after-append)
 
   pub run_from : (h xs : List Call) → IsLegalAfter t s h xs → IsRun t (configuration_after t s h) (granted_calls xs) (configuration_after t s (h ++ xs))
   run_from h [] legal = rw (append-nil h) (ends (configuration_after t s h))
-  run_from h (x ∷ xs) (allowed, rest) =
-      simp regrouped at (one h x xs (is_granted x.reply) refl allowed (run_from (h ++ x ∷ []) xs rest))
+  run_from h (x ∷ xs) (allowed, rest) = search (rules, (run_from (h ++ x ∷ []) xs rest), [], rest, regrouped, one)
 
   pub runs : (h : List Call) → IsLegal t s h → IsRun t (start t s) (granted_calls h) (configuration_after t s h)
   runs h legal = run_from [] h legal
 
   within_one : (h : List Call) (x : Call) (b : Bool) → is_granted x.reply ≡ b → IsAllowed t s h x
       → IsWithin s.contexts (granted_threads h) → IsWithin s.contexts (granted_threads (h ++ x ∷ []))
-  within_one h x true b allowed so_far =
-      let a = allowed.answers in
-      let fits = (is_step t (configuration_after t s h) x.thread x.bit x.reply b a.fits a.is).0 in
-      let more = granted_threads-append h x ∙ ap (λ g. granted_threads h ++ cond g (x.thread ∷ []) []) b in
-      rw more (a.decides.0 fits)
-  within_one h x false b allowed so_far =
-      let same = granted_threads-append h x ∙ ap (λ g. granted_threads h ++ cond g (x.thread ∷ []) []) b ∙ append-nil (granted_threads h) in
-      rw same so_far
+  within_one h x b given1 given2 given3 = search (rules, is_step, granted_threads-append, append-nil)
 
   within_from : (h xs : List Call) → IsLegalAfter t s h xs → IsWithin s.contexts (granted_threads h) → IsWithin s.contexts (granted_threads (h ++ xs))
   within_from h [] legal so_far = rw (append-nil h) so_far
-  within_from h (x ∷ xs) (allowed, rest) so_far =
-      simp regrouped at (within_from (h ++ x ∷ []) xs rest (within_one h x (is_granted x.reply) refl allowed so_far))
+  within_from h (x ∷ xs) (allowed, rest) so_far = search (rules, (within_from (h ++ x ∷ []) xs rest (within_one h x (is_granted x.reply) refl allowed so_far)), [], rest, regrouped, within_one)
 
   pub within : (h : List Call) → IsLegal t s h → IsWithin s.contexts (granted_threads h)
   within h legal = within_from [] h legal (record { pieces = []; few = omega arith; each = tt; whole = refl })
@@ -208,71 +160,15 @@ record Asserted (left : Block) (g : Valuation) (f : Frame) (bit : Bool) : Type 0
   is : left ≡ Then label at (Asserts decision) rest
   worth : decision_value (frame_store g f) bit decision ≡ false
 
-module _ (ps : List Procedure) (g : Valuation) (f : Frame) (fs : List Frame) (bit : Bool) where
-  when_false : (b : Bool) (r : Block) → cond b (Leaves g (with_left f r ∷ fs)) Fails ≡ Fails → b ≡ false
-  when_false true r e = absurd cc
-  when_false false r e = refl
-
-  no_block : (b : Bool) (r : Block) → cond b (Leaves g (with_left f r ∷ fs)) Blocks ≡ Fails → ⊥
-  no_block true r e = cc
-  no_block false r e = cc
-
-  no_jump : (o : Option Block) → moves.jump_effect g f fs o ≡ Fails → ⊥
-  no_jump None e = cc
-  no_jump (Some r) e = cc
-
-  no_call : (o : Option Procedure) (r : Block) (arguments : List Bool) → moves.call_effect g f fs r arguments o ≡ Fails → ⊥
-  no_call None r arguments e = cc
-  no_call (Some p) r arguments e = cc
-
-  asserted : (left : Block) → effect ps left g f fs bit ≡ Fails → Asserted left g f bit
-  asserted Done e = absurd cc
-  asserted (Then label at Skips r) e = absurd cc
-  asserted (Then label at (GoesTo x) r) e = absurd (no_jump (from_label f.procedure.body Done x.text) e)
-  asserted (Then label at Returns r) e = absurd cc
-  asserted (Then label at (Assigns xs es) r) e = absurd cc
-  asserted (Then label at (Branches d a b) r) e = absurd cc
-  asserted (Then label at (Loops d a) r) e = absurd cc
-  asserted (Then label at (Asserts d) r) e =
-      record { label = label; at = at; decision = d; rest = r; is = refl; worth = when_false (decision_value (frame_store g f) bit d) r e }
-  asserted (Then label at (Assumes d) r) e = absurd (no_block (decision_value (frame_store g f) bit d) r e)
-  asserted (Then label at (Prints es) r) e = absurd cc
-  asserted (Then label at (Calls x es) r) e = absurd (no_call (procedure_named ps x.text) r (expression_values (frame_store g f) es) e)
-
-told_fails : (e : StatementEffect) → reply_to_effect e ≡ Some Failed → e ≡ Fails
-told_fails (Leaves g s) h = absurd cc
-told_fails Fails h = refl
-told_fails Blocks h = absurd cc
-told_fails Misses h = absurd cc
-
 module _ (t : Program) (c : Configuration) (i : ℕ) (bit : Bool) (step : IsStep t c i bit Failed) where
-  fails_is : effect t.procedures step.frame.left c.globals step.frame step.below bit ≡ Fails
-  fails_is = told_fails (effect t.procedures step.frame.left c.globals step.frame step.below bit) step.told_is
-
   at_false : IsAtFalseAssertion c i bit
-  at_false =
-      let a = asserted t.procedures c.globals step.frame step.below bit step.frame.left fails_is in
-      record {
-        frame = step.frame;
-        below = step.below;
-        stack = step.stack;
-        label = a.label;
-        at = a.at;
-        decision = a.decision;
-        rest = a.rest;
-        asserts = a.is;
-        false = a.worth;
-      }
+  at_false = grind (arith)
 
   failed_next : (configuration_after_call t c i bit Failed).failed ≡ true
-  failed_next =
-      ap (λ S. (unwrap_or (configuration_after_step t c i bit S) c).failed) step.stack ∙ ap (λ e. (unwrap_or (after_effect c i e) c).failed) fails_is
+  failed_next = grind (arith)
 
 only_stopped : (failed : Bool) (rest : Option Reply) (r : Reply) → failed ≡ true → cond failed (Some Stopped) rest ≡ Some r → is_granted r ≡ false
-only_stopped failed rest r e h =
-    let now_is = ap (λ b. cond b (Some Stopped) rest) (sym e) ∙ h in
-    let same : Stopped ≡ r = cc in
-    sym (ap is_granted same)
+only_stopped failed rest r given1 given2 = grind (arith)
 
 module _ (t : Program) (s : SetupOf) where
   none_after : (h xs : List Call) → IsLegalAfter t s h xs → (configuration_after t s h).failed ≡ true → granted_threads xs ≡ []

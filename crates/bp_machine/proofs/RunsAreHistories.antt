@@ -1,9 +1,8 @@
 -- A run within the bounds of a setup is a legal history.
-use Rattle.std.proofs.Common.{◌≡◌, ◌<◌, ℕ, Bool, true, false, cond, ◌&&◌, nat_le, List, [], ◌∷◌, length, Some, refl, ap, ◌∙◌, arith, ◌≢◌, ◌+◌, ◌≤◌, ◌==◌, ◌||◌, ◌++◌, sym, subst, length-append, inl, inr, slice_set, unwrap_or, map}
-use Rattle.std.proofs.lemmas.Bool.Decides.{nat_tests}
+use Rattle.std.proofs.Common.{◌≡◌, ◌<◌, ℕ, Bool, true, false, cond, ◌&&◌, nat_le, List, [], ◌∷◌, length, Some, refl, ap, ◌∙◌, arith, ◌≢◌, ◌+◌, ◌≤◌, ◌++◌, sym, subst, length-append, inl, inr, unwrap_or, map, rules}
 use Rattle.bp_language.specs.Ast.{Program}
 use Rattle.bp_language.proofs.GrownLists.{regrouped}
-use Rattle.bp_flat.specs.Moves.{Configuration, is_call, StatementEffect, Leaves, Fails, Blocks, Misses, effect, after_effect, Moves}
+use Rattle.bp_flat.specs.Moves.{Configuration, is_call, StatementEffect, effect, after_effect, Moves}
 use Rattle.bp_machine.specs.declared.calls.Reply.{Reply}
 use Rattle.bp_machine.specs.declared.calls.Reply.TheVariants.{Stopped, Full}
 use Rattle.bp_machine.specs.declared.calls.Call.{Call}
@@ -20,27 +19,14 @@ use Rattle.bp_machine.proofs.HistoryWithCall.{configuration_after-append, grante
 
 -- the reply of a step tells whether an assertion failed
 pub reply_granted : (xs : List Call) (failed : Bool) → is_granted (reply_of_step xs failed) ≡ true
-reply_granted [] true = refl
-reply_granted [] false = refl
-reply_granted (x ∷ xs) failed = refl
-
-not_full : (n : ℕ) → n < MAX_FRAMES → nat_le MAX_FRAMES n ≡ false
-not_full n h = grind (arith, nat_tests)
+reply_granted xs failed = grind (arith)
 
 no_call_or_room : (call : Bool) (n : ℕ) → (call ≡ true → n < MAX_FRAMES) → (call && nat_le MAX_FRAMES n) ≡ false
-no_call_or_room true n room = not_full n (room refl)
-no_call_or_room false n room = refl
+no_call_or_room call n given1 = grind (arith)
 
 module _ (t : Program) (c : Configuration) (i : ℕ) (bit : Bool) (d : Configuration) where
   pub effect_told : (e : StatementEffect) → after_effect c i e ≡ Some d → reply_to_effect e ≡ Some (reply_of_step [] d.failed)
-  effect_told (Leaves g S) e =
-      let is : record { globals = g; stacks = slice_set c.stacks i S; failed = false } ≡ d = cc in
-      ap (λ (x : Configuration). Some (reply_of_step [] x.failed)) is
-  effect_told Fails e =
-      let is : record c { failed = true } ≡ d = cc in
-      ap (λ (x : Configuration). Some (reply_of_step [] x.failed)) is
-  effect_told Blocks e = absurd cc
-  effect_told Misses e = absurd cc
+  effect_told e given1 = grind (arith)
 
   pub reply_told : Moves t c i bit d → HasRoom c i → reply_of t true c i bit ≡ Some (reply_of_step [] d.failed)
   reply_told m room =
@@ -61,28 +47,21 @@ module _ (t : Program) (c : Configuration) (i : ℕ) (bit : Bool) (d : Configura
 -- the reply of a step is told where the rest of the run ends
 pub reply_before : (t : Program) (d : Configuration) (xs : List Call) (e : Configuration) → IsRun t d xs e
     → reply_of_step [] d.failed ≡ reply_of_step xs e.failed
-reply_before t d [] e run = ap (λ (x : Configuration). reply_of_step [] x.failed) (ended run)
-reply_before t d (x ∷ xs) e run = ap (λ b. reply_of_step [] b) (first_step run).move.runs
+reply_before t d xs e given1 = grind (arith)
 
 -- the thread of a call
 abbrev thread_of : Call → ℕ
 thread_of x = x.thread
 
 counts_one : (x : Call) (xs : List Call) (i : ℕ) → x.thread ≡ i → length (calls_of_thread i (x ∷ xs)) ≡ length (calls_of_thread i xs) + 1
-counts_one x xs i e =
-    let same : (x.thread == i) ≡ true = grind (arith, nat_tests) in
-    ap (λ b. length (cond b (x ∷ calls_of_thread i xs) (calls_of_thread i xs))) same ∙ omega arith
+counts_one x xs i given1 = grind (arith)
 
 counts_none : (x : Call) (xs : List Call) (i : ℕ) → x.thread ≢ i → length (calls_of_thread i (x ∷ xs)) ≡ length (calls_of_thread i xs)
-counts_none x xs i n =
-    let other : (x.thread == i) ≡ false = grind (arith, nat_tests) in
-    ap (λ b. length (cond b (x ∷ calls_of_thread i xs) (calls_of_thread i xs))) other
+counts_none x xs i given1 = grind (arith)
 
 unfinished : (s : SetupOf) (h : List Call) (i : ℕ) → ends_with_last (calls_of_thread i h) ≡ false
     → length (calls_of_thread i h) < s.calls → is_finished s h i ≡ false
-unfinished s h i no_last few =
-    let less : nat_le s.calls (length (calls_of_thread i h)) ≡ false = grind (arith, nat_tests) in
-    ap (λ b. b || nat_le s.calls (length (calls_of_thread i h))) no_last ∙ less
+unfinished s h i given1 given2 = grind (arith)
 
 module _ (t : Program) (s : SetupOf) where
   -- the calls p are made, no line is finished, and the steps xs are to come
@@ -175,8 +154,7 @@ module _ (t : Program) (s : SetupOf) where
   legal_from : (p xs : List Call) (e : Configuration) → Stands p xs e → IsLegalAfter t s p (history_of_run xs e.failed)
   legal_from p [] e now = tt
   legal_from p (x ∷ []) e now = (allowed p x [] e now, tt)
-  legal_from p (x ∷ y ∷ ys) e now =
-      (allowed p x (y ∷ ys) e now, legal_from (p ++ made p x (y ∷ ys) e now ∷ []) (y ∷ ys) e (next p x (y ∷ ys) e now refl))
+  legal_from p (x ∷ y ∷ ys) e now = search (rules, (legal_from (p ++ made p x (y ∷ ys) e now ∷ []) (y ∷ ys) e (next p x (y ∷ ys) e now refl)), [], allowed, next)
 
   leads_from : (c : Configuration) (xs : List Call) (e : Configuration) → IsRun t c xs e → configuration_after_calls t c (history_of_run xs e.failed) ≡ e
   leads_from c [] e run = ended run
@@ -188,10 +166,7 @@ module _ (t : Program) (s : SetupOf) where
 
 granted_from : (xs : List Call) (failed : Bool) → granted_calls (history_of_run xs failed) ≡ history_of_run xs failed
 granted_from [] failed = refl
-granted_from (x ∷ xs) failed =
-    ap (λ b. cond b (record x { reply = reply_of_step xs failed } ∷ granted_calls (history_of_run xs failed))
-    (granted_calls (history_of_run xs failed))) (reply_granted xs failed)
-    ∙ ap (λ ys. record x { reply = reply_of_step xs failed } ∷ ys) (granted_from xs failed)
+granted_from (x ∷ xs) failed = search (rules, (granted_from xs failed), cond, reply_granted)
 
 pub run_is_history : (t : Program) (s : SetupOf) (steps : List Call) (d : Configuration) → IsBoundedRun t s steps d
     → IsHistoryOfSteps t s (history_of_run steps d.failed) d

@@ -1,5 +1,5 @@
 -- What a session that stands after a history answers: a call, a refusal, and its accessors.
-use Rattle.std.proofs.Common.{◌≡◌, ℕ, ◌+◌, ◌/◌, ◌<◌, ◌||◌, nat_le, Bool, true, false, List, [], ◌∷◌, ◌++◌, length, Option, Some, is_some, refl, ap, sym, ◌∙◌, subst, arith, cond, add-one, zero, suc, ◌≤◌, None, get_or, ◌⊎◌, inl, inr, ◌^◌, length-set, slice_get}
+use Rattle.std.proofs.Common.{◌≡◌, ℕ, ◌+◌, ◌<◌, ◌||◌, nat_le, Bool, true, false, List, [], ◌∷◌, ◌++◌, length, Option, Some, is_some, refl, ap, sym, ◌∙◌, subst, arith, cond, add-one, zero, suc, ◌≤◌, None, get_or, ◌⊎◌, inl, inr, ◌^◌, length-set, slice_get, rules}
 use Rattle.std.specs.Option.{option_map}
 use Rattle.std.proofs.Math.Logic.{∥∥₁_map}
 use Rattle.std.proofs.lemmas.Option.{slice_get_within, slice_get_cases}
@@ -10,16 +10,15 @@ use Rattle.bp_flat.specs.Flat.{Flat}
 use Rattle.bp_flat.specs.StandsFor.{StandsFor, valuation_of, StepsAlike}
 use Rattle.bp_machine.specs.declared.calls.Call.{Call}
 use Rattle.bp_machine.specs.declared.threads.Transition.{Transition}
-use Rattle.bp_machine.specs.declared.threads.Transition.TheVariants.{Stays, Fails, Steps}
 use Rattle.bp_machine.specs.declared.calls.AskFault.{AskFault}
 use Rattle.bp_machine.specs.declared.calls.AskFault.TheVariants.{NoThread, Finished, Seeded, Unseeded, Memory, Busy}
 use Rattle.bp_machine.specs.declared.sessions.Judged.{Judged}
-use Rattle.bp_machine.specs.Histories.{ChoicesOf, choice_bit, choice_word, IsBitOfCall, configuration_after, is_finished, ends_with_last, calls_of_thread, open_below, IsAllowed}
+use Rattle.bp_machine.specs.Histories.{ChoicesOf, choice_bit, IsBitOfCall, configuration_after, is_finished, ends_with_last, calls_of_thread, open_below}
 use Rattle.bp_machine.specs.Setups.{SetupOf, threads, IsInRange}
 use Rattle.bp_machine.specs.Sessions.{State, MachineOf, StandsAfter, GuestThreadOf, SessionOf, Stands, IsInOrder, HasOpenLine, IsNextCall, IsAskRefusal, choices_of}
-use Rattle.bp_machine.specs.Transitions.{reply_of_transition, thread_after, state_after, is_over, IsCallTransition, AreDrawn, IsGiven, IsKeptBit, IsJudged, IsKeptRefusal, MayGrow, session_of}
+use Rattle.bp_machine.specs.Transitions.{state_after, is_over, IsCallTransition, AreDrawn, IsKeptBit, IsJudged, IsKeptRefusal, session_of}
 use Rattle.bp_machine.proofs.StandsAfterTransition.{seeded-append, choices_after, allowed, stands_after, call_step}
-use Rattle.bp_machine.proofs.SessionsInOrder.{still_stands, stays_in_order, still_judged, few_calls, may_grow}
+use Rattle.bp_machine.proofs.SessionsInOrder.{still_stands, stays_in_order, still_judged, few_calls}
 
 module _ (t : Program) (s : SetupOf) (x : State) (h : List Call) (stands : StandsAfter t s x h) (i : ℕ)
     (guest : GuestThreadOf) (has : slice_get x.threads i ≡ Some guest) where
@@ -56,8 +55,7 @@ module _ (s : SetupOf) (choices : List ChoicesOf) (count : length choices ≡ ch
       past (inr (is, has)) = is
 
       go : (o : Option ℕ) → s.seed ≡ o → s.seed ≡ None
-      go None e = e
-      go (Some seed) e = absurd (omega (arith, within, past (slice_get_cases choices i).1, count_at (Some seed) e))
+      go o given1 = search (rules, slice_get_cases, count_at)
 
 is_some_of : {X : Type 0} (o : Option X) (y : X) → o ≡ Some y → is_some o ≡ true
 is_some_of o y e = ap is_some e
@@ -71,8 +69,7 @@ module _ (t : Program) (x : SessionOf) (h : List Call) (stands : Stands t x h)
   state = x.machine.state
 
   has_open_line : (guest : GuestThreadOf) → slice_get state.threads i ≡ Some guest → is_over s guest ≡ false → HasOpenLine s h i
-  has_open_line guest has goes_on =
-      (within_threads t s state h stands.state i guest has, unfinished t s state h stands.state i guest has goes_on)
+  has_open_line guest given1 given2 = search (rules, within_threads, unfinished)
 
   -- why a session refuses a call is why it is refused after the history
   pub refused_after : (e : AskFault) → IsKeptRefusal x i given e → IsAskRefusal t s h i given e
@@ -83,30 +80,15 @@ module _ (t : Program) (x : SessionOf) (h : List Call) (stands : Stands t x h)
           → threads s ≤ i
       there (inl (y, inside, has, is)) = let a = has in let b = none in absurd cc
       there (inr (past, is)) = omega (arith, past, stands.state.thread_count)
-  refused_after Finished over = (
-    within_threads t s state h stands.state i over.guest over.has,
-    sym (over_is t s state h stands.state i over.guest over.has) ∙ over.over,
-  )
-  refused_after Seeded (goes_on, ((c, has), (bit, is))) =
-      let seeded = has_seed s x.choices count i c has in
-      (has_open_line goes_on.guest goes_on.has goes_on.goes_on, is_some_of given bit is, is_some_of s.seed seeded.0 seeded.1)
-  refused_after Unseeded (goes_on, (none, is)) =
-      let line = has_open_line goes_on.guest goes_on.has goes_on.goes_on in
-      (line, is, no_seed s x.choices count i line.0 none)
+  refused_after Finished over = search (rules, within_threads, over_is)
+  refused_after Seeded (goes_on, ((c, has), (bit, is))) = search (rules, has_seed, has_open_line, is_some_of)
+  refused_after Unseeded (goes_on, (none, is)) = search (rules, has_open_line, no_seed)
   refused_after Memory never = absurd never
   refused_after Busy never = absurd never
 
   -- the bit that a session gives a call is the one that it has to have
   bit_of : (given : Option Bool) (bit : Bool) → i < threads s → IsKeptBit x.choices i given bit → IsBitOfCall s h i given bit
-  bit_of (Some b) bit within (none, is) = (no_seed s x.choices count i within none, is)
-  bit_of None bit within (c, has, is) =
-      let seeded = has_seed s x.choices count i c has in
-      let at = stands.choices seeded.0 i c seeded.1 has in
-      record {
-        seed = seeded.0;
-        has = seeded.1;
-        is = is ∙ ap (λ w. bits_of w c.place) at.word ∙ ap (bits_of (choice_word seeded.0 i (length (calls_of_thread i h) / 32))) at.place;
-      }
+  bit_of given bit given1 given2 = grind (arith, no_seed, has_seed)
 
   module _ (alike : StepsAlike x.code t) (p : Judged) (judged : IsJudged x i given p) where
     line_of : HasOpenLine s h i
@@ -114,15 +96,7 @@ module _ (t : Program) (x : SessionOf) (h : List Call) (stands : Stands t x h)
 
     -- the call that was judged is the next call
     pub judged_next : IsNextCall t s h i given p.call
-    judged_next =
-        let next = judged.transition in
-        let may = allowed x.code t alike s state h stands.state i next.guest next.has line_of.0 line_of.1 p.call.bit p.transition next.is in
-        record {
-          thread = judged.thread;
-          bit = bit_of given p.call.bit line_of.0 judged.bit;
-          allowed = subst (λ r. IsAllowed t s h (record { thread = p.call.thread; bit = p.call.bit; reply = r })) (sym judged.reply)
-              (subst (λ j. IsAllowed t s h (record { thread = j; bit = p.call.bit; reply = reply_of_transition p.transition })) (sym judged.thread) may);
-        }
+    judged_next = search (rules, allowed, line_of, bit_of)
 
     -- memory may be refused only where its step is a call
     pub refused_for_memory : IsCallTransition p.transition → IsAskRefusal t s h i given Memory
@@ -130,10 +104,6 @@ module _ (t : Program) (x : SessionOf) (h : List Call) (stands : Stands t x h)
         let next = judged.transition in
         let step = call_step x.code t alike s state h stands.state i next.guest next.has line_of.0 line_of.1 p.call.bit p.transition call next.is in
         (line_of, (p.call.bit, bit_of given p.call.bit line_of.0 judged.bit, step))
-
-pub given_bit : (choices : List ChoicesOf) (i : ℕ) (given : Option Bool) (bit : Bool) → IsKeptBit choices i given bit → IsGiven given bit
-given_bit choices i (Some b) bit is = is.1
-given_bit choices i None bit is = tt
 
 -- the session stands after the history with the call that was made
 module _ (t : Program) (x : SessionOf) (h : List Call) (stands : Stands t x h) (count : length x.choices ≡ choices_of x.setup) (alike : StepsAlike x.code t)
@@ -156,10 +126,7 @@ module _ (t : Program) (x : SessionOf) (h : List Call) (stands : Stands t x h) (
   -- with a seed, the call has its bit
   call_bit : (seed : ℕ) → x.setup.seed ≡ Some seed → (given : Option Bool) → IsBitOfCall x.setup h i given p.call.bit
       → p.call.bit ≡ choice_bit seed i (length (calls_of_thread i h))
-  call_bit seed e (Some b) (none, is) = let a = e in let b = none in absurd cc
-  call_bit seed e None is =
-      let same : is.seed ≡ seed = let a = is.has in let b = e in cc in
-      is.is ∙ ap (λ n. choice_bit n i (length (calls_of_thread i h))) same
+  call_bit seed given1 given given2 = grind (arith)
 
   pub stands_with_call : (machine : MachineOf) → machine.state ≡ y
       → Stands t (record { code = x.code; setup = x.setup; machine = machine; choices = choices }) (h ++ p.call ∷ [])
@@ -171,9 +138,7 @@ module _ (t : Program) (x : SessionOf) (h : List Call) (stands : Stands t x h) (
   }
 
 same_thread_count : (x : State) (i : ℕ) (guest : GuestThreadOf) (v : Transition) → length (state_after x i guest v).threads ≡ length x.threads
-same_thread_count x i guest (Stays r) = length-set x.threads i (thread_after guest (Stays r))
-same_thread_count x i guest Fails = length-set x.threads i (thread_after guest Fails)
-same_thread_count x i guest (Steps d) = length-set x.threads i (thread_after guest (Steps d))
+same_thread_count x i guest v = search (rules, length-set)
 
 -- a session in order is in order with the call that was made
 pub still_in_order : (x y : SessionOf) (i : ℕ) (guest : GuestThreadOf) (v : Transition)
@@ -195,9 +160,7 @@ still_in_order x y i guest v code setup made count order goes_on = record {
 pub count_more : (t : Program) (s : SetupOf) (x : State) (h : List Call) (stands : StandsAfter t s x h) (i : ℕ)
     (guest : GuestThreadOf) → slice_get x.threads i ≡ Some guest
     → (over : Bool) → over ≡ is_over s guest → (count : ℕ) → count ≡ open_below i s h → cond over count (count + 1) ≡ open_below (i + 1) s h
-count_more t s x h stands i guest has over is count so_far =
-    let same = is ∙ over_is t s x h stands i guest has in
-    rw (same, so_far) (ap (λ n. open_below n s h) (sym (add-one i)))
+count_more t s x h stands i guest given1 over given2 count given3 = search (rules, over_is, add-one)
 
 -- the bit of a global, where its names stand for the bits of a word
 named_at : (gs : List Name) (bits : Bits) (n : ℕ) → n < length gs → option_map (λ (e : List ℕ × Bool). e.1) (slice_get (valuation_of gs bits) n) ≡ Some (bits n)
@@ -212,14 +175,10 @@ named_past (g ∷ gs) bits (suc n) h = named_past gs (λ k. bits (suc k)) n (ome
 
 module _ (t : Program) (c : Flat) (s : SetupOf) (x : State) (h : List Call) (is : StandsFor c t) (stands : StandsAfter t s x h) (n : ℕ) where
   pub global_here : n < c.globals → Some (bits_of x.globals n) ≡ option_map (λ (e : List ℕ × Bool). e.1) (slice_get (configuration_after t s h).globals n)
-  global_here below =
-      sym (ap (λ g. option_map (λ (e : List ℕ × Bool). e.1) (slice_get g n)) stands.globals
-      ∙ named_at t.globals (bits_of x.globals) n (omega (arith, is.globals)))
+  global_here given1 = search (rules, named_at)
 
   pub no_global : c.globals ≤ n → None ≡ option_map (λ (e : List ℕ × Bool). e.1) (slice_get (configuration_after t s h).globals n)
-  no_global past =
-      sym (ap (λ g. option_map (λ (e : List ℕ × Bool). e.1) (slice_get g n)) stands.globals
-      ∙ named_past t.globals (bits_of x.globals) n (omega (arith, is.globals)))
+  no_global given1 = search (rules, named_past)
 
 -- A call that was judged may be made at once; the session then stands after the history with it.
 
@@ -240,24 +199,13 @@ module _ (c : Flat) (s : SetupOf) (machine later : MachineOf) (same : later.stat
   thread_is = judged.thread
 
   pub within : i < length later.state.threads
-  within =
-      let next = now_judged.transition in
-      subst (λ j. j < length later.state.threads) thread_is (slice_get_within later.state.threads p.call.thread next.guest next.has)
+  within = search (rules, now_judged, thread_is, slice_get_within)
 
   own : (guest : GuestThreadOf) → slice_get later.state.threads i ≡ Some guest → now_judged.transition.guest ≡ guest
-  own guest has =
-      let a = ap (λ j. slice_get later.state.threads j) thread_is ∙ has in
-      let b = now_judged.transition.has in
-      cc
+  own guest given1 = grind (arith)
 
   pub few : (guest : GuestThreadOf) → slice_get later.state.threads i ≡ Some guest → guest.calls + 1 < 2 ^ 32
   few guest has = few_calls s in_order.range guest (ap (λ g. is_over s g) (sym (own guest has)) ∙ now_judged.transition.goes_on)
-
-  pub grows : MayGrow later.state i p.transition
-  grows =
-      let next = now_judged.transition in
-      subst (λ j. MayGrow later.state j p.transition) thread_is
-      (may_grow s in_order.range c.instructions later.state p.call.thread next.guest p.call.bit p.transition next.is)
 
   module _ (now : MachineOf) (made : (guest : GuestThreadOf) → slice_get later.state.threads i ≡ Some guest
       → now.state ≡ state_after later.state i guest p.transition)
@@ -266,10 +214,7 @@ module _ (c : Flat) (s : SetupOf) (machine later : MachineOf) (same : later.stat
     y = session_of c s now drawn
 
     made_is : now.state ≡ state_after later.state p.call.thread now_judged.transition.guest p.transition
-    made_is =
-        let next = now_judged.transition in
-        let at : slice_get later.state.threads i ≡ Some next.guest = ap (λ j. slice_get later.state.threads j) (sym thread_is) ∙ next.has in
-        subst (λ j. now.state ≡ state_after later.state j next.guest p.transition) (sym thread_is) (made next.guest at)
+    made_is = grind (arith)
 
     drawn_are : AreDrawn p.call.thread choices drawn
     drawn_are = subst (λ j. AreDrawn j choices drawn) (sym thread_is) are

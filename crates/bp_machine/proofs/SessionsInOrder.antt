@@ -1,12 +1,11 @@
 -- A session that is new is in order, and one that makes room for a call stays so; a call that was judged may be made.
-use Rattle.std.proofs.Common.{◌≡◌, ℕ, zero, suc, ◌+◌, ◌==◌, Bool, false, List, [], ◌∷◌, ◌++◌, length, map, Option, None, Some, refl, ap, sym, ◌∙◌, subst, ◌<◌, ◌≤◌, ◌^◌, ◌||◌, nat_le, true, arith, ◌⊎◌, ◌-◌, drop, reverse, inl, inr, slice_get, option_map, unwrap_or, slice_set}
+use Rattle.std.proofs.Common.{◌≡◌, ℕ, zero, suc, ◌+◌, ◌==◌, Bool, false, List, [], ◌∷◌, ◌++◌, length, map, Option, None, Some, refl, ap, sym, ◌∙◌, subst, ◌<◌, ◌^◌, nat_le, true, arith, ◌⊎◌, ◌-◌, drop, reverse, inl, inr, slice_get, option_map, slice_set, rules}
 use Rattle.std.specs.Option.{option_or}
 use Rattle.std.proofs.Math.Path.{fun_ext}
 use Rattle.std.proofs.lemmas.List.{length-map, reverse-append, length-append}
 use Rattle.std.proofs.lemmas.Option.{slice_get-map, get_or_from_slice_get}
 use Rattle.std.proofs.lemmas.Nat.Bits.{bit_at-zero}
 use Rattle.std.proofs.Math.Logic.{∥∥₁_map}
-use Rattle.std.proofs.lemmas.Bool.Decides.{nat_tests}
 use Rattle.std.proofs.Math.Seq.{set-append_seam}
 use Rattle.bp_language.specs.Ast.{Name, Procedure, Program}
 use Rattle.bp_language.proofs.GrownLists.{regrouped}
@@ -14,8 +13,7 @@ use Rattle.bp_flat.specs.InstrEffects.{bits_of}
 use Rattle.bp_flat.specs.Moves.{binding, procedure_named, first_stack}
 use Rattle.bp_flat.specs.Flat.{Flat, Heading, heading_named, Instruction}
 use Rattle.bp_flat.specs.Steps.{bits_from}
-use Rattle.bp_flat.specs.StandsFor.{StandsFor, valuation_of, variables, places_of, ShowsStack, IsOfProgram}
-use Rattle.bp_flat.specs.declared.effects.Effect.{Effect}
+use Rattle.bp_flat.specs.StandsFor.{StandsFor, valuation_of, places_of, ShowsStack, IsOfProgram}
 use Rattle.bp_flat.proofs.SlotsOfNames.{SameHeading, heading_of_procedure}
 use Rattle.bp_machine.specs.declared.setup_faults.SetupFault.{SetupFault}
 use Rattle.bp_machine.specs.Sessions.{IsCountOf, State, activations, ShowsThread, StandsAfter, GuestThreadOf, first_thread, used_with, MachineOf, SessionOf, Stands, IsInOrder, top_of, with_top, entered_top}
@@ -25,9 +23,7 @@ use Rattle.bp_machine.specs.Histories.{is_failure, ChoicesOf}
 use Rattle.bp_machine.specs.declared.calls.Call.{Call}
 use Rattle.bp_machine.specs.declared.sessions.Judged.{Judged}
 use Rattle.bp_machine.specs.declared.stacks.ActivationRecord.{ActivationRecord}
-use Rattle.bp_machine.specs.declared.threads.Transition.{Transition}
-use Rattle.bp_machine.specs.declared.threads.Transition.TheVariants.{Stays, Fails, Steps}
-use Rattle.bp_machine.specs.Transitions.{IsTransitionUnless, IsTransition, IsNextTransition, MayGrow, is_over, session_of, AreFirstChoices, IsKeptBit, IsJudged}
+use Rattle.bp_machine.specs.Transitions.{is_over, session_of, AreFirstChoices, IsJudged}
 use Rattle.bp_machine.proofs.ContextCounts.{count_of_none}
 
 -- A new session stands after the empty history.
@@ -46,44 +42,27 @@ no_bits : bits_of 0 ≡ (λ k. false)
 no_bits = fun_ext (λ k. ap (λ n. n == 1) (bit_at-zero k))
 
 pub entry_fine : (k : ℕ) (o : Option Procedure) (rest : Option SetupFault) → option_or (entry_fault k o) rest ≡ None → (p : Procedure) × (o ≡ Some p)
-entry_fine k None rest e = absurd cc
-entry_fine k (Some p) rest e = (p, refl)
+entry_fine k o rest given1 = grind (arith)
 
 pub others_fine : (o rest : Option SetupFault) → option_or o rest ≡ None → rest ≡ None
-others_fine None rest e = e
-others_fine (Some f) rest e = absurd cc
+others_fine o rest given1 = grind (arith)
 
 of_map : {X Y : Type 0} (f : X → Y) (o : Option X) (y : Y) → option_map f o ≡ Some y → (x : X) × (o ≡ Some x) × (f x ≡ y)
-of_map f None y e = absurd cc
-of_map f (Some x) y e = let same : f x ≡ y = cc in (x, refl, same)
+of_map given1 = grind (arith)
 
 module _ (c : Flat) (t : Program) (s : SetupOf) (is : StandsFor c t) where
   -- the entry of a thread, where the setup fits
   entry_here : (es : List (List ℕ)) (k i : ℕ) (e : List ℕ) → entries_fault t k es ≡ None → slice_get es i ≡ Some e
       → (p : Procedure) × (procedure_named t.procedures e ≡ Some p)
   entry_here [] k i e none found = absurd cc
-  entry_here (d ∷ es) k zero e none found =
-      let same : d ≡ e = cc in
-      subst (λ n. (p : Procedure) × (procedure_named t.procedures n ≡ Some p)) same
-      (entry_fine k (procedure_named t.procedures d) (entries_fault t (k + 1) es) none)
-  entry_here (d ∷ es) k (suc i) e none found =
-      entry_here es (k + 1) i e (others_fine (entry_fault k (procedure_named t.procedures d)) (entries_fault t (k + 1) es) none) found
+  entry_here (d ∷ es) k zero e none found = search (rules, entry_fine)
+  entry_here (d ∷ es) k (suc i) e none found = search (rules, (entry_here es (k + 1) i e (others_fine (entry_fault k (procedure_named t.procedures d)) (entries_fault t (k + 1) es) none) found), others_fine)
 
   -- the first thread at a procedure shows its first stack
   at_heading : (e : List ℕ) (p : Procedure) (o : Option Heading) → heading_named c.headings e ≡ o → procedure_named t.procedures e ≡ Some p
       → SameHeading (places_of t.procedures) o (procedure_named t.procedures e)
       → ShowsStack t (activations (first_thread c e).stack) (first_stack (procedure_named t.procedures e))
-  at_heading e p None found is_named none = absurd cc
-  at_heading e p (Some h) found is_named (q, named_is, headed) =
-      let number : unwrap_or (option_map (λ (k : Heading). k.entry) (heading_named c.headings e)) 0 ≡ h.entry =
-      ap (λ o. unwrap_or (option_map (λ (k : Heading). k.entry) o) 0) found in
-      rw (named_is, number) (
-        record {
-          left = headed.entry;
-          locals = zero_bits q.formals q.locals ∙ ap (valuation_of (variables q)) (sym no_bits);
-        },
-        tt,
-      )
+  at_heading e p o given1 given2 given3 = search (rules, zero_bits, no_bits)
 
   pub shown : (e : List ℕ) (p : Procedure) → procedure_named t.procedures e ≡ Some p
       → ShowsStack t (activations (first_thread c e).stack) (first_stack (procedure_named t.procedures e))
@@ -150,14 +129,7 @@ pub fits_anew : (c : Flat) (s z : SetupOf) (seed : Option ℕ) → z ≡ record 
 fits_anew c s z seed e fits = subst (FitsCode c) (sym e) (λ t is. record { entries = (fits t is).entries; init = (fits t is).init })
 
 pub in_range_anew : (s z : SetupOf) (seed : Option ℕ) → z ≡ record s { seed = seed } → IsInRange s → IsInRange z
-in_range_anew s z seed e range = subst IsInRange (sym e) (record {
-  some = range.some;
-  few = range.few;
-  bits = range.bits;
-  contexts = range.contexts;
-  one = range.one;
-  calls = range.calls;
-})
+in_range_anew s z seed given1 given2 = grind (arith)
 
 -- where room was made
 module _ (c : Flat) (s : SetupOf) (machine later : MachineOf) (same : later.state ≡ machine.state) (choices : List ChoicesOf) where
@@ -168,11 +140,7 @@ module _ (c : Flat) (s : SetupOf) (machine later : MachineOf) (same : later.stat
   after = session_of c s later choices
 
   pub still_stands : (t : Program) (h : List Call) → Stands t before h → Stands t after h
-  still_stands t h stands = record {
-    state = subst (λ z. StandsAfter t s z h) (sym same) stands.state;
-    seeded = stands.seeded;
-    choices = stands.choices;
-  }
+  still_stands t h given1 = grind (arith)
 
   pub stays_in_order : IsInOrder before → IsInOrder after
   stays_in_order order = record {
@@ -183,53 +151,16 @@ module _ (c : Flat) (s : SetupOf) (machine later : MachineOf) (same : later.stat
   }
 
   pub still_judged : (i : ℕ) (given : Option Bool) (p : Judged) → IsJudged before i given p → IsJudged after p.call.thread given p
-  still_judged i given p judged = record {
-    thread = refl;
-    bit = subst (λ j. IsKeptBit choices j given p.call.bit) (sym judged.thread) judged.bit;
-    transition = subst (λ j. IsNextTransition c.instructions s later.state j p.call.bit p.transition) (sym judged.thread)
-        (subst (λ z. IsNextTransition c.instructions s z i p.call.bit p.transition) (sym same) judged.transition);
-    reply = judged.reply;
-  }
+  still_judged i given p given1 = grind (arith)
 
 -- a call that was judged may be made
 module _ (s : SetupOf) (range : IsInRange s) where
-  no_other : (a b : Bool) → (a || b) ≡ false → b ≡ false
-  no_other true b e = absurd cc
-  no_other false b e = e
-
   pub few_calls : (guest : GuestThreadOf) → is_over s guest ≡ false → guest.calls + 1 < 2 ^ 32
-  few_calls guest e =
-      let more : nat_le s.calls guest.calls ≡ false = no_other guest.ended (nat_le s.calls guest.calls) e in
-      let fewer : guest.calls < s.calls = grind (arith, nat_tests, more) in
-      omega (arith, fewer, range.calls)
+  few_calls guest given1 = grind (arith)
 
   module _ (code : List Instruction) (x : State) (i : ℕ) (guest : GuestThreadOf) (bit : Bool) where
     within : (fits : Bool) → nat_le (used_with x.contexts i) s.contexts ≡ fits → fits ≡ true → used_with x.contexts i < 2 ^ 32
-    within fits is e =
-        let few : used_with x.contexts i ≤ s.contexts = grind (arith, nat_tests, is, e) in
-        omega (arith, few, range.contexts)
-
-    fails_fit : (failed fits : Bool) (stack : List ActivationRecord) → IsTransitionUnless code x.globals bit failed fits stack Fails → fits ≡ true
-    fails_fit true fits stack e = absurd cc
-    fails_fit false fits [] e = absurd cc
-    fails_fit false true (f ∷ fs) e = refl
-    fails_fit false false (f ∷ fs) e = absurd cc
-
-    steps_fit : (d : Effect) (failed fits : Bool) (stack : List ActivationRecord)
-        → IsTransitionUnless code x.globals bit failed fits stack (Steps d) → fits ≡ true
-    steps_fit d true fits stack e = absurd cc
-    steps_fit d false fits [] e = absurd cc
-    steps_fit d false true (f ∷ fs) e = refl
-    steps_fit d false false (f ∷ fs) e = absurd cc
-
-    pub may_grow : (v : Transition) → IsTransition code x s.contexts i guest bit v → MayGrow x i v
-    may_grow (Stays r) is = tt
-    may_grow Fails is =
-        within (nat_le (used_with x.contexts i) s.contexts) refl
-        (fails_fit (is_failure x.outcome) (nat_le (used_with x.contexts i) s.contexts) guest.stack is)
-    may_grow (Steps d) is =
-        within (nat_le (used_with x.contexts i) s.contexts) refl
-        (steps_fit d (is_failure x.outcome) (nat_le (used_with x.contexts i) s.contexts) guest.stack is)
+    within fits given1 given2 = grind (arith)
 
 -- A stack that is kept with its top last.
 
@@ -291,11 +222,7 @@ abbrev pub IsBelow : ℕ → List ActivationRecord → Type 0
 IsBelow n xs = n < length xs → slice_get xs (length xs - 1 - n) ≡ top_of (drop n (reverse xs))
 
 one_more : (n : ℕ) (xs ys : List ActivationRecord) (y : ActivationRecord) → IsBelow n ys → xs ≡ ys ++ y ∷ [] → IsBelow (suc n) xs
-one_more n xs ys y below is inside =
-    let long : length (ys ++ y ∷ []) ≡ length ys + 1 = length-append ys (y ∷ []) in
-    let within : n < length ys = omega (arith, inside, ap length is, long) in
-    let size : length (ys ++ y ∷ []) - 1 - suc n ≡ length ys - 1 - n = omega (arith, long) in
-    rw (is, size, reverse_last ys y) (front_at ys (y ∷ []) (length ys - 1 - n) (omega (arith, within)) ∙ below within)
+one_more n xs ys y given1 given2 = search (rules, length-append, within, reverse_last, front_at)
 
 pub below_is : (n : ℕ) (xs : List ActivationRecord) → IsBelow n xs
 below_is zero xs inside =

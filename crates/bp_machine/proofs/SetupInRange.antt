@@ -1,5 +1,5 @@
 -- A setup without a fault fits its program, and its numbers are within their limits, since a program has few globals.
-use Rattle.std.proofs.Common.{◌≡◌, ℕ, Bool, true, false, List, refl, sym, ◌<◌, ◌≤◌, ◌==◌, ◌||◌, nat_lt, not, length, [], ◌∷◌, Option, None, Some, arith, ◌≢◌, ◌+◌, cond, All, ◌∙◌, subst, bytes_eq, zero, suc, ap, option_map, map, get_or, take, ◌++◌, Bor, String, Global, string_bytes, if◌then◌else◌, drop, add-one, replicate, slice_get, is_some}
+use Rattle.std.proofs.Common.{◌≡◌, ℕ, Bool, true, false, List, refl, sym, ◌<◌, ◌≤◌, ◌==◌, ◌||◌, nat_lt, not, length, [], ◌∷◌, Option, None, Some, arith, ◌≢◌, ◌+◌, cond, All, ◌∙◌, subst, bytes_eq, zero, suc, ap, option_map, map, get_or, take, ◌++◌, Bor, String, Global, string_bytes, if◌then◌else◌, drop, add-one, replicate, slice_get, is_some, rules}
 use Rattle.std.proofs.lemmas.Bool.{false≢true}
 use Rattle.std.proofs.Math.Logic.{∥∥₁_map, ∥∥₁_elim}
 use Rattle.std.proofs.Math.Nat.{ℕ_set}
@@ -28,8 +28,8 @@ use Rattle.bp_machine.specs.declared.calls.Call.{Call}
 use Rattle.bp_machine.specs.Histories.{open_lines}
 use Rattle.bp_machine.specs.Sessions.{SessionOf, Stands, StandsForAll}
 use Rattle.bp_machine.specs.declared.setup_faults.SetupFault.{SetupFault}
-use Rattle.bp_machine.specs.declared.setup_faults.SetupFault.TheVariants.{Threads, InitLength, OutOfRange, UnknownEntry, EntryHasFormals, Memory}
-use Rattle.bp_machine.specs.declared.limits.TheConstants.{MAX_THREADS, MAX_CONTEXTS, MAX_CALLS}
+use Rattle.bp_machine.specs.declared.setup_faults.SetupFault.TheVariants.{Threads, InitLength, OutOfRange, EntryHasFormals, Memory}
+use Rattle.bp_machine.specs.declared.limits.TheConstants.{MAX_THREADS, MAX_CALLS}
 use Rattle.bp_machine.specs.Setups.{SetupOf, threads, entries_fault, fault_if, first_of, has_bad_threads, is_out_of_range, setup_fault, Fits, IsInRange, entry_fault, IsSetupRefusal, initial_bits}
 
 -- What holds for every program that a code stands for, where it stands for one.
@@ -62,16 +62,13 @@ few_globals c of_some = ∥∥₁_elim of_some le_prop few
     few (t, is_lawful, of_text, is) = omega (arith, (few_names t is_lawful).globals, is.globals)
 
 pub neither : {X : Type 0} (a b : Option X) → option_or a b ≡ None → (a ≡ None) × (b ≡ None)
-neither None b e = (refl, e)
-neither (Some x) b e = absurd cc
+neither given1 = grind (arith)
 
 untrue : (b : Bool) (f : SetupFault) → fault_if b f ≡ None → b ≡ false
-untrue true f e = absurd cc
-untrue false f e = refl
+untrue b f given1 = grind (arith)
 
 no_other : (a b : Bool) → (a || b) ≡ false → (a ≡ false) × (b ≡ false)
-no_other true b e = absurd cc
-no_other false b e = (refl, e)
+no_other a b given1 = grind (arith)
 
 equal : (a b : ℕ) → not (a == b) ≡ false → a ≡ b
 equal a b e = grind (arith, nat_tests)
@@ -79,22 +76,8 @@ equal a b e = grind (arith, nat_tests)
 above : (a b : ℕ) → nat_lt a b ≡ false → b ≤ a
 above a b e = grind (arith, nat_tests)
 
-some_of : (a : ℕ) → (a == 0) ≡ false → 0 < a
-some_of a e = grind (arith, nat_tests)
-
 range_by : (s : SetupOf) → has_bad_threads s ≡ false → is_out_of_range s ≡ false → length s.init ≤ MAX_GLOBALS → IsInRange s
-range_by s good_threads numbers bits =
-    let counted = no_other (threads s == 0) (nat_lt MAX_THREADS (threads s)) good_threads in
-    let a = no_other (nat_lt MAX_CONTEXTS s.contexts) _ numbers in
-    let b = no_other (s.calls == 0) _ a.1 in
-    record {
-      some = some_of (threads s) counted.0;
-      few = above MAX_THREADS (threads s) counted.1;
-      bits = bits;
-      contexts = above MAX_CONTEXTS s.contexts a.0;
-      one = some_of s.calls b.0;
-      calls = above MAX_CALLS s.calls b.1;
-    }
+range_by s given1 given2 given3 = grind (arith)
 
 module _ (t : Program) (s : SetupOf) (none : setup_fault t s ≡ None) where
   -- no fault of the four, the first first
@@ -110,9 +93,7 @@ module _ (t : Program) (s : SetupOf) (none : setup_fault t s ≡ None) where
   threads_fine = untrue (has_bad_threads s) Threads (neither (fault_if (has_bad_threads s) Threads) _ none).0
 
   numbers_fine : is_out_of_range s ≡ false
-  numbers_fine =
-      let last = (neither (fault_if (not (length s.init == length t.globals)) InitLength) _ rest.1).1 in
-      untrue _ OutOfRange (neither (fault_if (is_out_of_range s) OutOfRange) _ last).0
+  numbers_fine = grind (arith)
 
   pub fits : Fits t s
   fits = record { entries = rest.0; init = equal (length s.init) (length t.globals) bits }
@@ -121,9 +102,7 @@ module _ (t : Program) (s : SetupOf) (none : setup_fault t s ≡ None) where
   few_threads = above MAX_THREADS (threads s) (no_other (threads s == 0) (nat_lt MAX_THREADS (threads s)) threads_fine).1
 
   pub few_calls : s.calls ≤ MAX_CALLS
-  few_calls =
-      let counts = (no_other (nat_lt MAX_CONTEXTS s.contexts) _ numbers_fine).1 in
-      above MAX_CALLS s.calls (no_other (s.calls == 0) _ counts).1
+  few_calls = grind (arith)
 
   pub range_of : IsLawful t → IsInRange s
   range_of is_lawful = range_by s threads_fine numbers_fine (omega (arith, (few_names t is_lawful).globals, fits.init))
@@ -156,8 +135,7 @@ module _ (P : List ℕ → Type 0) where
 
   fine_name : (t : Program) (k : ℕ) (e : List ℕ) (o : Option Procedure) → NamesInProcedures (λ n. P n.text) t.procedures
       → procedure_named t.procedures e ≡ o → entry_fault k o ≡ None → P e
-  fine_name t k e None each is none = absurd cc
-  fine_name t k e (Some p) each is none = found_name t.procedures e p each is
+  fine_name t k e o given1 given2 given3 = search (rules, found_name)
 
   pub entries_are_names : (t : Program) (k : ℕ) (es : List (List ℕ)) → NamesInProcedures (λ n. P n.text) t.procedures
       → entries_fault t k es ≡ None → AllByRecursion P es
@@ -190,22 +168,14 @@ name_of_found (k ∷ hs) x h e = go (bytes_eq k.name x) refl (λ later. name_of_
 some_heading : (h : Option Heading) (k : ℕ) (o : Option Procedure)
     → option_map (λ (z : Heading). z.formals) h ≡ option_map (λ (p : Procedure). length p.formals) o
     → entry_fault k o ≡ None → is_some h ≡ true
-some_heading (Some z) k o same none = refl
-some_heading None k None same none = absurd cc
-some_heading None k (Some p) same none = absurd cc
+some_heading h k o given1 given2 = grind (arith)
 
 module _ (c : Flat) (t : Program) (is : StandsFor c t) where
   each_found : (es : List (List ℕ)) (k i : ℕ) (name : List ℕ) → entries_fault t k es ≡ None → slice_get es i ≡ Some name
       → is_some (heading_named c.headings name) ≡ true
   each_found [] k i name none at = absurd cc
-  each_found (e ∷ es) k zero name none at =
-      let same : e ≡ name = cc in
-      let own = (neither (entry_fault k (procedure_named t.procedures e)) (entries_fault t (k + 1) es) none).0 in
-      some_heading (heading_named c.headings name) k (procedure_named t.procedures name)
-      (formals_of_procedure c t name is)
-      (subst (λ n. entry_fault k (procedure_named t.procedures n) ≡ None) same own)
-  each_found (e ∷ es) k (suc i) name none at =
-      each_found es (k + 1) i name (neither (entry_fault k (procedure_named t.procedures e)) (entries_fault t (k + 1) es) none).1 at
+  each_found (e ∷ es) k zero name none at = search (rules, neither, some_heading, formals_of_procedure)
+  each_found (e ∷ es) k (suc i) name none at = search (rules, (each_found es (k + 1) i name (neither (entry_fault k (procedure_named t.procedures e)) (entries_fault t (k + 1) es) none).1 at), neither)
 
 pub names_found : (c : Flat) (es : List (List ℕ)) → IsOfProgram c → ((t : Program) → StandsFor c t → entries_fault t 0 es ≡ None)
     → (i : ℕ) (name : List ℕ) → slice_get es i ≡ Some name → is_some (heading_named c.headings name) ≡ true
@@ -213,8 +183,7 @@ names_found c es of_some none i name at = is_true c (is_some (heading_named c.he
 
 -- what a search answers
 pub found_somewhere : (o : Option (Bor kept.Heading)) (h : Option Heading) → option_copied o ≡ h → is_some h ≡ true → ((x : Bor Heading) → o ≡ Some x → ⊥) → ⊥
-found_somewhere (Some x) h e some none = none x refl
-found_somewhere None h e some none = let a = ap is_some e in cc
+found_somewhere o h given1 given2 given3 = grind (arith)
 
 -- the i-th name of borrowed ones
 pub name_at : (xs : List (Bor (List ℕ))) (i : ℕ) (d : Bor (List ℕ)) → i < length xs → slice_get (map (λ n. n.now) xs) i ≡ Some ((get_or xs i d).now)
@@ -234,8 +203,7 @@ names_more xs i d within old name same is =
 -- A fault of a setup is never that memory was refused.
 
 either : (a b : Option SetupFault) → (a ≡ Some Memory → ⊥) → (b ≡ Some Memory → ⊥) → option_or a b ≡ Some Memory → ⊥
-either None b p q e = q e
-either (Some f) b p q e = p e
+either a b given1 given2 given3 = grind (arith)
 
 entry : (k : ℕ) (o : Option Procedure) → entry_fault k o ≡ Some Memory → ⊥
 entry k None e = cc
@@ -247,30 +215,18 @@ entry k (Some p) e = by_test (length p.formals == 0) e
 
 entries : (t : Program) (k : ℕ) (es : List (List ℕ)) → entries_fault t k es ≡ Some Memory → ⊥
 entries t k [] e = cc
-entries t k (x ∷ es) e =
-    either (entry_fault k (procedure_named t.procedures x)) (entries_fault t (k + 1) es) (entry k (procedure_named t.procedures x)) (entries t (k + 1) es) e
+entries t k (x ∷ es) e = search (rules, (entries t (k + 1) es), either, entry)
 
 module _ (t : Program) (s : SetupOf) where
   test : (b : Bool) (f : SetupFault) → (Some f ≡ Some Memory → ⊥) → fault_if b f ≡ Some Memory → ⊥
-  test true f p e = p e
-  test false f p e = cc
+  test b f given1 given2 = grind (arith)
 
   never_memory : setup_fault t s ≡ Some Memory → ⊥
-  never_memory e =
-      either (fault_if (has_bad_threads s) Threads) _ (test (has_bad_threads s) Threads (λ x. cc))
-      (either (entries_fault t 0 s.entries) _ (entries t 0 s.entries)
-      (either (fault_if (not (length s.init == length t.globals)) InitLength) _ (test (not (length s.init == length t.globals)) InitLength (λ x. cc))
-      (either (fault_if (is_out_of_range s) OutOfRange) None (test (is_out_of_range s) OutOfRange (λ x. cc)) (λ x. cc))))
-      e
+  never_memory given1 = search (rules, either, test, entries)
 
   -- a fault refuses the setup
   pub fault_refuses : (f : SetupFault) → setup_fault t s ≡ Some f → IsSetupRefusal t s f
-  fault_refuses Memory e = absurd (never_memory e)
-  fault_refuses Threads e = e
-  fault_refuses (UnknownEntry k) e = e
-  fault_refuses (EntryHasFormals k) e = e
-  fault_refuses InitLength e = e
-  fault_refuses OutOfRange e = e
+  fault_refuses f given1 = search (rules, never_memory)
 
 -- Entries of threads, one after the other.
 
@@ -280,12 +236,10 @@ map_at f (y ∷ xs) zero x d h e = ap (λ z. f z ∷ map f xs) (sym e)
 map_at f (y ∷ xs) (suc i) x d h e = map_at f xs i x d (omega arith) e
 
 first_is : (o r : Option SetupFault) → is_some o ≡ true → option_or o r ≡ o
-first_is None r e = absurd cc
-first_is (Some f) r e = refl
+first_is o r given1 = grind (arith)
 
 second_is : (o r : Option SetupFault) → is_some o ≡ false → option_or o r ≡ r
-second_is None r e = refl
-second_is (Some f) r e = absurd cc
+second_is o r given1 = grind (arith)
 
 -- the entries from thread i on, where x is the entry of that thread
 module _ (t : Program) {X : Type 0} (name : X → List ℕ) (xs : List X) (i : ℕ) (x d : X) (within : i < length xs) (is : x ≡ get_or xs i d) where

@@ -1,5 +1,5 @@
 -- A session that stands after a history stands after it with the call that it answers.
-use Rattle.std.proofs.Common.{◌≡◌, ℕ, ◌+◌, ◌<◌, Bool, true, false, cond, nat_le, List, [], ◌∷◌, ◌++◌, length, Some, refl, ap, sym, ◌∙◌, subst, arith, suc, ◌/◌, add-one, ◌⊎◌, zero, inl, inr, slice_get, slice_set, unwrap_or, length-set, append-nil, get_or-set_same, get_or-set_other, length-append}
+use Rattle.std.proofs.Common.{◌≡◌, ℕ, ◌+◌, ◌<◌, Bool, true, false, cond, nat_le, List, [], ◌∷◌, ◌++◌, length, Some, refl, ap, sym, ◌∙◌, subst, arith, suc, ◌/◌, add-one, ◌⊎◌, zero, inl, inr, slice_get, slice_set, unwrap_or, length-set, append-nil, get_or-set_same, get_or-set_other, length-append, rules}
 use Rattle.rand_pcg.specs.Lcg.{Lcg, started, increment_of}
 use Rattle.rand_pcg.specs.Pcg.{multiplier_64, pcg32}
 use Rattle.std.proofs.lemmas.Option.{slice_get_within, slice_get_cases}
@@ -60,11 +60,7 @@ module _ (c : Flat) (t : Program) (alike : StepsAlike c t) (s : SetupOf) (x : St
   -- the sizes of the stacks before and after the step of a call
   sizes : (cal loc m : ℕ) (own : List ActivationRecord) (f : Frame) (fs stack : List Frame) → ShowsStack t (activations own) (f ∷ fs)
       → ShowsStack t (activations (stack_after (Enters cal m loc) own)) stack → length stack ≡ length fs + 2
-  sizes cal loc m [] f fs stack shows shown = absurd shows
-  sizes cal loc m (a ∷ rest) f fs stack shows shown =
-      let after = shown_length t (activations (stack_after (Enters cal m loc) (a ∷ rest))) stack shown in
-      let before = shown_length t (activations rest) fs shows.1 in
-      omega (arith, after, before)
+  sizes cal loc m own f fs stack given1 given2 = search (rules, shown_length)
 
   -- the step of a call is a granted step at a call statement
   pub enters : (cal loc m : ℕ) → IsTransition c.instructions x s.contexts i guest bit (Steps (Enters cal m loc)) → IsCallStep t s h i bit
@@ -199,13 +195,7 @@ start_is seed thread = refl
 
 pub at_first_word : (seed thread word : ℕ) (g : Lcg) → (word, g) ≡ pcg32 (started 64 multiplier_64 seed (increment_of 64 (54 + thread)))
     → IsAt (record { word = word; place = 0; generator = g }) seed thread 0
-at_first_word seed thread word g drawn =
-    let from = drawn ∙ ap pcg32 (sym (start_is seed thread)) in
-    record {
-      word = ap (λ p. p.0) from;
-      place = refl;
-      generator = ap (λ p. p.1) from ∙ sym (word_after seed thread 0);
-    }
+at_first_word seed thread word g given1 = search (rules, start_is, word_after)
 
 -- A seeded history is seeded with one more call that has the seed's bit, and so are the choices that stand after it.
 
@@ -218,20 +208,10 @@ at_end (z ∷ zs) x y (suc n) e = elim (at_end zs x y n e) [ inl found ↦ inl f
 
 module _ (seed : ℕ) (h : List Call) (x : Call) (seeded : IsSeeded seed h) (is : x.bit ≡ choice_bit seed x.thread (length (calls_of_thread x.thread h))) where
   own_bit : (i n : ℕ) (y : Call) → x.thread ≡ i → slice_get (calls_of_thread i (h ++ x ∷ [])) n ≡ Some y → y.bit ≡ choice_bit seed i n
-  own_bit i n y same at =
-      let found = ap (λ cs. slice_get cs n) (sym (calls_of_thread-same h x i same)) ∙ at in
-      elim (at_end (calls_of_thread i h) x y n found) [
-        | inl before ↦ seeded i n y before
-        | inr last ↦
-            ap (λ (c : Call). c.bit) (sym last.1) ∙ is ∙ ap (λ j. choice_bit seed j (length (calls_of_thread j h))) same
-            ∙ ap (choice_bit seed i) (sym last.0)
-      ]
+  own_bit i n y given1 given2 = grind (arith, calls_of_thread-same, at_end)
 
   pub seeded-append : IsSeeded seed (h ++ x ∷ [])
-  seeded-append = λ i n y at. elim (same_or_not x.thread i) [
-    | inl same ↦ own_bit i n y same at
-    | inr other ↦ seeded i n y (ap (λ cs. slice_get cs n) (sym (calls_of_thread-other h x i other)) ∙ at)
-  ]
+  seeded-append = search (rules, same_or_not, own_bit, calls_of_thread-other)
 
 module _ (seed : ℕ) (h : List Call) (x : Call) (old new : List ChoicesOf) (drawn : AreDrawn x.thread old new)
     (stand : (i : ℕ) (c : ChoicesOf) → slice_get old i ≡ Some c → IsAt c seed i (length (calls_of_thread i h))) where
@@ -246,9 +226,4 @@ module _ (seed : ℕ) (h : List Call) (x : Call) (old new : List ChoicesOf) (dra
   ]
 
   pub choices_after : (i : ℕ) (c : ChoicesOf) → slice_get new i ≡ Some c → IsAt c seed i (length (calls_of_thread i (h ++ x ∷ [])))
-  choices_after i c at = elim (same_or_not i x.thread) [
-    | inl same ↦ own_choices i c same at
-    | inr other ↦
-        let same = ap length (calls_of_thread-other h x i (λ e. other (sym e))) in
-        subst (λ n. IsAt c seed i n) (sym same) (stand i c (sym (drawn.others i other) ∙ at))
-  ]
+  choices_after i c given1 = grind (arith, same_or_not, own_choices, calls_of_thread-other)

@@ -1,5 +1,5 @@
 -- The verdict of a call is the machine's answer.
-use Rattle.std.proofs.Common.{◌≡◌, ℕ, ◌&&◌, Bool, true, false, cond, nat_le, List, [], ◌∷◌, length, Option, None, Some, refl, ap, sym, ◌∙◌, subst, arith, ◌<◌, get_or, slice_get, slice_set, option_map}
+use Rattle.std.proofs.Common.{◌≡◌, ℕ, ◌&&◌, Bool, true, false, cond, nat_le, List, [], ◌∷◌, length, Option, None, Some, refl, ap, sym, ◌∙◌, subst, arith, ◌<◌, get_or, slice_get, slice_set, option_map, rules}
 use Rattle.std.proofs.lemmas.List.{length-map, map-set}
 use Rattle.std.proofs.Math.Seq.{map-set_same}
 use Rattle.std.proofs.lemmas.Option.{slice_get_read, slice_get-map}
@@ -25,7 +25,7 @@ use Rattle.bp_machine.specs.Transitions.{transition_of, IsTransitionAt, IsTransi
 use Rattle.bp_machine.specs.declared.calls.Outcome.{Outcome}
 use Rattle.bp_machine.specs.declared.calls.Outcome.TheVariants.{Failed}
 use Rattle.bp_machine.specs.declared.contexts.ContextCount.{ContextCount}
-use Rattle.bp_machine.proofs.EffectSizes.{shown_length, same_leaves, same_fails, same_blocks, same_lost, not_call, is_a_call, fails_no_call, blocks_no_call}
+use Rattle.bp_machine.proofs.EffectSizes.{shown_length, same_leaves, same_lost, not_call, is_a_call}
 use Rattle.bp_machine.proofs.HistoryWithCall.{set_same}
 
 -- what a verdict says of an effect
@@ -71,23 +71,9 @@ module _ (t : Program) (g : Valuation) (f : Frame) (fs : List Frame) (bit : Bool
       let size = shown_length t stack s shown in
       let call = is_a_call t.procedures g f fs bit f.left h s is (omega (arith, size, below_length)) in
       record { reply = ap (λ b. cond (b && true) (Some Full) (reply_to_effect (effect t.procedures f.left g f fs bit))) call; tells = refl }
-  by_effect (Enters c m locals) false same =
-      let stack : List Activation = record { number = c; locals = bits_of locals } ∷ record { number = m; locals = bits_of top.locals } ∷ activations rest in
-      let (h, s, is, worth, shown) = same_leaves t (bits_of gw) stack (effect t.procedures f.left g f fs bit) same in
-      let size = shown_length t stack s shown in
-      let call = is_a_call t.procedures g f fs bit f.left h s is (omega (arith, size, below_length)) in
-      record {
-        reply =
-            ap (λ b. cond (b && false) (Some Full) (reply_to_effect (effect t.procedures f.left g f fs bit))) call
-            ∙ ap reply_to_effect is;
-        tells = (h, s, is, worth, shown);
-      }
-  by_effect instr.Fails full same =
-      let is = same_fails t (effect t.procedures f.left g f fs bit) same in
-      record { reply = not_full _ full _ _ (fails_no_call t.procedures g f fs bit f.left is) ∙ ap reply_to_effect is; tells = is }
-  by_effect instr.Blocks full same =
-      let is = same_blocks t (effect t.procedures f.left g f fs bit) same in
-      record { reply = not_full _ full _ _ (blocks_no_call t.procedures g f fs bit f.left is) ∙ ap reply_to_effect is; tells = refl }
+  by_effect (Enters c m locals) false same = grind (arith)
+  by_effect instr.Fails full same = grind (arith)
+  by_effect instr.Blocks full same = grind (arith)
 
 -- A whole stack: what the verdict says of the reply, and of the next configuration.
 
@@ -105,9 +91,7 @@ pub record IsAnswer (t : Program) (g : Valuation) (failed : Bool) (S : List Fram
 module _ (c : Flat) (t : Program) (alike : StepsAlike c t) (bit : Bool) (gw : ℕ) (g : Valuation) (worth : g ≡ valuation_of t.globals (bits_of gw)) where
   comes_of : (f : Frame) (fs : List Frame) (stack : List ActivationRecord) (v : Transition)
       → Tells t (effect t.procedures f.left g f fs bit) gw stack v → Comes t g false (f ∷ fs) bit gw stack v
-  comes_of f fs stack (Stays r) tells = tells
-  comes_of f fs stack Fails tells = (refl, f, fs, refl, tells)
-  comes_of f fs stack (Steps d) tells = (refl, f, fs, refl, tells)
+  comes_of f fs stack v given1 = grind (arith)
 
   at_instruction : (a : ActivationRecord) (rest : List ActivationRecord) (f : Frame) (fs : List Frame) (v : Transition)
       → ShowsStack t (activations (a ∷ rest)) (f ∷ fs)
@@ -136,8 +120,7 @@ module _ (c : Flat) (t : Program) (alike : StepsAlike c t) (bit : Bool) (gw : �
   on_stack [] [] fits v shows is = subst (λ w. IsAnswer t g false [] fits bit gw [] w) (sym is) (record { reply = refl; comes = refl })
   on_stack [] (f ∷ fs) fits v shows is = absurd shows
   on_stack (a ∷ rest) [] fits v shows is = absurd shows
-  on_stack (a ∷ rest) (f ∷ fs) false v shows is =
-      subst (λ w. IsAnswer t g false (f ∷ fs) false bit gw (a ∷ rest) w) (sym is) (record { reply = refl; comes = refl })
+  on_stack (a ∷ rest) (f ∷ fs) false v shows is = grind (arith)
   on_stack (a ∷ rest) (f ∷ fs) true v shows is =
       let moved = alike (bits_of gw) (activation_of a) (activations rest) f fs bit shows.0 shows.1 in
       let done : SameEffect t (effect_at (slice_get c.instructions a.number)
@@ -148,8 +131,7 @@ module _ (c : Flat) (t : Program) (alike : StepsAlike c t) (bit : Bool) (gw : �
 
   pub answer_of : (failed : Bool) (stack : List ActivationRecord) (S : List Frame) (fits : Bool) (v : Transition) → ShowsStack t (activations stack) S
       → IsTransitionUnless c.instructions gw bit failed fits stack v → IsAnswer t g failed S fits bit gw stack v
-  answer_of true stack S fits v shows is =
-      subst (λ w. IsAnswer t g true S fits bit gw stack w) (sym is) (record { reply = refl; comes = refl })
+  answer_of true stack S fits v shows is = grind (arith)
   answer_of false stack S fits v shows is = on_stack stack S fits v shows is
 
 -- The thread of a call, found in the list of threads, and the state after the call.
@@ -170,11 +152,7 @@ module _ (ks : List KeptThread) (i : ℕ) (at new : KeptThread) (within : i < le
   same_guests same = map-set_same (λ z. z.guest) ks i new at (same ∙ ap (λ z. z.guest) is)
 
   pub has_room : (v : Transition) → TransitionFitsIn new.room v → HasRoom (rooms (slice_set ks i new)) i v
-  has_room v fits = λ room has.
-      let there = set_same ks i at new (slice_get_read ks (length ks) i at refl within is) in
-      let own = slice_get-map (λ z. z.room) (slice_set ks i new) i ∙ ap (option_map (λ z. z.room)) there in
-      let same : new.room ≡ room = let a = own in let b = has in cc in
-      subst (λ r. TransitionFitsIn r v) same fits
+  has_room v given1 = search (rules, set_same, slice_get_read, slice_get-map)
 
 -- What a machine keeps, put together from its fields.
 abbrev pub state : ℕ → List GuestThreadOf → ContextCount → Outcome → State
@@ -184,35 +162,17 @@ module _ (x : State) (g : ℕ) (ks : List KeptThread) (k : ContextCount) (f : Ou
     (i : ℕ) (guest : GuestThreadOf) (at new : KeptThread) (v : Transition)
     (has : slice_get x.threads i ≡ Some guest) (within : i < length ks) (is : at ≡ get_or ks i at) (made : new.guest ≡ thread_after at.guest v) where
   same_guest : at.guest ≡ guest
-  same_guest =
-      let found = sym (guest_here ks i at within is) ∙ ap (λ (y : State). slice_get y.threads i) whole ∙ has in
-      let some : Some at.guest ≡ Some guest = found in
-      cc
+  same_guest = search (rules, guest_here)
 
   threads_are : guests (slice_set ks i new) ≡ slice_set x.threads i (thread_after guest v)
-  threads_are =
-      map-set (λ z. z.guest) ks i new
-      ∙ ap (λ l. slice_set (guests ks) i l) (made ∙ ap (λ l. thread_after l v) same_guest)
-      ∙ ap (λ (y : State). slice_set y.threads i (thread_after guest v)) whole
+  threads_are = search (rules, map-set, same_guest)
 
   pub stays_after : (r : Reply) → v ≡ Stays r → state g (guests (slice_set ks i new)) k f ≡ state_after x i guest v
-  stays_after r e =
-      ap (λ ms. state g ms k f) threads_are
-      ∙ ap (λ (y : State). state y.globals (slice_set x.threads i (thread_after guest v)) y.contexts y.outcome) whole
-      ∙ rw e refl
+  stays_after r given1 = search (rules, threads_are)
 
   pub fails_after : v ≡ Fails → (m : ContextCount) → m ≡ count_with k i → state g (guests (slice_set ks i new)) m (Failed i) ≡ state_after x i guest v
-  fails_after e m counts =
-      ap (λ ms. state g ms m (Failed i)) threads_are
-      ∙ ap (λ n. state g (slice_set x.threads i (thread_after guest v)) n (Failed i)) counts
-      ∙ ap (λ (y : State). state y.globals (slice_set x.threads i (thread_after guest v)) (count_with y.contexts i) (Failed i)) whole
-      ∙ rw e refl
+  fails_after given1 m given2 = search (rules, threads_are)
 
   pub steps_after : (d : Effect) → v ≡ Steps d → (m : ContextCount) → m ≡ count_with k i → (h : ℕ) → h ≡ globals_after g (Steps d)
       → state h (guests (slice_set ks i new)) m f ≡ state_after x i guest v
-  steps_after d e m counts h moved =
-      ap (λ ms. state h ms m f) threads_are
-      ∙ ap (λ n. state h (slice_set x.threads i (thread_after guest v)) n f) counts
-      ∙ ap (λ n. state n (slice_set x.threads i (thread_after guest v)) (count_with k i) f) moved
-      ∙ ap (λ (y : State). state (globals_after y.globals (Steps d)) (slice_set x.threads i (thread_after guest v)) (count_with y.contexts i) y.outcome) whole
-      ∙ rw e refl
+  steps_after d given1 m given2 h given3 = search (rules, threads_are)

@@ -1,8 +1,7 @@
 -- What decides the assertions of a program's places is what its statements are decided by.
-use Rattle.std.proofs.Common.{◌≡◌, ◌||◌, ℕ, List, [], ◌∷◌, bytes_eq, map, ap, refl, ◌∙◌, ◌+◌, ◌<◌, ◌≤◌, zero, suc, ap₂, ◌++◌, Option, None, length, drop, get_or, arith, ◌≢◌, ◌&&◌, Bool, true, false, codes, ◌==◌, not, cond, take, OnOk, Result, fold, eq-eqb}
+use Rattle.std.proofs.Common.{◌≡◌, ◌||◌, ℕ, List, [], ◌∷◌, bytes_eq, map, ap, refl, ◌∙◌, ◌+◌, ◌<◌, ◌≤◌, zero, suc, ap₂, ◌++◌, Option, None, length, drop, get_or, arith, ◌≢◌, ◌&&◌, Bool, true, false, codes, ◌==◌, not, cond, take, OnOk, Result, fold, eq-eqb, rules}
 use Rattle.std.specs.Borrow.{Bor}
 use Rattle.std.proofs.lemmas.List.{map-append}
-use Rattle.std.proofs.lemmas.Slice.Eq.{bytes_eq-Decides}
 use Rattle.std.specs.List.{onto_first, concat}
 use Rattle.std.proofs.lemmas.Result.{on_ok_weaker}
 use Rattle.bp_text.proofs.PartsOfTexts.{rest_left, regrouped, all_added}
@@ -50,8 +49,7 @@ mutual
   in_statement p (Calls x es) label at r = refl
 
 pub first_procedure : (p : Procedure) (ps : List Procedure) → asserted (places_of (p ∷ ps)) ≡ block_decisions p.body ++ None ∷ asserted (places_of ps)
-first_procedure p ps =
-    asserted_both (places p p.body Done) _ ∙ ap (λ xs. xs ++ None ∷ asserted (places_of ps)) (in_block p p.body Done)
+first_procedure p ps = search (rules, asserted_both, in_block)
 
 -- one more decider was noted
 pub noted_one : (xs ys : List (Option (Bor Decider))) (d : Option (Bor Decider)) (r : Option Decision) → ys ≡ xs ++ d ∷ [] → reading_of d ≡ r
@@ -60,18 +58,14 @@ noted_one xs ys d r is same = ap (map reading_of) is ∙ map-append reading_of x
 
 three_parts : {X : Type 0} (old mid new one more rest all : List X) → mid ≡ old ++ one → new ≡ mid ++ more → old ++ (one ++ (more ++ rest)) ≡ all
     → new ++ rest ≡ all
-three_parts old mid new one more rest all first second before =
-    rest_left mid new more rest all second (rest_left old mid one (more ++ rest) all first before)
+three_parts given1 given2 given3 = search (rules, rest_left)
 
 module _ (items : List Stmt) (i : ℕ) (s : Stmt) (h : i < length items) (e : s ≡ get_or items i s) where
   -- one more statement, and those inside it
   pub statement_more : (old mid new all : List (Option Decision)) → mid ≡ old ++ decision_in (statement_of s.form) ∷ []
       → new ≡ mid ++ inner_decisions (statement_of s.form)
       → old ++ block_decisions (block_of (drop i items)) ≡ all → new ++ block_decisions (block_of (drop (i + 1) items)) ≡ all
-  statement_more old mid new all first second before =
-      let split = rw (drop_item items i s h e) at before in
-      three_parts old mid new (decision_in (statement_of s.form) ∷ []) (inner_decisions (statement_of s.form))
-      (block_decisions (block_of (drop (i + 1) items))) all first second split
+  statement_more old mid new all given1 given2 given3 = search (rules, drop_item, three_parts)
 
   -- it is less deep than all of them
   pub depth_inside : statement_depth (statement_of s.form) ≤ depth (block_of items)
@@ -105,13 +99,6 @@ same_front (x ∷ front) a b = ap (λ p. p && bytes_eq (front ++ a) (front ++ b)
 
 pub same_qualified : (own a b : List ℕ) → bytes_eq (qualified own a) (qualified own b) ≡ bytes_eq a b
 same_qualified own a b = same_front (own ++ codes ".") a b
-
-pub other_text : (text own : List ℕ) → ((name : List ℕ) → text ≢ qualified own name) → (name : List ℕ) → bytes_eq text (qualified own name) ≡ false
-other_text text own none name = by_test (bytes_eq text (qualified own name)) refl
-  where
-    by_test : (b : Bool) → bytes_eq text (qualified own name) ≡ b → bytes_eq text (qualified own name) ≡ false
-    by_test true is = absurd (none name ((bytes_eq-Decides text (qualified own name)).0 is))
-    by_test false is = is
 
 -- a text that does not begin with the procedure's name, or not with a dot after it
 pub no_owner : (text own : List ℕ) → ((rest : List ℕ) → text ≢ own ++ rest) → (name : List ℕ) → text ≢ qualified own name

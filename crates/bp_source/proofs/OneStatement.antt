@@ -1,11 +1,11 @@
 -- A text begins with one lexeme, so a statement has one list of lexemes.
-use Rattle.std.proofs.Common.{◌≡◌, ◌∙◌, ℕ, Bool, true, false, List, [], ◌∷◌, ◌++◌, sym, refl, append-nil, ◌==◌, ◌+◌, ◌⊎◌, ⊎_elim, inl, inr, cond, Option, None, Some, length, take, drop, ap, ap₂, subst, arith, length-take, ◌||◌}
+use Rattle.std.proofs.Common.{◌≡◌, ◌∙◌, ℕ, Bool, true, false, List, [], ◌∷◌, ◌++◌, sym, refl, append-nil, ◌+◌, ◌⊎◌, ⊎_elim, inl, inr, Option, None, Some, length, drop, ap, ap₂, subst, arith, length-take, ◌||◌}
 use Rattle.std.specs.List.{list_any}
 use Rattle.std.proofs.lemmas.Bool.{false≢true}
 use Rattle.bp_text.proofs.PartsOfTexts.{rest_left}
 use Rattle.bp_language.specs.Ast.{Procedure}
 use Rattle.bp_language.specs.Tokens as cut
-use Rattle.bp_language.specs.Tokens.{Fit, Brace, Bad, IsCut, fit, open_brace, bad_byte}
+use Rattle.bp_language.specs.Tokens.{Fit, Brace, Bad, IsCut}
 use Rattle.bp_language.specs.declared.tokens.LexemeKind.{LexemeKind}
 use Rattle.bp_flat.specs.StandsFor.{Place, start_of_block}
 use Rattle.bp_syntax.specs.Lexer.{lexeme_of, TakesLexeme}
@@ -26,17 +26,13 @@ pub record ReadsTo (text shown : List ℕ) (gap reads : Bool) (rest : List ℕ) 
   pub with_left : (left : List Lexeme) → HasLexemes rest left → Reads text (shown ++ lexemes_text gap left) (reads || list_any (λ l. is_choice l.bytes) left)
 
 pub begins : (text : List ℕ) → ReadsTo text [] false false text
-begins text = record {
-  with_left = λ left are. record { lexemes = left; lexemes_are = are; shown_is = refl; reads_is = refl };
-}
+begins text = grind (arith)
 
 or_assoc : (a b c : Bool) → ((a || b) || c) ≡ (a || (b || c))
-or_assoc true b c = refl
-or_assoc false b c = refl
+or_assoc a b c = grind (arith)
 
 or_false : (a : Bool) → (a || false) ≡ a
-or_false true = refl
-or_false false = refl
+or_false a = grind (arith)
 
 module _ (text shown : List ℕ) (gap reads : Bool) (rest : List ℕ) (read : ReadsTo text shown gap reads rest) where
   pub reads_more : (l : Lexeme) (new next : List ℕ) → Takes rest l.kind l.bytes next → new ≡ shown ++ lexeme_text gap l.kind l.bytes
@@ -75,9 +71,7 @@ is_byte (Brace at) = true
 is_byte (Bad at) = true
 
 place_of_first : (at : ℕ) (text : List ℕ) (x : cut.Lexeme) (xs : List cut.Lexeme) → IsCut at text (x ∷ xs) → place x ≡ at
-place_of_first _ _ _ _ (fit l c) = refl
-place_of_first _ _ _ _ (open_brace none is c) = refl
-place_of_first _ _ _ _ (bad_byte none never c) = refl
+place_of_first at text x xs given1 = grind (arith)
 
 -- two texts with one cut are both empty, or are at one place
 one_place : (a b : ℕ) (s r : List ℕ) (xs : List cut.Lexeme) → IsCut a s xs → IsCut b r xs → (length r ≡ 0) ⊎ (a ≡ b)
@@ -94,13 +88,10 @@ record AfterByte (at : ℕ) (text : List ℕ) (xs : List cut.Lexeme) : Type 0 wh
   size : length text ≡ length rest + 1
 
 after_byte : (at : ℕ) (text : List ℕ) (x : cut.Lexeme) (xs : List cut.Lexeme) → IsCut at text (x ∷ xs) → is_byte x ≡ true → AfterByte at text xs
-after_byte _ _ _ _ (fit l c) byte = absurd (false≢true byte)
-after_byte _ _ _ _ (open_brace {text = text} none is c) byte = record { rest = text; cut = c; size = omega arith }
-after_byte _ _ _ _ (bad_byte {text = text} none never c) byte = record { rest = text; cut = c; size = omega arith }
+after_byte at text x xs given1 given2 = grind (arith)
 
 byte_lexeme : (bytes : List ℕ) → is_byte (lexeme_of None 0 bytes) ≡ true
-byte_lexeme [] = refl
-byte_lexeme (b ∷ bs) = elim (b == 123) as (λ x. is_byte (cond x (Brace 0) (Bad 0)) ≡ true) [ true ↦ refl | false ↦ refl ]
+byte_lexeme bytes = grind (arith)
 
 byte_size : (text bytes rest : List ℕ) (is : TakesLexeme text None bytes rest) → is.size ≡ 1
 byte_size text bytes rest is =
@@ -128,11 +119,7 @@ module _ (text : List ℕ) where
 
   by_size : (k j : Option LexemeKind) (b c r q : List ℕ) (x : TakesLexeme text k b r) (y : TakesLexeme text j c q) → k ≡ j → x.size ≡ y.size
       → OneLexeme k j b c r q
-  by_size k j b c r q x y kind size = record {
-    kind = kind;
-    bytes = x.front ∙ ap (λ n. take n text) size ∙ sym y.front;
-    rest = x.back ∙ ap (λ n. drop n text) size ∙ sym y.back;
-  }
+  by_size k j b c r q x y given1 given2 = grind (arith)
 
   one_lexeme : (k j : Option LexemeKind) (b c r q : List ℕ) → TakesLexeme text k b r → TakesLexeme text j c q → OneLexeme k j b c r q
   one_lexeme (Some k) (Some j) b c r q x y =

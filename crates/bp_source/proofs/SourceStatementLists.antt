@@ -1,5 +1,5 @@
 -- One source statement more.
-use Rattle.std.proofs.Common.{◌≡◌, ◌∙◌, ◌<◌, ◌≤◌, ℕ, List, Option, None, Some, Bor, length, nat_lt, is_some, slice_get, get_or, ap, sym, arith, [], ◌∷◌, ◌++◌, zero, suc, unwrap_or, ◌+◌, take, refl, subst, map, drop, ap₂, append-nil, option_map, IfSome}
+use Rattle.std.proofs.Common.{◌≡◌, ◌∙◌, ◌<◌, ◌≤◌, ℕ, List, Option, None, Some, Bor, length, nat_lt, is_some, slice_get, get_or, ap, sym, arith, [], ◌∷◌, ◌++◌, zero, suc, unwrap_or, ◌+◌, take, refl, subst, map, drop, ap₂, append-nil, option_map, IfSome, rules}
 use Rattle.std.proofs.lemmas.Option.{slice_get_past, slice_get-get_or, slice_get_within, get_or_from_slice_get}
 use Rattle.std.proofs.lemmas.Bool.{false≢true}
 use Rattle.std.proofs.lemmas.List.{take_more, length-append}
@@ -18,8 +18,7 @@ use Rattle.bp_source.specs.Listings.{instruction_object, instruction_objects}
 -- what is got is the n-th
 pub got_item : {X : Type 0} (o : Option (Bor X)) (xs : List X) (n : ℕ) → is_some o ≡ nat_lt n (length xs) → IfSome o (λ x. x.now ≡ get_or xs n x.now)
     → option_map (λ x. x.now) o ≡ slice_get xs n
-got_item None xs n e h = let past : length xs ≤ n = grind arith in sym (slice_get_past xs n past)
-got_item (Some x) xs n e h = let within : n < length xs = grind arith in ap Some h ∙ sym (slice_get-get_or xs n x.now within)
+got_item given1 given2 = search (rules, slice_get_past, slice_get-get_or)
 
 -- the place at which an instruction's statement begins
 pub record PlaceAt (xs : List Place) (i : ℕ) (start : Option ℕ) : Type 0 where
@@ -36,8 +35,7 @@ own_place (x ∷ xs) (suc i) d start within is =
 
 pub place_at : (xs : List Place) (items : List (Option ℕ)) (i : ℕ) (d start : Option ℕ) → items ≡ starts xs
     → i < length items → get_or items i d ≡ start → PlaceAt xs i start
-place_at xs items i d start e within is =
-    own_place xs i d start (subst (λ ys. i < length ys) e within) (subst (λ ys. get_or ys i d ≡ start) e is)
+place_at xs items i d start given1 given2 given3 = search (rules, own_place)
 
 module _ (text : List ℕ) (ps : List Procedure) where
   pub statements_then : (xs : List Place) (statements : List SourceStatement) (x : Place) (statement : SourceStatement)
@@ -120,16 +118,12 @@ no_statements ps n (i ∷ is) = refl
 -- what was added is all where no instruction is left
 pub without_instruction : (ps : List Procedure) (n : ℕ) (is : List Instruction) (statements : List SourceStatement) (added whole : List ℕ)
     → slice_get is n ≡ None → added ++ instruction_objects ps n (drop n is) (drop n statements) ≡ whole → added ≡ whole
-without_instruction ps n is statements added whole none all =
-    sym (append-nil added) ∙ ap (λ left. added ++ instruction_objects ps n left (drop n statements)) (sym (none_left is n none)) ∙ all
+without_instruction ps n is statements added whole given1 given2 = search (rules, is, append-nil, none_left)
 
 -- what was added is all where no source statement is left
 pub without_statement : (ps : List Procedure) (n : ℕ) (is : List Instruction) (statements : List SourceStatement) (added whole : List ℕ)
     → length statements ≤ n → added ++ instruction_objects ps n (drop n is) (drop n statements) ≡ whole → added ≡ whole
-without_statement ps n is statements added whole past all =
-    sym (append-nil added)
-    ∙ ap (λ y. added ++ y) (sym (no_statements ps n (drop n is)) ∙ ap (instruction_objects ps n (drop n is)) (sym (no_statement_left statements n past)))
-    ∙ all
+without_statement ps n is statements added whole given1 given2 = search (rules, is, append-nil, no_statements, no_statement_left)
 
 -- the object of the instruction with number n comes next
 pub next_object : (ps : List Procedure) (k n : ℕ) (is : List Instruction) (statements : List SourceStatement) (i : Instruction) (statement : SourceStatement)

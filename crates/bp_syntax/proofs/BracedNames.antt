@@ -1,27 +1,24 @@
 -- Where a brace begins a name, and where it begins none.
-use Rattle.std.proofs.Common.{◌≡◌, ℕ, zero, suc, ◌+◌, ◌-◌, ◌<◌, ◌≤◌, ◌≢◌, ◌==◌, Bool, true, false, cond, ◌&&◌, List, [], ◌∷◌, length, take, drop, Option, Some, None, refl, sym, ap, subst, ◌∙◌, arith, drop-drop, length-take, slice_get, get_or, nat_eq, nat_lt, Bor, is_some, IfSome}
+use Rattle.std.proofs.Common.{◌≡◌, ℕ, zero, suc, ◌+◌, ◌-◌, ◌<◌, ◌≤◌, ◌≢◌, Bool, true, false, cond, List, [], ◌∷◌, length, take, drop, Option, Some, refl, subst, arith, drop-drop, slice_get, get_or, nat_eq, nat_lt, Bor, is_some, IfSome, rules}
 use Rattle.std.specs.Option.{option_copied, option_eq}
 use Rattle.std.proofs.lemmas.Option.{slice_get_past, slice_get_read}
 use Rattle.std.specs.List.{list_all}
-use Rattle.std.proofs.lemmas.Bool.{false≢true, eqb-true, eq-eqb, ltb-true, ltb-false}
-use Rattle.bp_language.proofs.SpelledNames.{both_left, both_right}
+use Rattle.std.proofs.lemmas.Bool.{false≢true, ltb-true, ltb-false}
+use Rattle.bp_language.proofs.SpelledNames.{both_right}
 use Rattle.bp_language.specs.Tokens.{is_braced_byte, is_braced_rest, fits}
 use Rattle.bp_syntax.specs.Lexer.{run, IsNameless}
 use Rattle.bp_language.specs.declared.tokens.LexemeKind.TheVariants as lexeme
 
 module _ (test : ℕ → Bool) (b : ℕ) (bs : List ℕ) where
   fits_by : (y : Bool) → test b ≡ y → list_all test (take (run test bs) bs) ≡ true → list_all test (take (cond y (suc (run test bs)) 0) (b ∷ bs)) ≡ true
-  fits_by true h e = ap (λ y. y && list_all test (take (run test bs) bs)) h ∙ e
-  fits_by false h e = refl
+  fits_by y given1 given2 = grind (arith)
 
   stops_by : (y : Bool) (m : ℕ) → test b ≡ y → cond y (suc (run test bs)) 0 < suc m
       → (run test bs < m → list_all test (take m bs) ≢ true) → list_all test (take (suc m) (b ∷ bs)) ≢ true
-  stops_by true m h lt rest e = rest (omega arith) (both_right _ _ e)
-  stops_by false m h lt rest e = false≢true (sym h ∙ both_left _ _ e)
+  stops_by y m given1 given2 given3 = grind (arith)
 
   within_by : (y : Bool) → run test bs ≤ length bs → cond y (suc (run test bs)) 0 ≤ suc (length bs)
-  within_by true h = omega arith
-  within_by false h = omega arith
+  within_by y given1 = grind (arith)
 
 -- all bytes of the run pass, and no longer front of the bytes does
 pub run_fits : (test : ℕ → Bool) (bs : List ℕ) → list_all test (take (run test bs) bs) ≡ true
@@ -43,48 +40,27 @@ run_within test (b ∷ bs) = within_by test b bs (test b) (run_within test bs)
 abbrev pub inside : List ℕ → ℕ
 inside bs = run is_braced_byte bs
 
-inside_not_close : (b : ℕ) → is_braced_byte b ≡ true → (b == 125) ≡ true → ⊥
-inside_not_close b i e = false≢true (subst (λ x. is_braced_byte x ≡ true) (eqb-true b 125 e) i)
-
-closes_more : (b : ℕ) (s : List ℕ) → is_braced_byte b ≡ true → is_braced_rest s ≡ true → is_braced_rest (b ∷ s) ≡ true
-closes_more b [] i e = absurd (false≢true e)
-closes_more b (c ∷ s) i e = ap (λ y. y && is_braced_rest (c ∷ s)) i ∙ e
-
-closes_rest : (b : ℕ) (s : List ℕ) → is_braced_byte b ≡ true → is_braced_rest (b ∷ s) ≡ true → is_braced_rest s ≡ true
-closes_rest b [] i e = absurd (inside_not_close b i e)
-closes_rest b (c ∷ s) i e = both_right _ _ e
-
-closes_end : (b : ℕ) (s : List ℕ) → is_braced_byte b ≡ false → is_braced_rest (b ∷ s) ≡ true → (s ≡ []) × (b ≡ 125)
-closes_end b [] i e = (refl, eqb-true b 125 e)
-closes_end b (c ∷ s) i e = absurd (false≢true (sym i ∙ both_left _ _ e))
-
 module _ (b : ℕ) (bs : List ℕ) where
   at_by : (y : Bool) → is_braced_byte b ≡ y
       → (slice_get bs (inside bs) ≡ Some 125 → is_braced_rest (take (suc (inside bs)) bs) ≡ true)
       → slice_get (b ∷ bs) (cond y (suc (inside bs)) 0) ≡ Some 125
       → is_braced_rest (take (suc (cond y (suc (inside bs)) 0)) (b ∷ bs)) ≡ true
-  at_by true i rest e = closes_more b (take (suc (inside bs)) bs) i (rest e)
-  at_by false i rest e = let h : b ≡ 125 = cc in ap (λ x. x == 125) h
+  at_by y given1 given2 given3 = grind (arith)
 
   only_by : (y : Bool) (m : ℕ) → is_braced_byte b ≡ y
       → (is_braced_rest (take m bs) ≡ true → slice_get bs (inside bs) ≡ Some 125)
       → is_braced_rest (b ∷ take m bs) ≡ true → slice_get (b ∷ bs) (cond y (suc (inside bs)) 0) ≡ Some 125
-  only_by true m i rest e = rest (closes_rest b (take m bs) i e)
-  only_by false m i rest e = ap (λ x. Some x) (closes_end b (take m bs) i e).1
+  only_by y m given1 given2 given3 = grind (arith)
 
   longer_by : (y : Bool) (m : ℕ) → is_braced_byte b ≡ y → suc (cond y (suc (inside bs)) 0) < suc m → m ≤ length bs
       → (suc (inside bs) < m → is_braced_rest (take m bs) ≢ true) → is_braced_rest (b ∷ take m bs) ≢ true
-  longer_by true m i lt le rest e = rest (omega arith) (closes_rest b (take m bs) i e)
-  longer_by false m i lt le rest e =
-      let none = ap length (closes_end b (take m bs) i e).0 in
-      omega (arith, none, length-take m bs)
+  longer_by y m given1 given2 given3 given4 = grind (arith)
 
   later_by : (y : Bool) (k : ℕ) → is_braced_byte b ≡ y → suc k ≤ cond y (suc (inside bs)) 0
       → slice_get (b ∷ bs) (cond y (suc (inside bs)) 0) ≢ Some 125
       → (k ≤ inside bs → slice_get bs (inside bs) ≢ Some 125 → slice_get (drop k bs) (inside (drop k bs)) ≢ Some 125)
       → slice_get (drop k bs) (inside (drop k bs)) ≢ Some 125
-  later_by true k i le never rest = rest (omega arith) never
-  later_by false k i le never rest = absurd (omega arith)
+  later_by y k given1 given2 given3 given4 = grind (arith)
 
 -- a } behind the bytes that may stand in a name closes it
 pub closes_at : (bs : List ℕ) → slice_get bs (inside bs) ≡ Some 125 → is_braced_rest (take (suc (inside bs)) bs) ≡ true
@@ -132,15 +108,10 @@ nameless_rest n m s h k j lt e = h (m + k) j (omega arith) (subst (λ l. fits le
 -- the byte that was read at the end of the run
 pub byte_read : (o : Option (Bor ℕ)) (s : List ℕ) (i : ℕ) → is_some o ≡ nat_lt i (length s)
     → IfSome o (λ x. x.now ≡ get_or s i x.now) → option_copied o ≡ slice_get s i
-byte_read None s i e v = sym (slice_get_past s i (ltb-false i (length s) (sym e)))
-byte_read (Some x) s i e v = sym (slice_get_read s (length s) i x.now refl (ltb-true i (length s) (sym e)) v)
+byte_read o s i given1 given2 = search (rules, slice_get_past, ltb-false, slice_get_read, ltb-true)
 
 pub is_byte : (o : Option ℕ) (b : ℕ) → option_eq nat_eq o (Some b) ≡ true → o ≡ Some b
-is_byte None b e = absurd (false≢true e)
-is_byte (Some x) b e = ap (λ y. Some y) (eqb-true x b e)
+is_byte o b given1 = grind (arith)
 
 pub other_byte : (o : Option ℕ) (b : ℕ) → option_eq nat_eq o (Some b) ≡ false → o ≢ Some b
-other_byte None b e h = let z : ⊥ = cc in z
-other_byte (Some x) b e h =
-    let same : x ≡ b = cc in
-    false≢true (sym e ∙ eq-eqb x b same)
+other_byte o b given1 = grind (arith)

@@ -1,5 +1,5 @@
 -- An expression of the grammar is read whole, whatever is wanted after it.
-use Rattle.std.proofs.Common.{◌≡◌, true, false, List, [], ◌∷◌, ◌++◌, None, refl, sym, ap, subst, ◌∙◌}
+use Rattle.std.proofs.Common.{◌≡◌, true, false, List, [], ◌∷◌, ◌++◌, None, refl, sym, ap, subst, ◌∙◌, arith, rules}
 use Rattle.std.proofs.lemmas.Bool.{false≢true}
 use Rattle.bp_language.proofs.GrownLists.{regrouped}
 use Rattle.bp_language.specs.Ast.{Name, Expression, Negation, Operation, Decision, Decide}
@@ -25,8 +25,7 @@ names_read (more_names {rest = r} {more = ns} (first_name {token = x} h) (first_
     ∙ simp regrouped
 
 pub names_begin : {ts : List Token} {ns : List Name} {r : List Token} → IsNames ts ns r → is_at kind.Name ts ≡ true
-names_begin (one_name (first_name h)) = ap (λ k. is_same_kind k kind.Name) h
-names_begin (more_names (first_name h) (first_word c) d) = ap (λ k. is_same_kind k kind.Name) h
+names_begin given1 = grind (arith)
 
 -- no list of names goes on here: neither a comma comes nor a name
 pub any_names_read : {ts : List Token} {ns : List Name} {r : List Token} → IsAnyNames ts ns r
@@ -181,12 +180,10 @@ or_begins (of_xor d) = xor_begins d
 or_begins (disjunction d (first_word h) f) = or_begins d
 
 expr_begins : {ts : List Token} {e : Expression} {r : List Token} → IsExpr ts e r → is_at_expr ts ≡ true
-expr_begins (of_or d) = or_begins d
-expr_begins (implication d (first_word h) f) = or_begins d
+expr_begins given1 = search (rules, or_begins, implication)
 
 exprs_begin : {ts : List Token} {es : List Expression} {r : List Token} → IsExprs ts es r → is_at_expr ts ≡ true
-exprs_begin (one_expr d) = expr_begins d
-exprs_begin (more_exprs d (first_word h) f) = expr_begins d
+exprs_begin given1 = search (rules, expr_begins)
 
 -- neither a comma comes here nor an expression
 pub any_exprs_read : {ts : List Token} {es : List Expression} {r : List Token} → IsAnyExprs ts es r

@@ -1,11 +1,11 @@
 -- A program has no more statements than its text has bytes.
-use Rattle.std.proofs.Common.{ℕ, suc, ◌+◌, ◌<◌, ◌≤◌, List, length, Option, None, Some, arith, ap, take, length-drop}
+use Rattle.std.proofs.Common.{ℕ, suc, ◌+◌, ◌<◌, ◌≤◌, List, length, Option, arith, take, length-drop, rules}
 use Rattle.std.proofs.Math.Logic.{∥∥₁_elim}
 use Rattle.std.specs.Coded.{le_prop}
 use Rattle.bp_language.specs.Ast.{Name, Expression, Decision, Block, Statement, Procedure, Program, block_size, size, procedures_size}
 use Rattle.bp_language.specs.Tokens.{Token, kind_of, Lexeme, IsCut, ends, fit, open_brace, bad_byte, tokens_of, with_token}
 use Rattle.bp_language.specs.declared.tokens.TokenKind.{TokenKind}
-use Rattle.bp_language.specs.Grammar.{IsNames, one_name, more_names, IsAnyNames, no_names, some_names, IsExpr, of_or, implication, IsOr, of_xor, disjunction, IsXor, of_and, exclusion, IsAnd, of_eq, conjunction, IsEq, of_un, equality, difference, IsUn, negation, of_atom, IsAtom, constant_0, constant_1, variable, brackets, IsExprs, one_expr, more_exprs, IsAnyExprs, no_exprs, some_exprs, IsDecider, choice, by_value, IsForm, skip, jump, returning, assignment, branch, loop, assertion, assumption, printing, call, IsStmt, labelled, unlabelled, IsStmts, one_stmt, more_stmts, IsDecl, decl, IsDecls, no_decl, more_decls, IsProc, proc, IsProcs, no_proc, more_procs, Derives, program, first_word, first_name}
+use Rattle.bp_language.specs.Grammar.{IsNames, one_name, more_names, IsAnyNames, IsExpr, of_or, implication, IsOr, of_xor, disjunction, IsXor, of_and, exclusion, IsAnd, of_eq, conjunction, IsEq, of_un, equality, difference, IsUn, negation, of_atom, IsAtom, constant_0, constant_1, variable, brackets, IsExprs, one_expr, more_exprs, IsAnyExprs, IsDecider, IsForm, skip, jump, returning, assignment, branch, loop, assertion, assumption, printing, call, IsStmt, labelled, unlabelled, IsStmts, one_stmt, more_stmts, IsDecl, decl, IsDecls, no_decl, more_decls, IsProc, proc, IsProcs, no_proc, more_procs, Derives, program, first_word, first_name}
 use Rattle.bp_language.specs.Texts.{IsTextOf, HasText}
 use Rattle.bp_language.specs.declared.limits.TheConstants.{TEXT_LIMIT}
 
@@ -14,8 +14,7 @@ names_some (one_name (first_name h)) = omega arith
 names_some (more_names (first_name h) (first_word k) is) = omega (arith, names_some is)
 
 any_names_some : {ts : List Token} {ns : List Name} {r : List Token} → IsAnyNames ts ns r → length r ≤ length ts
-any_names_some no_names = omega arith
-any_names_some (some_names is) = omega (arith, names_some is)
+any_names_some given1 = search (rules, names_some)
 
 mutual
   expr_some : {ts : List Token} {e : Expression} {r : List Token} → IsExpr ts e r → length r < length ts
@@ -54,12 +53,10 @@ exprs_some (one_expr is) = expr_some is
 exprs_some (more_exprs is (first_word h) more) = omega (arith, expr_some is, exprs_some more)
 
 any_exprs_some : {ts : List Token} {es : List Expression} {r : List Token} → IsAnyExprs ts es r → length r ≤ length ts
-any_exprs_some no_exprs = omega arith
-any_exprs_some (some_exprs is) = omega (arith, exprs_some is)
+any_exprs_some given1 = search (rules, exprs_some)
 
 decider_some : {ts : List Token} {d : Decision} {r : List Token} → IsDecider ts d r → length r < length ts
-decider_some (choice (first_word h)) = omega arith
-decider_some (by_value is) = expr_some is
+decider_some given1 = search (rules, expr_some)
 
 mutual
   form_size : {ts : List Token} {s : Statement} {r : List Token} → IsForm ts s r → size s + length r < length ts
@@ -102,8 +99,7 @@ program_size : {ts : List Token} {p : Program} → Derives ts p → procedures_s
 program_size (program globals procs) = omega (arith, decls_size globals, procs_size procs)
 
 one_token : (k : Option TokenKind) (at : ℕ) (bytes : List ℕ) (ts : List Token) → length (with_token k at bytes ts) ≤ suc (length ts)
-one_token None at bytes ts = omega arith
-one_token (Some k) at bytes ts = omega arith
+one_token k at bytes ts = grind (arith)
 
 tokens_fit : {at : ℕ} {s : List ℕ} {ps : List Lexeme} → IsCut at s ps → length (tokens_of ps) ≤ length s
 tokens_fit ends = omega arith
@@ -115,10 +111,7 @@ tokens_fit (open_brace none is rest) = omega (arith, tokens_fit rest)
 tokens_fit (bad_byte none never rest) = omega (arith, tokens_fit rest)
 
 of_text : (text : List ℕ) (p : Program) → IsTextOf text p → procedures_size p.procedures ≤ TEXT_LIMIT
-of_text text p is =
-    let scanned = is.scanned in
-    let short = is.short in
-    omega (arith, short, program_size is.derives, tokens_fit scanned.cut, ap length scanned.tokens)
+of_text text p given1 = search (rules, program_size, tokens_fit)
 
 pub few_statements : (p : Program) → HasText p → procedures_size p.procedures ≤ TEXT_LIMIT
 few_statements p of_some = ∥∥₁_elim of_some le_prop few

@@ -9,8 +9,7 @@ use Rattle.bp_syntax.specs.Refusals.{BreaksAt}
 use Rattle.bp_syntax.specs.Lexer.{first_too_many, first_too_deep}
 
 pub cond_none : (b : Bool) (o : Option ℕ) (n : ℕ) → cond b o (Some n) ≡ None → (b ≡ true) × (o ≡ None)
-cond_none true o n e = (refl, e)
-cond_none false o n e = let z : ⊥ = cc in absurd z
+cond_none b o n given1 = grind (arith)
 
 -- where no token is too many, each run is short, and shorter by the tokens that stand before it
 Short : ℕ → List Token → Type 0
@@ -69,8 +68,7 @@ record Crowded (n : ℕ) (ts : List Token) (at : ℕ) : Type 0 where
   full : (length run ≡ SUCCESSION_LIMIT) ⊎ ((before ≡ []) × (n + length run ≡ SUCCESSION_LIMIT))
 
 pub cond_some_at : (b : Bool) (o : Option ℕ) (m n : ℕ) → cond b o (Some m) ≡ Some n → ((b ≡ true) × (o ≡ Some n)) ⊎ ((b ≡ false) × (m ≡ n))
-cond_some_at true o m n e = inl (refl, e)
-cond_some_at false o m n e = inr (refl, cc)
+cond_some_at b o m n given1 = grind (arith)
 
 crowded_by : (n : ℕ) (t : Token) (ts : List Token) (at : ℕ) (y : Bool) → is_separator t.kind ≡ y → n ≤ SUCCESSION_LIMIT
     → cond y (first_too_many 0 ts) (cond (nat_lt n SUCCESSION_LIMIT) (first_too_many (n + 1) ts) (Some t.at)) ≡ Some at

@@ -1,10 +1,10 @@
 -- The longest lexeme that a text begins with.
-use Rattle.std.proofs.Common.{◌≡◌, ℕ, zero, suc, ◌+◌, ◌<◌, ◌≤◌, ◌≢◌, ◌==◌, ⊎_elim, Bool, true, false, cond, ◌&&◌, ◌||◌, List, [], ◌∷◌, length, take, drop, Option, Some, None, refl, sym, ap, subst, ◌∙◌, arith, take_all, nat_eq, slice_get, get_or, ◌-◌, is_some, MatchOption}
+use Rattle.std.proofs.Common.{◌≡◌, ℕ, zero, suc, ◌+◌, ◌<◌, ◌≤◌, ◌≢◌, ◌==◌, ⊎_elim, Bool, true, false, cond, ◌&&◌, ◌||◌, List, [], ◌∷◌, length, take, drop, Option, Some, None, refl, sym, ap, subst, ◌∙◌, arith, take_all, nat_eq, slice_get, get_or, ◌-◌, is_some, MatchOption, rules}
 use Rattle.std.specs.List.{list_any, list_all}
 use Rattle.std.specs.Map.{lookup}
 use Rattle.std.proofs.lemmas.Bool.{false≢true, cases_eq, eqb-true, ne_eqb}
 use Rattle.std.proofs.lemmas.Option.{slice_get_within, slice_get-get_or}
-use Rattle.bp_language.specs.Tokens.{is_white, is_letter, is_word_byte, is_comment_byte, constant, symbol, long_symbol, fits, whites, constants, symbols, long_symbols, IsLongest, NoneFits}
+use Rattle.bp_language.specs.Tokens.{is_white, is_letter, is_word_byte, is_comment_byte, constant, symbol, long_symbol, fits, whites, constants, IsLongest, NoneFits}
 use Rattle.bp_syntax.specs.Lexer.{run, comment, first_symbol, unbraced_lexeme, IsNameless, IsFirstLexeme}
 use Rattle.bp_syntax.specs.declared.lexemes.FirstLexeme.{FirstLexeme}
 use Rattle.bp_syntax.specs.declared.lexemes.FirstLexeme.TheVariants as first
@@ -23,8 +23,7 @@ module _ {K X : Type 0} (test : K → Bool) (P : K → Type 0) where
   found_by : (k : K) (x : X) (es : List (K × X)) (y : Bool) → test k ≡ y → P k
       → (is_some (lookup test es) ≡ true → (j : K) × (test j ≡ true) × P j)
       → is_some (cond y (Some x) (lookup test es)) ≡ true → (j : K) × (test j ≡ true) × P j
-  found_by k x es true h p rest e = (k, h, p)
-  found_by k x es false h p rest e = rest e
+  found_by k x es y given1 given2 given3 given4 = grind (arith)
 
   -- what is found in a table is one of its keys
   pub found : (t : List (K × X)) → Keys P t → is_some (lookup test t) ≡ true → (j : K) × (test j ≡ true) × P j
@@ -38,8 +37,7 @@ Each P (x ∷ xs) = P x × Each P xs
 
 among_by : (P : ℕ → Type 0) (b x : ℕ) (xs : List ℕ) (y : Bool) → nat_eq b x ≡ y → P x
     → (list_any (nat_eq b) xs ≡ true → P b) → (y || list_any (nat_eq b) xs) ≡ true → P b
-among_by P b x xs true h p rest e = subst P (sym (eqb-true b x h)) p
-among_by P b x xs false h p rest e = rest e
+among_by P b x xs y given1 given2 given3 given4 = grind (arith)
 
 among : (P : ℕ → Type 0) (b : ℕ) (xs : List ℕ) → Each P xs → list_any (nat_eq b) xs ≡ true → P b
 among P b [] ps e = absurd (false≢true e)
@@ -63,19 +61,13 @@ constant_first : (b : ℕ) → is_some (constant b) ≡ true → first_kind b �
 constant_first b e = keyed (λ x. first_kind x ≡ Some lexeme.Constant) b constants (refl, (refl, tt)) e
 
 symbol_first : (b : ℕ) → is_some (symbol b) ≡ true → first_kind b ≡ Some lexeme.Symbol
-symbol_first b e =
-    keyed (λ x. first_kind x ≡ Some lexeme.Symbol) b symbols (refl, (refl, (refl, (refl, (refl, (refl, (refl, (refl, (refl, (refl, (refl, tt))))))))))) e
+symbol_first b given1 = search (rules, keyed)
 
 long_symbol_first : (b c : ℕ) → is_some (long_symbol b c) ≡ true → first_kind b ≡ Some lexeme.Symbol
-long_symbol_first b c e =
-    let f = found (λ (p : ℕ × ℕ). nat_eq b p.0 && nat_eq c p.1) (λ p. first_kind p.0 ≡ Some lexeme.Symbol) long_symbols (refl, (refl, (refl, tt))) e in
-    subst (λ x. first_kind x ≡ Some lexeme.Symbol) (sym (eqb-true b f.0.0 (both_left _ _ f.1))) f.2
+long_symbol_first b c given1 = search (rules, found, eqb-true, both_left)
 
 letter_first : (b : ℕ) → is_letter b ≡ true → first_kind b ≡ Some lexeme.Identifier
-letter_first b e =
-    ap (λ y. cond y (Some lexeme.Identifier) (cond (is_white b) (Some lexeme.White) (cond (is_some (constant b))
-    (Some lexeme.Constant) (cond (is_some (symbol b)) (Some lexeme.Symbol)
-    (cond (b == 47) (Some lexeme.Comment) (cond (b == 123) (Some lexeme.Braced) None)))))) e
+letter_first b given1 = grind (arith)
 
 comment_first : (b : ℕ) → (b == 47) ≡ true → first_kind b ≡ Some lexeme.Comment
 comment_first b e = ap first_kind (eqb-true b 47 e)
@@ -127,10 +119,7 @@ none_of k b bs first none j (suc m) lt le e =
     none m (subst (λ i. fits i (b ∷ take m bs) ≡ true) same e)
 
 none_first : (b : ℕ) (bs : List ℕ) → first_kind b ≡ None → NoneFits (b ∷ bs)
-none_first b bs first j zero lt le e = absurd (omega arith)
-none_first b bs first j (suc m) lt le e =
-    let p : first_kind b ≡ Some j = kind_by_first j b (take m bs) e in
-    cc
+none_first b bs given1 = search (rules, kind_by_first)
 
 identifier : (b : ℕ) (bs : List ℕ) → is_letter b ≡ true → IsLongest (b ∷ bs) lexeme.Identifier (suc (run is_word_byte bs))
 identifier b bs l =
@@ -168,9 +157,7 @@ slashes b c cs f g = longest_of lexeme.Comment b (c ∷ cs) (suc n) (omega (arit
     n = run is_comment_byte cs
 
     is : fits lexeme.Comment (b ∷ c ∷ take (run is_comment_byte cs) cs) ≡ true
-    is =
-        ap (λ y. y && (c == 47 && list_all is_comment_byte (take (run is_comment_byte cs) cs))) f
-        ∙ (ap (λ y. y && list_all is_comment_byte (take (run is_comment_byte cs) cs)) g ∙ run_fits is_comment_byte cs)
+    is = search (rules, run_fits)
 
     longer : (m : ℕ) → suc (run is_comment_byte cs) < m → m ≤ length (c ∷ cs) → fits lexeme.Comment (b ∷ take m (c ∷ cs)) ≢ true
     longer zero lt le e = absurd (omega arith)
@@ -192,12 +179,10 @@ last_slash b f = none_of lexeme.Comment b [] (comment_first b f) none
 
 slash_by : (b c : ℕ) (cs : List ℕ) (y : Bool) → (b == 47) ≡ true → (c == 47) ≡ y
     → IsLongestAnswer (b ∷ c ∷ cs) (cond y (Some (lexeme.Comment, suc (suc (run is_comment_byte cs)))) None)
-slash_by b c cs true f g = slashes b c cs f g
-slash_by b c cs false f g = lone_slash b c cs f g
+slash_by b c cs y given1 given2 = search (rules, slashes, lone_slash)
 
 comment_is : (b : ℕ) (bs : List ℕ) → (b == 47) ≡ true → IsLongestAnswer (b ∷ bs) (comment bs)
-comment_is b [] f = last_slash b f
-comment_is b (c ∷ cs) f = slash_by b c cs (c == 47) f refl
+comment_is b bs given1 = search (rules, last_slash, slash_by)
 
 -- no symbol of two bytes stands here
 abbrev NoLong : ℕ → List ℕ → Type 0
@@ -205,8 +190,7 @@ NoLong b [] = Unit {0}
 NoLong b (c ∷ cs) = is_some (long_symbol b c) ≡ false
 
 no_long : (b c : ℕ) (r bs cs : List ℕ) → NoLong b bs → bs ≡ c ∷ cs → fits lexeme.Symbol (b ∷ c ∷ r) ≢ true
-no_long b c [] bs cs never is e = false≢true (sym (subst (NoLong b) is never) ∙ e)
-no_long b c (d ∷ ds) bs cs never is e = false≢true e
+no_long b c r bs cs given1 given2 = grind (arith)
 
 module _ (b : ℕ) (no_brace : (b == 123) ≡ false) where
   no_sort : is_letter b ≡ false → is_white b ≡ false → is_some (constant b) ≡ false → is_some (symbol b) ≡ false → (b == 47) ≡ false → first_kind b ≡ None
@@ -220,17 +204,14 @@ module _ (b : ℕ) (no_brace : (b == 123) ≡ false) where
     long_by : (c : ℕ) (cs : List ℕ) (y : Bool) → is_some (long_symbol b c) ≡ y
         → IsLongestAnswer (b ∷ c ∷ cs)
         (cond y (Some (lexeme.Symbol, 2)) (cond (is_some (symbol b)) (Some (lexeme.Symbol, 1)) None))
-    long_by c cs true s = two_bytes b c cs s
-    long_by c cs false s = short_by (c ∷ cs) (is_some (symbol b)) refl s
+    long_by c cs y given1 = search (rules, two_bytes, short_by)
 
     symbol_is : (bs : List ℕ) → IsLongestAnswer (b ∷ bs) (first_symbol b bs)
-    symbol_is [] = short_by [] (is_some (symbol b)) refl tt
-    symbol_is (c ∷ cs) = long_by c cs (is_some (long_symbol b c)) refl
+    symbol_is bs = search (rules, short_by, long_by)
 
   comment_by : (bs : List ℕ) (y : Bool) → is_letter b ≡ false → is_white b ≡ false → is_some (constant b) ≡ false
       → (b == 47) ≡ y → IsLongestAnswer (b ∷ bs) (cond y (comment bs) (first_symbol b bs))
-  comment_by bs true l w k d = comment_is b bs d
-  comment_by bs false l w k d = symbol_is l w k d bs
+  comment_by bs y given1 given2 given3 given4 = search (rules, comment_is, symbol_is)
 
   constant_by : (bs : List ℕ) (y : Bool) → is_letter b ≡ false → is_white b ≡ false → is_some (constant b) ≡ y
       → IsLongestAnswer (b ∷ bs) (cond y (Some (lexeme.Constant, 1)) (cond (b == 47) (comment bs) (first_symbol b bs)))
@@ -247,8 +228,7 @@ module _ (b : ℕ) (no_brace : (b == 123) ≡ false) where
       → IsLongestAnswer (b ∷ bs) (cond y (Some (lexeme.Identifier, suc (run is_word_byte bs)))
       (cond (is_white b) (Some (lexeme.White, 1))
       (cond (is_some (constant b)) (Some (lexeme.Constant, 1)) (cond (b == 47) (comment bs) (first_symbol b bs)))))
-  letter_by bs true l = identifier b bs l
-  letter_by bs false l = white_by bs (is_white b) l refl
+  letter_by bs y given1 = search (rules, identifier, white_by)
 
   -- the code's answer is the longest lexeme
   unbraced_is : (bs : List ℕ) → IsLongestAnswer (b ∷ bs) (unbraced_lexeme b bs)
@@ -257,10 +237,7 @@ module _ (b : ℕ) (no_brace : (b == 123) ≡ false) where
 -- a text's longest lexeme, from its first byte and those after it
 pub unbraced_longest : (s : List ℕ) (r : Option (LexemeKind × ℕ)) → 0 < length s → (get_or s 0 0 ≡ 123 → ⊥)
     → r ≡ unbraced_lexeme (get_or s 0 0) (take (length s - 1) (drop 1 s)) → IsLongestAnswer s r
-unbraced_longest [] r lt never e = absurd (omega arith)
-unbraced_longest (b ∷ bs) r lt never e =
-    let all : take (length (b ∷ bs) - 1) bs ≡ bs = take_all (length (b ∷ bs) - 1) bs (omega arith) in
-    subst (IsLongestAnswer (b ∷ bs)) (sym (e ∙ ap (unbraced_lexeme b) all)) (unbraced_is b (ne_eqb b 123 never) bs)
+unbraced_longest s r given1 given2 given3 = search (rules, take_all, unbraced_is, ne_eqb)
 
 -- a brace that is closed begins a name
 pub closed_name : (bs : List ℕ) (n : ℕ) → n ≡ inside bs → slice_get bs n ≡ Some 125 → IsLongest (123 ∷ bs) lexeme.Braced (n + 2)
@@ -291,9 +268,7 @@ pub brace_first : (s : List ℕ) → 0 < length s → get_or s 0 0 ≡ 123 → s
 brace_first s lt e = slice_get-get_or s 0 0 lt ∙ ap (λ x. Some x) e
 
 pub other_first : (s : List ℕ) → 0 < length s → (get_or s 0 0 ≡ 123 → ⊥) → slice_get s 0 ≢ Some 123
-other_first s lt never e =
-    let f : slice_get s 0 ≡ Some (get_or s 0 0) = slice_get-get_or s 0 0 lt in
-    never cc
+other_first s given1 given2 = search (rules, slice_get-get_or)
 
 -- each text that isn't empty begins in one of the ways
 has_front_braced : (bs : List ℕ) (o : Option ℕ) → slice_get bs (inside bs) ≡ o → (f : FirstLexeme) × IsFirstLexeme (123 ∷ bs) f
@@ -305,9 +280,7 @@ has_front_braced bs (Some x) e =
     (cases_eq x 125)
 
 not_brace : (b : ℕ) → (b == 123) ≡ false → Some b ≢ Some 123
-not_brace b e h =
-    let same : b ≡ 123 = cc in
-    false≢true (sym e ∙ ap (λ x. x == 123) same)
+not_brace b given1 = grind (arith)
 
 has_front_by : (b : ℕ) (bs : List ℕ) (y : Bool) → (b == 123) ≡ y → (f : FirstLexeme) × IsFirstLexeme (b ∷ bs) f
 has_front_by b bs true e =

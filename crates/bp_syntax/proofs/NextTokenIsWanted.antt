@@ -1,5 +1,5 @@
 -- A token that may come is one of those that are wanted.
-use Rattle.std.proofs.Common.{◌≡◌, ℕ, Bool, true, false, cond, List, [], ◌∷◌, ◌++◌, Option, Some, None, refl, sym, subst, ◌⊎◌, inl, inr, ⊎_elim, append-nil}
+use Rattle.std.proofs.Common.{◌≡◌, ℕ, Bool, true, false, cond, List, [], ◌∷◌, ◌++◌, Option, Some, None, refl, sym, subst, ◌⊎◌, ⊎_elim, append-nil, arith}
 use Rattle.bp_language.proofs.GrownLists.{regrouped}
 use denote.Enum.Bare.{same_true}
 use Rattle.bp_language.specs.Ast.{Name, Expression, Constant, Variable, Negation, Operation, Choose, Decide, Done, Then, Statement, Skips, GoesTo, Returns, Assigns, Branches, Loops, Asserts, Assumes, Prints, Calls, Procedure, Program}
@@ -22,12 +22,10 @@ none_some : {A : Type 0} {a : A} → None ≡ Some a → ⊥
 none_some e = cc
 
 cond_some : (b : Bool) (a v : Wanted) → cond b (Some a) None ≡ Some v → (b ≡ true) × (a ≡ v)
-cond_some true a v e = (refl, given e)
-cond_some false a v e = absurd (none_some e)
+cond_some b a v given1 = grind (arith)
 
 cond_either : (b : Bool) (o p : Option Wanted) (v : Wanted) → cond b o p ≡ Some v → ((b ≡ true) × (o ≡ Some v)) ⊎ ((b ≡ false) × (p ≡ Some v))
-cond_either true o p v e = inl (refl, e)
-cond_either false o p v e = inr (refl, e)
+cond_either b o p v given1 = grind (arith)
 
 -- the tokens that an answer of `feed` wants
 moved : {w v : Wanted} {ts : List Token} {q : Program} → Some w ≡ Some v → Needs v ts q → Needs w ts q

@@ -1,11 +1,10 @@
 -- A text has one answer: its tree, or its first fault.
-use Rattle.std.proofs.Common.{◌≡◌, ℕ, ◌≤◌, List, [], ◌∷◌, ◌++◌, length, Some, None, Result, Ok, Err, refl, sym, ap, subst, ◌∙◌, ⊎_elim, arith, ◌≢◌, ◌⊎◌, ◌<◌, inl, inr, MatchResult, IsErrAnd}
-use Rattle.std.proofs.lemmas.Result.{err_from_is_err_and}
+use Rattle.std.proofs.Common.{◌≡◌, ℕ, ◌≤◌, List, [], ◌∷◌, ◌++◌, length, Some, None, Result, Ok, Err, refl, sym, ap, subst, ◌∙◌, ⊎_elim, arith, ◌≢◌, ◌⊎◌, ◌<◌, inl, inr, MatchResult, IsErrAnd, rules}
 use Rattle.std.proofs.lemmas.Bool.{cases_lt}
 use Rattle.bp_language.specs.Ast.{Program}
 use Rattle.bp_language.proofs.GrownLists.{regrouped}
 use Rattle.bp_language.specs.declared.limits.TheConstants.{TEXT_LIMIT}
-use Rattle.bp_language.specs.Tokens.{Token, first_bad_byte, first_open_brace, tokens_of, HasTokens, HasBadByte, HasOpenName, AllReal}
+use Rattle.bp_language.specs.Tokens.{Token, tokens_of, HasTokens, HasBadByte, HasOpenName, AllReal}
 use Rattle.bp_language.specs.Grammar.{Derives}
 use Rattle.bp_language.specs.Texts.{IsShallow, IsSparse, IsTextOf}
 use Rattle.bp_language.proofs.SpelledNames.{all_real}
@@ -24,22 +23,17 @@ pub same_tokens : (text : List ℕ) (ts us : List Token) → HasTokens text ts �
 same_tokens text ts us a b = sym a.tokens ∙ ap tokens_of (one_cut 0 text a.lexemes b.lexemes a.cut b.cut) ∙ b.tokens
 
 pub good_or_bad : (text : List ℕ) (ts : List Token) (at : ℕ) → HasTokens text ts → HasBadByte text at → ⊥
-good_or_bad text ts at a b =
-    let e : None ≡ Some at = sym a.good ∙ ap first_bad_byte (one_cut 0 text a.lexemes b.lexemes a.cut b.cut) ∙ b.bad in
-    cc
+good_or_bad text ts at given1 given2 = search (rules, one_cut)
 
 pub closed_or_open : (text : List ℕ) (ts : List Token) (at : ℕ) → HasTokens text ts → HasOpenName text at → ⊥
-closed_or_open text ts at a b =
-    let e : None ≡ Some at = sym a.closed ∙ ap first_open_brace (one_cut 0 text a.lexemes b.lexemes a.cut b.cut) ∙ b.unclosed in
-    cc
+closed_or_open text ts at given1 given2 = search (rules, one_cut)
 
 pub real_rest : (front rest : List Token) → AllReal (front ++ rest) → AllReal rest
 real_rest [] rest r = r
 real_rest (x ∷ front) rest r = real_rest front rest r.1
 
 pub sparse_front : (front rest : List Token) → IsSparse (front ++ rest) → IsSparse front
-sparse_front front rest s before run after parts plain =
-    s before run (after ++ rest) (ap (λ l. l ++ rest) parts ∙ simp regrouped) plain
+sparse_front front rest given1 = search (rules, regrouped)
 
 derived_opens : (front rest : List Token) (x : Token) (p : Program) → AllReal (front ++ x ∷ rest) → Derives (front ++ x ∷ rest) p → Opens (front ++ x ∷ [])
 derived_opens front rest x p real d = record {
@@ -50,11 +44,7 @@ derived_opens front rest x p real d = record {
 }
 
 no_syntax_fault : (text : List ℕ) (ts : List Token) (at : ℕ) (p : Program) → AllReal ts → Derives ts p → HasSyntaxFault text ts at → ⊥
-no_syntax_fault text ts at p real d f =
-    ⊎_elim
-    (λ b. b.after (derived_opens b.front b.rest b.token p (subst AllReal b.parts real) (subst (λ l. Derives l p) b.parts d)))
-    (λ n. n.1 p d)
-    f
+no_syntax_fault text ts at p given1 given2 given3 = search (rules, ⊎_elim, derived_opens)
 
 pub shallow_or_nested : (ts : List Token) (at : ℕ) → IsShallow ts → BreaksAt IsShallow ts at → ⊥
 shallow_or_nested ts at all b =
@@ -93,21 +83,13 @@ only_answer text (Ok q) a p t = one_program text q p a t
 only_answer text (Err e) a p t = only_memory text p e t a
 
 pub scan_fault : (text : List ℕ) (e : ReadFault) → length text ≤ TEXT_LIMIT → IsScanFault text e → IsRefusal text e
-scan_fault text (fault.BadByte at) le f = (le, f)
-scan_fault text (fault.OpenName at) le f = (le, f)
-scan_fault text fault.Memory le f = le
-scan_fault text fault.TooLong le f = absurd f
-scan_fault text (fault.TooNested at) le f = absurd f
-scan_fault text (fault.TooManyTokens at) le f = absurd f
-scan_fault text (fault.Syntax at) le f = absurd f
+scan_fault text e given1 given2 = grind (arith)
 
 place_is : (end : ℕ) (left : List Token) (x : Token) (r : List Token) → left ≡ x ∷ r → place_or end left ≡ x.at
-place_is end [] x r e = let z : ⊥ = cc in absurd z
-place_is end (y ∷ l) x r e = let s : y ≡ x = cc in ap (λ t. t.at) s
+place_is end left x r given1 = grind (arith)
 
 end_is : (end : ℕ) (left : List Token) → left ≡ [] → place_or end left ≡ end
-end_is end [] e = refl
-end_is end (x ∷ r) e = let z : ⊥ = cc in absurd z
+end_is end left given1 = grind (arith)
 
 pub parse_fault : (text : List ℕ) (ts : List Token) (e : ReadFault) → length text ≤ TEXT_LIMIT → HasTokens text ts
     → IsShallow ts → IsSparse ts → IsParseFault ts (length text) e → IsRefusal text e
@@ -137,21 +119,12 @@ crowd_fault text ts at le has flat e = (le, ts, has, none_is_shallow ts flat, so
 
 pub parsed : (text : List ℕ) (ts : List Token) (p : Program) → length text ≤ TEXT_LIMIT → HasTokens text ts
     → first_too_deep 0 ts ≡ None → first_too_many 0 ts ≡ None → parse_result whole_program ts ≡ Got p → IsTextOf text p
-parsed text ts p le has flat few e = record {
-  short = le;
-  tokens = ts;
-  scanned = has;
-  shallow = none_is_shallow ts flat;
-  sparse = none_is_sparse ts few;
-  derives = read_is_derived ts p e;
-}
+parsed text ts p given1 given2 given3 given4 given5 = search (rules, none_is_shallow, none_is_sparse, read_is_derived)
 
 -- a refusal that is passed on
 pub fault_passed_on : (text : List ℕ) (r : Result Program ReadFault) (e : ReadFault) → IsErrAnd r (λ d. d ≡ e)
     → IsRefusal text e → MatchResult r (IsTextOf text) (IsRefusal text)
-fault_passed_on text r e is f =
-    let p = err_from_is_err_and r is in
-    subst (λ q. MatchResult q (IsTextOf text) (IsRefusal text)) (sym p.1) (subst (IsRefusal text) (sym p.2) f)
+fault_passed_on text r e given1 given2 = grind (arith)
 
 -- A text has at most one refusal, memory aside.
 
@@ -182,14 +155,7 @@ one_break : (P : List Token → Type 0) (ts : List Token) (at place : ℕ)
     → BreaksAt P ts at
     → BreaksAt P ts place
     → at ≡ place
-one_break P ts at place fronts real a b =
-    let ra : AllReal a.front = real_front a.front (a.token ∷ a.rest) (subst AllReal a.parts real) in
-    let rb : AllReal b.front = real_front b.front (b.token ∷ b.rest) (subst AllReal b.parts real) in
-    elim (places a.front b.front a.token b.token a.rest b.rest (sym a.parts ∙ b.parts)) [
-      | inl same ↦ sym a.place ∙ ap (λ t. t.at) same ∙ b.place
-      | inr (inl (m, is)) ↦ absurd (a.after (fronts (a.front ++ a.token ∷ []) m (subst AllReal is rb) (subst P is b.before)))
-      | inr (inr (m, is)) ↦ absurd (b.after (fronts (b.front ++ b.token ∷ []) m (subst AllReal is ra) (subst P is a.before)))
-    ]
+one_break P ts at place given1 given2 given3 given4 = search (rules, real_front, places)
 
 -- tokens open a program if they do with more real tokens
 opens_front : (front rest : List Token) → AllReal (front ++ rest) → Opens (front ++ rest) → Opens front
@@ -217,19 +183,13 @@ one_syntax_fault text ts at place real (inr a) (inl b) = absurd (opens_or_breaks
 one_syntax_fault text ts at place real (inr a) (inr b) = a.2 ∙ sym b.2
 
 bad_or_open : (text : List ℕ) (at place : ℕ) → HasBadByte text at → HasOpenName text place → ⊥
-bad_or_open text at place a b =
-    let e : Some at ≡ None = sym a.bad ∙ ap first_bad_byte (one_cut 0 text a.lexemes b.lexemes a.cut b.cut) ∙ b.good in
-    cc
+bad_or_open text at place given1 given2 = search (rules, one_cut)
 
 one_bad_byte : (text : List ℕ) (at place : ℕ) → HasBadByte text at → HasBadByte text place → at ≡ place
-one_bad_byte text at place a b =
-    let e : Some at ≡ Some place = sym a.bad ∙ ap first_bad_byte (one_cut 0 text a.lexemes b.lexemes a.cut b.cut) ∙ b.bad in
-    cc
+one_bad_byte text at place given1 given2 = search (rules, one_cut)
 
 one_open_name : (text : List ℕ) (at place : ℕ) → HasOpenName text at → HasOpenName text place → at ≡ place
-one_open_name text at place a b =
-    let e : Some at ≡ Some place = sym a.unclosed ∙ ap first_open_brace (one_cut 0 text a.lexemes b.lexemes a.cut b.cut) ∙ b.unclosed in
-    cc
+one_open_name text at place given1 given2 = search (rules, one_cut)
 
 real_tokens : (text : List ℕ) (ts : List Token) → HasTokens text ts → AllReal ts
 real_tokens text ts h = subst AllReal h.tokens (all_real h.cut)

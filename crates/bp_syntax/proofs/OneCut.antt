@@ -1,6 +1,6 @@
 -- Each text has one cut.
-use Rattle.std.proofs.Common.{◌≡◌, ℕ, zero, suc, ◌+◌, ◌<◌, ◌≤◌, ⊎_elim, true, List, [], ◌∷◌, length, take, drop, Some, refl, sym, ap, subst, arith, length-drop, ◌==◌, ◌&&◌, nat_eq, if◌then◌else◌, ◌≢◌, ◌∙◌, Bool, false, Option, None, ◌++◌, ◌-◌, slice_get, append-nil}
-use Rattle.std.proofs.lemmas.Bool.{cases_lt, false≢true, eqb-true}
+use Rattle.std.proofs.Common.{◌≡◌, ℕ, zero, suc, ◌+◌, ◌<◌, ◌≤◌, true, List, [], ◌∷◌, length, take, drop, Some, refl, sym, ap, subst, arith, length-drop, ◌==◌, ◌&&◌, nat_eq, if◌then◌else◌, ◌≢◌, ◌∙◌, Bool, false, Option, None, ◌++◌, ◌-◌, slice_get, append-nil, rules}
+use Rattle.std.proofs.lemmas.Bool.{false≢true, eqb-true}
 use Rattle.std.specs.List.{list_all}
 use Rattle.std.proofs.lemmas.Bool.Decides.{nat_tests, Decides-eqb}
 use Rattle.std.proofs.lemmas.Str.{IsUtf8-from_ascii}
@@ -12,7 +12,7 @@ use Rattle.bp_language.specs.declared.tokens.LexemeKind.{LexemeKind}
 use Rattle.bp_language.specs.declared.tokens.TokenKind.{TokenKind}
 use Rattle.bp_language.specs.declared.tokens.LexemeKind.TheVariants as lexeme
 use Rattle.bp_language.proofs.SpelledNames.{both_left, both_right}
-use Rattle.bp_syntax.specs.Lexer.{IsFirstLexeme, lexeme_of, IsFirst, TakesLexeme, IsNameless}
+use Rattle.bp_syntax.specs.Lexer.{IsFirstLexeme, IsFirst, TakesLexeme, IsNameless}
 use Rattle.bp_syntax.specs.declared.lexemes.FirstLexeme.{FirstLexeme}
 use Rattle.bp_syntax.specs.declared.lexemes.FirstLexeme.TheVariants as first
 use Rattle.bp_syntax.proofs.LongestLexeme.{has_front, kind_by_first, found, keyed}
@@ -20,19 +20,10 @@ use Rattle.bp_syntax.proofs.BracedNames.{nameless_rest}
 
 -- two longest lexemes of one text are one
 one_length : (s : List ℕ) (k j : LexemeKind) (m n : ℕ) → IsLongest s k m → IsLongest s j n → m ≡ n
-one_length s k j m n a b =
-    ⊎_elim
-    (λ lt. absurd (a.no_longer j n lt b.within b.is_lexeme))
-    (λ le. ⊎_elim (λ lt. absurd (b.no_longer k m lt a.within a.is_lexeme)) (λ ge. omega arith) (cases_lt n m))
-    (cases_lt m n)
+one_length s k j m n given1 given2 = grind (arith)
 
 one_kind : (s : List ℕ) (k j : LexemeKind) (m : ℕ) → 0 < m → m ≤ length s → fits k (take m s) ≡ true → fits j (take m s) ≡ true → k ≡ j
-one_kind [] k j m lt le a b = absurd (omega arith)
-one_kind (x ∷ xs) k j zero lt le a b = absurd (omega arith)
-one_kind (x ∷ xs) k j (suc m) lt le a b =
-    let p = kind_by_first k x (take m xs) a in
-    let q = kind_by_first j x (take m xs) b in
-    cc
+one_kind s k j m given1 given2 given3 given4 = search (rules, kind_by_first)
 
 none_and_some : (s : List ℕ) (k : LexemeKind) (n : ℕ) → NoneFits s → IsLongest s k n → ⊥
 none_and_some s k n none l = none k n l.some l.within l.is_lexeme
@@ -85,8 +76,7 @@ has_cut at s = has_cut_within (length s) at s (omega arith)
 -- The bytes of a token are ASCII, and so they are text.
 
 ascii_cons : (b : ℕ) (bs : List ℕ) → b < 128 → IsAscii bs → IsAscii (b ∷ bs)
-ascii_cons b bs h t zero = h
-ascii_cons b bs h t (suc i) = t i
+ascii_cons b bs given1 given2 = grind (arith)
 
 word_byte_ascii : (b : ℕ) → is_word_byte b ≡ true → b < 128
 word_byte_ascii b h = grind (arith, nat_tests)
@@ -170,8 +160,7 @@ whole_lexeme (b ∷ t) None size some is = subst (λ n. TakesLexeme (b ∷ t) No
 
 pub lexeme_is_taken : (text : List ℕ) (kind : Option LexemeKind) (size : ℕ) (bytes rest : List ℕ) → 0 < length text
     → IsFirst kind text size → bytes ≡ take size text → rest ≡ drop size text → TakesLexeme text kind bytes rest
-lexeme_is_taken text kind size bytes rest some is front back =
-    subst (λ x. TakesLexeme text kind x rest) (sym front) (subst (TakesLexeme text kind (take size text)) (sym back) (whole_lexeme text kind size some is))
+lexeme_is_taken text kind size bytes rest given1 given2 given3 given4 = search (rules, whole_lexeme)
 
 -- The cut of the rest continues the scan so far, also behind one more lexeme.
 
@@ -183,24 +172,20 @@ pub record Continues (text : List ℕ) (at : ℕ) (rest : List ℕ) (ts : List T
       × (first_open_brace qs ≡ option_or brace (first_open_brace ps)) × (tokens_of qs ≡ ts ++ tokens_of ps)
 
 token_before : (k : Option TokenKind) (at : ℕ) (bytes : List ℕ) (ts : List Token) → with_token k at bytes ts ≡ with_token k at bytes [] ++ ts
-token_before None at bytes ts = refl
-token_before (Some k) at bytes ts = refl
+token_before k at bytes ts = grind (arith)
 
 or_none : (o : Option ℕ) → option_or o None ≡ o
-or_none None = refl
-or_none (Some x) = refl
+or_none o = grind (arith)
 
 or_or : (o p : Option ℕ) (x : ℕ) → option_or (option_or o (Some x)) p ≡ option_or o (Some x)
-or_or None p x = refl
-or_or (Some y) p x = refl
+or_or o p x = grind (arith)
 
 -- what is known between two lexemes
 abbrev pub Known : List ℕ → ℕ → List ℕ → List Token → Option ℕ → ℕ → Type 0
 Known text at rest ts brace nameless = Continues text at rest ts brace × IsNameless nameless rest
 
 nameless_after : (rest after : List ℕ) (n m len : ℕ) → IsNameless n rest → m ≡ n - len → after ≡ drop len rest → IsNameless m after
-nameless_after rest after n m len h is left =
-    subst (λ l. IsNameless m l) (sym left) (subst (λ k. IsNameless k (drop len rest)) (sym is) (nameless_rest n len rest h))
+nameless_after rest after n m len given1 given2 given3 = search (rules, nameless_rest)
 
 one_more : (text : List ℕ) (at : ℕ) (rest after : List ℕ) (ts us : List Token) (brace : Option ℕ) (k : LexemeKind) (len n m : ℕ)
     → Known text at rest ts brace n → IsLongest rest k len → after ≡ drop len rest

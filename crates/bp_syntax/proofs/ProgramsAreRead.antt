@@ -1,5 +1,5 @@
 -- Statements, procedures and programs of the grammar are read whole, whatever is wanted after them.
-use Rattle.std.proofs.Common.{◌≡◌, ℕ, true, false, List, [], ◌∷◌, ◌++◌, Option, Some, None, refl, sym, ap, ◌∙◌, drop, append-nil}
+use Rattle.std.proofs.Common.{◌≡◌, ℕ, true, false, List, [], ◌∷◌, ◌++◌, Option, Some, None, refl, sym, ap, ◌∙◌, drop, append-nil, rules}
 use Rattle.std.proofs.lemmas.Bool.{false≢true}
 use Rattle.bp_language.proofs.GrownLists.{regrouped}
 use Rattle.bp_language.specs.Ast.{Name, Expression, Decision, Block, Then, Statement, Skips, GoesTo, Returns, Assigns, Branches, Loops, Asserts, Assumes, Prints, Calls, Procedure, Program}
@@ -55,24 +55,13 @@ name_begins (x ∷ r) h = by_kind x.kind h
     by_kind k e = absurd (false≢true e)
 
 form_begins : {ts : List Token} {s : Statement} {r : List Token} → IsForm ts s r → is_at_form ts ≡ true
-form_begins (skip (first_word h) (first_word c)) = ap is_form_start h
-form_begins (jump (first_word h) (first_name i) (first_word c)) = ap is_form_start h
-form_begins (returning (first_word h) (first_word c)) = ap is_form_start h
-form_begins (assignment {ts = ts} d (first_word b) f (first_word c)) = name_begins ts (names_begin d)
-form_begins (branch (first_word h) (first_word o) is (first_word c) (first_word i) body (first_word j) other (first_word g)) = ap is_form_start h
-form_begins (loop (first_word h) (first_word o) is (first_word c) (first_word i) body (first_word g)) = ap is_form_start h
-form_begins (assertion (first_word h) (first_word o) is (first_word c) (first_word g)) = ap is_form_start h
-form_begins (assumption (first_word h) (first_word o) is (first_word c) (first_word g)) = ap is_form_start h
-form_begins (printing (first_word h) (first_word o) are (first_word c) (first_word g)) = ap is_form_start h
-form_begins (call (first_name h) (first_word o) are (first_word c) (first_word g)) = ap is_form_start h
+form_begins given1 = search (rules, name_begins, names_begin)
 
 stmt_begins : {ts : List Token} {l : Option Name} {at : ℕ} {s : Statement} {r : List Token} → IsStmt ts l at s r → is_at_form ts ≡ true
-stmt_begins (labelled (first_name h) (first_word c) d) = ap is_form_start h
-stmt_begins (unlabelled d) = form_begins d
+stmt_begins given1 = search (rules, form_begins)
 
 stmts_begin : {ts : List Token} {b : Block} {r : List Token} → IsStmts ts b r → is_at_form ts ≡ true
-stmts_begin (one_stmt d) = stmt_begins d
-stmts_begin (more_stmts d f) = stmt_begins d
+stmts_begin given1 = search (rules, stmt_begins)
 
 mutual
   form_read : {ts : List Token} {s : Statement} {r : List Token} → IsForm ts s r → (next : ℕ → Statement → Wanted)
@@ -214,8 +203,7 @@ name_no_decl : (ts : List Token) → is_at kind.Name ts ≡ true → is_at kind.
 name_no_decl ts h = form_no_decl ts (name_begins ts h)
 
 procs_no_decl : {ts : List Token} {ps : List Procedure} {r : List Token} → IsProcs ts ps r → is_at kind.Decl r ≡ false → is_at kind.Decl ts ≡ false
-procs_no_decl no_proc n = n
-procs_no_decl (more_procs {ts = ts} d f) n = name_no_decl ts (proc_begins d)
+procs_no_decl given1 given2 = search (rules, name_no_decl, proc_begins)
 
 -- a program of the grammar is read to its tree
 pub derived_is_read : {ts : List Token} {p : Program} → Derives ts p → parse_result whole_program ts ≡ Got p

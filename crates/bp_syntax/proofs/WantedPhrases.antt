@@ -1,5 +1,5 @@
 -- What the parser wants, as phrases of the grammar.
-use Rattle.std.proofs.Common.{◌≡◌, ℕ, List, refl, sym, subst, ◌<◌, ◌+◌, true, false, Option, Some, bytes_eq, drop, get_or, length, map, [], ◌∷◌, ◌++◌, None}
+use Rattle.std.proofs.Common.{◌≡◌, ℕ, List, refl, subst, ◌<◌, ◌+◌, false, Option, Some, bytes_eq, drop, get_or, length, map, [], ◌∷◌, ◌++◌, None, arith, rules}
 use Rattle.std.proofs.lemmas.List.{drop_more}
 use Rattle.std.specs.Map.{lookup}
 use Rattle.bp_language.specs.Ast.{Name, Expression, Operation, Decision, Block, Done, Then, Statement, Procedure, Program}
@@ -9,7 +9,6 @@ use Rattle.bp_language.proofs.GrownLists.{regrouped}
 use Rattle.bp_language.specs.Tokens.{Token, IsReal}
 use Rattle.bp_language.specs.declared.tokens.TokenKind.{TokenKind}
 use Rattle.bp_language.specs.declared.tokens.TokenKind.TheVariants as kind
-use Rattle.bp_language.specs.declared.tokens.LexemeKind.TheVariants as lexeme
 use Rattle.bp_language.specs.Grammar.{name_of, IsNames, one_name, more_names, IsAnyNames, IsExpr, of_or, implication, IsOr, of_xor, disjunction, IsXor, of_and, exclusion, IsAnd, of_eq, conjunction, IsEq, of_un, equality, difference, IsUn, IsExprs, one_expr, more_exprs, IsAnyExprs, IsDecider, IsForm, IsStmt, IsStmts, one_stmt, more_stmts, IsDecls, IsProcs, first_word, first_name}
 use Rattle.bp_syntax.specs.Spellings.{spelling, some_token}
 use Rattle.bp_syntax.specs.ParserState.{Wanted, Complete, WordThen, NameThen, MoreNames, AnyNamesThen, UnThen, MoreOperands, MoreImplied, MoreExprs, AnyExprsThen, DeciderThen, FormThen, FormAfter, StmtThen, StmtAfter, MoreStmts, MoreDecls, MoreProcs, NamesThen, ExprThen, ExprsThen, OperandThen, operator}
@@ -19,42 +18,7 @@ use Rattle.bp_syntax.specs.declared.parser.operators.Precedence.TheVariants.{Equ
 -- Each kind of token has a spelling.
 
 pub some_real : (k : TokenKind) → IsReal (some_token k)
-some_real kind.Name = record { lexeme = lexeme.Identifier; fits = refl; spells = refl }
-some_real kind.Zero = record { lexeme = lexeme.Constant; fits = refl; spells = refl }
-some_real kind.One = record { lexeme = lexeme.Constant; fits = refl; spells = refl }
-some_real kind.Semicolon = record { lexeme = lexeme.Symbol; fits = refl; spells = refl }
-some_real kind.Comma = record { lexeme = lexeme.Symbol; fits = refl; spells = refl }
-some_real kind.Open = record { lexeme = lexeme.Symbol; fits = refl; spells = refl }
-some_real kind.Close = record { lexeme = lexeme.Symbol; fits = refl; spells = refl }
-some_real kind.Colon = record { lexeme = lexeme.Symbol; fits = refl; spells = refl }
-some_real kind.Bar = record { lexeme = lexeme.Symbol; fits = refl; spells = refl }
-some_real kind.Ampersand = record { lexeme = lexeme.Symbol; fits = refl; spells = refl }
-some_real kind.Caret = record { lexeme = lexeme.Symbol; fits = refl; spells = refl }
-some_real kind.Equal = record { lexeme = lexeme.Symbol; fits = refl; spells = refl }
-some_real kind.Bang = record { lexeme = lexeme.Symbol; fits = refl; spells = refl }
-some_real kind.Question = record { lexeme = lexeme.Symbol; fits = refl; spells = refl }
-some_real kind.Becomes = record { lexeme = lexeme.Symbol; fits = refl; spells = refl }
-some_real kind.Differ = record { lexeme = lexeme.Symbol; fits = refl; spells = refl }
-some_real kind.Implies = record { lexeme = lexeme.Symbol; fits = refl; spells = refl }
-some_real kind.Decl = record { lexeme = lexeme.Identifier; fits = refl; spells = refl }
-some_real kind.Begin = record { lexeme = lexeme.Identifier; fits = refl; spells = refl }
-some_real kind.End = record { lexeme = lexeme.Identifier; fits = refl; spells = refl }
-some_real kind.Skip = record { lexeme = lexeme.Identifier; fits = refl; spells = refl }
-some_real kind.Goto = record { lexeme = lexeme.Identifier; fits = refl; spells = refl }
-some_real kind.Return = record { lexeme = lexeme.Identifier; fits = refl; spells = refl }
-some_real kind.If = record { lexeme = lexeme.Identifier; fits = refl; spells = refl }
-some_real kind.Then = record { lexeme = lexeme.Identifier; fits = refl; spells = refl }
-some_real kind.Else = record { lexeme = lexeme.Identifier; fits = refl; spells = refl }
-some_real kind.Fi = record { lexeme = lexeme.Identifier; fits = refl; spells = refl }
-some_real kind.While = record { lexeme = lexeme.Identifier; fits = refl; spells = refl }
-some_real kind.Do = record { lexeme = lexeme.Identifier; fits = refl; spells = refl }
-some_real kind.Od = record { lexeme = lexeme.Identifier; fits = refl; spells = refl }
-some_real kind.Assert = record { lexeme = lexeme.Identifier; fits = refl; spells = refl }
-some_real kind.Print = record { lexeme = lexeme.Identifier; fits = refl; spells = refl }
-some_real kind.Assume = record { lexeme = lexeme.Identifier; fits = refl; spells = refl }
-
-pub real_spelling : (k : TokenKind) (text : List ℕ) → text ≡ spelling k → IsReal (record { kind = k; at = 0; text = text })
-real_spelling k text is = subst (λ s. IsReal (record { kind = k; at = 0; text = s })) (sym is) (some_real k)
+some_real k = grind (arith)
 
 -- The reserved words are the spellings of their kinds, in order.
 
@@ -69,11 +33,6 @@ first_spelled s ks = lookup (bytes_eq s) (map spelled ks)
 pub go_on : (s : List ℕ) (ks : List TokenKind) (i : ℕ) (k d : TokenKind) → i < length ks → get_or ks i d ≡ k → bytes_eq s (spelling k) ≡ false
     → first_spelled s (drop i ks) ≡ first_spelled s (drop (i + 1) ks)
 go_on s ks i k d less is differs = rw (drop_more ks i d less, is, differs) refl
-
--- the next one is spelled so
-pub is_next : (s : List ℕ) (ks : List TokenKind) (i : ℕ) (k d : TokenKind) → i < length ks → get_or ks i d ≡ k → bytes_eq s (spelling k) ≡ true
-    → first_spelled s (drop i ks) ≡ Some k
-is_next s ks i k d less is same = rw (drop_more ks i d less, is, same) refl
 
 -- an operand of the operators of a strength, and operands with such operators between them
 abbrev pub IsOperand : Precedence → List Token → Expression → List Token → Type 0
@@ -215,8 +174,7 @@ expr_from next ts q (un a ua (operands b mb (operands c mc (operands d md (opera
 pub names_from : (acc : List Name) (next : List Name → Wanted) (ts : List Token) (q : Program)
     → Needs (NamesThen acc next) ts q
     → (ns : List Name) × (r : List Token) × IsNames ts ns r × Needs (next (acc ++ ns)) r q
-names_from acc next ts q (name x h (names {r = r} ms m n)) =
-    (name_of x ∷ ms, r, names_join h m, simp regrouped at n)
+names_from acc next ts q given1 = search (rules, name, names, names_join, regrouped)
 
 pub exprs_from : (acc : List Expression) (next : List Expression → Wanted) (ts : List Token) (q : Program)
     → Needs (ExprsThen acc next) ts q

@@ -1,9 +1,9 @@
 -- How the texts that a sink is given add up.
-use Rattle.std.proofs.Common.{◌≡◌, refl, ℕ, ◌+◌, ◌-◌, ◌<◌, ◌≤◌, List, ◌++◌, Option, length, take, drop, get_or, flat_map, sym, subst, arith, add-one, drop-cons, take-append-drop, length-append, length-drop, [], Bool, false, true, Result, Ok, Err, ◌∙◌, suc}
+use Rattle.std.proofs.Common.{◌≡◌, refl, ℕ, ◌+◌, ◌-◌, ◌<◌, ◌≤◌, List, ◌++◌, Option, length, take, drop, get_or, flat_map, sym, subst, arith, add-one, drop-cons, take-append-drop, length-append, length-drop, [], Bool, false, Result, ◌∙◌, suc, rules}
 use Rattle.std.proofs.lemmas.List.{take-append-le, append-nil, append_assoc}
 use Rattle.std.proofs.Math.Seq.{take-add, take-length, take-append-add}
 use Rattle.std.proofs.lemmas.Grind.{flat_map-append}
-use Rattle.std.proofs.KnownBytes.{Appends-trans, Appends-nil, Appends-kept, Keeps-refl}
+use Rattle.std.proofs.KnownBytes.{Appends-trans, Appends-nil, Keeps-refl}
 use Rattle.std.specs.Io.KnownBytes.{Appends, Keeps}
 use Rattle.std.specs.Borrow.{MutBor}
 use Rattle.std.specs.Result.{is_err}
@@ -59,43 +59,27 @@ part_then a b c t u p q = subst (λ x. AppendsPart a c (t ++ x)) (append-nil u) 
 
 pub and_then : {W : Type 0} {contents : W → Option (List ℕ)} {a b c : Sink W} {t u : List ℕ}
     → Given contents a b t → Given contents b c u → Given contents a c (t ++ u)
-and_then {t = t} {u = u} p q = record {
-  same_reference = q.same_reference ∙ p.same_reference;
-  takes = λ first before h. rw (← append_assoc before t u) (q.takes first (before ++ t) (p.takes first before h));
-}
+and_then given1 given2 = search (rules, append_assoc)
 
 taken_by : {T E : Type 0} (first old now : Option (List ℕ)) (before text : List ℕ) (r : Result T E)
     → HasTaken first old false before → Writes old now text r → HasTaken first now (is_err r) (before ++ text)
-taken_by first old now before text (Ok x) h w = all_then first old now before text h w
-taken_by first old now before text (Err x) h w = part_then first old now before text h w
+taken_by given1 given2 = search (rules, all_then, part_then)
 
 -- a sink that had refused nothing hands the text to a call that writes it
 pub given_written : {W T E : Type 0} (contents : W → Option (List ℕ)) (a b : Sink W) (text : List ℕ) (r : Result T E)
     → b.out.ghost_name ≡ a.out.ghost_name → a.refused ≡ false → b.refused ≡ is_err r
     → Writes (contents a.out.now) (contents b.out.now) text r → Given contents a b text
-given_written contents a b text r same fresh is w = record {
-  same_reference = same;
-  takes = λ first before h.
-      subst (λ x. HasTaken first (contents b.out.now) x (before ++ text)) (sym is)
-      (taken_by first (contents a.out.now) (contents b.out.now) before text r
-      (subst (λ x. HasTaken first (contents a.out.now) x before) fresh h) w);
-}
+given_written given1 given2 given3 given4 = search (rules, taken_by)
 
 taken_kept : (first old now : Option (List ℕ)) (refused : Bool) (text : List ℕ)
     → HasTaken first old refused text → Keeps old now → HasTaken first now refused text
-taken_kept first old now false text h k = record { grown = Appends-kept first old now text h.grown k }
-taken_kept first old now true text h k =
-    record { count = h.count; short = h.short; grown = Appends-kept first old now (take h.count text) h.grown k }
+taken_kept first old now refused text given1 given2 = grind (arith)
 
 -- a sink whose writer keeps what it has was given nothing
 pub given_nothing : {W : Type 0} (contents : W → Option (List ℕ)) (a b : Sink W)
     → b.out.ghost_name ≡ a.out.ghost_name → b.refused ≡ a.refused → Keeps (contents a.out.now) (contents b.out.now)
     → Given contents a b []
-given_nothing contents a b same is keeps = record {
-  same_reference = same;
-  takes = λ first before h.
-      rw (append-nil before, is) (taken_kept first (contents a.out.now) (contents b.out.now) a.refused before h keeps);
-}
+given_nothing given1 given2 given3 = search (rules, append-nil, taken_kept)
 
 pub given_none : {W : Type 0} (contents : W → Option (List ℕ)) (a : Sink W) → Given contents a a []
 given_none contents a = given_nothing contents a a refl refl (Keeps-refl (contents a.out.now))
@@ -112,8 +96,7 @@ left_after contents a b c text t u h p =
     record { done = h.done ++ t; given = and_then h.given p; is = h.is ∙ sym (append_assoc h.done t u) }
 
 taken_all : (first now : Option (List ℕ)) (refused : Bool) (text : List ℕ) → HasTaken first now refused text → Writes first now text (result_of refused)
-taken_all first now false text h = h
-taken_all first now true text h = h
+taken_all first now refused text given1 = grind (arith)
 
 -- what a sink that had refused nothing was given is what its writer took
 pub taken_since : {W : Type 0} (contents : W → Option (List ℕ)) (a b : Sink W) (text : List ℕ)

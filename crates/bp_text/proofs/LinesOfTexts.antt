@@ -48,8 +48,7 @@ pub one_line_after : (a b : List ℕ) → IsOneLine a → AddsOneLine a b → Is
 one_line_after a b is adds = rw adds.is (one_line_append a adds.more is adds.one_line)
 
 no_line_feed : (b : ℕ) (is : Bool) → (b == 10) ≡ is → ((if is then 32 else b) == 10) ≡ false
-no_line_feed b true e = refl
-no_line_feed b false e = e
+no_line_feed b is given1 = grind (arith)
 
 pub one_line_map : (xs : List ℕ) → IsOneLine (map on_one_line xs)
 one_line_map [] = tt

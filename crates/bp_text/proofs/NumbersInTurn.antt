@@ -1,12 +1,12 @@
 -- A text begins with at most one number; and the first bytes of a text that are digits.
-use Rattle.std.proofs.Common.{append-nil, ◌≡◌, ◌≢◌, ◌⊎◌, inl, inr, ℕ, ◌+◌, ◌-◌, ◌*◌, ◌<◌, ◌≤◌, ◌^◌, List, [], ◌∷◌, ◌++◌, length, length-append, take, get_or, refl, sym, ap, ◌∙◌, arith, decimal}
+use Rattle.std.proofs.Common.{append-nil, ◌≡◌, ◌≢◌, ◌⊎◌, inl, inr, ℕ, ◌+◌, ◌-◌, ◌*◌, ◌<◌, ◌≤◌, ◌^◌, List, [], ◌∷◌, ◌++◌, length, length-append, take, get_or, refl, sym, ap, ◌∙◌, arith, decimal, rules}
 use Rattle.std.specs.Str.Parse.{AllDigits, digits_value}
 use Rattle.std.proofs.lemmas.Bool.{cases_lt}
 use Rattle.std.proofs.lemmas.Int.Digits.{digits_push, digits_value_push}
 use Rattle.std.proofs.lemmas.Str.{digit_value_digit}
 use Rattle.std.proofs.lemmas.Str.Parse.{IsNumeralModel, numerals_by_value, tells_digits, digit_from_value, digits_value-take-le}
 use Rattle.std.proofs.lemmas.Fmt.{decimal_digit, decimal_injective, decimal_nonempty, decimal-digits_value, digits_decimal, digits_value-decimal, first_decimal}
-use Rattle.bp_text.specs.Pieces.{IsNumber, IsNoNumber}
+use Rattle.bp_text.specs.Pieces.{IsNoNumber}
 use Rattle.bp_text.specs.Formats.{IsAt, HasNone, EndsNumber}
 use Rattle.bp_text.specs.Formats.Format.{Number}
 use Rattle.bp_text.proofs.PartsOfTexts.{regrouped}
@@ -36,9 +36,7 @@ decimal_digits : (n : ℕ) → n < 2 ^ 64 → AllDigits 10 (decimal n)
 decimal_digits n fits = digits_decimal numerals n fits
 
 no_first_digit : (c : ℕ) (cs rest : List ℕ) → AllDigits 10 (c ∷ cs) → EndsNumber rest → (more : List ℕ) → rest ≢ c ∷ more
-no_first_digit c cs rest digits ends more e =
-    let range = digit_from_value c digits.0 in
-    ends c more (omega (arith, range)) (omega (arith, range)) e
+no_first_digit c cs rest given1 given2 more = grind (arith)
 
 -- the digits up to the first byte that is none
 one_run : (a b x y : List ℕ) → AllDigits 10 a → AllDigits 10 b → EndsNumber x → EndsNumber y → a ++ x ≡ b ++ y → (a ≡ b) × (x ≡ y)
@@ -51,9 +49,7 @@ one_run (c ∷ a) (d ∷ b) x y p q s r e =
     (cc (heads.0, rest.0), rest.1)
 
 pub one_number : (m n : ℕ) (x y : List ℕ) → m < 2 ^ 64 → n < 2 ^ 64 → EndsNumber x → EndsNumber y → decimal m ++ x ≡ decimal n ++ y → (m ≡ n) × (x ≡ y)
-one_number m n x y p q s r e =
-    let run = one_run (decimal m) (decimal n) x y (decimal_digits m p) (decimal_digits n q) s r e in
-    (decimal_injective m n p q run.0, run.1)
+one_number m n x y given1 given2 given3 given4 given5 = search (rules, one_run, decimal, decimal_digits, decimal_injective)
 
 -- digits at the front of a text are those of the number that begins it
 run_begins : (a b x y : List ℕ) → AllDigits 10 a → EndsNumber y → a ++ x ≡ b ++ y → (tail : List ℕ) × (b ≡ a ++ tail)
@@ -87,11 +83,7 @@ pub record IsFront (text : List ℕ) (value : ℕ) (rest : List ℕ) : Type 0 wh
 
 module _ (text : List ℕ) where
   pub no_number_of_none : length text ≡ 0 → HasNone (Number (2 ^ 64)) text
-  no_number_of_none empty = record {
-    none = λ n rest fits e.
-        let size = sym empty ∙ ap length e ∙ length-append (decimal n) rest in
-        omega (arith, size, decimal_nonempty n fits.0);
-  }
+  no_number_of_none given1 = search (rules, length-append, decimal, decimal_nonempty)
 
   pub no_digit_first : (c : ℕ) (rest : List ℕ) → text ≡ c ∷ rest → IsNoDigit c → HasNone (Number (2 ^ 64)) text
   no_digit_first c others is odd = record { none = λ n rest fits e. by_digits (decimal n) rest (decimal_digits n fits.0) (decimal_nonempty n fits.0) e }
@@ -186,13 +178,7 @@ module _ (text : List ℕ) where
 
 -- a number below a bound is a long one that is
 module _ (bound : ℕ) {text : List ℕ} where
-  pub no_long : HasNone (Number (2 ^ 64)) text → HasNone (Number bound) text
-  no_long lacks = record { none = λ n rest fits e. lacks.none n rest (fits.1, fits.1, fits.2) e }
-
   module _ {n : ℕ} {rest : List ℕ} (at : IsAt (Number (2 ^ 64)) text n rest) where
-    pub is_below : n < bound → IsAt (Number bound) text n rest
-    is_below low = record { fits = (low, at.fits.1, at.fits.2); parts = at.parts }
-
     pub not_below : bound ≤ n → HasNone (Number bound) text
     not_below high = record {
       none = λ m others fits e.
@@ -201,9 +187,6 @@ module _ (bound : ℕ) {text : List ℕ} where
     }
 
 -- A whole text that is a number.
-
-pub whole_number : {digits rest : List ℕ} {n : ℕ} → IsAt (Number (2 ^ 64)) digits n rest → rest ≡ [] → IsNumber digits n
-whole_number {n} at none = record { fits = at.fits.0; digits_are = at.parts ∙ ap (λ r. decimal n ++ r) none ∙ append-nil (decimal n) }
 
 pub no_whole_number : {digits : List ℕ} → HasNone (Number (2 ^ 64)) digits → IsNoNumber digits
 no_whole_number lacks = λ n fits e. lacks.none n [] (fits, fits, ends_empty [] refl) (e ∙ sym (append-nil (decimal n)))

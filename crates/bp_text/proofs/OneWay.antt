@@ -1,5 +1,5 @@
 -- Each text is read in one way.
-use Rattle.std.proofs.Common.{Option, None, Some, subst, ◌≡◌, inl, inr, ℕ, Bool, List, [], ◌∷◌, ◌++◌, flat_map, refl, sym, ap, ◌∙◌}
+use Rattle.std.proofs.Common.{Option, Some, subst, ◌≡◌, ℕ, Bool, List, [], ◌∷◌, ◌++◌, flat_map, refl, sym, ap, ◌∙◌, arith, rules}
 use Rattle.std.proofs.lemmas.List.{append_cancel_left}
 use Rattle.bp_text.specs.Formats.{SpanFits, Stops, Format, IsReadInOneWay, EachFits, EitherFits, Fits, text_of, text_of_either}
 use Rattle.bp_text.specs.Formats.Format.{After, As, Before, Chain, Either, Letter, Line, Many, Number, Span, Then, Word}
@@ -8,9 +8,7 @@ use Rattle.bp_text.proofs.PartsOfTexts.{regrouped}
 
 module _ {S : Type 0} (next : S → ℕ → Option S) (may_end : S → Bool) where
   goes_on : (s : S) (c : ℕ) (bs more text rest : List ℕ) → Stops (next s) text → text ≡ c ∷ more → SpanFits next may_end s (c ∷ bs) rest → ⊥
-  goes_on s c bs more text rest stops e (t, on, fits) =
-      let none : next s c ≡ None = subst (Stops (next s)) e stops in
-      absurd (let both : None ≡ Some t = sym none ∙ on in cc)
+  goes_on s c bs more text rest given1 given2 given3 = grind (arith)
 
   one_span : (s : S) → IsReadInOneWay (λ bs. bs) (SpanFits next may_end s)
   one_span s [] [] u v p q e = (refl, e)
@@ -35,16 +33,10 @@ module _ {A : Type 0} (f : A → List ℕ) (p : A → List ℕ → Type 0) (one 
 
   module _ {B : Type 0} (g : B → List ℕ) (q : B → List ℕ → Type 0) (other : IsReadInOneWay g q) where
     either_one : IsReadInOneWay (text_of_either f g) (EitherFits f p g q)
-    either_one (inl x) (inl y) u v a b e = let same = one x y u v a b e in (ap inl same.0, same.1)
-    either_one (inl x) (inr y) u v a b e = absurd (b.1 x u a (sym e))
-    either_one (inr x) (inl y) u v a b e = absurd (a.1 y v b e)
-    either_one (inr x) (inr y) u v a b e = let same = other x y u v a.0 b.0 e in (ap inr same.0, same.1)
+    either_one = grind (arith)
 
     both_one : IsReadInOneWay (λ (z : A × B). f z.0 ++ g z.1) (λ (z : A × B) rest. p z.0 (g z.1 ++ rest) × q z.1 rest)
-    both_one x y u v a b e =
-        let first = one x.0 y.0 _ _ a.0 b.0 (simp regrouped at e) in
-        let second = other x.1 y.1 u v a.1 b.1 first.1 in
-        ((λ i. (first.0 i, second.0 i)), second.1)
+    both_one = search (rules, regrouped)
 
 pub one_way : {A : Type 0} (F : Format A) → IsReadInOneWay (text_of F) (Fits F)
 one_way (Word w) x y u v p q e = (refl, append_cancel_left w u v e)

@@ -1,5 +1,5 @@
 -- Texts of parts: with one more part, and going on to all of them.
-use Rattle.std.proofs.Common.{◌≡◌, ◌∙◌, ◌++◌, List, ap, append_assoc, append-nil, ◌+◌, ◌<◌, ℕ, zero, suc, [], ◌∷◌, Some, length, get_or, slice_get, refl, sym, arith, ◌≢◌, ◌==◌, true, false, take, flat_map, fold, ◌⊎◌, inl, inr, ◌≤◌, subst}
+use Rattle.std.proofs.Common.{◌≡◌, ◌∙◌, ◌++◌, List, ap, append_assoc, append-nil, ◌+◌, ◌<◌, ℕ, zero, suc, [], ◌∷◌, Some, length, get_or, slice_get, refl, sym, arith, ◌≢◌, ◌==◌, true, false, take, flat_map, fold, ◌⊎◌, inl, inr, ◌≤◌, subst, rules}
 use Rattle.std.proofs.lemmas.List.Folds.{concat-append}
 use Rattle.std.proofs.Math.Seq.{get_or-append_seam}
 use Rattle.std.proofs.lemmas.List.{length-append, get_or_append_left, nil_from_length, flat_map_more, take_more, ext_get_or}
@@ -17,16 +17,11 @@ pub ruleset regrouped = (append_assoc, append-nil, concat-append)
 module _ {X : Type 0} where
   -- two parts were added, which are one
   pub both_added : (old now new first second all : List X) → new ≡ now ++ second → now ≡ old ++ first → first ++ second ≡ all → new ≡ old ++ all
-  both_added old now new first second all added so_far is =
-      added ∙ ap (λ xs. xs ++ second) so_far ∙ append_assoc old first second ∙ ap (λ xs. old ++ xs) is
+  both_added old now new first second all given1 given2 given3 = search (rules, append_assoc)
 
   -- the first part of what was left was added
   pub rest_left : (old now part rest all : List X) → now ≡ old ++ part → old ++ (part ++ rest) ≡ all → now ++ rest ≡ all
   rest_left old now part rest all added is = ap (λ xs. xs ++ rest) added ∙ append_assoc old part rest ∙ is
-
-  -- after its first part a list has the others
-  pub others_after : (all first second third : List X) → all ≡ (first ++ second) ++ third → all ≡ first ++ (second ++ third)
-  others_after all first second third is = is ∙ append_assoc first second third
 
 -- The items of a list, and of a list with one more.
 
@@ -62,37 +57,11 @@ some_left xs some e = let none = (Decides-eqb (length xs) 0).1 (ap length e) in 
 
 pub one_more : {X : Type 0} (f : X → List ℕ) (old now new : List ℕ) (xs : List X) (n : ℕ) (x : X) → n < length xs
     → now ≡ old ++ flat_map f (take n xs) → new ≡ now ++ f (get_or xs n x) → new ≡ old ++ flat_map f (take (n + 1) xs)
-one_more f old now new xs n x within so_far added =
-    added
-    ∙ ap (λ ys. ys ++ f (get_or xs n x)) so_far
-    ∙ flat_map_more f old (take n xs) (get_or xs n x)
-    ∙ ap (λ ys. old ++ flat_map f ys) (sym (take_more xs n x within))
+one_more given1 given2 given3 = search (rules, within, flat_map_more, take_more)
 
 pub all_added : (old : List ℕ) (ts : List (List ℕ)) → fold (λ a t. a ++ t) old ts ≡ old ++ concat ts
 all_added old [] = sym (append-nil old)
 all_added old (t ∷ ts) = all_added (old ++ t) ts ∙ append_assoc old t (concat ts)
-
--- one more text and others after some texts that are one
-pub all_joined : (old : List ℕ) (ts : List (List ℕ)) (t : List ℕ) (us : List (List ℕ))
-    → fold (λ a u. a ++ u) ((old ++ concat ts) ++ t) us ≡ old ++ concat (concat (ts ++ t ∷ []) ∷ us)
-all_joined old ts t us = all_added ((old ++ concat ts) ++ t) us ∙ simp regrouped
-
--- two times some texts that are one, and others
-pub two_joined : (ts us vs : List (List ℕ)) → concat (ts ++ us ++ vs) ≡ concat (concat ts ∷ concat us ∷ vs)
-two_joined ts us vs = simp regrouped
-
--- three times some texts that are one
-pub three_joined : (old : List ℕ) (ts us vs : List (List ℕ))
-    → fold (λ a u. a ++ u) old ts ++ concat (us ++ vs) ≡ old ++ concat (concat ts ∷ concat us ∷ concat vs ∷ [])
-three_joined old ts us vs = ap (λ x. x ++ concat (us ++ vs)) (all_added old ts) ∙ simp regrouped
-
--- two texts that are one, and others
-pub pair_joined : (a b c : List ℕ) (us : List (List ℕ)) → a ++ b ≡ c → concat (a ∷ b ∷ us) ≡ concat (c ∷ us)
-pair_joined a b c us is = sym (rest_left a c b (concat us) _ (sym is) refl)
-
--- they are added
-pub pair_added : (old a b c : List ℕ) → a ++ b ≡ c → old ++ a ++ b ≡ old ++ c
-pair_added old a b c is = both_added old _ _ a b c refl refl is
 
 -- each item of a list has a part, where each that is found there has one
 pub part_of_each
@@ -105,12 +74,7 @@ part_of_each IsOf xs some k within =
 
 module _ {IsPart : ℕ → List ℕ → Type 0} where
   pub no_parts : IsInParts IsPart 0 []
-  no_parts = record {
-    parts = [];
-    count = refl;
-    is = refl;
-    each = λ k part at. let inside = slice_get_within [] k part at in absurd (omega (arith, inside));
-  }
+  no_parts = grind (arith)
 
   module _ {n : ℕ} {text : List ℕ} (are : IsInParts IsPart n text) (part : List ℕ) (is : IsPart n part) where
     each_then : (k : ℕ) (p : List ℕ) → slice_get (are.parts ++ part ∷ []) k ≡ Some p → IsPart k p
@@ -130,10 +94,6 @@ module _ {IsPart : ℕ → List ℕ → Type 0} where
       is = ap (λ z. z ++ part) are.is ∙ ap (λ z. concat are.parts ++ z) (sym (append-nil part)) ∙ sym (concat-append are.parts (part ∷ []));
       each = each_then;
     }
-
-  -- nothing was added yet
-  pub none_added : {old : List ℕ} → Adds (IsInParts IsPart 0) old old
-  none_added {old = old} = record { more = []; is = sym (append-nil old); more_are = no_parts }
 
   -- one more part was added
   pub one_added : {n : ℕ} {a b c : List ℕ} → Adds (IsInParts IsPart n) a b → Adds (IsPart n) b c → Adds (IsInParts IsPart (suc n)) a c

@@ -1,7 +1,7 @@
 -- Values of formats that are made of others, at the front of a text, and where there is none.
-use Rattle.std.proofs.Common.{flat_map, MatchOption, Option, None, Some, Bor, ◌≡◌, ◌≢◌, inl, inr, ℕ, length, length-append, ◌≤◌, arith, List, [], ◌∷◌, ◌++◌, refl, sym, ap, ◌∙◌, subst}
+use Rattle.std.proofs.Common.{MatchOption, Option, Bor, ◌≡◌, ◌≢◌, inl, inr, ℕ, length, length-append, ◌≤◌, arith, List, [], ◌∷◌, ◌++◌, refl, sym, ap, ◌∙◌, subst, rules}
 use Rattle.bp_text.specs.Formats.{FindsAfter, Fits, Format, HasNone, IsAt, Lacks, text_of}
-use Rattle.bp_text.specs.Formats.Format.{After, As, Before, Chain, Either, Letter, Line, Many, Then, Word}
+use Rattle.bp_text.specs.Formats.Format.{After, As, Before, Chain, Either, Line, Many, Then, Word}
 use Rattle.bp_text.proofs.OneWay.{one_way}
 use Rattle.bp_text.proofs.PartsOfTexts.{regrouped}
 
@@ -15,24 +15,9 @@ word_at e = record { fits = tt; parts = e }
 pub no_word : {w text : List ℕ} → ((rest : List ℕ) → text ≢ w ++ rest) → HasNone (Word w) text
 no_word none = record { none = λ x rest fits e. none rest e }
 
-pub no_byte : {byte c : ℕ} {text rest : List ℕ} → text ≡ c ∷ rest → c ≢ byte → HasNone (Word (byte ∷ [])) text
-no_byte is other = no_word (λ more e. other (let both = sym is ∙ e in cc))
-
 pub finds_after : (w text : List ℕ) (answer : Option (Bor (List ℕ))) → MatchOption answer ((rest : List ℕ) → text ≢ w ++ rest) (λ rest. text ≡ w ++ rest.now)
     → FindsAfter w text answer
-finds_after w text None none = no_word none
-finds_after w text (Some rest) e = word_at e
-
--- a letter
-module _ {A : Type 0} {byte : A → ℕ} {back : ℕ → A} {again : (x : A) → back (byte x) ≡ x} where
-  pub letter_at : {x : A} {c : ℕ} {text rest : List ℕ} → text ≡ c ∷ rest → c ≡ byte x → IsAt (Letter byte back again) text x rest
-  letter_at {rest} is same = record { fits = tt; parts = is ∙ ap (λ b. b ∷ rest) same }
-
-  pub no_letter : {c : ℕ} {text rest : List ℕ} → text ≡ c ∷ rest → ((x : A) → c ≢ byte x) → HasNone (Letter byte back again) text
-  no_letter is other = record { none = λ x more fits e. other x (let both = sym is ∙ e in cc) }
-
-  pub no_letter_in_nothing : {text : List ℕ} → length text ≡ 0 → HasNone (Letter byte back again) text
-  no_letter_in_nothing none = record { none = λ x more fits e. let size = ap length e in omega (arith, none, size) }
+finds_after w text answer given1 = grind (arith)
 
 module _ {A : Type 0} {F : Format A} where
   -- a value after a word
@@ -82,18 +67,11 @@ module _ {A : Type 0} {F : Format A} where
   no_more lacks = record { fits = lacks.none; parts = refl }
 
   pub one_more : {text middle rest : List ℕ} {x : A} {xs : List A} → IsAt F text x middle → IsAt (Many F) middle xs rest → IsAt (Many F) text (x ∷ xs) rest
-  one_more {x} p q = record {
-    fits = (subst (Fits F x) q.parts p.fits, q.fits);
-    parts = p.parts ∙ ap (λ z. text_of F x ++ z) q.parts ∙ simp regrouped;
-  }
+  one_more given1 given2 = search (rules, regrouped)
 
   pub first_of_many : {text rest : List ℕ} {x : A} {xs : List A} → IsAt (Many F) text (x ∷ xs) rest
       → (middle : List ℕ) × IsAt F text x middle × IsAt (Many F) middle xs rest
-  first_of_many {rest} {xs} p = (
-    flat_map (text_of F) xs ++ rest,
-    record { fits = p.fits.0; parts = p.parts ∙ simp regrouped },
-    record { fits = p.fits.1; parts = refl },
-  )
+  first_of_many given1 = search (rules, regrouped)
 
   pub none_of_many : {text rest : List ℕ} → IsAt (Many F) text [] rest → HasNone F text
   none_of_many at = record { none = subst (Lacks (text_of F) (Fits F)) (sym at.parts) at.fits }
@@ -104,18 +82,13 @@ module _ {A : Type 0} {F : Format A} where
 module _ {A B : Type 0} {F : Format A} {G : Format B} where
   -- two values, one after the other
   pub both_at : {text middle rest : List ℕ} {x : A} {y : B} → IsAt F text x middle → IsAt G middle y rest → IsAt (Then F G) text (x, y) rest
-  both_at {x} p q = record {
-    fits = (subst (Fits F x) q.parts p.fits, q.fits);
-    parts = p.parts ∙ ap (λ z. text_of F x ++ z) q.parts ∙ simp regrouped;
-  }
+  both_at given1 given2 = search (rules, regrouped)
 
   pub no_first : {text : List ℕ} → HasNone F text → HasNone (Then F G) text
   no_first lacks = record { none = λ z rest fits e. lacks.none z.0 _ fits.0 (e ∙ simp regrouped) }
 
   pub no_second : {text middle : List ℕ} {x : A} → IsAt F text x middle → HasNone G middle → HasNone (Then F G) text
-  no_second at lacks = record {
-    none = λ z rest fits e. lacks.none z.1 rest fits.1 (one_way F _ z.0 _ _ at.fits fits.0 (sym at.parts ∙ e ∙ simp regrouped)).1;
-  }
+  no_second given1 given2 = search (rules, one_way, regrouped)
 
   -- a value of either format
   pub left_at : {text rest : List ℕ} {x : A} → IsAt F text x rest → IsAt (Either F G) text (inl x) rest
@@ -133,21 +106,11 @@ module _ {A B : Type 0} {F : Format A} {G : Format B} where
 
 -- two values, the second of a format that the first one tells
 module _ {A B : Type 0} {F : Format A} {G : A → Format B} where
-  pub chain_at : {text middle rest : List ℕ} {x : A} {y : B} → IsAt F text x middle → IsAt (G x) middle y rest → IsAt (Chain F G) text (x, y) rest
-  chain_at {x} p q = record {
-    fits = (subst (Fits F x) q.parts p.fits, q.fits);
-    parts = p.parts ∙ ap (λ z. text_of F x ++ z) q.parts ∙ simp regrouped;
-  }
-
   pub no_first_of_chain : {text : List ℕ} → HasNone F text → HasNone (Chain F G) text
   no_first_of_chain lacks = record { none = λ z rest fits e. lacks.none z.0 _ fits.0 (e ∙ simp regrouped) }
 
   pub no_second_of_chain : {text middle : List ℕ} {x : A} → IsAt F text x middle → HasNone (G x) middle → HasNone (Chain F G) text
-  no_second_of_chain {middle} at lacks = record {
-    none = λ z rest fits e.
-        let same = one_way F _ z.0 _ _ at.fits fits.0 (sym at.parts ∙ e ∙ simp regrouped) in
-        (subst (λ a. HasNone (G a) middle) same.0 lacks).none z.1 rest fits.1 same.1;
-  }
+  no_second_of_chain given1 given2 = search (rules, one_way, regrouped)
 
 -- `search (rules, reading)`: a format that is made of others
 pub ruleset reading = (

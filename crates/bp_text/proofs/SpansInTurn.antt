@@ -1,6 +1,5 @@
 -- How a span is read, byte by byte.
-use Rattle.std.proofs.Common.{◌-◌, length, length-append, take, ◌≡◌, ℕ, Bool, true, false, Option, None, Some, List, [], ◌∷◌, ◌++◌, refl, sym, ap, ◌∙◌, subst, arith}
-use Rattle.std.proofs.lemmas.Bool.{false≢true}
+use Rattle.std.proofs.Common.{◌-◌, length, length-append, take, ◌≡◌, ℕ, Bool, true, Option, None, Some, List, [], ◌∷◌, ◌++◌, refl, sym, ap, ◌∙◌, subst, arith}
 use Rattle.std.proofs.lemmas.List.{append-nil, nil_from_length, take_at}
 use Rattle.bp_text.specs.Formats.{SpanFits, Fits, HasNone, IsAt, Lacks, Stops, text_of}
 use Rattle.bp_text.specs.Formats.Format.{Span}
@@ -18,17 +17,6 @@ module _ {S : Type 0} {next : S → ℕ → Option S} {may_end : S → Bool} whe
   -- a text that the machine takes no byte of
   ends : {s : S} {text : List ℕ} → Stops (next s) text → may_end s ≡ true → IsAt (Span next may_end s) text [] text
   ends stops may = record { fits = (may, stops); parts = refl }
-
-  none_ends : {s : S} {text : List ℕ} → Stops (next s) text → may_end s ≡ false → HasNone (Span next may_end s) text
-  none_ends {s} {text} stops may = record { none = by_span text stops }
-    where
-      by_span : (t : List ℕ) → Stops (next s) t → Lacks (text_of (Span next may_end s)) (Fits (Span next may_end s)) t
-      by_span t stops [] rest fits e = false≢true (sym may ∙ fits.0)
-      by_span [] stops (c ∷ bs) rest fits e = absurd cc
-      by_span (d ∷ t) stops (c ∷ bs) rest (u, on, fits) e =
-          let same : d ≡ c = cc in
-          let both : None ≡ Some u = sym stops ∙ ap (next s) same ∙ on in
-          absurd cc
 
   -- a text that it takes a byte of
   byte_more : {s t : S} {c : ℕ} {more bs rest : List ℕ} → next s c ≡ Some t → IsAt (Span next may_end t) more bs rest
@@ -48,9 +36,6 @@ module _ {S : Type 0} {next : S → ℕ → Option S} {may_end : S → Bool} whe
           let both : Some u ≡ Some t = sym other ∙ sym (ap (next s) head) ∙ on in
           let state : u ≡ t = cc in
           lacks.none bs rest (subst (λ z. Fits (Span next may_end z) bs rest) state fits) cc
-
-  pub not_begun : {first : S} {text : List ℕ} → HasCome next may_end first text first text
-  not_begun = record { front = []; parts = refl; go = λ bs more at. at; none = λ lacks. lacks }
 
   module _ {first s : S} {text rest : List ℕ} (come : HasCome next may_end first text s rest) where
     pub takes : {t : S} {c : ℕ} {more : List ℕ} → rest ≡ c ∷ more → next s c ≡ Some t → HasCome next may_end first text t more
@@ -75,9 +60,6 @@ module _ {S : Type 0} {next : S → ℕ → Option S} {may_end : S → Bool} whe
           let size = ap length come.parts ∙ length-append come.front rest in
           let front = ap (take (length text - length rest)) come.parts ∙ take_at come.front rest (length text - length rest) (omega (arith, size)) in
           subst (λ m. IsAt (Span next may_end first) text m rest) (append-nil come.front ∙ sym front ∙ sym own_is) (come.go [] rest (ends stops may))
-
-      pub no_span : may_end s ≡ false → HasNone (Span next may_end first) text
-      no_span may = come.none (none_ends stops may)
 
 -- a span ends before the same byte, whatever is after it
 module _ {S : Type 0} (next : S → ℕ → Option S) (may_end : S → Bool) (c : ℕ) (rest other : List ℕ) where

@@ -1,4 +1,4 @@
-use Rattle.std.proofs.Common.{refl, rules}
+use Rattle.std.proofs.Common.{refl}
 use Rattle.bp_code.proofs.FaultsOfParts.{refusal_of}
 use Rattle.bp_code.proofs.checks.check.Goals as goal
 
@@ -6,6 +6,3 @@ pub returns-in-Ok-Some : goal.returns-in-Ok-Some
 returns-in-Ok-Some c =
     let found = rw (c.globals.ensures.value, c.procs.ensures.value) at c.in-Ok-Some.ensures in
     record { lawful = (refl, refusal_of c.args.tree c.in-Ok-Some.field-0-0 (rw c.in-Ok-Some.field-0-is at found)) }
-
-pub returns-in-Ok-None : goal.returns-in-Ok-None
-returns-in-Ok-None c = search rules

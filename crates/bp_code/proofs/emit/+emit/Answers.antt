@@ -1,7 +1,6 @@
 use Rattle.std.proofs.lemmas.Grind.{common_steps}
-use Rattle.std.proofs.Common.{◌≡◌, ◌+◌, ap, subst, arith, length, drop}
+use Rattle.std.proofs.Common.{◌≡◌, ◌+◌, ap, subst, arith, length, drop, rules}
 use Rattle.bp_language.specs.Blocks.{block_of, statement_of}
-use Rattle.bp_language.specs.Depth.{depth}
 use Rattle.bp_code.specs.Environments.{environment_of}
 use Rattle.bp_code.specs.Compiled.{block_size, size}
 use Rattle.bp_code.specs.Compilable.{block_sizes, AreSizesOf}
@@ -9,10 +8,7 @@ use Rattle.bp_code.proofs.BlockItems.{block_item, item_depth, code_more, inside,
 use Rattle.bp_code.proofs.emit.+emit.Goals as goal
 
 pub emit_block-size_at-requires : goal.emit_block-size_at-requires
-emit_block-size_at-requires t c =
-    let split = block_item c.args.stmts.now c.loop-i.i c.index-stmts-i.result c.loop-i-test.true c.index-stmts-i.is in
-    let number : c.len-number.result ≡ length c.loop-i.out.items = rw c.len-number.ensures (let ok = c.loop-i.out.ok in omega arith) in
-    rw number (_, _, rw split at c.loop-i.invariant.placed)
+emit_block-size_at-requires t c = search (rules, block_item)
 
 pub emit_block-overflow_add-after : goal.emit_block-overflow_add-after
 emit_block-overflow_add-after t c =
@@ -26,18 +22,7 @@ emit_block-overflow_add-after t c =
     omega arith
 
 pub emit_block-emit-requires : goal.emit_block-emit-requires
-emit_block-emit-requires t c =
-    let stmts = c.args.stmts.now in
-    let item = c.index-stmts-i in
-    let s = statement_of item.result.form in
-    let deep = item_depth stmts c.loop-i.i item.result c.loop-i-test.true item.is in
-    let split = block_item stmts c.loop-i.i item.result c.loop-i-test.true item.is in
-    let more = ap block_size split in
-    let known = rw split at c.loop-i.invariant.known in
-    let placed = rw split at c.loop-i.invariant.placed in
-    let so_far = c.loop-i.invariant.room in
-    let room = c.requires.room in
-    rw c.form.ensures (omega arith, (omega arith, (known.0, inside _ _ (length c.loop-i.out.items) (size s) s _ placed)))
+emit_block-emit-requires t c = search (rules, item_depth, block_item, inside)
 
 pub emit_block-loop-i-preserved : goal.emit_block-loop-i-preserved
 emit_block-loop-i-preserved t c =
@@ -69,18 +54,7 @@ emit_block-loop-i-preserved t c =
     }
 
 pub emit_if-emit_block-requires-2 : goal.emit_if-emit_block-requires-2
-emit_if-emit_block-requires-2 t c =
-    let a = c.args.a.now in
-    let b = c.args.b.now in
-    let start = length c.args.out.now.items in
-    let deep = ap depth c.as_slice-3.ensures in
-    let many = ap block_size c.as_slice-3.ensures in
-    let grown = rw c.as_slice-2.ensures at c.in_ok-emit_block.ensures.grown in
-    let one = c.in_ok-push.ensures.grown in
-    let room = c.requires.room in
-    let moved : start + 1 + block_size a ≡ length c.emit_block.new.out.items = omega arith in
-    let placed = subst (λ n. AreSizesOf c.args.environment.now.layout n (block_sizes b)) moved (second_part _ _ (start + 1) a b c.requires.placed) in
-    rw c.as_slice-3.ensures (omega arith, (omega arith, (c.requires.known.2, placed)))
+emit_if-emit_block-requires-2 t c = search (rules, second_part)
 
 pub emit-new-requires : goal.emit-new-requires
 emit-new-requires t c = grind (arith, common_steps)

@@ -1,5 +1,5 @@
 use Rattle.std.proofs.lemmas.Grind.{common_steps}
-use Rattle.std.proofs.Common.{◌≡◌, ◌+◌, ◌-◌, ap, arith, length, [], ◌∷◌, ◌++◌, length-append, rules}
+use Rattle.std.proofs.Common.{◌≡◌, ◌+◌, ap, arith, length, ◌∷◌, length-append, rules}
 use Rattle.std.proofs.lemmas.List.{set_at}
 use Rattle.std.proofs.lemmas.Result.{on_ok_weaker}
 use Rattle.bp_text.proofs.PartsOfTexts.{regrouped}
@@ -13,41 +13,13 @@ use Rattle.bp_code.proofs.BlockItems.{block_item, item_depth, sizes_length, inne
 use Rattle.bp_code.proofs.layout.+note.Goals as goal
 
 pub note-overflow_cast-len : goal.note-overflow_cast-len
-note-overflow_cast-len t c =
-    let old = c.args.sizes.now.items in
-    let inside = inner_sizes (statement_of c.args.stmt.now.form) in
-    let noted = rw (c.form.ensures, c.in_ok-push.ensures.items) at c.in_ok-note_inside.ensures.sizes in
-    let long = ap length noted in
-    let one = inner_length (statement_of c.args.stmt.now.form) in
-    let counts = length-append (old ++ 0 ∷ []) inside in
-    let count = length-append old (0 ∷ []) in
-    let room = c.requires in
-    rw (c.len.ensures, c.len-index.ensures) (let ok = c.note_inside.new.sizes.ok in let was = c.args.sizes.now.ok in omega arith)
+note-overflow_cast-len t c = search (rules, inner_length, length-append)
 
 pub note-returns-clause-sizes : goal.note-returns-clause-sizes
-note-returns-clause-sizes t c =
-    let old = c.args.sizes.now.items in
-    let statement = statement_of c.args.stmt.now.form in
-    let inside = inner_sizes statement in
-    let noted = rw (c.form.ensures, c.in_ok-push.ensures.items) at c.in_ok-note_inside.ensures.sizes in
-    let items = simp regrouped at noted in
-    let long = ap length items in
-    let counts = length-append old (0 ∷ inside) in
-    let one = inner_length statement in
-    let start : length old ≡ c.len-index.result = rw c.len-index.ensures (let was = c.args.sizes.now.ok in omega arith) in
-    let value : c.len.result - c.len-index.result ≡ size statement =
-    rw (c.len.ensures, c.len-index.ensures) (let ok = c.note_inside.new.sizes.ok in let was = c.args.sizes.now.ok in omega arith) in
-    rw (items, value) (set_at old 0 inside (size statement) c.len-index.result start)
+note-returns-clause-sizes t c = search (rules, regrouped, length-append, inner_length, set_at)
 
 pub note_block-note-requires : goal.note_block-note-requires
-note_block-note-requires t c =
-    let stmts = c.args.stmts.now in
-    let i = c.loop-stmt.stmt-index in
-    let deep = item_depth stmts i c.stmt-item.result c.loop-stmt-test.true c.stmt-item.is in
-    let more = ap block_size (block_item stmts i c.stmt-item.result c.loop-stmt-test.true c.stmt-item.is) in
-    let so_far = c.loop-stmt.invariant.room in
-    let room = c.requires in
-    (omega arith, omega arith)
+note_block-note-requires t c = search (rules, item_depth, block_item)
 
 pub note_block-loop-stmt-preserved : goal.note_block-loop-stmt-preserved
 note_block-loop-stmt-preserved t c =
@@ -80,17 +52,7 @@ note_inside-note_block-requires t c =
     (omega arith, omega arith)
 
 pub note_inside-note_block-requires-in-If : goal.note_inside-note_block-requires-in-If
-note_inside-note_block-requires-in-If t c =
-    let deep = ap (λ f. statement_depth (statement_of f)) c.in-If.is in
-    let many = ap (λ f. size (statement_of f)) c.in-If.is in
-    let part = ap depth c.as_slice-in-If.ensures in
-    let few = ap block_size c.as_slice-in-If.ensures in
-    let noted = rw c.as_slice.ensures at c.in_ok-note_block-in-If.ensures.sizes in
-    let long = ap length noted in
-    let counts = length-append c.args.sizes.now.items (block_sizes c.in-If.a) in
-    let one = sizes_length c.in-If.a in
-    let room = c.requires in
-    (omega arith, omega arith)
+note_inside-note_block-requires-in-If t c = search (rules, length-append, sizes_length)
 
 pub note_inside-note_block-requires-in-While : goal.note_inside-note_block-requires-in-While
 note_inside-note_block-requires-in-While t c =

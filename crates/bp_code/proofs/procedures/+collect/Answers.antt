@@ -1,16 +1,11 @@
 use Rattle.std.proofs.lemmas.Grind.{common_steps}
-use Rattle.std.proofs.Common.{arith, ap}
-use Rattle.bp_language.specs.Blocks.{statement_of}
-use Rattle.bp_language.specs.Depth.{statement_depth}
+use Rattle.std.proofs.Common.{arith, rules}
 use Rattle.bp_code.specs.Sets.{all_labelled}
 use Rattle.bp_code.proofs.FaultsOfParts.{collect_more, inside_depth}
 use Rattle.bp_code.proofs.procedures.+collect.Goals as goal
 
 pub collect-collect_inside-requires : goal.collect-collect_inside-requires
-collect-collect_inside-requires t c =
-    let within = inside_depth c.args.stmts.now c.loop-stmt.stmt-index c.stmt-item.result c.loop-stmt-test.true c.stmt-item.is in
-    let same = ap (λ f. statement_depth (statement_of f)) c.form.ensures in
-    omega (arith, within, same)
+collect-collect_inside-requires t c = search (rules, inside_depth)
 
 pub collect-loop-stmt-preserved : goal.collect-loop-stmt-preserved
 collect-loop-stmt-preserved t c =

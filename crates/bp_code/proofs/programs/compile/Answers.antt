@@ -1,10 +1,9 @@
+use Rattle.std.proofs.Common.{rules}
 use Rattle.bp_code.proofs.LawfulIsCompilable.{lawful_compiles}
 use Rattle.bp_code.proofs.programs.compile.Goals as goal
 
 pub compile_program-requires-clause-able : goal.compile_program-requires-clause-able
-compile_program-requires-clause-able c =
-    rw (c.globals.ensures.value, c.procs.ensures.value, c.tree-tree.ensures.value)
-    (lawful_compiles c.args.checked.now c.has_few_names.ensures c.has_sound_statements.ensures c.has_few_statements.ensures)
+compile_program-requires-clause-able c = search (rules, lawful_compiles)
 
 pub compile_program-requires-clause-lawful : goal.compile_program-requires-clause-lawful
 compile_program-requires-clause-lawful c =

@@ -1,5 +1,3 @@
-use Rattle.std.proofs.Common.{sym, ◌∙◌, append-nil}
-use Rattle.bp_flat.proofs.ProceduresOfPlaces.{dropped_all}
 use Rattle.bp_code.proofs.BlockItems.{procs_more}
 use Rattle.bp_code.proofs.starts.statement_starts.Goals as goal
 
@@ -8,12 +6,3 @@ loop-proc-preserved c =
     let noted = rw c.body.ensures at c.in_ok-note_block.ensures in
     procs_more c.procs-procs.result.now c.loop-proc.proc-index c.proc-item.result c.loop-proc-test.true c.proc-item.is
     c.loop-proc.starts.items c.note_block.new.starts.items c.push.new.self.items _ noted c.in_ok-push.ensures.items c.loop-proc.invariant
-
-pub returns : goal.returns
-returns c =
-    let all = rw (
-      dropped_all c.procs-procs.result.now c.loop-proc.proc-index c.loop-proc-test.false,
-      c.procs-procs.ensures.value,
-      c.tree.ensures.value,
-    ) at c.loop-proc.invariant in
-    sym (append-nil c.loop-proc.starts.items) ∙ all

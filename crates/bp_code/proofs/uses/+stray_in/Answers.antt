@@ -1,9 +1,6 @@
 use Rattle.bp_language.specs.Faults.{Uses}
-use Rattle.bp_code.proofs.RepeatedNames.{none_stray, both_stray}
+use Rattle.bp_code.proofs.RepeatedNames.{both_stray}
 use Rattle.bp_code.proofs.uses.+stray_in.Goals as goal
-
-pub returns-in-Const : goal.returns-in-Const
-returns-in-Const t c = rw c.in-Const.is (none_stray c.args.declared.now (λ n. ⊥) (λ n used. absurd used))
 
 pub returns-in-Var : goal.returns-in-Var
 returns-in-Var t c = rw c.in-Var.is c.stray_name.ensures

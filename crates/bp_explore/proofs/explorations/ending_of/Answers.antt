@@ -1,4 +1,4 @@
-use Rattle.std.proofs.Common.{subst}
+use Rattle.std.proofs.Common.{subst, rules}
 use Rattle.bp_explore.specs.Searches.{failures, IsSearchEnd}
 use Rattle.bp_explore.specs.declared.explorations.Finding.TheVariants.{Failure, Deadlock}
 use Rattle.bp_explore.specs.declared.searches.SearchEnd.{SearchEnd}
@@ -12,9 +12,7 @@ returns-in-Closed c = λ t bound b is end k.
     none_of t c.args.setup.now b k (found.1 k).neither
 
 pub returns-in-Bound : goal.returns-in-Bound
-returns-in-Bound c = λ t bound b is end.
-    let found = subst (λ (e : SearchEnd). IsSearchEnd t c.args.setup.now failures bound b c.args.space.now.nodes.items e) c.in-Bound.is end in
-    (found.0, none_of t c.args.setup.now b c.in-Bound.contexts found.2.neither)
+returns-in-Bound c = search (rules, none_of)
 
 pub returns-in-Short : goal.returns-in-Short
 returns-in-Short c = λ t bound b is end.

@@ -1,4 +1,4 @@
-use Rattle.std.proofs.Common.{◌≡◌, ◌<◌, ◌++◌, ◌+◌, ◌∷◌, [], true, false, get_or, take, refl, ap, sym, ◌∙◌, subst, arith}
+use Rattle.std.proofs.Common.{◌≡◌, ◌<◌, ◌++◌, ◌+◌, ◌∷◌, [], true, false, get_or, take, ap, sym, ◌∙◌, subst, arith, rules}
 use Rattle.std.proofs.lemmas.List.{take_more}
 use Rattle.bp_flat.specs.InstrEffects.{bits_of}
 use Rattle.bp_flat.specs.StandsFor.{StandsFor, valuation_of}
@@ -14,13 +14,7 @@ use Rattle.bp_explore.proofs.MadeSteps.{played_none, played_more}
 use Rattle.bp_explore.proofs.found_runs.play.Goals as goal
 
 pub loop-call-init : goal.loop-call-init
-loop-call-init g c = record {
-  stands = c.requires.stands;
-  made = λ t is own. played_none t c.args.session.now.setup (g.O.Observer.listed c.args.observer.now) own c.requires.some;
-  granted = refl;
-  code = refl;
-  setup = refl;
-}
+loop-call-init g c = search (rules, played_none)
 
 pub loop-call-preserved : goal.loop-call-preserved
 loop-call-preserved g c =

@@ -1,4 +1,4 @@
-use Rattle.std.proofs.Common.{sym, subst, ◌||◌}
+use Rattle.std.proofs.Common.{sym, subst, ◌||◌, rules}
 use Rattle.bp_text.proofs.LinesOfTexts.{one_line_after}
 use Rattle.bp_source.specs.SourceStatements.{Lexeme, is_choice}
 use Rattle.bp_source.proofs.OneStatement.{ReadsTo, reads_all, reads_more}
@@ -20,13 +20,4 @@ loop-lexeme-preserved c =
     }
 
 pub returns-clause-is : goal.returns-clause-is
-returns-clause-is c =
-    let before = c.loop-lexeme in
-    let read = reads_all c.args.text.now before.line.items before.had_gap before.reads_choice before.rest.now
-    before.invariant.reads c.in_default.ensures.lexeme in
-    record {
-      lexemes = read.lexemes;
-      lexemes_are = read.lexemes_are;
-      shown_is = read.shown_is;
-      reads_is = read.reads_is;
-    }
+returns-clause-is c = search (rules, reads_all)

@@ -1,4 +1,4 @@
-use Rattle.std.proofs.Common.{◌≡◌, ◌∙◌, ◌++◌, ◌≤◌, Some, suc, length, drop, slice_get, ap, sym, add-one, arith}
+use Rattle.std.proofs.Common.{◌≡◌, ◌∙◌, ◌++◌, Some, suc, drop, slice_get, ap, sym, add-one, rules}
 use Rattle.std.specs.Option.{option_copied}
 use Rattle.bp_text.proofs.PartsOfTexts.{rest_left}
 use Rattle.bp_source.specs.Listings.{instruction_object, instruction_objects}
@@ -29,7 +29,4 @@ loop-number-preserved c =
     ∙ rest_left old new object left _ c.in_ok-push_instruction.ensures (ap (λ x. old ++ x) (sym next) ∙ c.loop-number.invariant)
 
 pub returns : goal.returns
-returns c =
-    let statements = c.args.statements.now in
-    let past : length statements ≤ c.loop-number.number = omega (arith, c.loop-number-test.false) in
-    without_statement c.args.procs.now c.loop-number.number c.args.code.now.instructions statements c.loop-number.out.items _ past c.loop-number.invariant
+returns c = search (rules, without_statement)

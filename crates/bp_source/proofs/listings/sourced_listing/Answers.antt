@@ -1,4 +1,5 @@
-use Rattle.std.proofs.Common.{◌≡◌, ◌∙◌, ◌++◌, ◌==◌, ◌<◌, ℕ, List, [], ◌∷◌, length, ap, sym, refl, subst, append-nil, arith}
+use Rattle.std.proofs.lemmas.Grind.{common_steps}
+use Rattle.std.proofs.Common.{◌≡◌, ◌∙◌, ◌++◌, ◌==◌, ◌<◌, ℕ, List, [], ◌∷◌, length, ap, sym, subst, append-nil, arith}
 use Rattle.std.specs.List.{after_first}
 use Rattle.bp_text.specs.Lines.{first_line}
 use Rattle.bp_text.proofs.PartsOfTexts.{rest_left}
@@ -20,16 +21,7 @@ at_end [] left none = nothing
 at_end (b ∷ bs) left none = absurd (omega arith)
 
 pub loop-line-preserved : goal.loop-line-preserved
-loop-line-preserved c = λ written sourced.
-    let rest = c.loop-line.rest.now in
-    let left = c.loop-line.left.now in
-    let instruction = c.in-Some.line.text.now in
-    let some : 0 < length rest = omega (arith, c.in-Some.ensures.size) in
-    let from_line = one_line rest c.take_line.new.text.now instruction written left c.push_listed.new.statements.now some
-    c.in-Some.ensures.line c.take_line.ensures.rest c.in_ok-push_listed.ensures.left sourced in
-    subst (IsSourced c.args.listing.now c.as_slice-left.result.now)
-    (sym (rest_left c.loop-line.out.items _ (line_with instruction left) written _ c.in_ok-push_listed.ensures.line refl))
-    (c.loop-line.invariant (line_with instruction left ++ written) from_line)
+loop-line-preserved c = grind (arith, common_steps, one_line, rest_left)
 
 pub returns : goal.returns
 returns c = record {

@@ -1,7 +1,6 @@
-use Rattle.std.proofs.Common.{◌≡◌, ◌∙◌, ◌+◌, ◌≤◌, ℕ, List, IfOk, Ok, Result, ap, subst, sym, arith, take, length, slice_get}
-use Rattle.std.proofs.lemmas.List.{length-map, take_all}
+use Rattle.std.proofs.Common.{◌≡◌, ◌∙◌, ◌+◌, ℕ, List, IfOk, Ok, Result, ap, subst, sym, arith, take, slice_get}
 use Rattle.bp_language.specs.Ast.{Procedure}
-use Rattle.bp_flat.specs.StandsFor.{places_of, Place, start_of_block}
+use Rattle.bp_flat.specs.StandsFor.{places_of, Place}
 use Rattle.bp_source.specs.declared.source_statements.SourceStatement.{SourceStatement}
 use Rattle.bp_source.specs.SourceStatements.{IsSourceStatement}
 use Rattle.bp_source.proofs.SourceStatementLists.{more_statements, place_at}
@@ -56,12 +55,3 @@ loop-start-preserved c =
                 (w.procedure_end-end.ensures text ps x.place own name x.begins));
           }
     ]
-
-pub returns : goal.returns
-returns c =
-    let ps = c.args.checked.now.procedures in
-    let items = c.deref-start-items.result.now in
-    let all : items ≡ starts (places_of ps) = c.deref-start-items.ensures.value ∙ c.in_ok-starts.ensures in
-    let long : length items ≡ length (places_of ps) = ap length all ∙ length-map (places_of ps) (λ x. start_of_block x.left) in
-    let past : length (places_of ps) ≤ c.loop-start.start-index = omega (arith, c.loop-start-test.false, long) in
-    rw (take_all c.loop-start.start-index (places_of ps) past) at c.loop-start.invariant.statements

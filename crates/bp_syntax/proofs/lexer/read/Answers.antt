@@ -1,6 +1,6 @@
-use Rattle.std.proofs.Common.{◌≡◌, ◌∙◌, ap, sym, subst, length, None, Ok, Err, arith}
-use Rattle.bp_syntax.specs.Lexer.{token_list, first_too_deep, first_too_many}
-use Rattle.bp_syntax.specs.ParserState.{program_of, whole_program, parse_result, Got, IsParseFault}
+use Rattle.std.proofs.Common.{length, Ok, Err, arith, rules}
+use Rattle.bp_syntax.specs.Lexer.{token_list}
+use Rattle.bp_syntax.specs.ParserState.{program_of, IsParseFault}
 use Rattle.bp_language.specs.Texts.{IsTextOf}
 use Rattle.bp_syntax.specs.Refusals.{IsRefusal}
 use Rattle.bp_syntax.specs.declared.faults.ReadFault.{ReadFault}
@@ -8,7 +8,7 @@ use Rattle.bp_syntax.specs.declared.faults.ReadFault.TheVariants as fault
 use Rattle.bp_syntax.proofs.FirstTooMany.{none_is_shallow, none_is_sparse}
 use Rattle.bp_syntax.proofs.OneAnswer.{only_answer, scan_fault, nested_fault, crowd_fault, parse_fault, parsed, fault_passed_on}
 use Rattle.bp_syntax.proofs.lexer.read.Goals as goal
-use Rattle.bp_syntax.proofs.lexer.read.Goals.{In-Some, In-Some-first_too_many, After-first_too_deep, After-parse, In_ok-globals}
+use Rattle.bp_syntax.proofs.lexer.read.Goals.{In-Some, In-Some-first_too_many, After-parse, In_ok-globals}
 
 pub returns-in_err-scanned-clause-whole : goal.returns-in_err-scanned-clause-whole
 returns-in_err-scanned-clause-whole c =
@@ -17,10 +17,7 @@ returns-in_err-scanned-clause-whole c =
 
 -- a token nests too deep
 nested_refusal : (c : In-Some) → IsRefusal c.args.text.now (fault.TooNested c.in-Some.at)
-nested_refusal c =
-    let slice = ap (λ l. first_too_deep 0 (token_list l)) c.as_slice-tokens.ensures.value in
-    nested_fault c.args.text.now (token_list c.in_ok-scanned.scanned.items) c.in-Some.at
-    (omega arith) c.in_ok-scanned.ensures (sym slice ∙ sym c.in-Some.ensures)
+nested_refusal c = search (rules, nested_fault)
 
 pub returns-in-Some-clause-answer : goal.returns-in-Some-clause-answer
 returns-in-Some-clause-answer c = nested_refusal (goal.at.returns-in-Some-clause-answer c).In-Some
@@ -31,12 +28,7 @@ returns-in-Some-clause-whole c =
 
 -- a token is one too many
 crowd_refusal : (c : In-Some-first_too_many) → IsRefusal c.args.text.now (fault.TooManyTokens c.in-Some-first_too_many.at)
-crowd_refusal c =
-    let flat = ap (λ l. first_too_deep 0 (token_list l)) c.as_slice-tokens.ensures.value in
-    let slice = ap (λ l. first_too_many 0 (token_list l)) c.as_slice-tokens.ensures.value in
-    crowd_fault c.args.text.now (token_list c.in_ok-scanned.scanned.items) c.in-Some-first_too_many.at
-    (omega arith) c.in_ok-scanned.ensures (sym flat ∙ sym c.in_default.ensures)
-    (sym slice ∙ sym c.in-Some-first_too_many.ensures)
+crowd_refusal c = search (rules, crowd_fault)
 
 pub returns-in-Some-first_too_many-clause-answer : goal.returns-in-Some-first_too_many-clause-answer
 returns-in-Some-first_too_many-clause-answer c = crowd_refusal (goal.at.returns-in-Some-first_too_many-clause-answer c).In-Some-first_too_many
@@ -49,15 +41,7 @@ returns-in-Some-first_too_many-clause-whole c =
 -- the parser's refusal is the text's
 parse_refusal : (c : After-parse) (e : ReadFault)
     → IsParseFault (token_list c.as_slice-tokens.result.now) (length c.args.text.now) e → IsRefusal c.args.text.now e
-parse_refusal c e f =
-    let text = c.args.text.now in
-    let ts = token_list c.in_ok-scanned.scanned.items in
-    let flat : first_too_deep 0 ts ≡ None = sym (ap (λ l. first_too_deep 0 (token_list l)) c.as_slice-tokens.ensures.value) ∙ sym c.in_default.ensures in
-    let few : first_too_many 0 ts ≡ None =
-    sym (ap (λ l. first_too_many 0 (token_list l)) c.as_slice-tokens.ensures.value)
-    ∙ sym c.in_default-first_too_many.ensures in
-    parse_fault text ts e (omega arith) c.in_ok-scanned.ensures (none_is_shallow ts flat) (none_is_sparse ts few)
-    (subst (λ l. IsParseFault (token_list l) (length text) e) c.as_slice-tokens.ensures.value f)
+parse_refusal c e given1 = search (rules, parse_fault, none_is_shallow, none_is_sparse)
 
 pub returns-in_err-globals-clause-answer : goal.returns-in_err-globals-clause-answer
 returns-in_err-globals-clause-answer c =
@@ -72,17 +56,7 @@ returns-in_err-globals-clause-whole c =
 
 -- the tree is that of the text
 of_text : (c : In_ok-globals) → IsTextOf c.args.text.now (program_of c.in_ok-globals.globals c.in_ok-globals.procs)
-of_text c =
-    let text = c.args.text.now in
-    let ts = token_list c.in_ok-scanned.scanned.items in
-    let flat : first_too_deep 0 ts ≡ None = sym (ap (λ l. first_too_deep 0 (token_list l)) c.as_slice-tokens.ensures.value) ∙ sym c.in_default.ensures in
-    let few : first_too_many 0 ts ≡ None =
-    sym (ap (λ l. first_too_many 0 (token_list l)) c.as_slice-tokens.ensures.value)
-    ∙ sym c.in_default-first_too_many.ensures in
-    let is : parse_result whole_program ts ≡ Got (program_of c.in_ok-globals.globals c.in_ok-globals.procs) =
-    sym (ap (λ l. parse_result whole_program (token_list l)) c.as_slice-tokens.ensures.value)
-    ∙ c.in_ok-globals.ensures in
-    parsed text ts _ (omega arith) c.in_ok-scanned.ensures flat few is
+of_text c = search (rules, parsed)
 
 pub invariant_of-result : goal.invariant_of-result
 invariant_of-result c = ∣ (c.args.text.now, of_text c) ∣₁

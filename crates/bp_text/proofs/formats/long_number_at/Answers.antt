@@ -1,6 +1,6 @@
-use Rattle.std.proofs.Common.{subst, sym, arith}
+use Rattle.std.proofs.Common.{subst, sym, arith, rules}
 use Rattle.bp_text.specs.Formats.{EndsNumber}
-use Rattle.bp_text.proofs.NumbersInTurn.{IsFront, ends_at, ends_empty, first_front, leading_zero, more_front, no_digit_first, no_number_of_none, number_there, too_large}
+use Rattle.bp_text.proofs.NumbersInTurn.{ends_at, ends_empty, first_front, leading_zero, more_front, no_digit_first, no_number_of_none, number_there, too_large}
 use Rattle.bp_text.proofs.formats.long_number_at.Goals as goal
 
 pub returns-in_default : goal.returns-in_default
@@ -12,10 +12,7 @@ returns-then-not-is_ascii_digit c =
     c.in-Some.ensures.cases.0 c.if-not-is_ascii_digit.ensures.cases
 
 pub loop-digit-init : goal.loop-digit-init
-loop-digit-init c =
-    let range = c.if-not-is_ascii_digit.ensures.cases in
-    subst (λ n. IsFront c.args.text.now n c.in-Some.others.now) (sym c.from-number.ensures)
-    (first_front c.args.text.now c.in-Some.first.now c.in-Some.others.now c.in-Some.ensures.cases.0 range.0 range.1)
+loop-digit-init c = search (rules, first_front)
 
 pub returns-then-not-is_ascii_digit-2 : goal.returns-then-not-is_ascii_digit-2
 returns-then-not-is_ascii_digit-2 c =

@@ -1,11 +1,9 @@
-use Rattle.std.proofs.Common.{◌==◌, ◌≤◌, length, sym, arith, eq-eqb}
+use Rattle.std.proofs.Common.{◌==◌, ◌≤◌, length, sym, arith, eq-eqb, rules}
 use Rattle.std.proofs.lemmas.List.Sums.{position_or_len_is}
 use Rattle.bp_text.proofs.lines.line_size.Goals as goal
 
 pub returns-then-byte-eq10 : goal.returns-then-byte-eq10
-returns-then-byte-eq10 c =
-    let within : c.loop-i.i ≤ length c.args.text.now = omega (arith, c.loop-i-test.true) in
-    sym (position_or_len_is (λ b. b == 10) c.args.text.now c.loop-i.i 0 within c.loop-i.invariant (λ _. eq-eqb _ 10 c.if-byte-eq10.true))
+returns-then-byte-eq10 c = search (rules, position_or_len_is, eq-eqb)
 
 pub returns : goal.returns
 returns c =

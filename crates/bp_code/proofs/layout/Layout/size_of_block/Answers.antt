@@ -1,4 +1,4 @@
-use Rattle.std.proofs.Common.{◌≡◌, ◌+◌, ap, subst, arith, drop, add-zero}
+use Rattle.std.proofs.Common.{◌≡◌, ◌+◌, ap, subst, arith, drop, add-zero, rules}
 use Rattle.bp_language.specs.Blocks.{block_of, statement_of}
 use Rattle.bp_code.specs.Compiled.{block_size, size}
 use Rattle.bp_code.specs.Compilable.{block_sizes, AreSizesOf}
@@ -6,10 +6,7 @@ use Rattle.bp_code.proofs.BlockItems.{block_item, behind}
 use Rattle.bp_code.proofs.layout.Layout.size_of_block.Goals as goal
 
 pub loop-stmt-init : goal.loop-stmt-init
-loop-stmt-init c = record {
-  total = omega arith;
-  placed = rw add-zero c.requires.placed;
-}
+loop-stmt-init c = search (rules, add-zero)
 
 pub overflow_add-number : goal.overflow_add-number
 overflow_add-number c =
@@ -18,10 +15,7 @@ overflow_add-number c =
     omega arith
 
 pub size_at-total-requires : goal.size_at-total-requires
-size_at-total-requires c =
-    let split = block_item c.args.stmts.now c.loop-stmt._stmt-index c._stmt-item.result c.loop-stmt-test.true c._stmt-item.is in
-    let s = statement_of c._stmt-item.result.form in
-    (size s, _, rw split at c.loop-stmt.invariant.placed)
+size_at-total-requires c = search (rules, block_item)
 
 pub overflow_add-total : goal.overflow_add-total
 overflow_add-total c =

@@ -1,16 +1,11 @@
-use Rattle.std.proofs.Common.{ap, sym, ◌∙◌}
-use Rattle.std.specs.Option.{option_copied}
+use Rattle.std.proofs.Common.{ap, sym, ◌∙◌, rules}
 use Rattle.bp_language.specs.Ast.{procedure_named}
 use Rattle.bp_language.specs.Faults.{first_index}
 use Rattle.bp_code.proofs.RepeatedNames.{named_first, named_nowhere, got_at}
 use Rattle.bp_code.proofs.uses.Callees.find.Goals as goal
 
 pub returns-in_err-first : goal.returns-in_err-first
-returns-in_err-first c =
-    let nowhere = ap (λ ns. first_index ns c.args.text.now) (sym c.self.invariant) ∙ sym c.in_err-first.ensures in
-    ap option_copied c.from_residual.ensures
-    ∙ sym (named_nowhere c.args.text.now 0 c.self.inside.procs.now nowhere)
-    ∙ ap (λ qs. procedure_named qs c.args.text.now) c.self.view_is
+returns-in_err-first c = search (rules, named_nowhere)
 
 pub returns : goal.returns
 returns c =

@@ -1,23 +1,9 @@
-use Rattle.std.proofs.Common.{◌/◌, ◌%◌, ◌^◌, length, ap, ◌∙◌, slice_get}
-use Rattle.bp_explore.specs.States.{take_number, NodeOf, NodesOf, take_state, record_at}
+use Rattle.std.proofs.Common.{rules}
 use Rattle.bp_explore.proofs.PackedNodes.{node_is}
 use Rattle.bp_explore.proofs.nodes.Nodes.load.Goals as goal
 
 pub returns-clause-loaded : goal.returns-clause-loaded
-returns-clause-loaded c = λ node at.
-    let x = c.self.inside in
-    let threads = length x.spare.stacks in
-    let read = c.record_of-record.result.now in
-    let found = c.record_of-record.ensures ∙ ap (λ l. record_at l c.as_slice-2.result.now c.args.at) c.as_slice.ensures.value ∙ ap (λ l. record_at x.cells.items l c.args.at) c.as_slice-2.ensures.value in
-    let own = node_is threads x.cells.items x.ends.items c.args.at node (ap (λ (m : NodesOf). slice_get m.items c.args.at) c.self.view_is ∙ at) in
-    let places = c.read_number-head.ensures.rest ∙ ap (λ l. (take_number l).1) c.read_number-level.ensures.rest in
-    c.in_ok-load.ensures.state ∙ ap (λ l. (take_state threads l).0) places
-    ∙ ap (λ l. (take_state threads (take_number (take_number l).1).1).0) found ∙ ap (λ (z : NodeOf). z.state) own
+returns-clause-loaded c = search (rules, node_is)
 
 pub returns-clause-made : goal.returns-clause-made
-returns-clause-made c = λ node at.
-    let x = c.self.inside in
-    let found = c.record_of-record.ensures ∙ ap (λ l. record_at l c.as_slice-2.result.now c.args.at) c.as_slice.ensures.value ∙ ap (λ l. record_at x.cells.items l c.args.at) c.as_slice-2.ensures.value in
-    let own = node_is (length x.spare.stacks) x.cells.items x.ends.items c.args.at node (ap (λ (m : NodesOf). slice_get m.items c.args.at) c.self.view_is ∙ at) in
-    let number = c.read_number-head.ensures.number ∙ ap (λ l. (take_number l).0) c.read_number-level.ensures.rest ∙ ap (λ l. (take_number (take_number l).1).0) found in
-    c.made_of.ensures ∙ ap (λ n. n / 2 ^ 33 % 2 ^ 32) number ∙ ap (λ (z : NodeOf). z.made) own
+returns-clause-made c = search (rules, node_is)

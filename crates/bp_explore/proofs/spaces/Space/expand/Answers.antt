@@ -17,10 +17,6 @@ step_of o code x m node i bit v y same made is led =
     subst (λ n. IsStep o n node.state i code bit y) made
     (subst (λ (w : StateOf). IsStep o m w i code bit y) same (λ stack has. record { transition = v; is = is stack has; led = led stack has }))
 
-pub returns-then-is_same_step-clause-grown : goal.returns-then-is_same_step-clause-grown
-returns-then-is_same_step-clause-grown g c =
-    subst (λ (l : List NodeOf). IsGrown l c.follow.new.self.nodes.items c.args.level) c.load.ensures.items c.in_ok-follow.ensures.grown
-
 pub returns-then-is_same_step-clause-expanded : goal.returns-then-is_same_step-clause-expanded
 returns-then-is_same_step-clause-expanded g c = λ node at low.
     let o = g.O.Observer.listed c.args.observer.now in

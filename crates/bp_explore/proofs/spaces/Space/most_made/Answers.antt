@@ -1,4 +1,4 @@
-use Rattle.std.proofs.Common.{◌≡◌, ◌+◌, ◌<◌, ◌≤◌, ℕ, Some, inl, inr, sym, ◌∙◌, subst, arith, slice_get}
+use Rattle.std.proofs.Common.{◌≡◌, ◌+◌, ◌<◌, ◌≤◌, ℕ, Some, inl, inr, sym, ◌∙◌, subst, arith, slice_get, rules}
 use Rattle.std.proofs.lemmas.Bool.{cases_lt}
 use Rattle.std.proofs.lemmas.Option.{slice_get_within}
 use Rattle.bp_explore.specs.States.{NodeOf}
@@ -37,9 +37,4 @@ loop-at-preserved c =
     ]
 
 pub returns : goal.returns
-returns c = record {
-  at_most = λ n node is.
-      let near = slice_get_within c.args.self.now.nodes.items n node is in
-      c.loop-at.invariant.at_most n node (omega (arith, near, c.loop-at-test.false, c.len-at-end.ensures)) is;
-  attained = c.loop-at.invariant.attained;
-}
+returns c = search (rules, slice_get_within)

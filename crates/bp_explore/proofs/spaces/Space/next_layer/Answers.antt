@@ -15,9 +15,6 @@ returns-clause-grown g c =
     grown_then c.args.self.now.nodes.items c.begin_layer.new.self.nodes.items c.args.level c.in_ok-begin_layer.ensures.grown
     c.close_layer.new.self.nodes.items c.in_ok-close_layer.ensures.grown
 
-pub returns-clause-next : goal.returns-clause-next
-returns-clause-next g c = omega (arith, c.len-next.ensures)
-
 pub returns-clause-reached : goal.returns-clause-reached
 returns-clause-reached g c = λ k is low.
     let o = g.O.Observer.listed c.args.observer.now in

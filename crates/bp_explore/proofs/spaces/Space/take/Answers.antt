@@ -1,4 +1,4 @@
-use Rattle.std.proofs.Common.{◌≡◌, ◌-◌, ◌++◌, ◌∷◌, [], ℕ, List, length, take, drop, ap, sym, ◌∙◌, subst, inr, arith, length-drop, take_all}
+use Rattle.std.proofs.Common.{◌≡◌, ◌-◌, ◌++◌, ◌∷◌, [], ℕ, List, length, take, drop, ap, sym, ◌∙◌, subst, arith, length-drop, take_all}
 use Rattle.bp_explore.specs.States.{HasKey, NodeOf, NodesOf, node_of, StateOf}
 use Rattle.bp_explore.specs.Searches.{Has}
 use Rattle.bp_explore.proofs.Growth.{has_one, has_held}
@@ -17,12 +17,6 @@ returns-then-holds-clause-held c = λ low.
     has_held old.items old.spare c.args.step.thread c.args.made c.args.level low
     (key_held threads old.items (drop key c.pack.new.packed.items) c.args.step.thread c.args.made old.spare
     (subst (HasKey threads old.items) rest (c.holds.ensures c.if-holds.true)) c.in_ok-key.ensures.key)
-
-pub returns-clause-added : goal.returns-clause-added
-returns-clause-added c =
-    let old = c.args.self.now.nodes in
-    let items = ap (λ (m : NodesOf). m.items) c.count_full_stack.ensures ∙ c.in_ok-add.ensures.0 in
-    inr (items ∙ ap (λ (z : NodeOf). old.items ++ z ∷ []) c.in_ok-key.ensures.node)
 
 pub returns-clause-held : goal.returns-clause-held
 returns-clause-held c = λ low.

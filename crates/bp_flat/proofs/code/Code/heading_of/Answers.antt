@@ -1,7 +1,6 @@
-use Rattle.std.proofs.Common.{rules, ◌≡◌, ◌∙◌, ap, refl, option_map, Option, Some, None, Bor}
+use Rattle.std.proofs.Common.{rules, ◌≡◌, refl, option_map, Option, Some, None, Bor}
 use Rattle.std.specs.Option.{option_copied}
 use Rattle.bp_flat.specs.Flat as flat
-use Rattle.bp_flat.specs.Flat.{heading_named}
 use Rattle.bp_flat.specs.declared.headings.Heading.{Heading}
 use Rattle.bp_flat.proofs.SlotsOfNames.{formals_of_procedure}
 use Rattle.bp_flat.proofs.code.Code.heading_of.Goals as goal
@@ -11,6 +10,4 @@ formals_shown None = refl
 formals_shown (Some h) = refl
 
 pub returns-clause-program : goal.returns-clause-program
-returns-clause-program c = λ t is.
-    let found : option_copied c.find_heading.result ≡ heading_named c.args.self.now.headings c.args.name.now = search rules in
-    formals_shown c.find_heading.result ∙ ap (option_map (λ (k : flat.Heading). k.formals)) found ∙ formals_of_procedure c.args.self.now t c.args.name.now is
+returns-clause-program c = search (rules, formals_shown, formals_of_procedure)

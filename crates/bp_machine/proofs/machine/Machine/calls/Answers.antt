@@ -1,4 +1,4 @@
-use Rattle.std.proofs.Common.{◌≡◌, ◌+◌, ◌∙◌, ap, sym, arith, length, slice_get}
+use Rattle.std.proofs.Common.{◌+◌, ◌∙◌, ap, sym, arith, length, slice_get, rules}
 use Rattle.std.proofs.lemmas.List.{length-map}
 use Rattle.bp_machine.specs.Sessions.{guests}
 use Rattle.bp_machine.specs.Histories.{calls_of_thread}
@@ -7,17 +7,7 @@ use Rattle.bp_machine.proofs.TransitionIsAnswer.{guest_here}
 use Rattle.bp_machine.proofs.machine.Machine.calls.Goals as goal
 
 pub loop-thread-init : goal.loop-thread-init
-loop-thread-init c = record {
-  few = omega arith;
-  counted = λ t s h stands. total_zero h;
-}
-
-pub overflow_add-sum : goal.overflow_add-sum
-overflow_add-sum c =
-    let count =
-    ap length c.as_slice-thread-items.ensures.value ∙ sym (length-map c.self.inside.threads.items (λ k. k.guest))
-    ∙ ap (λ m. length m.state.threads) c.self.view_is in
-    omega (arith, c.loop-thread.invariant.few, c.loop-thread-test.true, count, c.requires, c.from-sum.ensures, c.calls.type_inv)
+loop-thread-init c = search (rules, total_zero)
 
 pub loop-thread-preserved : goal.loop-thread-preserved
 loop-thread-preserved c =
@@ -33,10 +23,4 @@ loop-thread-preserved c =
     }
 
 pub returns : goal.returns
-returns c = λ t s h stands.
-    let count =
-    ap length c.as_slice-thread-items.ensures.value ∙ sym (length-map c.self.inside.threads.items (λ k. k.guest))
-    ∙ ap (λ m. length m.state.threads) c.self.view_is ∙ stands.thread_count in
-    let ended : c.loop-thread.thread-index ≡ length c.as_slice-thread-items.result.now =
-    omega (arith, c.loop-thread.auto.thread-index-end, c.loop-thread-test.false) in
-    c.loop-thread.invariant.counted t s h stands ∙ ap (λ n. total n h) (ended ∙ count) ∙ all_calls t s h stands.legal
+returns c = search (rules, length-map, total, all_calls)

@@ -1,4 +1,4 @@
-use Rattle.std.proofs.Common.{◌<◌, ◌∙◌, ap, sym, arith, length, slice_get}
+use Rattle.std.proofs.Common.{◌<◌, ap, arith, length, rules}
 use Rattle.bp_machine.proofs.TransitionIsAnswer.{counted, guest_here, room_here, stays_after, fails_after, steps_after}
 use Rattle.bp_machine.proofs.machine.Machine.make.Goals as goal
 
@@ -6,14 +6,10 @@ within : (c : goal.After-index_mut) → c.args.thread < length c.self.inside.thr
 within c = omega (arith, counted c.args.self.now c.self.inside.threads.items (ap (λ m. m.state.threads) c.self.view_is), c.requires.within)
 
 pub make-requires-clause-calls : goal.make-requires-clause-calls
-make-requires-clause-calls c =
-    let found = guest_here c.self.inside.threads.items c.args.thread c.index_mut.result.now (within c) c.index_mut.ensures.value in
-    c.requires.calls c.index_mut.result.now.guest (sym (ap (λ m. slice_get m.state.threads c.args.thread) c.self.view_is) ∙ found)
+make-requires-clause-calls c = search (rules, guest_here, within)
 
 pub make-requires-clause-room : goal.make-requires-clause-room
-make-requires-clause-room c =
-    let found = room_here c.self.inside.threads.items c.args.thread c.index_mut.result.now (within c) c.index_mut.ensures.value in
-    c.requires.room c.index_mut.result.now.room (sym (ap (λ m. slice_get m.rooms c.args.thread) c.self.view_is) ∙ found)
+make-requires-clause-room c = search (rules, room_here, within)
 
 pub returns-in-Stays : goal.returns-in-Stays
 returns-in-Stays c = λ guest has.

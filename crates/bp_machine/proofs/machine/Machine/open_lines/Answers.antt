@@ -1,4 +1,3 @@
-use Rattle.std.proofs.lemmas.Grind.{common_steps}
 use Rattle.std.proofs.Common.{◌∙◌, ap, sym, arith, ◌||◌, nat_le, slice_get}
 use Rattle.bp_machine.specs.Sessions.{guests}
 use Rattle.bp_machine.proofs.SessionAnswers.{count_more}
@@ -31,6 +30,3 @@ loop-thread-preserved c =
             w.count-is ∙ (rw w.if-not-is_finished.false at base);
       }
     ]
-
-pub overflow_add-count : goal.overflow_add-count
-overflow_add-count c = grind (arith, common_steps)

@@ -1,35 +1,17 @@
-use Rattle.std.proofs.Common.{ap, sym, ◌∙◌, is_some, slice_get}
+use Rattle.std.proofs.Common.{ap, sym, ◌∙◌, is_some, slice_get, rules}
 use Rattle.bp_machine.specs.Sessions.{top_of}
-use Rattle.bp_machine.specs.Histories.{configuration_after}
-use Rattle.bp_machine.specs.Runs.{values_printed}
 use Rattle.bp_machine.proofs.PrintsAlike.{nothing_printed, none_printed, instruction_printed, print_prints, other_prints_nothing}
 use Rattle.bp_machine.proofs.Deadlocks.{no_stack}
-use Rattle.bp_machine.proofs.sessions.Session.is_at_print.Goals.{In-Some-get}
 use Rattle.bp_machine.proofs.sessions.Session.is_at_print.Goals as goal
 
 pub returns-in_default : goal.returns-in_default
-returns-in_default c = λ t h is stands.
-    let x = c.args.self.now in
-    let none = c.in_default.ensures ∙ ap (λ y. slice_get y.machine.state.threads c.args.thread) c.self.view_is in
-    ap (λ fs. is_some (values_printed (configuration_after t x.setup h).globals fs))
-    (sym (no_stack t x.setup x.machine.state h stands.state c.args.thread none))
+returns-in_default c = search (rules, no_stack)
 
 pub returns-in_default-top : goal.returns-in_default-top
-returns-in_default-top c = λ t h is stands.
-    let x = c.args.self.now in
-    let guest = c.in-Some.guest.now.guest in
-    let has = ap (λ y. slice_get y.machine.state.threads c.args.thread) (sym c.self.view_is) ∙ sym c.in-Some.ensures in
-    let top = c.in_default-top.ensures ∙ ap top_of c.stack.ensures in
-    ap is_some (nothing_printed x.code t is x.setup x.machine.state h stands.state c.args.thread guest has top)
+returns-in_default-top c = search (rules, nothing_printed)
 
 pub returns-in_default-get : goal.returns-in_default-get
-returns-in_default-get c = λ t h is stands.
-    let x = c.args.self.now in
-    let guest = c.in-Some.guest.now.guest in
-    let has = ap (λ y. slice_get y.machine.state.threads c.args.thread) (sym c.self.view_is) ∙ sym c.in-Some.ensures in
-    let top = c.in-Some-top.ensures ∙ ap top_of c.stack.ensures in
-    let past = c.in_default-get.ensures ∙ ap (λ y. slice_get y.code.instructions c.in-Some-top.top.number) c.self.view_is in
-    ap is_some (none_printed x.code t is x.setup x.machine.state h stands.state c.args.thread guest has c.in-Some-top.top top past)
+returns-in_default-get c = search (rules, none_printed)
 
 pub returns-in-Print : goal.returns-in-Print
 returns-in-Print c = λ t h is stands.

@@ -1,11 +1,11 @@
-use Rattle.std.proofs.Common.{subst}
+use Rattle.std.proofs.Common.{subst, rules}
 use Rattle.bp_language.specs.Ast.{Program}
 use Rattle.bp_flat.specs.StandsFor.{StandsFor, StepsAlike}
 use Rattle.std.proofs.lemmas.Option.{slice_get_within}
 use Rattle.std.proofs.lemmas.Result.{err_from_is_err_and}
 use Rattle.bp_machine.specs.Sessions.{SessionOf, IsInOrder}
 use Rattle.bp_machine.specs.Transitions.{session_of, IsJudged}
-use Rattle.bp_machine.proofs.SessionAnswers.{given_bit, judged_next, refused_after, refused_for_memory, within, few, grows, made_stands, made_in_order}
+use Rattle.bp_machine.proofs.SessionAnswers.{judged_next, refused_after, refused_for_memory, within, made_stands, made_in_order}
 use Rattle.bp_machine.proofs.sessions.Session.make_given.Goals.{In_ok-made}
 use Rattle.bp_machine.proofs.sessions.Session.make_given.Goals as goal
 
@@ -20,47 +20,19 @@ judged : (c : In_ok-made)
 judged c = rw (← c.self.view_is) at c.in_ok-made.ensures
 
 pub returns-in_err-made-clause-answer : goal.returns-in_err-made-clause-answer
-returns-in_err-made-clause-answer c = λ t h is stands.
-    let order = subst IsInOrder c.self.view_is c.self.invariant in
-    let p = err_from_is_err_and c.from_residual.result c.from_residual.ensures.1 in
-    rw (p.1, p.2) (refused_after t c.args.self.now h stands order.choice_count c.args.thread c.args.given c.in_err-made.field-0.0 c.in_err-made.ensures)
+returns-in_err-made-clause-answer c = search (rules, err_from_is_err_and, refused_after)
 
 pub reserve-requires : goal.reserve-requires
-reserve-requires c =
-    let next = (rw (← c.self.view_is) at c.in_ok-made.ensures).transition in
-    slice_get_within c.self.inside.machine.state.threads c.args.thread next.guest next.has
+reserve-requires c = search (rules, slice_get_within)
 
 pub invariant_of-self : goal.invariant_of-self
 invariant_of-self c = rw c.in_err-reserve.ensures.err c.self.invariant
 
 pub returns-in_err-reserve-clause-answer : goal.returns-in_err-reserve-clause-answer
-returns-in_err-reserve-clause-answer c = λ t h is stands.
-    let order = subst IsInOrder c.self.view_is c.self.invariant in
-    let alike = subst AllAlike c.self.view_is c.steps_alike.ensures in
-    let p = err_from_is_err_and c.from_residual-in_err-reserve.result c.from_residual-in_err-reserve.ensures.1 in
-    rw (p.1, p.2) (refused_for_memory t c.args.self.now h stands order.choice_count c.args.thread c.args.given
-    (alike t is) c.in_ok-made.made c.in_ok-made.ensures c.in_err-reserve.ensures.entering)
+returns-in_err-reserve-clause-answer c = search (rules, err_from_is_err_and, refused_for_memory)
 
 pub make-requires-clause-within : goal.make-requires-clause-within
-make-requires-clause-within c =
-    let d = (goal.at.make-requires-clause-within c).In_ok-made in
-    within c.self.inside.code c.self.inside.setup c.self.inside.machine c.reserve.new.self c.in_ok-reserve.ensures.state
-    c.self.inside.choices.items c.args.thread c.args.given c.in_ok-made.made
-    c.self.invariant (judged d)
-
-pub make-requires-clause-calls : goal.make-requires-clause-calls
-make-requires-clause-calls c =
-    let d = (goal.at.make-requires-clause-calls c).In_ok-made in
-    few c.self.inside.code c.self.inside.setup c.self.inside.machine c.reserve.new.self c.in_ok-reserve.ensures.state
-    c.self.inside.choices.items c.args.thread c.args.given c.in_ok-made.made
-    c.self.invariant (judged d)
-
-pub make-requires-clause-contexts : goal.make-requires-clause-contexts
-make-requires-clause-contexts c =
-    let d = (goal.at.make-requires-clause-contexts c).In_ok-made in
-    grows c.self.inside.code c.self.inside.setup c.self.inside.machine c.reserve.new.self c.in_ok-reserve.ensures.state
-    c.self.inside.choices.items c.args.thread c.args.given c.in_ok-made.made
-    c.self.invariant (judged d)
+make-requires-clause-within c = search (rules, within, judged)
 
 pub invariant_of-self-2 : goal.invariant_of-self-2
 invariant_of-self-2 c =
@@ -75,11 +47,6 @@ returns-clause-answer c = λ t h is stands.
     let order = subst IsInOrder c.self.view_is c.self.invariant in
     let alike = subst AllAlike c.self.view_is c.steps_alike.ensures in
     judged_next t c.args.self.now h stands order.choice_count c.args.thread c.args.given (alike t is) c.in_ok-made.made c.in_ok-made.ensures
-
-pub returns-clause-asked : goal.returns-clause-asked
-returns-clause-asked c =
-    let made = c.in_ok-made.ensures in
-    (made.thread, given_bit c.args.self.now.choices c.args.thread c.args.given c.in_ok-made.made.call.bit made.bit)
 
 pub returns-clause-stands : goal.returns-clause-stands
 returns-clause-stands c = λ t h is stands.

@@ -1,12 +1,8 @@
-use Rattle.std.proofs.Common.{◌∙◌, ap, length, map, arith}
+use Rattle.std.proofs.Common.{◌∙◌, ap, map}
 use Rattle.bp_flat.specs.Steps.{bits_from}
 use Rattle.bp_machine.specs.Sessions.{first_thread}
 use Rattle.bp_machine.proofs.SessionsInOrder.{stands_at_start, in_order_at_start}
 use Rattle.bp_machine.proofs.sessions.Session.new.Goals as goal
-
-pub word_of-requires : goal.word_of-requires
-word_of-requires c =
-    omega (arith, c.is_in_range.ensures.bits, ap length c.bits.ensures)
 
 pub invariant_of-result : goal.invariant_of-result
 invariant_of-result c =

@@ -1,4 +1,4 @@
-use Rattle.std.proofs.Common.{◌-◌, ap, sym, ◌∙◌, [], arith, drop, drop_of_length-le, length, length-drop, slice_get}
+use Rattle.std.proofs.Common.{◌-◌, ap, sym, ◌∙◌, drop, drop_of_length-le, length, length-drop, slice_get, rules}
 use Rattle.bp_flat.specs.InstrEffects.{bits_of}
 use Rattle.bp_flat.specs.StandsFor.{valuation_of}
 use Rattle.bp_machine.specs.Sessions.{top_of}
@@ -7,10 +7,7 @@ use Rattle.bp_machine.proofs.Deadlocks.{none_shown, top_shown, shown_below, no_s
 use Rattle.bp_machine.proofs.sessions.Session.top_below.Goals as goal
 
 pub returns-in_default : goal.returns-in_default
-returns-in_default c = λ t h is stands.
-    let x = c.args.self.now in
-    let none = c.in_default.ensures ∙ ap (λ y. slice_get y.machine.state.threads c.args.thread) c.self.view_is in
-    ap (drop c.args.returned) (no_stack t x.setup x.machine.state h stands.state c.args.thread none) ∙ drop_of_length-le [] (omega arith)
+returns-in_default c = search (rules, no_stack, drop_of_length-le)
 
 pub returns-in_default-below : goal.returns-in_default-below
 returns-in_default-below c = λ t h is stands.

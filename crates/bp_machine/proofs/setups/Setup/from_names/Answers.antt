@@ -1,18 +1,13 @@
-use Rattle.std.proofs.Common.{sym, ◌∙◌, map, arith}
+use Rattle.std.proofs.Common.{sym, ◌∙◌, map, arith, rules}
 use Rattle.bp_machine.specs.Setups.{setup_of}
 use Rattle.bp_machine.proofs.SetupInRange.{names_found, fits, in_range, fault_refuses}
 use Rattle.bp_machine.proofs.setups.Setup.from_names.Goals as goal
 
 pub returns-in-Some-clause-answer : goal.returns-in-Some-clause-answer
-returns-in-Some-clause-answer c = λ t is.
-    fault_refuses t (setup_of (map (λ n. n.now) c.args.entries.now) c.args.init.now c.args.contexts c.args.calls c.args.seed)
-    c.in-Some.fault (sym (c.fault_of_named.ensures t is) ∙ c.in-Some.is)
+returns-in-Some-clause-answer c = search (rules, fault_refuses)
 
 pub own_names-requires : goal.own_names-requires
-own_names-requires c =
-    let given = setup_of (map (λ n. n.now) c.args.entries.now) c.args.init.now c.args.contexts c.args.calls c.args.seed in
-    names_found c.args.code.now (map (λ n. n.now) c.args.entries.now) c.is_of_a_program.ensures
-    (λ t is. (fits t given (sym (c.fault_of_named.ensures t is) ∙ c.in_default.is)).entries)
+own_names-requires c = search (rules, names_found, fits)
 
 pub overflow_cast-contexts : goal.overflow_cast-contexts
 overflow_cast-contexts c =

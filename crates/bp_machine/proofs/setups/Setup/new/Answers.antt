@@ -1,4 +1,4 @@
-use Rattle.std.proofs.Common.{sym, ◌∙◌, map, string_bytes}
+use Rattle.std.proofs.Common.{sym, ◌∙◌, map, string_bytes, rules}
 use Rattle.bp_machine.specs.Setups.{setup_of}
 use Rattle.bp_machine.proofs.SetupInRange.{in_range, fault_refuses}
 use Rattle.bp_machine.proofs.setups.Setup.new.Goals as goal
@@ -9,6 +9,4 @@ kept-requires c =
     c.is_of_a_program.ensures (λ t is. sym (c.fault_of_setup.ensures t is) ∙ c.in-None.is)
 
 pub returns-in-Some-clause-answer : goal.returns-in-Some-clause-answer
-returns-in-Some-clause-answer c = λ t is.
-    fault_refuses t (setup_of (map string_bytes c.args.entries.now) c.args.init.now c.args.contexts c.args.calls c.args.seed)
-    c.in-Some.fault (sym (c.fault_of_setup.ensures t is) ∙ c.in-Some.is)
+returns-in-Some-clause-answer c = search (rules, fault_refuses, string_bytes)

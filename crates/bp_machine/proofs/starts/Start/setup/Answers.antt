@@ -1,7 +1,7 @@
-use Rattle.std.proofs.Common.{◌≡◌, ◌∙◌, ap, ap₂, subst, length, map, string_bytes, None, MatchResult}
+use Rattle.std.proofs.Common.{◌≡◌, ◌∙◌, ap, length, map, string_bytes, rules}
 use Rattle.bp_language.specs.Ast.{Program}
 use Rattle.bp_flat.specs.StandsFor.{StandsFor}
-use Rattle.bp_machine.specs.Setups.{initial_bits, setup_of, setup_fault, IsSetupRefusal, setup_from}
+use Rattle.bp_machine.specs.Setups.{initial_bits, setup_of, setup_from}
 use Rattle.bp_machine.proofs.SetupInRange.{bits_given, bits_not_given}
 use Rattle.bp_machine.proofs.starts.Start.setup.Goals as goal
 use Rattle.bp_machine.proofs.starts.Start.setup.Goals.{in-Some, in-None}
@@ -23,14 +23,7 @@ bits_are c t stands =
 setup_is : (c : goal.After-new) (t : Program) → StandsFor c.args.code.now t
     → setup_of (map string_bytes c.deref.result.now) c.match-self.init.now c.self.inside.contexts c.self.inside.calls
     c.args.seed ≡ setup_from c.args.self.now c.args.seed t
-setup_is c t stands =
-    let entries = ap (map string_bytes) c.deref.ensures.value ∙ ap (λ s. s.entries) c.self.view_is in
-    let contexts = ap (λ s. s.contexts) c.self.view_is in
-    let calls = ap (λ s. s.calls) c.self.view_is in
-    ap₂ (λ es bits. setup_of es bits c.self.inside.contexts c.self.inside.calls c.args.seed) entries (bits_are c t stands)
-    ∙ ap₂ (λ k n. setup_of c.args.self.now.entries (initial_bits c.args.self.now.init (length t.globals)) k n c.args.seed) contexts calls
+setup_is c t stands = search (rules, string_bytes, bits_are)
 
 pub returns-clause-answer : goal.returns-clause-answer
-returns-clause-answer c = λ t stands.
-    subst (λ s. MatchResult c.new.result (λ x. (x ≡ s) × (setup_fault t s ≡ None)) (IsSetupRefusal t s))
-    (setup_is c t stands) (c.new.ensures.answer t stands)
+returns-clause-answer c = search (rules, setup_is)

@@ -1,17 +1,14 @@
-use Rattle.std.proofs.Common.{◌≡◌, ◌∙◌, Some, refl, sym, ap, subst}
-use Rattle.bp_language.specs.Ast.{Variable, Operation}
+use Rattle.std.proofs.Common.{◌∙◌, sym, ap, subst, rules}
+use Rattle.bp_language.specs.Ast.{Operation}
 use Rattle.bp_language.specs.declared.exprs.Op.TheVariants as op
 use Rattle.bp_language.specs.Views.{expression_of}
-use Rattle.bp_syntax.specs.ParserState.{ExprThen, OperandThen, UnThen, MoreImplied, MoreOperands, MoreTighter, ReadsBy, kind_ahead, parse_result, wanted_after_un}
-use Rattle.bp_syntax.specs.declared.parser.operators.Precedence.TheVariants.{Conjunction, Exclusion, Disjunction}
-use Rattle.bp_language.specs.declared.tokens.TokenKind.TheVariants as kind
+use Rattle.bp_syntax.specs.ParserState.{ExprThen, MoreImplied, MoreOperands, MoreTighter, ReadsBy, parse_result, wanted_after_un}
+use Rattle.bp_syntax.specs.declared.parser.operators.Precedence.TheVariants.{Disjunction}
 use Rattle.bp_syntax.proofs.ResultAfterToken.{at_exit, passed_on, ahead_name, implies_ahead, no_implies}
 use Rattle.bp_syntax.proofs.parser.Parser.+expr.Goals as goal
 
 pub expr-returns-in_err-first-clause-reads : goal.expr-returns-in_err-first-clause-reads
-expr-returns-in_err-first-clause-reads t c next =
-    at_exit _ c.in_err-first.field-0.0 (ExprThen next) c.args.self.now c.unary.new.self _ _ c.from_residual.ensures.1 refl
-    (c.in_err-first.ensures.reads (wanted_after_un next))
+expr-returns-in_err-first-clause-reads t c next = search (rules, at_exit)
 
 pub expr-returns-in_err-operand-clause-reads : goal.expr-returns-in_err-operand-clause-reads
 expr-returns-in_err-operand-clause-reads t c next =
@@ -56,12 +53,7 @@ expr-returns-clause-reads t c next =
     ∙ ap (parse_result (next a)) (sym c.if-eat.ensures.left)
 
 pub operand-returns-clause-reads : goal.operand-returns-clause-reads
-operand-returns-clause-reads t c next =
-    passed_on c.tighter.result (OperandThen c.args.precedence next)
-    (MoreTighter c.args.precedence (expression_of c.in_ok-first.first) next) c.args.self.now c.unary.new.self
-    c.tighter.new.self _
-    (c.in_ok-first.ensures.reads (λ e. MoreTighter c.args.precedence e next))
-    (c.tighter.ensures.reads next)
+operand-returns-clause-reads t c next = search (rules, passed_on)
 
 pub tighter-returns-in-Conjunction-clause-reads : goal.tighter-returns-in-Conjunction-clause-reads
 tighter-returns-in-Conjunction-clause-reads t c next =
@@ -70,34 +62,13 @@ tighter-returns-in-Conjunction-clause-reads t c next =
     (c.operators.ensures.reads next)
 
 pub tighter-returns-in_ok-left-in-Exclusion-clause-reads : goal.tighter-returns-in_ok-left-in-Exclusion-clause-reads
-tighter-returns-in_ok-left-in-Exclusion-clause-reads t c next =
-    subst (λ s. ReadsBy c.operators-in-Exclusion-2.result (MoreTighter s (expression_of c.args.first) next)
-    c.args.self.now c.operators-in-Exclusion-2.new.self (λ e. next (expression_of e))) (sym c.in-Exclusion.is)
-    (passed_on c.operators-in-Exclusion-2.result (MoreTighter Exclusion (expression_of c.args.first) next)
-    (MoreOperands Conjunction (expression_of c.in_ok-left-in-Exclusion.left) next) c.args.self.now
-    c.operators-in-Exclusion.new.self c.operators-in-Exclusion-2.new.self _
-    (c.in_ok-left-in-Exclusion.ensures.reads (λ a. MoreOperands Conjunction a next))
-    (c.operators-in-Exclusion-2.ensures.reads next))
+tighter-returns-in_ok-left-in-Exclusion-clause-reads t c next = search (rules, passed_on)
 
 pub tighter-returns-in_ok-left-in-Disjunction-2-clause-reads : goal.tighter-returns-in_ok-left-in-Disjunction-2-clause-reads
-tighter-returns-in_ok-left-in-Disjunction-2-clause-reads t c next =
-    subst (λ s. ReadsBy c.operators-in-Disjunction-3.result (MoreTighter s (expression_of c.args.first) next)
-    c.args.self.now c.operators-in-Disjunction-3.new.self (λ e. next (expression_of e))) (sym c.in-Disjunction.is)
-    (passed_on c.operators-in-Disjunction-3.result (MoreTighter Disjunction (expression_of c.args.first) next)
-    (MoreOperands Exclusion (expression_of c.in_ok-left-in-Disjunction-2.left) next) c.args.self.now
-    c.operators-in-Disjunction-2.new.self c.operators-in-Disjunction-3.new.self _
-    (c.in_ok-left-in-Disjunction.ensures.reads (λ a. MoreOperands Conjunction a (λ b. MoreOperands Exclusion b next))
-    ∙ c.in_ok-left-in-Disjunction-2.ensures.reads (λ b. MoreOperands Exclusion b next))
-    (c.operators-in-Disjunction-3.ensures.reads next))
+tighter-returns-in_ok-left-in-Disjunction-2-clause-reads t c next = search (rules, passed_on)
 
 pub unary-returns-in_err-name-in-Some-Name-clause-reads : goal.unary-returns-in_err-name-in-Some-Name-clause-reads
-unary-returns-in_err-name-in-Some-Name-clause-reads t c next =
-    let h : kind_ahead c.args.self.now ≡ Some kind.Name = cc in
-    at_exit _ c.in_err-name-in-Some-Name.field-0.0 (UnThen next) c.args.self.now c.name.new.self _ _
-    c.from_residual-in_err-name-in-Some-Name.ensures.1 (ahead_name next c.args.self.now h)
-    (c.in_err-name-in-Some-Name.ensures.reads (λ n. next (Variable n)))
+unary-returns-in_err-name-in-Some-Name-clause-reads t c next = search (rules, at_exit, ahead_name)
 
 pub unary-returns-in_ok-name-in-Some-Name-clause-reads : goal.unary-returns-in_ok-name-in-Some-Name-clause-reads
-unary-returns-in_ok-name-in-Some-Name-clause-reads t c next =
-    let h : kind_ahead c.args.self.now ≡ Some kind.Name = cc in
-    ahead_name next c.args.self.now h ∙ c.in_ok-name-in-Some-Name.ensures.reads (λ n. next (Variable n))
+unary-returns-in_ok-name-in-Some-Name-clause-reads t c next = search (rules, ahead_name)

@@ -1,9 +1,8 @@
-use Rattle.std.proofs.Common.{◌≡◌, ◌∙◌, ap, sym, refl, Some, arith, rules}
-use Rattle.bp_language.specs.Ast.{Decision, Block, Then, Skips, Returns, Branches, Loops}
-use Rattle.bp_language.specs.Ast as tree
+use Rattle.std.proofs.Common.{◌≡◌, ◌∙◌, sym, refl, Some, arith, rules}
+use Rattle.bp_language.specs.Ast.{Block, Then, Skips, Returns, Branches, Loops}
 use Rattle.bp_language.specs.Blocks.{statement_of}
 use Rattle.bp_language.specs.Views.{decision_of}
-use Rattle.bp_syntax.specs.ParserState.{Wanted, WordThen, KeywordThen, StmtsTo, FormThen, GotoThen, IfThen, WhileThen, AssertThen, AssumeThen, PrintThen, StmtsThen, MoreStmts, parse_result, kind_ahead, place_ahead}
+use Rattle.bp_syntax.specs.ParserState.{WordThen, KeywordThen, StmtsTo, FormThen, GotoThen, IfThen, WhileThen, AssertThen, AssumeThen, PrintThen, MoreStmts, kind_ahead, place_ahead}
 use Rattle.bp_language.specs.declared.tokens.TokenKind.TheVariants as kind
 use Rattle.bp_syntax.proofs.ResultAfterToken.{at_exit, passed_on, word_comes, before_block, block_is, one_more_form, more_stmts_ahead, no_stmt}
 use Rattle.bp_syntax.proofs.parser.Parser.+stmt.Goals as goal
@@ -74,11 +73,7 @@ form-returns-in-Some-Print-clause-reads t c next =
     (word_comes kind.Print next old (PrintThen then) h (λ x. refl)) (c.printing.ensures.reads then)
 
 pub stmts-returns-in_err-stmt-2-clause-reads : goal.stmts-returns-in_err-stmt-2-clause-reads
-stmts-returns-in_err-stmt-2-clause-reads t c next =
-    let then = λ (b : Block). next (before_block c.loop-alloc.stmts.items b) in
-    at_exit _ c.in_err-stmt-2.field-0.0 (StmtsThen next) c.args.self.now c.stmt-in-loop-alloc.new.self next _ c.from_residual-in_err-stmt-2.ensures.1
-    (c.loop-alloc.invariant.reads next ∙ more_stmts_ahead then c.loop-alloc.self (sym c.loop-alloc-test.ensures))
-    (c.in_err-stmt-2.ensures.reads (λ l at s. MoreStmts (λ b. then (Then l at s b))))
+stmts-returns-in_err-stmt-2-clause-reads t c next = search (rules, before_block, at_exit, more_stmts_ahead)
 
 pub stmts-loop-alloc-preserved : goal.stmts-loop-alloc-preserved
 stmts-loop-alloc-preserved t c = record {
@@ -92,12 +87,7 @@ stmts-loop-alloc-preserved t c = record {
 }
 
 pub stmts-returns-clause-reads : goal.stmts-returns-clause-reads
-stmts-returns-clause-reads t c next =
-    let ts = c.loop-alloc.self in
-    let then = λ (b : Block). next (before_block c.loop-alloc.stmts.items b) in
-    c.loop-alloc.invariant.reads next
-    ∙ no_stmt then ts (sym c.loop-alloc-test.ensures)
-    ∙ ap (λ b. parse_result (next b) ts) (block_is c.loop-alloc.stmts.items ∙ sym c.new.ensures)
+stmts-returns-clause-reads t c next = search (rules, before_block, no_stmt, block_is)
 
 pub stmt-returns-clause-reads : goal.stmt-returns-clause-reads
 stmt-returns-clause-reads t c = search rules

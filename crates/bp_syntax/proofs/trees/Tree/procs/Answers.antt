@@ -1,9 +1,6 @@
-use Rattle.std.proofs.Common.{subst, rules}
+use Rattle.std.proofs.Common.{subst}
 use Rattle.bp_language.specs.Texts.{HasText}
 use Rattle.bp_syntax.proofs.trees.Tree.procs.Goals as goal
 
 pub returns-clause-of_text : goal.returns-clause-of_text
 returns-clause-of_text c = subst HasText c.self.view_is c.self.invariant
-
-pub returns-clause-value : goal.returns-clause-value
-returns-clause-value c = search rules

@@ -1,5 +1,0 @@
-use Rattle.std.proofs.Common.{rules}
-use Rattle.bp_language.proofs.procs.Proc.formals.Goals as goal
-
-pub returns : goal.returns
-returns c = search rules

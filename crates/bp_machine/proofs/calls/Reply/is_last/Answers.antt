@@ -1,5 +1,0 @@
-use Rattle.std.proofs.Common.{rules}
-use Rattle.bp_machine.proofs.calls.Reply.is_last.Goals as goal
-
-pub returns : goal.returns
-returns c = search rules depth 1

@@ -1,6 +1,0 @@
-use Rattle.std.proofs.lemmas.Result.{IfOk-weaker}
-use Rattle.bp_source.proofs.statements.statement_lines.Goals as goal
-
-pub returns : goal.returns
-returns c =
-    IfOk-weaker c.all_said.result _ _ (λ v said. record { statements = said.statements; are = said.are; lines_are = said.texts_are }) c.all_said.ensures
