@@ -27,6 +27,14 @@ class Declaration:
         self.clauses, self.end = [], at + self.unfolds
         while self.end < len(lines) and self.takes(lines[self.end]):
             self.end += 1
+        self.has_where = any(re.search(r"\bwhere\s*$", line) for line in lines[at : self.end])
+        while self.has_where and self.goes_on():
+            self.end += 1
+
+    def goes_on(self):
+        """Whether what follows belongs to a block of local functions."""
+        later = [line for line in self.lines[self.end :] if line.strip()]
+        return bool(later) and indent(later[0]) > self.indent
 
     def takes(self, line):
         """Whether the line belongs to a clause; one that begins a clause is noted."""
@@ -99,6 +107,16 @@ def top_level_parts(type_text):
         else:
             parts[-1] += token
     return [part.strip() for part in parts]
+
+
+def sides(clause):
+    """The left and the right side of a clause on one line, or None if it has none. A name may be given on the left: {x = y}."""
+    depth = 0
+    for at, sign in enumerate(clause):
+        depth += (sign in "({[") - (sign in ")}]")
+        if depth == 0 and clause.startswith(" = ", at):
+            return clause[:at], clause[at + 3 :]
+    return None
 
 
 def arguments(declaration):
