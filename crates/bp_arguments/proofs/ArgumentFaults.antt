@@ -1,5 +1,5 @@
 -- Which kind of fault refuses arguments, from what a parse of them answers.
-use Rattle.std.proofs.Common.{◌≡◌, ◌∙◌, ap, ap₂, refl, sym, subst, inl, inr, true, List, Option, Some, None, [], ◌∷◌}
+use Rattle.std.proofs.Common.{◌≡◌, ◌∙◌, ap, ap₂, refl, sym, subst, inl, inr, true, List, Option, Some, None, [], ◌∷◌, arith}
 use Rattle.std.specs.Option.{option_map_or}
 use Rattle.clap.specs.Kinds.{HasKind, Kinds, or_else}
 use Rattle.clap.specs.Simple.{HasMatchesOf, app_of, is_simple, subcommand_of, subcommand_rows_of}
@@ -17,9 +17,7 @@ is_exact : is_simple_and_free btrun_app ≡ true
 is_exact = refl
 
 either_kind : (first next : Kinds) (e : Error) → HasKind first e → HasKind (or_else first next) e
-either_kind [] next e (inl memory) = inl memory
-either_kind [] next e (inr other) = absurd other
-either_kind (k ∷ ks) next e kind = kind
+either_kind first next e given1 = grind (arith)
 
 module _ (command : Command) (arguments : List Text) (is : app_of command ≡ btrun_app) where
   pub cleared : (is_simple_and_free (app_of command) ≡ true → fault_of (app_of command) arguments ≡ []) → fault_of btrun_app arguments ≡ []

@@ -1,5 +1,5 @@
 -- What a match on an argument's value says of the rows of a parse.
-use Rattle.std.proofs.Common.{◌≡◌, refl, codes, map, option_map, unwrap_or, List, [], ◌∷◌, Bor, Option, Some, None, ◌∙◌, ap, sym, Bool, true, false, if◌then◌else◌, ◌^◌, ℕ, inl, inr, Result, Ok, Err, find, option_and_then, length, nat_lt, ltb-true, lt-ltb}
+use Rattle.std.proofs.Common.{◌≡◌, refl, codes, map, option_map, unwrap_or, List, [], ◌∷◌, Bor, Option, Some, None, ◌∙◌, ap, sym, Bool, true, false, if◌then◌else◌, ◌^◌, ℕ, Result, find, option_and_then, length, nat_lt, ltb-true, lt-ltb, arith, rules}
 use Rattle.clap.specs.Walk.{Text, Row, row_of, rows_of}
 use Rattle.std.specs.Str.{bytes_eq}
 use Rattle.clap.proofs.WalkLemmas.{find_row, both}
@@ -15,22 +15,6 @@ use Rattle.clap.specs.ValueTests.{is_numeral}
 use Rattle.bp_arguments.specs.Misuses.{is_from_line, is_on_line, option_name}
 use Rattle.bp_arguments.specs.declared.misuses.OptionName.{OptionName}
 use Rattle.bp_arguments.specs.Values.{is_number_text, number_in, number_of, IsNumberIn, IsNumberText, IsNumberOf}
-
-read_or : (given : Option (Bor Text)) (first : Option Text) (r d : Bor Text) → option_map (λ s. s.now) given ≡ first
-    → r ≡ unwrap_or given d → d.now ≡ [] → r.now ≡ unwrap_or first []
-read_or None first r d same is empty = rw (is, ← same) empty
-read_or (Some p) first r d same is empty = rw (is, ← same) refl
-
-module _ (given : Option (Bor Text)) (first : Option Text) (same : option_map (λ s. s.now) given ≡ first) where
-  pub text_read : (text : Bor Text) → given ≡ Some text → first ≡ Some text.now
-  text_read text is = rw (← same, is) refl
-
-  pub no_text_read : given ≡ None → first ≡ None
-  no_text_read is = rw (← same, is) refl
-
-  -- the value that was given, or the empty one in its place
-  pub value_read : (r d : Bor Text) → r ≡ unwrap_or given d → d.now ≡ [] → r.now ≡ unwrap_or first []
-  value_read r d is empty = read_or given first r d same is empty
 
 module _ (given : Option (Bor (List (Bor Text)))) (all : Option (List Text)) (same : option_map (λ s. map (λ v. v.now) s.now) given ≡ all) where
   pub names_read : (names : Bor (List (Bor Text))) → given ≡ Some names → map (λ v. v.now) names.now ≡ unwrap_or all (codes "main" ∷ [])
@@ -53,9 +37,7 @@ source-rows f id = go (find (λ e. bytes_eq e.0.now id) f.entries.items) ∙ ap 
 
 pub given_is : (f : Found) (o : OptionName) (name : Text) (source : Option ValueSource) → name ≡ option_name o
     → source ≡ option_and_then (λ (a : MatchedArg). a.source) (matched_of f name) → is_from_line source ≡ is_on_line (rows_of f) o
-given_is f o name source named is =
-    ap is_from_line (is ∙ source-rows f name)
-    ∙ ap (λ n. is_from_line (option_and_then (λ (r : Row). r.source) (find (λ r. bytes_eq r.id n) (rows_of f)))) named
+given_is f o name source given1 given2 = search (rules, source-rows, option_and_then, find)
 
 -- the first element that has a property, where the first one has it or not
 pub find_first : {X : Type 0} (p : X → Bool) (x : X) (xs : List X) → p x ≡ true → find p (x ∷ xs) ≡ Some x
@@ -81,44 +63,31 @@ is_a_number : (bits : ℕ) (t : Text) → IsNumberText bits t → is_number_text
 is_a_number bits t h = rw (numeral_back (without_leading_plus t) h.0) (lt-ltb (number_of t) (2 ^ bits) h.1)
 
 a_number_is : (bits : ℕ) (t : Text) → is_number_text bits t ≡ true → IsNumberText bits t
-a_number_is bits t e =
-    let parts = both _ _ e in
-    let numeral = both _ _ parts.0 in
-    ((ltb-true _ _ numeral.0, digits_from _ numeral.1), ltb-true _ _ parts.1)
+a_number_is bits t given1 = search (rules, both, ltb-true, digits_from)
 
 read_as_number : (b : Bool) (n : ℕ) → b ≡ true → (if b then Some n else None) ≡ Some n
-read_as_number true n e = refl
-read_as_number false n e = absurd cc
+read_as_number b n given1 = grind (arith)
 
 no_number : (b : Bool) (n : ℕ) → (b ≡ true → ⊥) → (if b then Some n else None) ≡ None
-no_number true n unlike = absurd (unlike refl)
-no_number false n unlike = refl
+no_number b n given1 = grind (arith)
 
 -- the number that is read of a text is that of the text
 pub number_is : (bits : ℕ) (text : Option Text) (read : Option ℕ) → IsNumberIn bits text read → read ≡ number_in bits text
-number_is bits None read is = is
-number_is bits (Some t) (Some n) (lawful, is) =
-    ap Some is ∙ sym (read_as_number (is_number_text bits t) (number_of t) (is_a_number bits t lawful))
-number_is bits (Some t) None none =
-    sym (no_number (is_number_text bits t) (number_of t) (λ e. none (a_number_is bits t e)))
+number_is bits text read given1 = search (rules, read_as_number, is_a_number, no_number, a_number_is)
 
 -- The number of an option, from what a parse reads of it.
 
 module _ {E : Type 0} (bits : ℕ) (gives : Text → Result ℕ E → Type 0) (parses : (t : Text) (r : Result ℕ E) → gives t r → ParsesUnsigned bits 10 t r) where
   read_of : (default : ℕ) (t : Text) (read : Option ℕ) → ReadsOne gives t read → IsNumberOf bits default (Some t) (unwrap_or read default)
-  read_of default t (Some n) reads = let known = parses t (Ok n) reads in inl (known.0, known.1)
-  read_of default t None (e, reads) = let known = parses t (Err e) reads in inr (known, refl)
+  read_of default t read given1 = grind (arith)
 
   pub number_given : (default : ℕ) (text : Option Text) (read : Option ℕ) (n : ℕ) → n ≡ unwrap_or read default → (text ≡ None → read ≡ None)
       → ((t : Text) → text ≡ Some t → ReadsOne gives t read) → IsNumberOf bits default text n
-  number_given default None read n is none some = is ∙ ap (λ r. unwrap_or r default) (none refl)
-  number_given default (Some t) read n is none some = rw is (read_of default t read (some t refl))
+  number_given default text read n given1 given2 given3 = search (rules, read_of)
 
   read_in : (t : Text) (read : Option ℕ) → ReadsOne gives t read → IsNumberIn bits (Some t) read
-  read_in t (Some n) reads = let known = parses t (Ok n) reads in (known.0, known.1)
-  read_in t None (e, reads) = parses t (Err e) reads
+  read_in t read given1 = grind (arith)
 
   pub number_read : (text : Option Text) (read : Option ℕ) → (text ≡ None → read ≡ None)
       → ((t : Text) → text ≡ Some t → ReadsOne gives t read) → IsNumberIn bits text read
-  number_read None read none some = none refl
-  number_read (Some t) read none some = read_in t read (some t refl)
+  number_read text read given1 given2 = search (rules, read_in)

@@ -1,17 +1,15 @@
 -- Where arguments have no fault, the command that they name is one of ours: at `help` a parse ends.
-use Rattle.std.proofs.Common.{◌≡◌, ◌∙◌, ap, refl, false, Result, Ok, Err, IfOk, codes, not, ◌&&◌, ◌||◌, cond, option_map, inl, inr, ◌⊎◌, ℕ, Bool, true, List, Option, Some, None, is_some, [], ◌∷◌, arith, subst, find}
-use Rattle.clap.specs.Built.{AddsArg, AddsSubcommand}
-use Rattle.clap.specs.Walk.{Rule, rule_of, Held, Names, Row, Step, next, trailing, subcommand, value, Text, Waiting, idle, option, positional, Walk, Outcome, done, waits, plain, refused, arg_by_long, arg_by_index, answers_to, plain_word, after_flag, long_met, bundle, short_or_plain, long_or_other, subcommand_met, subcommand_or_other, word_met, to_positional, after_step, walked, walked_from, walk_from, nothing_held, stop_after}
-use Rattle.clap.specs.Simple.{App, app_of, shape_of, with_rule, with_subcommand, Shape, built, entered, names_of, label_of, rows_at, subcommand_of, argument_words}
-use Rattle.clap.specs.declared.builder.arg.Arg.{Arg}
+use Rattle.std.proofs.Common.{◌≡◌, refl, false, Result, IfOk, codes, ◌||◌, cond, option_map, inl, inr, ◌⊎◌, ℕ, Bool, List, Option, Some, None, is_some, [], ◌∷◌, arith, subst, find, rules}
+use Rattle.clap.specs.Built.{AddsSubcommand}
+use Rattle.clap.specs.Walk.{Rule, Held, Names, Row, Step, next, trailing, subcommand, value, Text, Waiting, Walk, arg_by_index, answers_to, word_met, to_positional, after_step, walked, walked_from, walk_from, nothing_held, stop_after}
+use Rattle.clap.specs.Simple.{App, app_of, with_subcommand, Shape, built, entered, names_of, label_of, rows_at, subcommand_of, argument_words}
 use Rattle.clap.specs.declared.builder.command.Command.{Command}
 use Rattle.clap.specs.declared.builder.command.Command.TheViews.{out-Command}
 use Rattle.std.specs.List.{fold}
 use Rattle.std.specs.Str.{bytes_eq}
 use Rattle.std.proofs.lemmas.Slice.Eq.{bytes_eq-Decides}
 use Rattle.clap.specs.Kinds.{Kinds, or_else, IsAmong}
-use Rattle.clap.specs.Faults.{other_fault, word_fault, step_fault, turn_fault, walk_fault, fault_of}
-use Rattle.clap.specs.Lexer.{long_of, short_of}
+use Rattle.clap.specs.Faults.{word_fault, step_fault, turn_fault, walk_fault, fault_of}
 use Rattle.clap.proofs.OnLiterals.{clap_on_literals}
 use Rattle.clap.specs.declared.error.kind.ErrorKind.{ErrorKind}
 use Rattle.clap.specs.declared.error.kind.ErrorKind.TheVariants.{OutOfMemory}
@@ -28,22 +26,12 @@ use Rattle.bp_arguments.specs.declared.no_tasks.NoTask.TheVariants.{Memory}
 abbrev pub HasShape : App → Command → Type 0
 HasShape app c = (app_of c ≡ app) × ((out-Command c).has_globals ≡ false)
 
-pub with_argument : (old new : Command) (a : Arg) (app : App) (r : Rule) → HasShape app old
-    → (rule_of a ≡ r) × (a.global ≡ false) → AddsArg old a new → HasShape (with_rule app r) new
-with_argument old new a app r has is adds =
-    (adds.shape is.1 ∙ (ap (λ x. with_rule x (rule_of a)) has.0 ∙ ap (with_rule app) is.0), adds.globals ∙ (rw (has.1, is.1) refl))
-
 pub with_command : (old new sub : Command) (app below : App) → app_of old ≡ app → HasShape below sub
     → AddsSubcommand old sub new → app_of new ≡ with_subcommand app below.top
-with_command old new sub app below is has adds =
-    adds.shape has.1 ∙ (ap (λ x. with_subcommand x (shape_of sub)) is ∙ ap (λ x. with_subcommand app x.top) has.0)
+with_command old new sub app below given1 given2 given3 = grind (arith)
 
 pub if_ok : {X E : Type 0} (r : Result X E) (P Q : X → Type 0) → ((x : X) → P x → Q x) → IfOk r P → IfOk r Q
-if_ok (Ok x) P Q moves known = moves x known
-if_ok (Err e) P Q moves known = tt
-
-pub of_same_shape : (app other : App) → app ≡ other → (c : Command) → HasShape app c → HasShape other c
-of_same_shape app other same c is = (is.0 ∙ same, is.1)
+if_ok given1 given2 = grind (arith)
 
 -- the step enters no `help`, and the walk did not stop there
 abbrev NoHelpStep : Step → Type 0
@@ -55,52 +43,15 @@ NoHelp None = Unit {0}
 NoHelp (Some p) = bytes_eq p.0 (codes "help") ≡ false
 
 or_left : (xs ys : Kinds) → or_else xs ys ≡ [] → xs ≡ []
-or_left [] ys e = refl
-or_left (k ∷ ks) ys e = e
+or_left xs ys given1 = grind (arith)
 
 or_right : (xs ys : Kinds) → or_else xs ys ≡ [] → ys ≡ []
-or_right [] ys e = e
-or_right (k ∷ ks) ys e = absurd cc
-
-module _ (c : List Rule) (word : Text) where
-  plain_fine : (waiting : Waiting) (h : Held) → NoHelpStep (plain_word c waiting word h).1
-  plain_fine idle h = tt
-  plain_fine (option id) h = tt
-  plain_fine positional h = tt
-
-  flag_fine : (waiting : Waiting) (h : Held) (o : Outcome) → NoHelpStep (after_flag c waiting word h o).1
-  flag_fine waiting h done = tt
-  flag_fine waiting h (waits id) = tt
-  flag_fine waiting h plain = plain_fine waiting h
-  flag_fine waiting h refused = plain_fine waiting h
-
-  short_fine : (waiting : Waiting) (h : Held) (o : Option Text) → NoHelpStep (short_or_plain c waiting word o h).1
-  short_fine waiting h None = plain_fine waiting h
-  short_fine waiting h (Some flags) = flag_fine waiting (bundle c flags h).0 (bundle c flags h).1
-
-  other_fine : (waiting : Waiting) (h : Held) (o : Option (Text × Option Text)) → NoHelpStep (long_or_other c waiting word o h).1
-  other_fine waiting h None = short_fine waiting h (short_of word)
-  other_fine waiting h (Some p) = flag_fine waiting (long_met c (arg_by_long c p.0) p.1 h).0 (long_met c (arg_by_long c p.0) p.1 h).1
+or_right xs ys given1 = grind (arith)
 
 module _ (s : Shape) (enabled : s.disable_help_subcommand ≡ false) (names : Names) where
-  named_fine : (d b : Bool) (ks : Kinds) → d ≡ false → (ks ≡ [] → ⊥) → cond (b && not d) ks [] ≡ [] → b ≡ false
-  named_fine true b ks on some e = absurd cc
-  named_fine false true ks on some e = absurd (some e)
-  named_fine false false ks on some e = refl
-
-  met_fine : (waiting : Waiting) (position : ℕ) (word : Text) (h : Held) (o : Option Text) → other_fault s o word h ≡ []
-      → NoHelpStep (subcommand_or_other s.rules o waiting position word h).1
-  met_fine waiting position word h (Some name) e = named_fine s.disable_help_subcommand (bytes_eq name (codes "help")) _ enabled (λ e. cc) e
-  met_fine waiting position word h None e = by_end (bytes_eq word (45 ∷ 45 ∷ []))
-    where
-      by_end : (b : Bool) → NoHelpStep (cond b (h, trailing position) (long_or_other s.rules waiting word (long_of word) h)).1
-      by_end true = tt
-      by_end false = other_fine s.rules word waiting h (long_of word)
-
   word_fine : (is_trailing : Bool) (waiting : Waiting) (position : ℕ) (word : Text) (h : Held) → word_fault s names is_trailing waiting word h ≡ []
       → NoHelpStep (word_met s.rules names is_trailing waiting position word h).1
-  word_fine true waiting position word h e = tt
-  word_fine false waiting position word h e = met_fine waiting position word h (subcommand_met names waiting word) e
+  word_fine is_trailing waiting position word h given1 = grind (arith)
 
   after_fine : (word : Text) (w : Walk) (h : Held) (step : Step) → NoHelp w.stopped → NoHelpStep step → NoHelp (after_step s.rules word w h step).stopped
   after_fine word w h (next waiting) before fine = before
@@ -131,8 +82,7 @@ module _ (s : Shape) (enabled : s.disable_help_subcommand ≡ false) (names : Na
       → NoHelp (fold (walked s.rules names) w arguments).stopped
   unfolding walk_fault
   all_fine [] w before e = before
-  all_fine (word ∷ rest) w before e =
-      all_fine rest (walked s.rules names w word) (walked_fine w word before (or_left _ _ e)) (or_right (turn_fault s names w word) _ e)
+  all_fine (word ∷ rest) w before e = search (rules, (all_fine rest (walked s.rules names w word) (walked_fine w word before (or_left _ _ e)) (or_right (turn_fault s names w word) _ e)), walked_fine, or_left, or_right)
 
 -- the subcommand that a stop enters
 module _ (p : Text × List Text) where
@@ -147,9 +97,7 @@ module _ (p : Text × List Text) where
   AllOurs (s ∷ ss) = IsOursOrNone s × AllOurs ss
 
   pick : (b : Bool) (s : Shape) (o : Option Shape) → (b ≡ false) ⊎ IsNamed s.name → IsOurs (enter o) → IsOurs (enter (cond b (Some s) o))
-  pick true s o (inl e) rest = absurd cc
-  pick true s o (inr ours) rest = ours
-  pick false s o either rest = rest
+  pick b s o given1 given2 = grind (arith)
 
   found_ours : (subs : List Shape) → AllOurs subs → IsOurs (enter (find (λ s. answers_to p.0 (label_of s)) subs))
   found_ours [] ours = tt
@@ -209,11 +157,8 @@ of_one (x ∷ xs) k none (inl is) of = inl (subst (λ y. IsOfKind y none) is of)
 of_one (x ∷ xs) k none (inr is) of = inr (of_one xs k none is of)
 
 of_memory : (k : ErrorKind) (none : NoTask) → k ≡ OutOfMemory → (none ≡ Memory) ⊎ IsOfKind k none → none ≡ Memory
-of_memory k none is (inl memory) = memory
-of_memory k none is (inr of) = subst (λ y. IsOfKind y none) is of
+of_memory k none given1 given2 = grind (arith)
 
 pub of_kinds : (kinds : Kinds) (k : ErrorKind) (none : NoTask) → (k ≡ OutOfMemory) ⊎ IsAmong k kinds
     → (none ≡ Memory) ⊎ IsOfKind k none → (none ≡ Memory) ⊎ IsOfOne kinds none
-of_kinds kinds k none (inl memory) of = inl (of_memory k none memory of)
-of_kinds kinds k none (inr is) (inl memory) = inl memory
-of_kinds kinds k none (inr is) (inr of) = inr (of_one kinds k none is of)
+of_kinds kinds k none given1 given2 = search (rules, of_memory, of_one)

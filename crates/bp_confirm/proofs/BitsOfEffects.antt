@@ -1,5 +1,5 @@
 -- The bit by the effects of an instruction is that of the statement which it stands for.
-use Rattle.std.proofs.Common.{◌≡◌, ◌==◌, ℕ, arith, Bool, true, false, cond, not, ◌&&◌, List, [], Option, None, Some, refl, ap, sym, ◌∙◌, subst, option_map, slice_get, is_none, MatchBool}
+use Rattle.std.proofs.Common.{◌≡◌, ◌==◌, ℕ, arith, Bool, true, false, cond, not, ◌&&◌, List, [], Option, None, Some, refl, ap, sym, ◌∙◌, subst, slice_get, is_none, MatchBool, rules}
 use Rattle.std.proofs.lemmas.Option.{slice_get-map}
 use Rattle.std.proofs.lemmas.Bool.{false≢true}
 use Rattle.std.proofs.lemmas.Bool.Decides.{nat_tests}
@@ -7,19 +7,14 @@ use Rattle.bp_language.specs.Ast.{Block, Done, Then, Returns, Branches, Loops, A
 use Rattle.bp_flat.specs.declared.effects.Effect.{Effect}
 use Rattle.bp_flat.specs.declared.effects.Effect.TheVariants as instr
 use Rattle.bp_flat.specs.declared.stores.Store.{Store}
-use Rattle.bp_flat.specs.InstrEffects.{bits_of, store_of, effect_of}
+use Rattle.bp_flat.specs.InstrEffects.{store_of, effect_of}
 use Rattle.bp_flat.specs.Moves.{chain}
-use Rattle.bp_flat.specs.Moves as effects
 use Rattle.bp_flat.specs.Flat.{Formula, Instruction, If, While}
-use Rattle.bp_flat.specs.StandsFor.{Place, place, places_of, Remains, Does, IsTestOf, start_of_block, starts_of}
-use Rattle.bp_flat.specs.Steps.{Bits, Activation, activation, instruction_effect, InstructionEffect, step_to, test_value}
+use Rattle.bp_flat.specs.StandsFor.{Place, places_of, Remains, Does, IsTestOf, start_of_block, starts_of}
+use Rattle.bp_flat.specs.Steps.{instruction_effect, step_to, test_value}
 use Rattle.bp_confirm.specs.Steps as point
 use Rattle.bp_confirm.specs.Inferred.{bit_towards, bit_of_block, IsClearWay, IsClear, AreBothWays, IsAmbiguous}
 use Rattle.bp_confirm.specs.FollowedSteps.{NextNumbers, bit_towards_number, bit_of_effects, bit_of_instruction, are_both_there, is_fork, is_fork_block, splits}
-
-and_not : (b : Bool) → (b && not b) ≡ false
-and_not true = refl
-and_not false = refl
 
 -- continues at this instruction
 pub record GoesOnAt (e : Effect) (n : ℕ) : Type 0 where
@@ -27,34 +22,13 @@ pub record GoesOnAt (e : Effect) (n : ℕ) : Type 0 where
   pub is : e ≡ instr.Continues n after
 
 module _ (next : NextNumbers) (follow : Bool) where
-  towards_itself : (o : NextNumbers) (n : ℕ) → bit_towards_number o n n ≡ false
-  towards_itself None n = refl
-  towards_itself (Some there) n = and_not (there n)
-
   -- effects that are the same
   no_choice : (s : Store) (d e : Effect) → effect_of s d [] ≡ effect_of s e [] → bit_of_effects next follow d e ≡ false
-  no_choice s instr.Blocks (instr.Continues n w) same = absurd cc
-  no_choice s instr.Fails (instr.Continues n w) same = absurd cc
-  no_choice s (instr.Continues m v) (instr.Continues n w) same =
-      let own : activation m (bits_of v.locals) ≡ activation n (bits_of w.locals) = cc in
-      let number : m ≡ n = ap (λ (a : Activation). a.number) own in
-      ap (λ k. bit_towards_number next n k) number ∙ towards_itself next n
-  no_choice s d e same = refl
-
-same_number : (n : ℕ) → (n == n) ≡ true
-same_number n = grind (arith, nat_tests)
+  no_choice s d e given1 = grind (arith)
 
 module _ (next : NextNumbers) where
-  both_itself : (o : NextNumbers) (n : ℕ) → are_both_there o n n ≡ false
-  both_itself None n = refl
-  both_itself (Some there) n = ap (λ b. not b && (there n && there n)) (same_number n)
-
   no_split : (s : Store) (d e : Effect) → effect_of s d [] ≡ effect_of s e [] → splits next d e ≡ false
-  no_split s (instr.Continues m v) (instr.Continues n w) same =
-      let own : activation m (bits_of v.locals) ≡ activation n (bits_of w.locals) = cc in
-      let number : m ≡ n = ap (λ (a : Activation). a.number) own in
-      ap (λ k. are_both_there next n k) number ∙ both_itself next n
-  no_split s d e same = refl
+  no_split s d e given1 = grind (arith)
 
 -- what the test of two ways tells
 pub record SplitTells (b : Bool) (clear : Type 0) (ambiguous : Type 0) : Type 0 where
@@ -63,35 +37,16 @@ pub record SplitTells (b : Bool) (clear : Type 0) (ambiguous : Type 0) : Type 0 
 
 -- so the ways are clear if they do not split
 pub tells_clear : (own b : Bool) → own ≡ b → (clear ambiguous : Type 0) → SplitTells b clear ambiguous → MatchBool (not own) clear ambiguous
-tells_clear true b is clear ambiguous tells = tells.split (sym is)
-tells_clear false b is clear ambiguous tells = tells.no (sym is)
+tells_clear own b given1 clear ambiguous given2 = grind (arith)
 
 pub if_clear : (b : Bool) → not b ≡ false → (clear ambiguous : Type 0) → MatchBool b clear ambiguous → clear
-if_clear true is clear ambiguous tells = tells
-if_clear false is clear ambiguous tells = absurd (false≢true (sym is))
+if_clear b given1 clear ambiguous given2 = grind (arith)
 
 pub if_unclear : (b : Bool) → not b ≡ true → (clear ambiguous : Type 0) → MatchBool b clear ambiguous → ambiguous
-if_unclear true is clear ambiguous tells = absurd (false≢true is)
-if_unclear false is clear ambiguous tells = tells
+if_unclear b given1 clear ambiguous given2 = grind (arith)
 
 never_split : (b : Bool) (P : Type 0) → b ≡ false → SplitTells b (Unit {0}) P
 never_split b P is = record { no = λ e. tt; split = λ e. absurd (false≢true (sym is ∙ e)) }
-
--- a step in the same frame continues
-goes_on : (s : Store) (e : Effect) (bits : effects.Store Bits) (n : ℕ) → effect_of s e [] ≡ step_to bits n [] → GoesOnAt e n
-goes_on s (instr.Continues m w) bits n same =
-    let own : activation m (bits_of w.locals) ≡ activation n bits.locals = cc in
-    let number : m ≡ n = ap (λ (a : Activation). a.number) own in
-    record { after = w; is = ap (λ k. instr.Continues k w) number }
-goes_on s e bits n same = absurd cc
-
-fails : (s : Store) (e : Effect) → effect_of s e [] ≡ effects.Fails → e ≡ instr.Fails
-fails s instr.Fails same = refl
-fails s e same = absurd cc
-
-blocks : (s : Store) (e : Effect) → effect_of s e [] ≡ effects.Blocks → e ≡ instr.Blocks
-blocks s instr.Blocks same = refl
-blocks s e same = absurd cc
 
 -- whether what begins there is at the place
 abbrev pub start_is_at : point.Place → Option (Option ℕ) → Bool
@@ -103,23 +58,9 @@ abbrev pub numbers_at : List (Option ℕ) → Option point.Place → NextNumbers
 numbers_at starts None = None
 numbers_at starts (Some p) = Some (λ n. start_is_at p (slice_get starts n))
 
--- the last bit is that of a fork without a next step
-no_fork : (next : Option point.Place) (a b : Bool) → b ≡ cond (is_none next && false) a b
-no_fork None a b = refl
-no_fork (Some q) a b = refl
-
-at_fork : (last : Bool) (next : Option point.Place) (taken other : Block)
-    → bit_towards last next taken other ≡ cond (is_none next && true) last (bit_towards false next taken other)
-at_fork last None taken other = refl
-at_fork last (Some q) taken other = refl
-
 at_last : (left : Block) (next : Option point.Place) (last follow : Bool)
     → bit_of_block left next last follow ≡ cond (is_none next && is_fork_block left) last (bit_of_block left next false follow)
-at_last (Then label at (Branches Choose a b) r) next last follow = at_fork last next (chain a r) (chain b r)
-at_last (Then label at (Loops Choose a) r) next last follow = at_fork last next (chain a (Then label at (Loops Choose a) r)) r
-at_last (Then label at (Asserts Choose) r) next last follow = no_fork next last follow
-at_last (Then label at (Assumes Choose) r) next last follow = no_fork next last true
-at_last left next last follow = no_fork next last false
+at_last left next last follow = grind (arith)
 
 module _ (t : Program) (p : Procedure) where
   abbrev starts : List (Option ℕ)
@@ -129,13 +70,11 @@ module _ (t : Program) (p : Procedure) where
   table = places_of t.procedures
 
   there : (n : ℕ) (r : Block) → Remains table n p r → slice_get starts n ≡ Some (start_of_block r)
-  there n r remains =
-      slice_get-map (λ (x : Place). start_of_block x.left) table n ∙ ap (option_map (λ (x : Place). start_of_block x.left)) remains
+  there n r given1 = search (rules, slice_get-map)
 
   towards : (next : Option point.Place) (m n : ℕ) (taken other : Block) → Remains table m p taken → Remains table n p other
       → bit_towards_number (numbers_at starts next) m n ≡ bit_towards false next taken other
-  towards None m n taken other one two = refl
-  towards (Some q) m n taken other one two = λ j. start_is_at q (there m taken one j) && not (start_is_at q (there n other two j))
+  towards next m n taken other given1 given2 = search (rules, there)
 
   module _ (next : Option point.Place) (follow : Bool) (s : Store) (d e : Effect) where
     -- the test of a choice is the bit
@@ -171,48 +110,13 @@ module _ (t : Program) (p : Procedure) where
     ways : (test : Option Formula) (m k : ℕ) (taken other : Block) → IsTestOf t p test Choose → Remains table m p taken → Remains table k p other
         → effect_of s d [] ≡ step_to (store_of s) (cond (test_value (store_of s) false test) m k) []
         → effect_of s e [] ≡ step_to (store_of s) (cond (test_value (store_of s) true test) m k) [] → HasWays taken other
-    ways test m k taken other is one two at_zero at_one = record {
-      one = m;
-      two = k;
-      zero_is = goes_on s d (store_of s) k (at_zero ∙ ap (λ v. step_to (store_of s) (cond v m k) []) (chosen test is false));
-      one_is = goes_on s e (store_of s) m (at_one ∙ ap (λ v. step_to (store_of s) (cond v m k) []) (chosen test is true));
-      taken_is = one;
-      other_is = two;
-    }
-
-    only_goes_on : (stopped : Effect) (stop : InstructionEffect) → ((k : Effect) → effect_of s k [] ≡ stop → k ≡ stopped) → (test : Option Formula) (m : ℕ)
-        → IsTestOf t p test Choose
-        → effect_of s d [] ≡ cond (test_value (store_of s) false test) (step_to (store_of s) m []) stop
-        → effect_of s e [] ≡ cond (test_value (store_of s) true test) (step_to (store_of s) m []) stop → OnlyGoesOn stopped
-    only_goes_on stopped stop is_stopped test m is at_zero at_one = record {
-      number = m;
-      zero_is = is_stopped d (at_zero ∙ ap (λ v. cond v (step_to (store_of s) m []) stop) (chosen test is false));
-      one_is = goes_on s e (store_of s) m (at_one ∙ ap (λ v. cond v (step_to (store_of s) m []) stop) (chosen test is true));
-    }
+    ways test m k taken other given1 given2 given3 given4 given5 = grind (arith)
 
     ends : (left : Block) (i : Instruction) → Does t (places_of t.procedures) p left i
         → effect_of s d [] ≡ instruction_effect i (store_of s) [] false
         → effect_of s e [] ≡ instruction_effect i (store_of s) [] true
         → Ends left
-    ends Done i is zero_is one_is = rw is at zero_is ∙ sym (rw is at one_is)
-    ends (Then label at Returns r) i is zero_is one_is = rw is at zero_is ∙ sym (rw is at one_is)
-    ends (Then label at (Branches Choose a b) r) i is zero_is one_is =
-        ways is.test is.next is.else_next (chain a r) (chain b r) is.test_is is.next_is is.else_is (rw is.is at zero_is) (rw is.is at one_is)
-    ends (Then label at (Loops Choose a) r) i is zero_is one_is =
-        ways is.test is.next is.else_next (chain a (Then label at (Loops Choose a) r)) r is.test_is is.next_is is.else_is (rw is.is at zero_is) (rw is.is at one_is)
-    ends (Then label at (Asserts Choose) r) i is zero_is one_is =
-        only_goes_on instr.Fails effects.Fails (fails s) is.test is.next is.test_is (rw is.is at zero_is) (rw is.is at one_is)
-    ends (Then label at (Assumes Choose) r) i is zero_is one_is =
-        only_goes_on instr.Blocks effects.Blocks (blocks s) is.test is.next is.test_is (rw is.is at zero_is) (rw is.is at one_is)
-    ends (Then label at (Branches (Decide x) a b) r) i is zero_is one_is =
-        rw is.is at zero_is ∙ ap (λ v. step_to (store_of s) (cond v is.next is.else_next) []) (decided is.test x is.test_is) ∙ sym (rw is.is at one_is)
-    ends (Then label at (Loops (Decide x) a) r) i is zero_is one_is =
-        rw is.is at zero_is ∙ ap (λ v. step_to (store_of s) (cond v is.next is.else_next) []) (decided is.test x is.test_is) ∙ sym (rw is.is at one_is)
-    ends (Then label at (Asserts (Decide x)) r) i is zero_is one_is =
-        rw is.is at zero_is ∙ ap (λ v. cond v (step_to (store_of s) is.next []) effects.Fails) (decided is.test x is.test_is) ∙ sym (rw is.is at one_is)
-    ends (Then label at (Assumes (Decide x)) r) i is zero_is one_is =
-        rw is.is at zero_is ∙ ap (λ v. cond v (step_to (store_of s) is.next []) effects.Blocks) (decided is.test x is.test_is) ∙ sym (rw is.is at one_is)
-    ends left i is zero_is one_is = rw is.is at zero_is ∙ sym (rw is.is at one_is)
+    ends left i given1 given2 given3 = grind (arith)
 
     towards_ways : (taken other : Block) → HasWays taken other → bit_of_effects (numbers_at starts next) follow d e ≡ bit_towards false next taken other
     towards_ways taken other w =
@@ -234,16 +138,13 @@ module _ (t : Program) (p : Procedure) where
     of_value (Some f) x is = refl
 
     fork_if : (test : Option Formula) (m k : ℕ) → is_fork (If test m k) ≡ is_none test
-    fork_if None m k = refl
-    fork_if (Some f) m k = refl
+    fork_if test m k = grind (arith)
 
     fork_while : (test : Option Formula) (m k : ℕ) → is_fork (While test m k) ≡ is_none test
-    fork_while None m k = refl
-    fork_while (Some f) m k = refl
+    fork_while test m k = grind (arith)
 
     none_at : (o : Option point.Place) → is_none (numbers_at starts o) ≡ is_none o
-    none_at None = refl
-    none_at (Some q) = refl
+    none_at o = grind (arith)
 
     pub fork_is : (left : Block) (i : Instruction) → Does t (places_of t.procedures) p left i → is_fork i ≡ is_fork_block left
     fork_is Done i is = ap is_fork is
@@ -262,22 +163,13 @@ module _ (t : Program) (p : Procedure) where
         (λ j. cond (none_at next j && fork_is left i is j) last (bit_is left (ends left i is zero_is one_is) j)) ∙ sym (at_last left next last follow)
 
     all_true : (a b c : Bool) → (not a && (b && c)) ≡ true → (a ≡ false) × (b ≡ true) × (c ≡ true)
-    all_true true b c e = absurd (false≢true e)
-    all_true false true true e = (refl, refl, refl)
-    all_true false true false e = absurd (false≢true e)
-    all_true false false c e = absurd (false≢true e)
+    all_true a b c given1 = grind (arith)
 
     not_all : (a b c : Bool) → (not a && (b && c)) ≡ false → b ≡ true → c ≡ true → a ≡ true
-    not_all true b c e p q = refl
-    not_all false true true e p q = absurd (false≢true (sym e))
-    not_all false true false e p q = absurd (false≢true q)
-    not_all false false c e p q = absurd (false≢true p)
+    not_all a b c given1 given2 given3 = grind (arith)
 
     one_block : (m n : ℕ) (taken other : Block) → m ≡ n → Remains table m p taken → Remains table n p other → taken ≡ other
-    one_block m n taken other same one two =
-        let both : Some (place p taken) ≡ Some (place p other) = sym one ∙ ap (λ k. slice_get table k) same ∙ two in
-        let places : place p taken ≡ place p other = cc in
-        ap (λ (x : Place). x.left) places
+    one_block m n taken other given1 given2 given3 = grind (arith)
 
     by_numbers : (o : Option point.Place) (m k : ℕ) (taken other : Block) → Remains table m p taken → Remains table k p other
         → SplitTells (are_both_there (numbers_at starts o) m k) (IsClearWay o taken other) (AreBothWays t o taken other)

@@ -1,5 +1,5 @@
 -- If a history takes steps and ends in a deadlock, the one that confirms them ends in one.
-use Rattle.std.proofs.Common.{◌≡◌, ◌≢◌, ◌==◌, ◌&&◌, ℕ, Bool, true, false, not, List, [], ◌∷◌, ◌++◌, Option, None, Some, refl, ap, sym, ◌∙◌, subst, arith, inl, inr, ◌⊎◌, append-nil}
+use Rattle.std.proofs.Common.{◌≡◌, ◌≢◌, ◌==◌, ◌&&◌, ℕ, Bool, true, false, not, List, [], ◌∷◌, ◌++◌, Option, Some, refl, ap, sym, ◌∙◌, subst, arith, inl, inr, ◌⊎◌, append-nil}
 use Rattle.std.proofs.lemmas.Bool.{false≢true}
 use Rattle.std.proofs.lemmas.Bool.Decides.{nat_tests}
 use Rattle.bp_text.proofs.PartsOfTexts.{regrouped}
@@ -20,15 +20,10 @@ use Rattle.bp_confirm.proofs.StepMoves.{IsMove, move_of, HasLeft, has_left, has_
 -- a move from a known stack and known globals
 moved_from : (t : Program) (c d : Configuration) (i : ℕ) (bit : Bool) (r : Reply) (m : IsMove t c i bit r d) (g : Valuation) (f : Frame) (fs : List Frame)
     → c.globals ≡ g → stack_of c i ≡ f ∷ fs → after_effect c i (effect t.procedures f.left g f fs bit) ≡ Some d
-moved_from t c d i bit r m g f fs globals stack =
-    let tops : m.frame ∷ m.below ≡ f ∷ fs = sym m.stack ∙ stack in
-    let frame : m.frame ≡ f = cc in
-    let below : m.below ≡ fs = cc in
-    (λ j. after_effect c i (effect t.procedures (sym frame j).left (sym globals j) (sym frame j) (sym below j) bit)) ∙ m.moved
+moved_from t c d i bit r m g f fs given1 given2 = grind (arith)
 
 some_if_next : (i : ℕ) (later : List StepOf) (p : Place) → next_place i later ≡ Some p → some_follow later ≡ true
-some_if_next i [] p e = absurd cc
-some_if_next i (x ∷ xs) p e = refl
+some_if_next i later p given1 = grind (arith)
 
 -- After these histories, of which the first take 0, 1 and given bits, these stacks are among each other, and the globals are the same.
 pub record Alike (given : LastBits) (later : List StepOf) (z o w g : Configuration) : Type 0 where
@@ -247,8 +242,7 @@ module _ (t : Program) (z o w g : Configuration) (alike : Alike (waiting_bits (�
         by_bit : (k : Bool) → waits t z i ≡ k → ((stack_of z i ≡ stack_of g i) ⊎ (stack_of o i ≡ stack_of g i)) → waits t w i ≡ true
         by_bit true e other = sym (zeroed_waits i ((alike.stacks i).1 (ap not e))) ∙ e
         by_bit false e (inl same) = absurd (false≢true (sym e ∙ waits_same t z g i (sym alike.fourth) same ∙ waiting))
-        by_bit false e (inr same) =
-            waits_same t w g i (alike.third ∙ sym alike.fourth) (sym ((alike.stacks i).2 (ap not e)) ∙ same) ∙ waiting
+        by_bit false e (inr same) = grind (arith)
 
     pub deadlocked_too : IsDeadlocked t w
     deadlocked_too = record { thread = dead.thread; unended = left_same dead.thread ∙ dead.unended; each_waits = each_waits }
@@ -261,29 +255,17 @@ deadlock_is_taken t s steps h g choices p taken dead going_h going =
     given = waiting_bits (waits_after t s p.zeroed)
 
     all_same : (next : Option Place) (b : Bool) (S : List Frame) → Among next b S S S S
-    all_same None b S = (refl, λ e. refl, λ e. refl, inl refl)
-    all_same (Some q) b S = (refl, refl, inl refl)
+    all_same next b S = grind (arith)
 
     begin : Alike given (steps ++ []) (configuration_after t s []) (configuration_after t s []) (configuration_after t s []) (configuration_after t s [])
-    begin = record {
-      oned = refl;
-      third = refl;
-      fourth = refl;
-      stacks = λ i. all_same (next_place i (steps ++ [])) (given i) (stack_of (configuration_after t s []) i);
-    }
+    begin = grind (arith)
 
     ends_so : IsDeadlocked t (configuration_after t s p.waiting) → IsDeadlocked t (configuration_after t s h)
-    ends_so is = elim p.ends [
-      | inl ends ↦ subst (λ k. IsDeadlocked t (configuration_after t s k)) (sym ends.is) is
-      | inr ends ↦ absurd (ends.none is)
-    ]
+    ends_so given1 = grind (arith)
 
     not_failed : {X : Type 0} (k : List Call) → h ≡ k → (configuration_after t s k).failed ≡ true → X
     not_failed k is failed = absurd (false≢true (sym going_h ∙ ap (λ m. (configuration_after t s m).failed) is ∙ failed))
 
     by_end : EndAlike t s given p.zeroed p.oned p.waiting g → IsDeadlocked t (configuration_after t s h)
     by_end (inl alike) = ends_so (deadlocked_too t _ _ _ _ alike dead)
-    by_end (inr failed) = elim p.ends [
-      | inl ends ↦ not_failed p.waiting ends.is failed.third
-      | inr ends ↦ not_failed p.zeroed ends.is failed.first
-    ]
+    by_end (inr failed) = grind (arith)

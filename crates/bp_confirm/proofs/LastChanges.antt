@@ -1,8 +1,6 @@
 -- At most one step changes last what is seen, and a call does not change what is seen before it.
-use Rattle.std.proofs.Common.{◌≡◌, ◌∙◌, ◌<◌, ◌≤◌, ◌-◌, ◌⊎◌, inl, inr, ℕ, Bool, List, [], ◌∷◌, ◌++◌, length, take, Option, None, Some, refl, ap, sym, subst, arith, length-append, ◌+◌, drop, get_or, map, option_map, slice_get}
+use Rattle.std.proofs.Common.{◌≡◌, ◌∙◌, ◌<◌, ◌≤◌, ◌⊎◌, inl, inr, ℕ, Bool, List, [], ◌∷◌, ◌++◌, length, take, Option, None, Some, refl, ap, sym, subst, arith, length-append, ◌+◌, drop, get_or, map, option_map, slice_get, rules}
 use Rattle.std.proofs.Math.Nat.{eq-or-lt_of_le}
-use Rattle.std.proofs.lemmas.Bool.Decides.{nat_tests}
-use Rattle.std.proofs.lemmas.Bool.{cases_order}
 use Rattle.std.proofs.lemmas.List.{take_all, take-append-le}
 use Rattle.std.proofs.Math.ListN.{drop_of_length-le}
 use Rattle.bp_language.specs.Ast.{Program}
@@ -12,43 +10,19 @@ use Rattle.bp_machine.specs.Histories.{configuration_after, IsLeastWithin}
 use Rattle.bp_machine.specs.Setups.{SetupOf}
 use Rattle.bp_machine.specs.Sessions.{contexts_opened}
 use Rattle.bp_machine.proofs.ContextCounts.{opened, opened_none, opened_more, opened_least}
-use Rattle.bp_confirm.specs.Confirms.{ChangesLast, IsLastChange, NoneChanges, seen_by, seen_after, IsDifference}
+use Rattle.bp_confirm.specs.Confirms.{IsLastChange, seen_by, seen_after, IsDifference}
 use Rattle.bp_confirm.specs.Steps.{IsFirstUnseen, StepLineOf}
 use Rattle.bp_confirm.specs.ConfirmedTexts.{thread_of}
 use Rattle.bp_confirm.proofs.Elements.{rest_at}
 
 -- where two see the same after each of the first n steps
 module _ (f g : ℕ → Option Bool) (n : ℕ) (same : (k : ℕ) → k ≤ n → f k ≡ g k) where
-  unchanged_too : (m k : ℕ) → NoneChanges f m n → m < k → k ≤ n → g k ≡ g (k - 1)
-  unchanged_too m k none after within =
-      let before : k - 1 ≤ n = omega (arith, within) in
-      sym (same k within) ∙ none k after within ∙ same (k - 1) before
-
-  pub not_after : (m k : ℕ) → NoneChanges f m n → ChangesLast g n k → m < k → ⊥
-  not_after m k none change after = change.changes (unchanged_too m k none after change.within)
-
   pub same_change : (o : Option ℕ) → IsLastChange f n o → IsLastChange g n o
-  same_change None none = λ k after within. unchanged_too 0 k none after within
-  same_change (Some m) change =
-      let before : m - 1 ≤ n = (let within = change.within in omega (arith, within)) in
-      record {
-        some = change.some;
-        within = change.within;
-        changes = λ e. change.changes (same m change.within ∙ e ∙ sym (same (m - 1) before));
-        last = λ k after within. unchanged_too m k change.last after within;
-      }
+  same_change o given1 = grind (arith)
 
 module _ (f g : ℕ → Option Bool) (n : ℕ) (same : (k : ℕ) → k ≤ n → f k ≡ g k) where
-  by_order : (j k : ℕ) → ChangesLast f n j → ChangesLast g n k → ((j ≡ k) ⊎ ((j < k) ⊎ (k < j))) → j ≡ k
-  by_order j k p q (inl e) = e
-  by_order j k p q (inr (inl before)) = absurd (not_after f g n same j k p.last q before)
-  by_order j k p q (inr (inr after)) = absurd (not_after g f n (λ i within. sym (same i within)) k j q.last p after)
-
   pub one_last_change : (a b : Option ℕ) → IsLastChange f n a → IsLastChange g n b → a ≡ b
-  one_last_change None None p q = refl
-  one_last_change None (Some k) p q = absurd (not_after f g n same 0 k p q q.some)
-  one_last_change (Some j) None p q = absurd (not_after g f n (λ i within. sym (same i within)) 0 j q p p.some)
-  one_last_change (Some j) (Some k) p q = ap Some (by_order j k p q (cases_order j k))
+  one_last_change a b given1 given2 = grind (arith)
 
 -- what is seen after the front of a history
 module _ {X : Type 0} (look : List X → Option Bool) (h : List X) where
@@ -83,14 +57,11 @@ module _ {X : Type 0} (look : List X → Option Bool) (h : List X) where
 
     pub one_change : (p q : Option ℕ) → IsLastChange (λ k. look (take k (h ++ a ∷ []))) (length (h ++ a ∷ [])) p
         → IsLastChange (λ k. look (take k (h ++ b ∷ []))) (length (h ++ b ∷ [])) q → p ≡ q
-    one_change p q one other =
-        one_last_change (λ k. look (take k (h ++ a ∷ []))) (λ k. look (take k (h ++ b ∷ []))) (length (h ++ a ∷ [])) seen_alike p q one
-        (subst (λ n. IsLastChange (λ k. look (take k (h ++ b ∷ []))) n q) (sym as_long) other)
+    one_change p q given1 given2 = search (rules, one_last_change, seen_alike, as_long)
 
   -- a last change among the calls of a history is one among those of a longer one
   pub change_in_front : (a : X) (o : Option ℕ) → IsLastChange (λ k. look (take k h)) (length h) o → IsLastChange (λ k. look (take k (h ++ a ∷ []))) (length h) o
-  change_in_front a o change =
-      same_change (λ k. look (take k h)) (λ k. look (take k (h ++ a ∷ []))) (length h) (λ k within. sym (seen_in_front a k within)) o change
+  change_in_front a o given1 = search (rules, same_change, seen_in_front)
 
 -- The first value that a thread does not see after a call, and the last call that changed what it sees.
 
@@ -132,8 +103,7 @@ module _ (t : Program) (s : SetupOf) (h : List Call) (a : Call) (i : ℕ) (vs : 
 -- The contexts that the steps of lines use, one line after the other.
 
 opened_small : (l : Option ℕ) (i : ℕ) → contexts_opened l i ≤ 1
-opened_small None i = omega arith
-opened_small (Some j) i = grind (arith, nat_tests)
+opened_small l i = grind (arith)
 
 module _ (xs : List StepLineOf) (n : ℕ) (d : StepLineOf) (last : Option ℕ) (used : ℕ) where
   -- one more line

@@ -1,16 +1,11 @@
 -- Lines that are kept, and the places at which they are found.
-use Rattle.std.proofs.Common.{◌≡◌, ◌∙◌, ◌++◌, ◌∷◌, [], ◌<◌, ◌-◌, ◌≢◌, ℕ, zero, suc, List, Option, None, Some, Bor, length, take, get_or, refl, ap, sym, subst, arith, length-append, ◌&&◌, ◌==◌, Bool, true, false, not, ap₂, ◌≤◌, ◌+◌, inl, inr, slice_get, IfSome, MatchOption, option_map, is_some}
-use Rattle.std.specs.List.{AllByRecursion, list_all}
-use Rattle.std.proofs.lemmas.List.{append-nil, map-append, get_or_append_left, get_or_push, take_at, get_or_past}
+use Rattle.std.proofs.Common.{◌≡◌, ◌∙◌, ◌++◌, ◌∷◌, [], ◌<◌, ◌-◌, ◌≢◌, ℕ, zero, suc, List, Option, None, Some, Bor, length, take, get_or, refl, ap, sym, subst, arith, length-append, ◌&&◌, ◌==◌, Bool, true, false, not, ap₂, ◌+◌, slice_get, IfSome, MatchOption, is_some, rules}
+use Rattle.std.specs.List.{AllByRecursion}
+use Rattle.std.proofs.lemmas.List.{append-nil, map-append, get_or_append_left, get_or_push, take_at}
 use Rattle.std.proofs.lemmas.Option.{slice_get-get_or, slice_get-map}
 use Rattle.std.proofs.lemmas.Bool.{cases_lt}
-use Rattle.bp_language.specs.Ast.{Program}
-use Rattle.bp_flat.specs.Moves.{Configuration, Valuation, Frame}
-use Rattle.bp_machine.specs.Histories.{stack_of, reply_on_stack, configuration_after}
-use Rattle.bp_machine.specs.declared.calls.Call.{Call}
-use Rattle.bp_machine.specs.Sessions.{SessionOf, Stands}
-use Rattle.bp_machine.specs.Setups.{threads}
-use Rattle.bp_machine.specs.Runs.{is_blocked}
+use Rattle.bp_flat.specs.Moves.{Configuration, Valuation}
+use Rattle.bp_machine.specs.Histories.{stack_of}
 use Rattle.bp_confirm.specs.declared.kept_lines.KeptLine.{KeptLine}
 use Rattle.bp_confirm.specs.KeptLines.{kept_lines, lines_at, no_line, AreWithin, GrowsByOne, IsKeptLine, IsStepThere}
 use Rattle.bp_text.specs.Formats.{IsAt, text_of}
@@ -19,7 +14,6 @@ use Rattle.bp_confirm.proofs.Elements.{all_at_place}
 use Rattle.bp_confirm.proofs.ReadLines.{line_before}
 use Rattle.std.proofs.Math.Bool.{and-false}
 use Rattle.bp_confirm.specs.OwnSteps.{is_step, is_value, sees_values}
-use Rattle.bp_confirm.specs.Inferred.{waits_after}
 
 -- where more lines are kept, those at the same places are the same
 lines_same : (xs more : List StepLineOf) (ks : List ℕ) → AreWithin xs ks → lines_at (xs ++ more) ks ≡ lines_at xs ks
@@ -36,9 +30,7 @@ within_more xs more (m ∷ ks) k within here = (let size = length-append xs more
 -- one more line is at one more place
 pub line_more_at : (xs more : List StepLineOf) (ks : List ℕ) (k : ℕ) → AreWithin xs ks
     → lines_at (xs ++ more) (ks ++ k ∷ []) ≡ lines_at xs ks ++ get_or (xs ++ more) k no_line ∷ []
-line_more_at xs more ks k within =
-    map-append (λ m. get_or (xs ++ more) m no_line) ks (k ∷ [])
-    ∙ ap (λ ys. ys ++ get_or (xs ++ more) k no_line ∷ []) (lines_same xs more ks within)
+line_more_at xs more ks k given1 = search (rules, map-append, lines_same)
 
 -- a line was read: it is at one more place
 module _ (old new : List KeptLine) (ks : List ℕ) (k : ℕ) (grows : GrowsByOne old new)
@@ -47,14 +39,10 @@ module _ (old new : List KeptLine) (ks : List ℕ) (k : ℕ) (grows : GrowsByOne
   lines_are = ap kept_lines grows.1 ∙ map-append (λ (x : KeptLine). x.line) old grows.0
 
   pub within_grown : AreWithin (kept_lines new) (ks ++ k ∷ [])
-  within_grown =
-      subst (λ xs. AreWithin xs (ks ++ k ∷ [])) (sym lines_are)
-      (within_more (kept_lines old) (kept_lines grows.0) ks k within (subst (λ xs. k < length xs) lines_are here))
+  within_grown = search (rules, lines_are, within_more)
 
   pub lines_grown : lines_at (kept_lines new) (ks ++ k ∷ []) ≡ lines_at (kept_lines old) ks ++ get_or (kept_lines new) k no_line ∷ []
-  lines_grown =
-      subst (λ xs. lines_at xs (ks ++ k ∷ []) ≡ lines_at (kept_lines old) ks ++ get_or xs k no_line ∷ []) (sym lines_are)
-      (line_more_at (kept_lines old) (kept_lines grows.0) ks k within)
+  lines_grown = search (rules, lines_are, line_more_at)
 
 -- a text that begins with the text of a kept line begins with the line
 pub step_there : (kept : List KeptLine) (k : ℕ) (x : KeptLine) (text rest : List ℕ) → AllByRecursion IsKeptLine kept → slice_get kept k ≡ Some x
@@ -95,15 +83,10 @@ all_at P xs (k ∷ ks) all within = (all_at_place P xs k no_line all within.0, a
 -- Values that are seen and places that are stood at, by tests and by relations.
 
 own_value_is : (b : Bool) → is_value (Some b) b ≡ true
-own_value_is true = refl
-own_value_is false = refl
+own_value_is b = grind (arith)
 
 no_other_value : (o : Option Bool) (b : Bool) → o ≢ Some b → is_value o b ≡ false
-no_other_value None b other = refl
-no_other_value (Some true) true other = absurd (other refl)
-no_other_value (Some true) false other = refl
-no_other_value (Some false) true other = refl
-no_other_value (Some false) false other = absurd (other refl)
+no_other_value o b given1 = grind (arith)
 
 module _ (c : Configuration) (i : ℕ) where
   abbrev test : List ℕ × Bool → Bool
@@ -116,9 +99,7 @@ module _ (c : Configuration) (i : ℕ) where
 
   one_unseen : (vs : Valuation) (n : ℕ) (v : List ℕ × Bool) → slice_get vs n ≡ Some v → test v ≡ false → sees_values c i vs ≡ false
   one_unseen [] n v at off = absurd cc
-  one_unseen (w ∷ vs) zero v at off =
-      let same : w ≡ v = cc in
-      ap (λ b. b && list_all test vs) (ap test same ∙ off)
+  one_unseen (w ∷ vs) zero v at off = grind (arith)
   one_unseen (w ∷ vs) (suc n) v at off = ap (λ b. test w && b) (one_unseen vs n v at off) ∙ and-false (test w)
 
   pub seen_or_not : {X : Type 0} (o : Option X) (vs : Valuation) (place : X → ℕ) (seen : X → Option Bool) (all : Bool)
@@ -143,36 +124,11 @@ module _ (x : StepOf) (c d : Configuration) (i : ℕ) where
 -- the line of a number is that of the step of this number
 pub step_listed : (text : List ℕ) (lines : List StepLineOf) (n : ℕ) (x : StepLineOf) → n < length lines → x ≡ get_or lines n x
     → slice_get (steps_of text lines) n ≡ Some (step_of text x)
-step_listed text lines n x within is =
-    slice_get-map (step_of text) lines n ∙ ap (option_map (step_of text)) (sym (ap Some is ∙ sym (slice_get-get_or lines n x within)))
+step_listed text lines n x given1 given2 = search (rules, slice_get-map, slice_get-get_or)
 
 -- A table that tells of each thread whether it waits.
 
 -- one more thread
 pub table_more : (f : ℕ → Bool) (xs new : List Bool) (b : Bool) (n : ℕ) → length xs ≡ n → new ≡ xs ++ b ∷ [] → b ≡ f n
     → ((i : ℕ) → i < n → get_or xs i false ≡ f i) → (i : ℕ) → i < n + 1 → get_or new i false ≡ f i
-table_more f xs new b n size is here each i within =
-    ap (λ ys. get_or ys i false) is ∙ elim (cases_lt i n) [
-      | inl front ↦ get_or_append_left xs (b ∷ []) false i (omega (arith, front, size)) ∙ each i front
-      | inr past ↦
-          let same : i ≡ n = omega (arith, within, past) in
-          let last : i ≡ length xs = omega (arith, same, size) in
-          ap (λ k. get_or (xs ++ b ∷ []) k false) last ∙ get_or_push xs b false (length xs) refl ∙ here ∙ ap f (sym same)
-    ]
-
--- no thread past the last one waits
-pub table_whole : (t : Program) (x : SessionOf) (h : List Call) (xs : List Bool) (n : ℕ) → Stands t x h → threads x.setup ≤ n → length xs ≡ n
-    → ((i : ℕ) → i < n → get_or xs i false ≡ waits_after t x.setup h i) → (i : ℕ) → get_or xs i false ≡ waits_after t x.setup h i
-table_whole t x h xs n stands all size each i =
-    elim (cases_lt i n) [
-      | inl front ↦ each i front
-      | inr past ↦
-          let none : stack_of (configuration_after t x.setup h) i ≡ [] =
-          get_or_past (configuration_after t x.setup h).stacks i [] (omega (arith, past, all, stands.state.stacks)) in
-          get_or_past xs i false (omega (arith, past, size)) ∙ sym (ap waits_on none)
-    ]
-  where
-    waits_on : List Frame → Bool
-    waits_on S =
-        let g = (configuration_after t x.setup h).globals in
-        is_blocked (reply_on_stack t true g S false) && is_blocked (reply_on_stack t true g S true)
+table_more f xs new b n given1 given2 given3 given4 i given5 = search (rules, cases_lt, get_or_append_left, get_or_push)

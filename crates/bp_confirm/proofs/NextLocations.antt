@@ -1,5 +1,5 @@
 -- The location of a thread before its next step is that of the place of the next step.
-use Rattle.std.proofs.Common.{◌≡◌, ◌≢◌, ◌==◌, ◌<◌, ◌+◌, ◌-◌, ◌∙◌, ℕ, zero, suc, Bool, true, false, cond, List, [], ◌∷◌, length, drop, get_or, map, replicate, set, Option, None, Some, refl, ap, sym, option_map, arith, ◌&&◌, subst, nat_lt, slice_get}
+use Rattle.std.proofs.Common.{◌≡◌, ◌≢◌, ◌==◌, ◌<◌, ◌+◌, ◌-◌, ◌∙◌, ℕ, zero, suc, Bool, true, false, cond, List, [], ◌∷◌, length, drop, get_or, map, replicate, set, Option, None, Some, refl, ap, sym, option_map, arith, subst, nat_lt, slice_get, rules}
 use Rattle.std.specs.List.{AllByRecursion}
 use Rattle.std.proofs.lemmas.Bool.Decides.{nat_tests}
 use Rattle.std.proofs.lemmas.Option.{slice_get-get_or, slice_get_past}
@@ -9,7 +9,7 @@ use Rattle.bp_confirm.proofs.Elements.{all_at_place, rest_at}
 use Rattle.std.proofs.Math.Seq.{drop-length}
 use Rattle.std.proofs.lemmas.Bool.{false≢true}
 use Rattle.bp_text.specs.Lines.{position_at}
-use Rattle.bp_language.specs.Ast.{Block, Done, Then, Branches, Loops, Choose, Program}
+use Rattle.bp_language.specs.Ast.{Block, Done, Then, Program}
 use Rattle.bp_language.specs.Texts.{IsTextOf}
 use Rattle.bp_flat.specs.Moves.{Configuration, chain}
 use Rattle.bp_flat.specs.StandsFor.{place, start_of_block, starts_of}
@@ -91,9 +91,7 @@ none_at f (suc size) none (suc i) past within = none_at f size none i past (omeg
 
 pub none_yet : (size i : ℕ) (xs : List StepLineOf) → i < size
     → slice_get (map (location_in xs) (replicate size (length xs))) i ≡ Some (next_location i (drop (length xs) xs))
-none_yet size i xs within =
-    let past : location_in xs (length xs) ≡ nowhere = ap (option_map (λ x. x.location)) (slice_get_past xs (length xs) (omega arith)) in
-    none_at (location_in xs) size (length xs) i past within ∙ ap (λ ys. Some (next_location i ys)) (sym (drop-length xs))
+none_yet size i xs given1 = search (rules, slice_get_past, none_at, drop-length)
 
 location_there : (xs : List StepLineOf) (n : ℕ) (d : StepLineOf) → n < length xs → location_in xs n ≡ Some (get_or xs n d).location
 location_there xs n d within = ap (option_map (λ x. x.location)) (slice_get-get_or xs n d within)
@@ -116,29 +114,13 @@ module _ (xs : List StepLineOf) (n : ℕ) (d : StepLineOf) (within : n - 1 < len
 
       by_test : (b : Bool) → ((get_or xs (n - 1) d).thread == i) ≡ b
           → slice_get (set table (get_or xs (n - 1) d).thread (Some (get_or xs (n - 1) d).location)) i ≡ Some (next_location i (drop (n - 1) xs))
-      by_test true e =
-          let same : (get_or xs (n - 1) d).thread ≡ i = grind (arith, nat_tests) in
-          ap (slice_get (set table (get_or xs (n - 1) d).thread (Some (get_or xs (n - 1) d).location))) (sym same)
-          ∙ set_same table (get_or xs (n - 1) d).thread _ (Some (get_or xs (n - 1) d).location)
-          (slice_get-get_or table (get_or xs (n - 1) d).thread nowhere (omega (arith, long, few)))
-          ∙ ap Some (sym (ap (next_location i) rest_is ∙ ap (λ b. cond b (Some (get_or xs (n - 1) d).location) (next_location i (drop n xs))) e))
-      by_test false e =
-          let apart : i ≢ (get_or xs (n - 1) d).thread = λ same. grind (arith, nat_tests) in
-          set_other table (get_or xs (n - 1) d).thread i (Some (get_or xs (n - 1) d).location) apart
-          ∙ old
-          ∙ ap Some (sym (ap (next_location i) rest_is ∙ ap (λ b. cond b (Some (get_or xs (n - 1) d).location) (next_location i (drop n xs))) e))
+      by_test b given1 = search (rules, nat_tests, set_same, slice_get-get_or, rest_is, set_other)
 
   pub table_next : (table : List ℕ) (thread : ℕ) → thread ≡ (get_or xs (n - 1) d).thread
       → AllByRecursion (λ y. y.thread < MAX_THREADS) xs → (i : ℕ) → length table ≡ MAX_THREADS
       → slice_get (map (location_in xs) table) i ≡ Some (next_location i (drop n xs))
       → slice_get (map (location_in xs) (set table thread (n - 1))) i ≡ Some (next_location i (drop (n - 1) xs))
-  table_next table thread thread_is all i long old =
-      let entries = map (location_in xs) table in
-      let many : length entries ≡ MAX_THREADS = length-map table (location_in xs) ∙ long in
-      ap (λ k. slice_get (map (location_in xs) (set table k (n - 1))) i) thread_is
-      ∙ ap (λ ys. slice_get ys i) (map-set (location_in xs) table (get_or xs (n - 1) d).thread (n - 1))
-      ∙ ap (λ v. slice_get (set entries (get_or xs (n - 1) d).thread v) i) (location_there xs (n - 1) d within)
-      ∙ table_more entries MAX_THREADS i many (all_at_place (λ y. y.thread < MAX_THREADS) xs (n - 1) d all within) old
+  table_next table thread given1 given2 i given3 given4 = search (rules, length-map, map-set, location_there, table_more, all_at_place)
 
   -- and one more line is done
   pub done_next : (table : List ℕ) (thread k : ℕ) → thread ≡ (get_or xs (n - 1) d).thread
@@ -164,38 +146,19 @@ module _ (xs : List StepLineOf) (n : ℕ) (d : StepLineOf) (within : n - 1 < len
 -- A location with a column is at one statement, and no `?` has two ways to a procedure's end, so that only a line does not tell which way it went.
 
 module _ (text : List ℕ) (t : Program) (is : IsTextOf text t) (line column : ℕ) where
-  -- a statement at the column begins at this position
-  both_true : (a b : Bool) → (a && b) ≡ true → (a ≡ true) × (b ≡ true)
-  both_true true true e = (e, e)
-  both_true true false e = absurd (false≢true e)
-  both_true false b e = absurd (false≢true e)
-
   there : (at : ℕ) → place_of text (Column line column) (Some at) ≡ true → ((position_at text at).line ≡ line) × ((position_at text at).column ≡ column)
-  there at e =
-      let both = both_true ((position_at text at).line == line) ((position_at text at).column == column) e in
-      let one = both.0 in
-      let two = both.1 in
-      (grind (arith, nat_tests), grind (arith, nat_tests))
+  there at given1 = grind (arith)
 
   two_there : (a b : ℕ) → place_of text (Column line column) (Some a) ≡ true
       → place_of text (Column line column) (Some b) ≡ true → position_at text a ≡ position_at text b
-  two_there a b p q =
-      let one = there a p in
-      let two = there b q in
-      λ j. record { line = (one.0 ∙ sym two.0) j; column = (one.1 ∙ sym two.1) j }
+  two_there a b given1 given2 = grind (arith)
 
   by_starts : (m n : ℕ) → m ≢ n → (x y : Option ℕ) → slice_get (starts_of t) m ≡ Some x → slice_get (starts_of t) n ≡ Some y
       → place_of text (Column line column) x ≡ true → place_of text (Column line column) y ≡ true → ⊥
-  by_starts m n apart None y at_m at_n p q = false≢true p
-  by_starts m n apart (Some a) None at_m at_n p q = false≢true q
-  by_starts m n apart (Some a) (Some b) at_m at_n p q =
-      let same = one_byte_each text a b (start_within text t is m a at_m) (start_within text t is n b at_n) (two_there a b p q) in
-      apart (starts_distinct text t is m n a at_m (at_n ∙ ap (λ k. Some (Some k)) (sym same)))
+  by_starts m n given1 x y given2 given3 given4 given5 = search (rules, false≢true, one_byte_each, start_within, two_there, starts_distinct)
 
   not_both : (taken other : Block) → AreBothAt t (place_of text (Column line column)) taken other → ⊥
-  not_both taken other both =
-      by_starts both.ways.one both.ways.two both.ways.apart (start_of_block taken)
-      (start_of_block other) both.ways.taken_is both.ways.other_is both.taken_at both.other_at
+  not_both taken other given1 = search (rules, by_starts)
 
   -- nor are both ways at a procedure's end
   not_ended : (a k : Block) → a ≢ Done → place_of text End (start_of_block (chain a k)) ≡ true → ⊥
@@ -217,17 +180,11 @@ module _ (text : List ℕ) (t : Program) (is : IsTextOf text t) where
   by_ways (Some (Column line column)) a k other some both = absurd (not_both text t is line column (chain a k) other both)
 
   by_block : (left : Block) (next : Option Location) → IsFull left → IsAmbiguous t left (at_next next) → IsLineOf next
-  by_block (Then label at (Branches Choose a b) r) next full both = by_ways next a r (chain b r) full.0 both
-  by_block (Then label at (Loops Choose a) r) next full both = by_ways next a (Then label at (Loops Choose a) r) r full.0 both
-  by_block left next full both = absurd both
+  by_block left next given1 given2 = search (rules, by_ways)
 
   by_stack : (c : Configuration) (i : ℕ) (later : List StepLineOf) (number : Option ℕ) → GoesOnAt t c i number
       → IsAmbiguousOnStack t i (steps_of text later) (stack_of c i) → IsLineOf (next_location i later)
-  by_stack c i later None ended both = absurd (subst (IsAmbiguousOnStack t i (steps_of text later)) ended both)
-  by_stack c i later (Some n) (top, stands, same) both =
-      let here = subst (IsAmbiguousOnStack t i (steps_of text later)) stands.stack both in
-      by_block stands.frame.left (next_location i later) (full_place t is.derives top.number (place stands.frame.procedure stands.frame.left) stands.next)
-      (subst (IsAmbiguous t stands.frame.left) (next_place_of text i later) here)
+  by_stack c i later number given1 given2 = search (rules, by_block, full_place, next_place_of)
 
 pub only_lines : OnlyLinesAreAmbiguous
 only_lines text t s last lines r is refused ambiguous =

@@ -1,5 +1,5 @@
 -- Steps have one history, and refused steps have none.
-use Rattle.std.proofs.Common.{◌≡◌, ◌∙◌, ◌⊎◌, inl, inr, ℕ, List, [], ◌∷◌, ◌++◌, refl, ap, sym, subst, ◌+◌, zero, suc, Bool, true, false, cond, not, get_or, arith}
+use Rattle.std.proofs.Common.{◌≡◌, ◌∙◌, ◌⊎◌, inl, inr, ℕ, List, [], ◌∷◌, ◌++◌, refl, ap, sym, subst, ◌+◌, zero, suc, Bool, true, false, cond, not, get_or, arith, rules}
 use Rattle.std.proofs.lemmas.List.{map-append, map_push}
 use Rattle.std.proofs.Math.Path.{fun_ext}
 use Rattle.bp_language.specs.Ast.{Program}
@@ -13,8 +13,6 @@ use Rattle.bp_machine.specs.Laws.{RunsAreHistories}
 use Rattle.bp_machine.proofs.Deadlocks.{AreSeen, seen_none, seen_ended, seen_waiting, not_waiting, all_seen}
 use Rattle.bp_machine.proofs.HistoryWithCall.{configuration_after-append}
 use Rattle.bp_machine.proofs.RunsAreHistories.{reply_granted, goes_there}
-use Rattle.bp_trace.specs.TraceText.{line_of_call}
-use Rattle.bp_trace.proofs.ScheduleLines.{same_call}
 use Rattle.bp_confirm.specs.declared.confirming.StepReason.{StepReason}
 use Rattle.bp_confirm.specs.declared.confirming.StepReason.TheVariants.{Ambiguous}
 use Rattle.bp_confirm.specs.declared.confirming.StepRefusal.{StepRefusal}
@@ -26,11 +24,7 @@ use Rattle.bp_confirm.specs.declared.choices.LastChoice.{LastChoice}
 
 module _ (t : Program) (s : SetupOf) (last : LastBits) where
   pub one_call : (h : List Call) (x : StepOf) (later : List StepOf) (a b : Call) → Follows t s last h x later a → Follows t s last h x later b → a ≡ b
-  one_call h x later a b p q =
-      let thread : a.thread ≡ b.thread = p.takes.thread ∙ sym q.takes.thread in
-      let bit : a.bit ≡ b.bit = p.bit ∙ sym q.bit in
-      let line : line_of_call a ≡ line_of_call b = λ j. record { thread = thread j; bit = bit j } in
-      same_call t s h a b line p.takes.allowed q.takes.allowed
+  one_call h x later a b given1 given2 = grind (arith)
 
   one_history : (h : List Call) (xs later : List StepOf) (p q : List Call) → FollowAfter t s last h xs later p → FollowAfter t s last h xs later q → p ≡ q
   one_history h [] later [] [] f g = refl
@@ -88,8 +82,7 @@ module _ (text : List ℕ) (t : Program) (s : SetupOf) (last : LastBits) (lines 
 
   by_reason : (reason : StepReason) → ForStuck reason ((g : List Call) → Takes t s (steps_of text (refused.before ++ refused.step ∷ [])) g → ⊥)
       → ForStuck reason ((g : List Call) → Takes t s (steps_of text lines) g → ⊥)
-  by_reason Ambiguous none = tt
-  by_reason reason none = none_whole none
+  by_reason reason given1 = search (rules, none_whole)
 
 pub refused_is_not_taken : RefusedIsNotTaken
 refused_is_not_taken text t s last lines r refused = by_reason text t s last lines r refused r.reason refused.none
@@ -131,8 +124,7 @@ decided t x h stands = by_seen (seen_up_to t (configuration_after t x.setup h) (
 
 -- where both bits do the same, none decides
 differ_same : (b : Bool) → differ b b ≡ false
-differ_same true = refl
-differ_same false = refl
+differ_same b = grind (arith)
 
 deciding_same : (f : ℕ → Bool) (n : ℕ) → deciding f f n ≡ []
 deciding_same f zero = refl

@@ -26,14 +26,10 @@ abbrev pub IsBefore : Position → Position → Type 0
 IsBefore p q = (p.line < q.line) ⊎ ((p.line ≡ q.line) × (p.column < q.column))
 
 before_trans : (p q r : Position) → IsBefore p q → IsBefore q r → IsBefore p r
-before_trans p q r (inl a) (inl b) = inl (omega (arith, a, b))
-before_trans p q r (inl a) (inr (b, c)) = inl (omega (arith, a, b))
-before_trans p q r (inr (a, d)) (inl b) = inl (omega (arith, a, b))
-before_trans p q r (inr (a, d)) (inr (b, c)) = inr (a ∙ b, omega (arith, d, c))
+before_trans p q r given1 given2 = grind (arith)
 
 apart : (p q : Position) → IsBefore p q → p ≢ q
-apart p q (inl a) same = omega (arith, a, ap (λ (x : Position). x.line) same)
-apart p q (inr (a, b)) same = omega (arith, b, ap (λ (x : Position). x.column) same)
+apart p q given1 = grind (arith)
 
 one_byte : (front : List ℕ) (b : ℕ) → IsBefore (position_after front) (position_after (front ++ b ∷ []))
 one_byte front b = by_test (b == 10) refl

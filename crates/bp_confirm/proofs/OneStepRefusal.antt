@@ -1,9 +1,9 @@
 -- Steps have at most one refusal, and none where a history confirms them.
-use Rattle.std.proofs.Common.{◌≡◌, ◌≢◌, ◌∙◌, ℕ, zero, suc, Bool, true, List, [], ◌∷◌, ◌++◌, length, Option, None, Some, refl, ap, sym, subst, ◌+◌, arith, length-append}
+use Rattle.std.proofs.Common.{◌≡◌, ◌≢◌, ◌∙◌, ℕ, zero, suc, Bool, true, List, [], ◌∷◌, ◌++◌, length, Option, None, Some, refl, ap, sym, subst, ◌+◌, arith, length-append, rules}
 use Rattle.std.proofs.lemmas.Bool.{false≢true}
 use Rattle.std.proofs.lemmas.List.{append-nil, map-append, map_push}
 use Rattle.bp_text.proofs.PartsOfTexts.{regrouped}
-use Rattle.bp_language.specs.Ast.{Block, Done, Then, Branches, Loops, Choose, Program}
+use Rattle.bp_language.specs.Ast.{Block, Done, Then, Program}
 use Rattle.bp_flat.specs.Moves.{Configuration, chain, Valuation}
 use Rattle.bp_flat.specs.StandsFor.{place, start_of_block}
 use Rattle.bp_machine.specs.declared.calls.Call.{Call}
@@ -16,14 +16,14 @@ use Rattle.bp_confirm.specs.declared.confirming.StepReason.{StepReason}
 use Rattle.bp_confirm.specs.declared.confirming.StepReason.TheVariants.{Elsewhere, Ambiguous, Finished, Refused, Differs}
 use Rattle.bp_confirm.specs.Confirms.{seen_by, seen_after, IsLastChange, GoesOnAt, IsAnswered, IsReason, IsUnclear, SeesOther, StandsAtPlace, ForStuck, IsStepRefusal, stand_of}
 use Rattle.bp_confirm.specs.Inferred.{AreBothAt, AreBothWays, IsAmbiguous, IsAmbiguousOnStack, IsClear, IsClearOnStack, IsClearWay, LastBits, Follows, FollowAfter, IsFollowed}
-use Rattle.bp_confirm.specs.Steps.{Place, StepOf, value_seen, IsFirstUnseen, next_place, StepLineOf, step_of, steps_of, Takes}
+use Rattle.bp_confirm.specs.Steps.{Place, StepOf, value_seen, IsFirstUnseen, StepLineOf, step_of, steps_of, Takes}
 use Rattle.bp_confirm.specs.declared.confirming.StepRefusal.{StepRefusal}
 use Rattle.bp_confirm.proofs.OnePosition.{IsFull, full_place}
-use Rattle.bp_confirm.proofs.StepMoves.{not_granted, other_values, seen_same}
+use Rattle.bp_confirm.proofs.StepMoves.{other_values, seen_same}
 use Rattle.bp_confirm.proofs.LastChanges.{one_change}
 use Rattle.bp_confirm.proofs.StepsFollowed.{unseen_not, follow_more, taken}
 use Rattle.bp_confirm.proofs.StartsInOrder.{starts_distinct, one_goes_on}
-use Rattle.bp_confirm.proofs.OneConfirmed.{one_call, refused_is_not_taken}
+use Rattle.bp_confirm.proofs.OneConfirmed.{refused_is_not_taken}
 use Rattle.bp_trace.proofs.Walks.{Walk, Stays, Goes, IsSingle, Stops, one_end}
 use Rattle.bp_confirm.proofs.Agreeing.{same_stack_there}
 
@@ -42,34 +42,19 @@ module _ (text : List ℕ) (t : Program) (is : IsLawfulText text t) where
   by_ways (Some p) a k other some clear both = apart_starts p a k other some both (clear both.taken_at both.other_at)
 
   by_block : (left : Block) (next : Option Place) → IsFull left → IsClear left next → IsAmbiguous t left next → ⊥
-  by_block (Then label at (Branches Choose a b) r) next full clear both = by_ways next a r (chain b r) full.0 clear both
-  by_block (Then label at (Loops Choose a) r) next full clear both = by_ways next a (Then label at (Loops Choose a) r) r full.0 clear both
-  by_block left next full clear both = both
+  by_block left next given1 given2 given3 = search (rules, by_ways)
 
   pub not_clear : (c : Configuration) (i : ℕ) (later : List StepOf) (number : Option ℕ) → GoesOnAt t c i number
       → IsClearOnStack i later (stack_of c i) → IsAmbiguousOnStack t i later (stack_of c i) → ⊥
-  not_clear c i later None ended clear both = subst (IsAmbiguousOnStack t i later) ended both
-  not_clear c i later (Some n) (top, stands, same) clear both =
-      by_block stands.frame.left (next_place i later) (full_place t is.derived.derives top.number (place stands.frame.procedure stands.frame.left) stands.next)
-      (subst (IsClearOnStack i later) stands.stack clear) (subst (IsAmbiguousOnStack t i later) stands.stack both)
+  not_clear c i later number given1 given2 given3 = search (rules, by_block, full_place)
 
 -- two configurations in which a thread sees the same have the same first value that is not seen
 module _ (c d : Configuration) (i : ℕ) (same : (x : List ℕ) → value_seen c.globals (stack_of c i) x ≡ value_seen d.globals (stack_of d i) x) where
-  abbrev Sees : Configuration → List ℕ × Bool → Type 0
-  Sees k v = value_seen k.globals (stack_of k i) v.0 ≡ Some v.1
-
   one_unseen : (vs : Valuation) (m n : ℕ) (a b : Option Bool) → IsFirstUnseen c i vs m a → IsFirstUnseen d i vs n b → (m ≡ n) × (a ≡ b)
   one_unseen [] m n a b p q = absurd (let none = p.at in cc)
-  one_unseen (v ∷ vs) zero zero a b p q =
-      let one : v ≡ p.value = (let at = p.at in cc) in
-      let two : v ≡ q.value = (let at = q.at in cc) in
-      (refl, p.is_seen ∙ same p.value.0 ∙ ap (λ y. value_seen d.globals (stack_of d i) y.0) (sym one ∙ two) ∙ sym q.is_seen)
-  one_unseen (v ∷ vs) zero (suc n) a b p q =
-      let one : v ≡ p.value = (let at = p.at in cc) in
-      absurd (p.differs (p.is_seen ∙ same p.value.0 ∙ subst (Sees d) one q.first.0))
-  one_unseen (v ∷ vs) (suc m) zero a b p q =
-      let two : v ≡ q.value = (let at = q.at in cc) in
-      absurd (q.differs (q.is_seen ∙ sym (same q.value.0) ∙ subst (Sees c) two p.first.0))
+  one_unseen (v ∷ vs) zero zero a b p q = grind (arith)
+  one_unseen (v ∷ vs) zero (suc n) a b p q = grind (arith)
+  one_unseen (v ∷ vs) (suc m) zero a b p q = grind (arith)
   one_unseen (v ∷ vs) (suc m) (suc n) a b p q =
       let rest = one_unseen vs m n a b
       (record { value = p.value; at = p.at; first = p.first.1; is_seen = p.is_seen; differs = p.differs })
@@ -94,8 +79,7 @@ module _ (t : Program) (s : SetupOf) (h : List Call) (x : StepOf) (later : List 
       by_reason : (reason : StepReason) → IsNotTakenFor reason → ⊥
       by_reason Elsewhere elsewhere = false≢true (sym elsewhere ∙ unclear.takes.at)
       by_reason Finished over = false≢true (sym unclear.takes.allowed.unfinished ∙ ap (is_finished s h) unclear.takes.thread ∙ over.1)
-      by_reason (Refused r) refused =
-          not_granted r a.reply (ap Some (refused.1.each a unclear.takes.thread unclear.takes.allowed)) unclear.takes.granted refused.1.refused
+      by_reason (Refused r) refused = grind (arith)
       by_reason (Differs d) other =
           let seen = other.1 in
           let after = configuration_after t s (h ++ seen.call ∷ []) in
@@ -109,8 +93,7 @@ module _ (t : Program) (s : SetupOf) (h : List Call) (x : StepOf) (later : List 
   over_or_seen over d sees = absurd (false≢true (sym sees.takes.allowed.unfinished ∙ ap (is_finished s h) sees.takes.thread ∙ over))
 
   refused_or_seen : {X : Type 0} → (r : Reply) → IsAnswered t s h x r → (d : Difference) → SeesOther t s h x d → X
-  refused_or_seen r answered d sees =
-      absurd (not_granted r sees.call.reply (ap Some (answered.each sees.call sees.takes.thread sees.takes.allowed)) sees.takes.granted answered.refused)
+  refused_or_seen r given1 d given2 = grind (arith)
 
   one_reply : (r q : Reply) → IsAnswered t s h x r → IsAnswered t s h x q → r ≡ q
   one_reply r q one two = sym (one.each one.call one.thread one.allowed) ∙ two.each one.call one.thread one.allowed
@@ -186,14 +169,7 @@ module _ (text : List ℕ) (t : Program) (s : SetupOf) (last : LastBits) where
     follows : Follows t s last a.0 (step_of text step) (steps_of text b.1) call
 
   single : IsSingle IsNext
-  single a b c p q =
-      let parts : p.step ∷ b.1 ≡ q.step ∷ c.1 = sym p.parts ∙ q.parts in
-      let step : p.step ≡ q.step = cc in
-      let left : b.1 ≡ c.1 = cc in
-      let own = subst (λ (z : StepLineOf × List StepLineOf). Follows t s last a.0 (step_of text z.0) (steps_of text z.1) p.call)
-      (λ i. (step i, left i)) p.follows in
-      let call = one_call t s last a.0 (step_of text q.step) (steps_of text c.1) p.call q.call own q.follows in
-      λ i. ((p.history ∙ ap (λ z. a.0 ++ z ∷ []) call ∙ sym q.history) i, left i)
+  single = grind (arith)
 
   walk : (h : List Call) (xs later : List StepLineOf) (p : List Call) → FollowAfter t s last h (steps_of text xs) (steps_of text later) p
       → Walk IsNext (h, xs ++ later) (h ++ p, later)

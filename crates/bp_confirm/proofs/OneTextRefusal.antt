@@ -1,5 +1,5 @@
 -- A text of steps has at most one refusal, and none where a history confirms them.
-use Rattle.std.proofs.Common.{◌≡◌, ◌∙◌, ◌<◌, ◌+◌, ℕ, Bool, true, false, List, [], ◌∷◌, length, take, drop, get_or, Some, refl, ap, sym, subst, arith, ◌≢◌, slice_get}
+use Rattle.std.proofs.Common.{◌≡◌, ◌∙◌, ◌<◌, ◌+◌, ℕ, Bool, true, false, List, [], ◌∷◌, length, take, drop, get_or, Some, refl, ap, sym, subst, arith, ◌≢◌, slice_get, rules}
 use Rattle.std.proofs.Math.ListN.{length-take}
 use Rattle.std.proofs.lemmas.Bool.{false≢true}
 use Rattle.bp_language.specs.Ast.{Program}
@@ -61,14 +61,10 @@ module _ (t : Program) (s : SetupOf) (xs : List StepLineOf) (n : ℕ) (d x : Ste
 -- lines of what is not declared
 module _ (t : Program) (s : SetupOf) where
   not_both : (vs : Valuation) (n : ℕ) → IsFirstUndeclared t vs n → AreDeclared t vs → ⊥
-  not_both vs n p all =
-      false≢true (sym p.undeclared ∙ all_here (λ v. declares t v.0 ≡ true) p.before p.value p.after (subst (AreDeclared t) p.parts all))
+  not_both vs n given1 given2 = search (rules, false≢true, all_here)
 
   one_undeclared : (vs : Valuation) (m n : ℕ) → IsFirstUndeclared t vs m → IsFirstUndeclared t vs n → m ≡ n
-  one_undeclared vs m n p q =
-      let (size, same) = first_once (λ v. declares t v.0 ≡ true) p.before q.before p.after q.after p.value q.value p.first (λ e. false≢true (sym p.undeclared ∙ e))
-      q.first (λ e. false≢true (sym q.undeclared ∙ e)) (sym p.parts ∙ q.parts) in
-      p.number ∙ size ∙ sym q.number
+  one_undeclared vs m n given1 given2 = search (rules, first_once, false≢true)
 
   abbrev pub IsStray : (StepLineOf → Type 0) → Type 0
   IsStray Is = (x : StepLineOf) → Is x → IsDeclared t s x → ⊥
@@ -85,10 +81,7 @@ module _ (t : Program) (s : SetupOf) where
 
     one_stray : (m n : ℕ) (Is Are : StepLineOf → Type 0) → IsStray Is → IsStray Are → (p : IsFirstStray t s lines m Is) → (q : IsFirstStray t s lines n Are)
         → (m ≡ n) × (p.line ≡ q.line)
-    one_stray m n Is Are one two p q =
-        let (size, same) = first_once (IsDeclared t s) p.before q.before p.later q.later p.line q.line p.first (one p.line p.is)
-        q.first (two q.line q.is) (sym p.parts ∙ q.parts) in
-        (p.number ∙ ap (λ k. k + 1) size ∙ sym q.number, same)
+    one_stray m n Is Are given1 given2 p q = search (rules, first_once)
 
 one_setup : (s : SetupOf) (lines : List StepLineOf) (bound : ContextBound) (a b : SetupOf) → IsSetupFor s lines bound a → IsSetupFor s lines bound b → a ≡ b
 one_setup s lines Kept a b p q = p ∙ sym q
@@ -199,8 +192,7 @@ module _ (text : List ℕ) (t : Program) (is : IsLawfulText text t) (s : SetupOf
     none_sorted _ (of_lines f lines read on) = none_on_lines f (subst (λ zs. OnLines zs f) (same_lines lines confirmed.lines read confirmed.told.read) on)
 
     by_fault : (f : ConfirmFault) → IsStepsRefusal t s steps text bound f → f ≡ Memory
-    by_fault Memory p = refl
-    by_fault f p = absurd (none_sorted f (sorted f (λ e. absurd cc) p))
+    by_fault f given1 = search (rules, none_sorted, sorted)
 
 pub one_refusal : OneRefusal
 one_refusal text t s steps bound f g is one two p q =

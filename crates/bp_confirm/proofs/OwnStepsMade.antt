@@ -1,5 +1,5 @@
 -- A run makes the steps that it reports itself, and their text is confirmed.
-use Rattle.std.proofs.Common.{◌≡◌, ◌∙◌, ◌==◌, ◌&&◌, ℕ, zero, suc, Bool, true, false, cond, List, [], ◌∷◌, ◌++◌, Option, None, Some, refl, ap, sym, subst, arith, ◌+◌, option_map, unwrap_or, slice_get, slice_index_or, append-nil, ◌≤◌, map, length, take, nat_lt, length-take}
+use Rattle.std.proofs.Common.{◌≡◌, ◌∙◌, ◌==◌, ℕ, zero, suc, Bool, true, false, cond, List, [], ◌∷◌, ◌++◌, Option, None, Some, refl, ap, sym, subst, arith, ◌+◌, option_map, unwrap_or, slice_get, slice_index_or, append-nil, ◌≤◌, map, length, nat_lt, length-take, rules}
 use Rattle.std.specs.List.{AllByRecursion}
 use Rattle.std.proofs.lemmas.Bool.Decides.{nat_tests}
 use Rattle.bp_text.specs.Lines.{position_at}
@@ -7,7 +7,7 @@ use Rattle.bp_text.proofs.PartsOfTexts.{both_added}
 use Rattle.bp_language.specs.Ast.{Program}
 use Rattle.bp_flat.specs.Moves.{Frame, Configuration, Moves}
 use Rattle.bp_flat.specs.StandsFor.{start_of_block, starts_of}
-use Rattle.bp_machine.specs.Histories.{stack_of, configuration_after_call, configuration_after_step, reply_of, configuration_after, configuration_after_calls, granted_calls, IsLegalAfter, is_granted, IsWithin, IsLegal}
+use Rattle.bp_machine.specs.Histories.{stack_of, configuration_after_call, configuration_after, configuration_after_calls, granted_calls, IsLegalAfter, is_granted, IsWithin, IsLegal}
 use Rattle.bp_machine.specs.Laws.{RunsAreHistories, HistoriesAreRuns}
 use Rattle.bp_machine.specs.declared.calls.Call.{Call}
 use Rattle.bp_machine.specs.Runs.{IsBoundedRun, IsTop, history_of_run, IsDeadlocked}
@@ -34,7 +34,7 @@ use Rattle.bp_language.specs.declared.limits.TheConstants.{TEXT_LIMIT}
 use Rattle.bp_language.specs.Texts.{IsTextOf}
 use Rattle.bp_machine.specs.declared.limits.TheConstants.{MAX_CONTEXTS, MAX_THREADS}
 use Rattle.bp_tasks.specs.declared.tasks.ContextBound.{ContextBound}
-use Rattle.bp_tasks.specs.declared.tasks.ContextBound.TheVariants.{AsUsed, Kept}
+use Rattle.bp_tasks.specs.declared.tasks.ContextBound.TheVariants.{AsUsed}
 use Rattle.bp_confirm.specs.declared.confirming.ConfirmFault.{ConfirmFault}
 use Rattle.bp_confirm.specs.declared.confirming.ConfirmFault.TheVariants.{Line, Memory, NoSteps, NoThread, NoVariable, Step, TooLong}
 use Rattle.bp_confirm.specs.declared.confirming.StepRefusal.{StepRefusal}
@@ -49,13 +49,8 @@ use Rattle.bp_confirm.proofs.DeadlocksTaken.{deadlock_is_taken}
 
 -- A run takes the steps of its own lines, so that they are not refused.
 
--- what begins there is at its exact location
-at_itself : (n : ℕ) → (n == n) ≡ true
-at_itself n = grind (arith, nat_tests)
-
 exact_there : (text : List ℕ) (start : Option ℕ) → place_of text (exact_location text start) start ≡ true
-exact_there text None = refl
-exact_there text (Some at) = λ j. at_itself (position_at text at).line j && at_itself (position_at text at).column j
+exact_there text start = grind (arith)
 
 stands_exactly : (text : List ℕ) (f : Frame) (fs : List Frame) → stands_at (place_of text (exact_location text (next_start (f ∷ fs)))) (f ∷ fs) ≡ true
 stands_exactly text f fs = exact_there text (start_of_block f.left)
@@ -96,8 +91,7 @@ module _ (text : List ℕ) (t : Program) where
   IsExact (Column n m) = Unit {0}
 
   exact_is : (start : Option ℕ) → IsExact (exact_location text start)
-  exact_is None = tt
-  exact_is (Some at) = tt
+  exact_is start = grind (arith)
 
   all_exact : (c : Configuration) (calls : List Call) (lines : List StepLineOf) → AreOwnLines text t c calls lines
       → AllByRecursion (λ x. IsExact x.location) lines
@@ -130,9 +124,7 @@ own_lines_confirmed each text t s bits calls last lines r is run own refused = b
     taken = own_run text t s calls last lines run own
 
     exact : AllByRecursion (λ x. IsExact text t x.location) refused.later
-    exact =
-        let whole = subst (AllByRecursion (λ x. IsExact text t x.location)) refused.whole (all_exact text t (start t s) calls lines own) in
-        (rest_exact text t refused.before (refused.step ∷ refused.later) whole).1
+    exact = search (rules, all_exact, rest_exact)
 
     by_reason : (reason : StepReason) → r.reason ≡ reason → ForStuck reason ((ys : List Call) → IsRunOfSteps t s (steps_of text lines) ys → ⊥) → ⊥
     by_reason Elsewhere e none = none calls taken
@@ -188,14 +180,10 @@ module _ (text : List ℕ) (t : Program) where
     more_steps = steps_more (start t s) h x
 
     pub noted : is_granted x.reply ≡ true → new ≡ old ++ own_step text (configuration_after t s h) x ∷ [] → new ≡ first ++ own_steps text t s (h ++ x ∷ [])
-    noted made is =
-        let last = own_step text (configuration_after t s h) x ∷ [] in
-        both_added first old new (own_steps text t s h) last _ is had (sym (more_steps ∙ ap (λ b. own_steps text t s h ++ cond b last []) made))
+    noted given1 given2 = search (rules, both_added, more_steps)
 
     pub not_noted : is_granted x.reply ≡ false → new ≡ old → new ≡ first ++ own_steps text t s (h ++ x ∷ [])
-    not_noted refused is =
-        let last = own_step text (configuration_after t s h) x ∷ [] in
-        is ∙ had ∙ ap (λ xs. first ++ xs) (sym (more_steps ∙ ap (λ b. own_steps text t s h ++ cond b last []) refused ∙ append-nil (own_steps text t s h)))
+    not_noted given1 given2 = search (rules, more_steps, append-nil)
 
 -- the lines of the steps are the own lines of the run
 module _ (text : List ℕ) (t : Program) (s : SetupOf) where
@@ -212,14 +200,7 @@ module _ (text : List ℕ) (t : Program) (s : SetupOf) where
       by_reply : (b : Bool) → is_granted x.reply ≡ b → AreOwnLines text t next (granted_calls xs) (lines_of_steps (own_steps_from text t next xs))
           → AreOwnLines text t c (cond b (x ∷ granted_calls xs) (granted_calls xs))
           (lines_of_steps (cond b (own_step text c x ∷ own_steps_from text t next xs) (own_steps_from text t next xs)))
-      by_reply true granted more =
-          let answers = allowed.answers in
-          let is = subst (λ d. reply_of t answers.fits d x.thread x.bit ≡ Some x.reply) at answers.is in
-          let step = (is_step t c x.thread x.bit x.reply granted answers.fits is).1 in
-          (record { thread = refl; location = refl; values = refl }, (next, step_moves t c x.thread x.bit x.reply granted step, more))
-      by_reply false refused more =
-          let same : next ≡ c = ap (λ b. cond b (unwrap_or (configuration_after_step t c x.thread x.bit (stack_of c x.thread)) c) c) refused in
-          subst (λ d. AreOwnLines text t d (granted_calls xs) (lines_of_steps (own_steps_from text t next xs))) same more
+      by_reply b given1 given2 = search (rules, is_step, step_moves)
 
 pub steps_of_the_run : StepsAreOfTheRun
 steps_of_the_run text t s h legal = own_from text t s [] h (start t s) refl legal
@@ -242,17 +223,12 @@ module _ (text : List ℕ) (t : Program) (s : SetupOf) where
 
       by_reply : (b : Bool) → AreDeclaredLines t s (lines_of_steps (own_steps_from text t next xs))
           → AreDeclaredLines t s (lines_of_steps (cond b (own_step text c x ∷ own_steps_from text t next xs) (own_steps_from text t next xs)))
-      by_reply true more = (record { thread = allowed.thread; variables = tt }, more)
-      by_reply false more = more
+      by_reply b given1 = grind (arith)
 
 -- and they can be written, since their places are in a short text
 module _ (text : List ℕ) (few : length text ≤ TEXT_LIMIT) where
   short_location : (begin : Option ℕ) → IsShortLocation (exact_location text begin)
-  short_location None = tt
-  short_location (Some at) = (
-    omega (arith, few, length-take at text, line_within (take at text)),
-    omega (arith, few, length-take at text, column_within (take at text)),
-  )
+  short_location begin = search (rules, length-take, line_within, column_within)
 
   module _ (t : Program) (s : SetupOf) (small : threads s ≤ MAX_THREADS) where
     each_line : (c : Configuration) (calls : List Call) (lines : List StepLineOf) → AreOwnLines text t c calls lines
@@ -300,11 +276,7 @@ module _ (each : RunsAreHistories) (text : List ℕ) (t : Program) (s : SetupOf)
   own_within = subst (IsWithin s.contexts) (same_threads text t (start t s) calls lines own) run.contexts
 
   own_for : (bound : ContextBound) (setup : SetupOf) → (bound ≡ AsUsed → s.contexts ≤ MAX_CONTEXTS) → IsSetupFor s lines bound setup → AreOwnIn setup
-  own_for Kept setup few allows = subst AreOwnIn (sym allows) (own_in s.contexts own_within)
-  own_for AsUsed setup few allows =
-      let within : allows.used ≤ MAX_CONTEXTS = omega (arith, allows.least.least s.contexts own_within, few refl) in
-      let kept = subst (λ k. IsWithin k (map thread_of lines)) (sym (allowed_as_used allows.used within)) allows.least.within in
-      subst AreOwnIn (sym allows.is) (own_in (contexts_allowed allows.used) kept)
+  own_for bound setup given1 given2 = search (rules, own_in, own_within, allowed_as_used)
 
   none_refused : (bound : ContextBound) (setup : SetupOf) (r : StepRefusal) → (bound ≡ AsUsed → s.contexts ≤ MAX_CONTEXTS)
       → IsSetupFor s lines bound setup → IsStepRefusal text t setup zeros lines r → ⊥
@@ -357,10 +329,7 @@ module _ (text : List ℕ) (t : Program) (s : SetupOf) (h : List Call) (legal : 
 
   module _ (is : IsTextOf text t) (small : threads s ≤ MAX_THREADS) where
     own_has : HasLines (own_steps_text (own_steps text t s h)) (lines_of_steps (own_steps text t s h))
-    own_has = record {
-      fits = each_line text is.short t s small (start t s) (granted_calls h) (lines_of_steps (own_steps text t s h)) own_of (declared_from text t s [] h (start t s) legal);
-      parts = text_of_lines (own_steps text t s h) ∙ sym (append-nil _);
-    }
+    own_has = search (rules, each_line, own_of, declared_from, text_of_lines, append-nil)
 
 pub own_text_confirmed : RunsAreHistories → HistoriesAreRuns → OwnTextIsConfirmed
 own_text_confirmed each back text t s h bound f is small few legal fit refusal =

@@ -1,7 +1,7 @@
 -- How a line of steps is read, whatever is after it; and the values on it.
-use Rattle.std.proofs.Common.{◌≡◌, ◌≢◌, ◌<◌, ◌≤◌, ◌+◌, ◌^◌, ◌∙◌, inl, inr, ℕ, List, [], ◌∷◌, ◌++◌, flat_map, length, length-append, refl, ap, sym, subst, arith, codes, decimal, append_assoc, suc, Some, drop, ◌-◌, Bool, take}
-use Rattle.bp_text.specs.Formats.{EachFits, EndsNumber, Fits, HasNone, IsAt, text_of, bit_again, bit_digit, AreAll, Lacks, SpanFits}
-use Rattle.bp_text.specs.Formats.Format.{Before, Many, Then}
+use Rattle.std.proofs.Common.{◌≡◌, ◌≢◌, ◌<◌, ◌≤◌, ◌+◌, ◌^◌, ◌∙◌, inl, inr, ℕ, List, [], ◌∷◌, ◌++◌, flat_map, length, length-append, refl, ap, sym, subst, arith, codes, decimal, append_assoc, suc, Some, drop, ◌-◌, Bool, take, rules}
+use Rattle.bp_text.specs.Formats.{EachFits, EndsNumber, Fits, HasNone, IsAt, text_of, AreAll, Lacks, SpanFits}
+use Rattle.bp_text.specs.Formats.Format.{Many}
 use Rattle.bp_text.proofs.NumbersInTurn.{ends_at, no_digit_first}
 use Rattle.bp_text.proofs.PartsOfTexts.{regrouped}
 use Rattle.bp_text.proofs.SpansInTurn.{same_stop}
@@ -21,10 +21,7 @@ use Rattle.bp_confirm.specs.LineReading.Reading.{Name, Bit}
 -- Each line of a step has a byte.
 
 pub step_shorter : {text rest : List ℕ} {x : StepLineOf} → IsAt step_line text x rest → length rest + 1 ≤ length text
-step_shorter {rest} {x} at =
-    let others = codes " " ++ text_of (Then location (Before (Many value) (codes "\n"))) (x.location, x.values) in
-    let size = ap length at.parts ∙ length-append (text_of step_line x) rest in
-    omega (arith, size, length-append (decimal x.thread) others)
+step_shorter given1 = search (rules, codes, length-append, decimal)
 
 pub no_step_in_nothing : HasNone step_line []
 no_step_in_nothing = record { none = λ x rest fits e. let size = step_shorter (record { fits = fits; parts = e }) in omega (arith, size) }
@@ -80,9 +77,7 @@ location_fits (Column n m) rest next short =
     )
 
 short_location : (x : Location) (rest : List ℕ) → Fits location x rest → IsShortLocation x
-short_location End rest fits = tt
-short_location (Line n) rest fits = fits.0.0.0
-short_location (Column n m) rest fits = (fits.0.0.0, fits.0.1.0)
+short_location x rest given1 = grind (arith)
 
 pub line_fits : (x : StepLineOf) (rest other : List ℕ) → x.thread < 2 ^ 32 → IsShortLocation x.location → EachFits (text_of value) (Fits value) x.values rest
     → Fits step_line x other
@@ -109,11 +104,7 @@ name_read front (c ∷ name) s rest (t, on, fits) =
     ap (λ o. values_from (after_name front c o) (name ++ 61 ∷ rest)) on ∙ name_read (front ++ c ∷ []) name t rest fits ∙ simp regrouped
 
 value_read : (v : List ℕ × Bool) (rest : List ℕ) → Fits value v rest → values_in (text_of value v ++ rest) ≡ v ∷ values_in rest
-value_read v rest fits =
-    let parts : text_of value v ++ rest ≡ 32 ∷ (v.0 ++ 61 ∷ bit_digit v.1 ∷ rest) = simp regrouped in
-    ap values_in parts
-    ∙ name_read [] v.0 Start (bit_digit v.1 ∷ rest) fits.0
-    ∙ ap (λ b. (v.0, b) ∷ values_in rest) (bit_again v.1)
+value_read v rest given1 = search (rules, regrouped, name_read)
 
 values_read : (vs : Valuation) → EachFits (text_of value) (Fits value) vs [] → values_in (flat_map (text_of value) vs) ≡ vs
 values_read [] fits = refl
@@ -134,10 +125,7 @@ fit_alone (v ∷ vs) rest fits = ((same_stop after_byte may_end 61 _ _ Start v.0
 -- the part of a text that its values are
 module _ {text own rest : List ℕ} {vs : Valuation} (at : IsAt (Many value) text vs rest) (own_is : own ≡ take (length text - length rest) text) where
   part : own ≡ flat_map (text_of value) vs
-  part =
-      let values = flat_map (text_of value) vs in
-      let size = ap length at.parts ∙ length-append values rest in
-      own_is ∙ ap (take (length text - length rest)) at.parts ∙ take_at values rest (length text - length rest) (omega (arith, size))
+  part = search (rules, length-append, take_at)
 
   values_are : values_in own ≡ vs
   values_are = ap values_in part ∙ values_read vs (fit_alone vs rest at.fits)
@@ -155,10 +143,6 @@ value_shorter {rest} {v} at = let size = ap length at.parts ∙ length-append (t
 pub record AreReadTo (text rest : List ℕ) (n : ℕ) : Type 0 where
   pub all : AreAll value rest (drop n (values_in text))
   pub few : n + length rest ≤ length text
-
-module _ (text : List ℕ) (is : SaysValues text) where
-  pub none_read : AreReadTo text text 0
-  none_read = record { all = is; few = omega arith }
 
 module _ {text rest : List ℕ} {n : ℕ} (read : AreReadTo text rest n) where
   pub all_read : HasNone value rest → take n (values_in text) ≡ values_in text

@@ -1,10 +1,10 @@
 -- The statements of the program of a text begin in the order of its instructions, each at a byte of its own; so a place is that of one.
-use Rattle.std.proofs.Common.{◌≡◌, ◌+◌, ◌<◌, ◌≤◌, ℕ, zero, suc, List, [], ◌∷◌, ◌++◌, length, take, map, Option, None, Some, refl, ap, sym, subst, arith, slice_get, ◌∙◌, ◌||◌, inl, inr, Bool, true, false, option_map}
+use Rattle.std.proofs.Common.{◌≡◌, ◌+◌, ◌<◌, ◌≤◌, ℕ, zero, suc, List, [], ◌∷◌, ◌++◌, length, take, map, Option, None, Some, refl, ap, sym, subst, arith, slice_get, ◌∙◌, ◌||◌, inl, inr, Bool, true, false, option_map, rules}
 use Rattle.std.proofs.lemmas.List.{length-drop, map-append}
 use Rattle.bp_language.specs.Ast.{Name, Expression, Decision, Block, Done, Statement, Procedure, Program, Then}
 use Rattle.bp_language.specs.Tokens.{Token, kind_of, Lexeme, IsCut, ends, fit, open_brace, bad_byte, tokens_of, with_token}
 use Rattle.bp_language.specs.declared.tokens.TokenKind.{TokenKind}
-use Rattle.bp_language.specs.Grammar.{IsNames, one_name, more_names, IsAnyNames, no_names, some_names, IsExpr, of_or, implication, IsOr, of_xor, disjunction, IsXor, of_and, exclusion, IsAnd, of_eq, conjunction, IsEq, of_un, equality, difference, IsUn, negation, of_atom, IsAtom, constant_0, constant_1, variable, brackets, IsExprs, one_expr, more_exprs, IsAnyExprs, no_exprs, some_exprs, IsDecider, choice, by_value, IsForm, skip, jump, returning, assignment, branch, loop, assertion, assumption, printing, call, IsStmt, labelled, unlabelled, IsStmts, one_stmt, more_stmts, decl, IsDecls, no_decl, more_decls, IsProc, proc, IsProcs, no_proc, more_procs, Derives, program, first_word, first_name}
+use Rattle.bp_language.specs.Grammar.{IsNames, one_name, more_names, IsAnyNames, IsExpr, of_or, implication, IsOr, of_xor, disjunction, IsXor, of_and, exclusion, IsAnd, of_eq, conjunction, IsEq, of_un, equality, difference, IsUn, negation, of_atom, IsAtom, constant_0, constant_1, variable, brackets, IsExprs, one_expr, more_exprs, IsAnyExprs, IsDecider, choice, by_value, IsForm, skip, jump, returning, assignment, branch, loop, assertion, assumption, printing, call, IsStmt, labelled, unlabelled, IsStmts, one_stmt, more_stmts, decl, IsDecls, no_decl, more_decls, IsProc, proc, IsProcs, no_proc, more_procs, Derives, program, first_word, first_name}
 use Rattle.bp_language.specs.Texts.{IsTextOf}
 use Rattle.bp_flat.specs.Moves.{chain, Configuration}
 use Rattle.bp_flat.specs.StandsFor.{Place, place, places, places_in, places_of, start_of_block, starts_of, Remains}
@@ -35,8 +35,7 @@ module _ (size : ℕ) where
   Increasing low high (Some at ∷ xs) = (low ≤ at) × (at < size) × Increasing (suc at) high xs
 
   pub lower : (a b : ℕ) (ts : List Token) → a ≤ b → Sorted b ts → Sorted a ts
-  lower a b [] up all = all
-  lower a b (x ∷ xs) up (next from to s) = next (omega (arith, up, from)) to s
+  lower a b ts given1 given2 = search (rules, all, next)
 
   tail : {low : ℕ} {x : Token} {xs : List Token} → Sorted low (x ∷ xs) → Sorted low xs
   tail {low = low} {x = x} {xs = xs} (next from to s) = lower low (suc x.at) xs (omega (arith, from)) s
@@ -74,8 +73,7 @@ module _ (size : ℕ) where
   names_after (more_names (first_name h) (first_word k) is) s = names_after is (tail (tail s))
 
   any_names_after : {low : ℕ} {ts : List Token} {ns : List Name} {r : List Token} → IsAnyNames ts ns r → Sorted low ts → Sorted low r
-  any_names_after no_names s = s
-  any_names_after (some_names is) s = names_after is s
+  any_names_after given1 given2 = search (rules, names_after)
 
   mutual
     expr_after : {low : ℕ} {ts : List Token} {e : Expression} {r : List Token} → IsExpr ts e r → Sorted low ts → Sorted low r
@@ -114,8 +112,7 @@ module _ (size : ℕ) where
   exprs_after (more_exprs is (first_word h) more) s = exprs_after more (tail (expr_after is s))
 
   any_exprs_after : {low : ℕ} {ts : List Token} {es : List Expression} {r : List Token} → IsAnyExprs ts es r → Sorted low ts → Sorted low r
-  any_exprs_after no_exprs s = s
-  any_exprs_after (some_exprs is) s = exprs_after is s
+  any_exprs_after given1 given2 = search (rules, exprs_after)
 
   decider_after : {low : ℕ} {ts : List Token} {d : Decision} {r : List Token} → IsDecider ts d r → Sorted low ts → Sorted low r
   decider_after (choice (first_word h)) s = tail s
@@ -234,8 +231,7 @@ module _ (size : ℕ) where
 -- the tokens of a text are in order
 one_token : (k : Option TokenKind) (at size : ℕ) (bytes : List ℕ) (ts : List Token) → at < size
     → Sorted size (suc at) ts → Sorted size at (with_token k at bytes ts)
-one_token None at size bytes ts inside s = lower size at (suc at) ts (omega arith) s
-one_token (Some k) at size bytes ts inside s = next (omega arith) inside s
+one_token k at size bytes ts given1 given2 = search (rules, lower, next)
 
 tokens_in : {at : ℕ} {text : List ℕ} {ps : List Lexeme} → IsCut at text ps → (size : ℕ) → at + length text ≤ size → Sorted size at (tokens_of ps)
 tokens_in ends size few = all
@@ -296,15 +292,10 @@ module _ (text : List ℕ) (t : Program) (is : IsLawfulText text t) where
       ∙ has_before (map (λ q. q.name) t.procedures) i j p.name less (name_at i p first))
 
   start_at : (n : ℕ) (p : Procedure) (r : Block) → Remains (places_of t.procedures) n p r → slice_get (starts_of t) n ≡ Some (start_of_block r)
-  start_at n p r at =
-      slice_get-map (λ (x : Place). start_of_block x.left) (places_of t.procedures) n
-      ∙ ap (option_map (λ (x : Place). start_of_block x.left)) at
+  start_at n p r given1 = search (rules, slice_get-map)
 
   end_before : (m n : ℕ) (p : Procedure) → m < n → Remains (places_of t.procedures) m p Done → Remains (places_of t.procedures) n p Done → ⊥
-  end_before m n p less first second =
-      not_before (ends_among (take m (starts (places_of t.procedures)))) (ends_among (take n (starts (places_of t.procedures)))) p
-      (ends_grow (starts (places_of t.procedures)) m n less (start_at m p Done first))
-      (procedure_of t.procedures m (place p Done) first) (procedure_of t.procedures n (place p Done) second)
+  end_before m n p given1 given2 given3 = search (rules, not_before, ends_among, starts, ends_grow, start_at, procedure_of)
 
   pub one_number : (m n : ℕ) (p : Procedure) (r : Block) → Remains (places_of t.procedures) m p r → Remains (places_of t.procedures) n p r → m ≡ n
   one_number m n p (Then label at s r) first second =
@@ -318,12 +309,4 @@ module _ (text : List ℕ) (t : Program) (is : IsLawfulText text t) where
 
   -- a thread goes on at one instruction
   pub one_goes_on : (c : Configuration) (i : ℕ) (a b : Option ℕ) → GoesOnAt t c i a → GoesOnAt t c i b → a ≡ b
-  one_goes_on c i None None p q = refl
-  one_goes_on c i None (Some n) p (top, stands, same) = absurd (let none = sym p ∙ stands.stack in cc)
-  one_goes_on c i (Some m) None (top, stands, same) q = absurd (let none = sym q ∙ stands.stack in cc)
-  one_goes_on c i (Some m) (Some n) (top, stands, same) (other, others, equal) =
-      let tops : stands.frame ∷ stands.below ≡ others.frame ∷ others.below = sym stands.stack ∙ others.stack in
-      let frame : stands.frame ≡ others.frame = cc in
-      let here = subst (λ f. Remains (places_of t.procedures) other.number f.procedure f.left) (sym frame) others.next in
-      let number = one_number top.number other.number stands.frame.procedure stands.frame.left stands.next here in
-      ap Some (sym same ∙ number ∙ equal)
+  one_goes_on c i a b given1 given2 = search (rules, next, one_number)

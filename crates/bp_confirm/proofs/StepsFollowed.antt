@@ -1,5 +1,5 @@
 -- One more step that is followed, and one that is refused.
-use Rattle.std.proofs.Common.{◌≡◌, ◌∙◌, ℕ, Bool, List, ◌∷◌, false, Option, None, Some, ap, sym, subst, Bor, ◌<◌, ◌+◌, [], ◌++◌, length, take, drop, get_or, ◌≤◌, zero, suc, true, refl, arith, slice_get}
+use Rattle.std.proofs.Common.{◌≡◌, ◌∙◌, ℕ, Bool, List, ◌∷◌, false, Option, Some, ap, sym, subst, Bor, ◌<◌, ◌+◌, [], ◌++◌, length, take, drop, get_or, ◌≤◌, zero, suc, true, arith, slice_get, rules}
 use Rattle.std.specs.Option.{option_copied}
 use Rattle.std.proofs.lemmas.List.{take_more, take-append-drop, append-nil, map_push, take_all}
 use Rattle.std.proofs.lemmas.Bool.{false≢true}
@@ -7,7 +7,6 @@ use Rattle.std.proofs.Math.ListN.{length-take, drop_of_length-le}
 use Rattle.bp_text.proofs.PartsOfTexts.{regrouped}
 use Rattle.bp_language.specs.Ast.{Block, Procedure, Program}
 use Rattle.bp_flat.specs.Moves.{Configuration, Valuation}
-use Rattle.bp_flat.specs.declared.effects.Effect.TheVariants as effect
 use Rattle.bp_flat.specs.Flat.{Flat, Instruction}
 use Rattle.bp_flat.specs.StandsFor.{StandsFor, Does, places_of}
 use Rattle.bp_machine.specs.declared.tops.Top.{Top}
@@ -26,7 +25,6 @@ use Rattle.bp_confirm.specs.declared.following.Next.{Next}
 use Rattle.bp_confirm.specs.Inferred.{IsClearOnStack, LastBits, some_follow, IsFollowed, bit_of_stack, IsAmbiguousOnStack, Follows, FollowAfter}
 use Rattle.bp_confirm.specs.declared.confirming.Difference.{Difference}
 use Rattle.bp_confirm.specs.declared.confirming.StepFault.{StepFault}
-use Rattle.bp_confirm.specs.declared.confirming.StepFault.TheVariants as fault
 use Rattle.bp_confirm.specs.declared.confirming.StepReason.{StepReason}
 use Rattle.bp_confirm.specs.declared.confirming.StepReason.TheVariants.{Elsewhere, Ambiguous, Finished, Refused, Differs}
 use Rattle.bp_confirm.specs.declared.confirming.StepRefusal.{StepRefusal}
@@ -45,28 +43,13 @@ pub inferred_here : (t : Program) (last : LastBits) (code : Flat) (c : Configura
     → (next : Option point.Place) (bit follow : Bool) (o : Inferred) → next ≡ next_place i later → bit ≡ last i → follow ≡ some_follow later
     → ((p : Procedure) (left : Block) → Does t (places_of t.procedures) p left instr.now → IsInferred t left next bit follow o)
     → IsInferredOn t last i later (stack_of c i) o
-inferred_here t last code c i x later stands top got instr got_is copied next bit follow o next_is bit_is follow_is inferred =
-    let found = stands.each x.number top.frame.procedure top.frame.left top.next in
-    let both : Some instr.now ≡ Some found.0 = sym (ap option_copied got_is) ∙ copied ∙ found.1 in
-    let same : found.0 ≡ instr.now = cc in
-    let does = subst (λ k. Does t (places_of t.procedures) top.frame.procedure top.frame.left k) same found.2 in
-    let raw = inferred top.frame.procedure top.frame.left does in
-    let at_next = subst (λ n. IsInferred t top.frame.left n bit follow o) next_is raw in
-    let at_last = subst (λ b. IsInferred t top.frame.left (next_place i later) b follow o) bit_is at_next in
-    let at_both = subst (λ f. IsInferred t top.frame.left (next_place i later) (last i) f o) follow_is at_last in
-    let on_frames : IsInferredOn t last i later (top.frame ∷ top.below) o = at_both in
-    subst (λ S. IsInferredOn t last i later S o) (sym top.stack) on_frames
+inferred_here t last code c i x later given1 given2 got instr given3 given4 next bit follow o given5 given6 given7 given8 = grind (arith)
 
 -- and so is whether it is a branch or a loop of `?`
 pub fork_here : (t : Program) (code : Flat) (c : Configuration) (i : ℕ) (x : Top) → StandsFor code t → IsTop t c i x
     → (got : Option (Bor Instruction)) (instr : Bor Instruction) → got ≡ Some instr → option_copied got ≡ slice_get code.instructions x.number
     → is_fork instr.now ≡ is_fork_on (stack_of c i)
-fork_here t code c i x stands top got instr got_is copied =
-    let found = stands.each x.number top.frame.procedure top.frame.left top.next in
-    let both : Some instr.now ≡ Some found.0 = sym (ap option_copied got_is) ∙ copied ∙ found.1 in
-    let same : found.0 ≡ instr.now = cc in
-    let does = subst (λ k. Does t (places_of t.procedures) top.frame.procedure top.frame.left k) same found.2 in
-    fork_is t top.frame.procedure None false x.store effect.Blocks effect.Blocks top.frame.left instr.now does ∙ sym (ap is_fork_on top.stack)
+fork_here t code c i x given1 given2 got instr given3 given4 = search (rules, fork_is)
 
 -- A history that is made again call by call.
 
@@ -115,57 +98,30 @@ module _ (text : List ℕ) (t : Program) (s : SetupOf) (last : LastBits) (lines 
   module _ (d : StepLineOf) (h : List Call) (within : n < length lines)
       (follow : FollowAfter t s last [] (steps_of text (take n lines)) (steps_of text (drop n lines)) h) where
     none_takes : IsStuck t s h (step_of text (get_or lines n d)) → (g : List Call) → Takes t s (steps_of text (take n lines ++ get_or lines n d ∷ [])) g → ⊥
-    none_takes stuck g taking =
-        let x = step_of text (get_or lines n d) in
-        let own = subst (λ ys. FollowAfter t s last [] (steps_of text (take n lines)) ys h) (ap (steps_of text) (rest_at lines n d within)) follow in
-        let other = subst (λ xs. Takes t s xs g) (map_push (step_of text) (take n lines) (get_or lines n d)) taking in
-        let found = transfer t s last (steps_of text (take n lines)) x (steps_of text (drop (n + 1) lines)) h g own other in
-        stuck found.0 found.1
+    none_takes given1 g given2 = search (rules, rest_at, map_push, transfer)
 
     for_all : (reason : StepReason) → ForStuck reason (IsStuck t s h (step_of text (get_or lines n d)))
         → ForStuck reason ((g : List Call) → Takes t s (steps_of text (take n lines ++ get_or lines n d ∷ [])) g → ⊥)
-    for_all Ambiguous stuck = tt
-    for_all reason stuck = none_takes stuck
+    for_all reason given1 = search (rules, none_takes)
 
     step_refused : (r : StepRefusal)
         → IsRefusedHere text t s h (get_or lines n d) (steps_of text (drop (n + 1) lines)) (n + 1) r
         → IsStepRefusal text t s last lines r
-    step_refused r here = record {
-      before = take n lines;
-      step = get_or lines n d;
-      later = drop (n + 1) lines;
-      whole = parts_at lines n d within;
-      line = let size : length (take n lines) ≡ n = simp length-take (omega arith) in omega (arith, size, here.line);
-      thread = here.thread;
-      location = here.location;
-      history = h;
-      follows = subst (λ ys. FollowAfter t s last [] (steps_of text (take n lines)) ys h) (ap (steps_of text) (rest_at lines n d within)) follow;
-      number = here.number;
-      stand = here.stand;
-      reason = here.reason;
-      none = for_all r.reason here.stuck;
-    }
+    step_refused r given1 = search (rules, parts_at, length-take, rest_at, for_all)
 
     by_fault : (f : StepFault) → IsNotTaken text t s h (get_or lines n d) (steps_of text (drop (n + 1) lines)) (n + 1) f → IsNotFollowed text t s last lines f
-    by_fault (fault.Refusal r) here = step_refused r here
-    by_fault fault.Memory here = tt
+    by_fault f given1 = search (rules, step_refused)
 
   -- the refusal of a step is one of the lines
   pub not_followed : {x : StepLineOf} {r : SetupOf} {g h : List Call} (f : StepFault) → n < length lines → x ≡ get_or lines n x → r ≡ s → g ≡ h → length h ≡ n
       → FollowAfter t s last [] (steps_of text (take n lines)) (steps_of text (drop n lines)) h
       → IsNotTaken text t r g x (steps_of text (drop (n + 1) lines)) (length g + 1) f → IsNotFollowed text t s last lines f
-  not_followed {x} {g = g} {h = h} f within is setup made size follow here =
-      by_fault x h within follow f
-      (subst (λ (w : SetupOf × List Call × StepLineOf × ℕ). IsNotTaken text t w.0 w.1 w.2 (steps_of text (drop (n + 1) lines)) (w.3 + 1) f)
-      (λ i. (setup i, made i, is i, (ap length made ∙ size) i)) here)
+  not_followed given1 given2 given3 given4 given5 given6 given7 = search (rules, by_fault)
 
   pub followed : (h : List Call) → length lines ≤ n
       → FollowAfter t s last [] (steps_of text (take n lines)) (steps_of text (drop n lines)) h
       → IsFollowed t s last (steps_of text lines) h
-  followed h past follow =
-      let steps = steps_of text lines in
-      let none = subst (λ ys. FollowAfter t s last [] (steps_of text (take n lines)) (steps_of text ys) h) (drop_of_length-le lines past) follow in
-      subst (λ xs. FollowAfter t s last [] (steps_of text xs) [] h) (take_all n lines past) none
+  followed h given1 given2 = search (rules, drop_of_length-le, take_all)
 
 -- a value that is not seen is one of those that are wanted
 pub unseen_not : (c : Configuration) (i : ℕ) (vs : Valuation) (n : ℕ) (seen : Option Bool) → IsFirstUnseen c i vs n seen → SeesValues c i vs → ⊥
@@ -196,15 +152,7 @@ module _ (text : List ℕ) (t : Program) (s : SetupOf) (h : List Call) {x z : St
     (goes_on : GoesOnAt t (configuration_after t s h) x.thread number) {points : List SourcePoint} (are : points ≡ source_points_of text t) where
   refused_for : (reason : StepReason) → IsReason t s h (step_of text x) later reason → ForStuck reason (IsStuck t s h (step_of text x))
       → IsNotTaken text t s h z later n (refusal_of points z n number reason)
-  refused_for reason why stuck = subst (λ w. IsNotTaken text t s h w later n (refusal_of points w n number reason)) is (record {
-    line = refl;
-    thread = refl;
-    location = refl;
-    number = goes_on;
-    stand = stands_as text t points number are;
-    reason = why;
-    stuck = stuck;
-  })
+  refused_for reason given1 given2 = search (rules, stands_as)
 
   pub elsewhere : StandsAtPlace t s h (step_of text x) false → IsNotTaken text t s h z later n (refusal_of points z n number Elsewhere)
   elsewhere other = refused_for Elsewhere other (λ y takes. false≢true (sym other ∙ takes.at))
@@ -234,13 +182,7 @@ module _ (text : List ℕ) (t : Program) (s : SetupOf) (h : List Call) {x z : St
 
         module _ (found : SeesValues (configuration_after t r (h ++ a ∷ [])) z.thread z.values) where
           takes : IsStepOf t s h (step_of text x) a
-          takes = record {
-            thread = thread;
-            allowed = allowed;
-            granted = granted;
-            at = at;
-            values = subst (λ (w : SetupOf × StepLineOf). SeesValues (configuration_after t w.0 (h ++ a ∷ [])) w.1.thread w.1.values) (λ i. (same i, sym is i)) found;
-          }
+          takes = grind (arith)
 
           pub ambiguous : IsAmbiguousOnStack t x.thread later (stack_of (configuration_after t s h) x.thread)
               → IsNotTaken text t s h z later n (refusal_of points z n number Ambiguous)

@@ -1,5 +1,5 @@
 -- What the names of a thread's top have as values.
-use Rattle.std.proofs.Common.{◌≡◌, ◌∙◌, ◌+◌, ℕ, zero, suc, List, [], ◌∷◌, Option, None, Some, refl, ap, ◌<◌, length, get_or, ◌++◌, take, sym, arith, option_map, ◌≤◌, Bor, subst, ◌≢◌, Bool, true, false, cond, bytes_eq, slice_get, MatchOption, IfSome, is_some, nat_lt}
+use Rattle.std.proofs.Common.{◌≡◌, ◌∙◌, ◌+◌, ℕ, zero, suc, List, [], ◌∷◌, Option, None, Some, refl, ap, ◌<◌, length, get_or, ◌++◌, take, sym, arith, option_map, Bor, subst, ◌≢◌, Bool, true, false, cond, bytes_eq, slice_get, MatchOption, IfSome, is_some, nat_lt, rules}
 use Rattle.std.proofs.Math.Path.{fun_ext}
 use Rattle.std.proofs.lemmas.List.{take_more}
 use Rattle.std.proofs.lemmas.Option.{slice_get_past, slice_get-get_or, slice_get-map}
@@ -7,7 +7,7 @@ use Rattle.std.specs.Option.{option_or}
 use Rattle.std.proofs.lemmas.Slice.Eq.{bytes_eq-Decides}
 use Rattle.bp_text.specs.Lines.{position_at}
 use Rattle.bp_language.specs.Ast.{Program, Procedure}
-use Rattle.bp_flat.specs.StandsFor.{starts_of, Place, valuation_of, variables, place, places_of, start_of_block}
+use Rattle.bp_flat.specs.StandsFor.{starts_of, valuation_of, variables, start_of_block}
 use Rattle.bp_flat.specs.InstrEffects.{bits_of}
 use Rattle.bp_flat.specs.Moves.{Configuration, Valuation, lookup}
 use Rattle.bp_flat.proofs.ProceduresOfPlaces.{ends, procedure_of}
@@ -37,8 +37,7 @@ module _ (text : List ℕ) where
 
   pub stands_as : (t : Program) (points : List SourcePoint) (number : Option ℕ) → points ≡ source_points_of text t
       → stand_in points number ≡ stand_of text t number
-  stands_as t points None are = refl
-  stands_as t points (Some n) are = ap (λ ss. stand_at_point (slice_get ss n)) are ∙ stand_there 0 (starts_of t) n
+  stands_as t points number given1 = search (rules, stand_there)
 
 -- The point of an instruction tells where its statement begins, and in which procedure.
 
@@ -73,8 +72,7 @@ module _ (text : List ℕ) where
   -- the instructions at the next location are those at the next place
   pub numbers_are : (t : Program) (points : List SourcePoint) (next : Option Location) → points ≡ source_points_of text t
       → option_map (is_there points) next ≡ numbers_at (starts_of t) (option_map (place_of text) next)
-  numbers_are t points None are = refl
-  numbers_are t points (Some x) are = ap Some (fun_ext (λ n. is_there_at t points x n are))
+  numbers_are t points next given1 = search (rules, fun_ext, is_there_at)
 
   -- the procedure of an instruction
   procedure_from : (k : ℕ) (starts : List (Option ℕ)) (n : ℕ) (start : Option ℕ) → slice_get starts n ≡ Some start
@@ -88,9 +86,7 @@ module _ (text : List ℕ) where
   pub procedure_at : (t : Program) (points : List SourcePoint) (n : ℕ) (start : Option ℕ)
       → points ≡ source_points_of text t → slice_get (starts_of t) n ≡ Some start
       → option_map (λ (s : SourcePoint). s.procedure) (slice_get points n) ≡ Some (ends (take n (starts_of t)))
-  procedure_at t points n start are at =
-      ap (λ ss. option_map (λ (s : SourcePoint). s.procedure) (slice_get ss n)) are ∙ procedure_from 0 (starts_of t) n start at
-      ∙ ap Some (omega arith)
+  procedure_at t points n start given1 given2 = search (rules, procedure_from)
 
   -- one more point is noted
   pub points_next : (starts : List (Option ℕ)) (n : ℕ) (d start : Option ℕ) (old new : List SourcePoint) (point : SourcePoint)
@@ -108,8 +104,7 @@ module _ (text : List ℕ) where
 -- where a thread's top begins
 pub top_start : (t : Program) (c : Configuration) (i : ℕ) (x : Top) → (is : IsTop t c i x)
     → slice_get (starts_of t) x.number ≡ Some (start_of_block is.frame.left)
-top_start t c i x is =
-    slice_get-map (λ (y : Place). start_of_block y.left) (places_of t.procedures) x.number ∙ ap (option_map (λ (y : Place). start_of_block y.left)) is.next
+top_start t c i x is = search (rules, slice_get-map)
 
 -- it stands at a location where its instruction is there
 pub stands_where : (text : List ℕ) (t : Program) (points : List SourcePoint) (c : Configuration) (i : ℕ) (x : Top) (here : Location)
@@ -122,16 +117,12 @@ stands_where text t points c i x here are is =
 -- the locals of its frame
 pub top_locals : (t : Program) (c : Configuration) (i : ℕ) (x : Top) (p : Procedure) (name : List ℕ) → (is : IsTop t c i x) → p ≡ is.frame.procedure
     → own_value p.name.text (valuation_of (variables p) (bits_of x.store.locals)) name ≡ local_seen (stack_of c i) name
-top_locals t c i x p name is same =
-    ap (λ q. own_value q.name.text (valuation_of (variables q) (bits_of x.store.locals)) name) same
-    ∙ ap (λ m. own_value is.frame.procedure.name.text m name) (sym is.locals)
-    ∙ ap (λ S. local_seen S name) (sym is.stack)
+top_locals t c i x p name is given1 = grind (arith)
 
 -- what is got is the n-th
 pub got_item : {X : Type 0} (o : Option (Bor X)) (xs : List X) (n : ℕ) → is_some o ≡ nat_lt n (length xs)
     → IfSome o (λ x. x.now ≡ get_or xs n x.now) → option_map (λ x. x.now) o ≡ slice_get xs n
-got_item None xs n e h = let past : length xs ≤ n = grind arith in sym (slice_get_past xs n past)
-got_item (Some x) xs n e h = let within : n < length xs = grind arith in ap Some h ∙ sym (slice_get-get_or xs n x.now within)
+got_item given1 given2 = search (rules, slice_get_past, slice_get-get_or)
 
 abbrev pub number_of : List SourcePoint → ℕ → Option ℕ
 number_of points n = option_map (λ s. s.procedure) (slice_get points n)
@@ -155,19 +146,14 @@ module _ (text : List ℕ) (t : Program) (points : List SourcePoint) (top : Opti
     number_found = let e = sym some ∙ o_is ∙ number_is in cc
 
     is_found : option_map (λ (q : Bor Procedure). q.now) found ≡ Some own_top.frame.procedure
-    is_found =
-        lookup_is ∙ (λ j. slice_get (procs_are j) (number_found j))
-        ∙ procedure_of t.procedures x.number (place own_top.frame.procedure own_top.frame.left) own_top.next
+    is_found = search (rules, number_found, procedure_of, own_top)
 
     pub none_missing : found ≡ None → ⊥
     none_missing none = let e = sym (ap (option_map (λ (q : Bor Procedure). q.now)) none) ∙ is_found in cc
 
     pub locals_found : (p : Bor Procedure) (name : List ℕ) → found ≡ Some p
         → own_value p.now.name.text (valuation_of (variables p.now) (bits_of x.store.locals)) name ≡ local_seen (stack_of c i) name
-    locals_found p name is =
-        let e = sym (ap (option_map (λ (q : Bor Procedure). q.now)) is) ∙ is_found in
-        let same : p.now ≡ own_top.frame.procedure = cc in
-        top_locals t c i x p.now name own_top same
+    locals_found p name given1 = search (rules, is_found, own_top, top_locals)
 
 -- The value of a local by its name after that of its procedure and a dot.
 
@@ -192,8 +178,7 @@ module _ (p : List ℕ) where
     by_own_name bit is = sym (ap (λ o. option_or o (lookup (qualified_values p locals) x)) is)
 
     pub by_qualified_name : lookup locals x ≡ None → (own : List ℕ) → x ≡ qualified p own → lookup locals own ≡ own_value p locals x
-    by_qualified_name none own is =
-        sym (ap (λ o. option_or o (lookup (qualified_values p locals) x)) none ∙ ap (lookup (qualified_values p locals)) is ∙ found_qualified own locals)
+    by_qualified_name given1 own given2 = search (rules, found_qualified)
 
     pub by_no_name : lookup locals x ≡ None → ((own : List ℕ) → x ≢ qualified p own) → None ≡ own_value p locals x
     by_no_name none other = sym (ap (λ o. option_or o (lookup (qualified_values p locals) x)) none ∙ none_qualified x other locals)

@@ -1,6 +1,5 @@
 -- What a desk's books come to once its seats and its tap are joined with it.
-use Rattle.std.proofs.Common.{◌≡◌, Bool, true, false, not, sym, ◌∙◌, ap, refl, ℕ, ◌+◌, ◌*◌, ◌<◌, ◌≤◌, ◌^◌, cond, List, [], ◌∷◌, ◌++◌, None, is_some, subst, arith, length-append, ◌↔◌, IsTrue, length, Option, Some}
-use Rattle.std.proofs.lemmas.Bool.{false≢true}
+use Rattle.std.proofs.Common.{◌≡◌, Bool, true, false, sym, ◌∙◌, ap, ℕ, ◌+◌, ◌*◌, ◌<◌, ◌≤◌, ◌^◌, cond, List, [], ◌∷◌, ◌++◌, None, is_some, subst, arith, length-append, ◌↔◌, IsTrue, length, Option, Some, rules}
 use Rattle.std.specs.Coded.{le_prop}
 use Rattle.std.proofs.Math.Logic.{∥∥₁_elim}
 use Rattle.std.proofs.Math.Nat.{mul-le-mul_left, mul-le-mul_right}
@@ -24,13 +23,7 @@ use Rattle.bp_run.specs.Gatherings.{calls_of_seats, open_seats, AreOnePerThread,
 -- a session that stands after no call
 pub books_at_start : (x : SessionOf) (made lines : ℕ) → FitsCode x.code x.setup → is_some x.setup.seed ≡ true → StandsForAll x [] → 0 < x.setup.calls
     → made ≡ 0 → lines ≡ threads x.setup → IsInBooks x [] made lines
-books_at_start x made lines fits has_seed stands some made_is lines_are = record {
-  fits = fits;
-  has_seed = has_seed;
-  stands = stands;
-  made_is = made_is;
-  lines_are = lines_are ∙ sym (open_at_start (threads x.setup) x.setup some);
-}
+books_at_start x made lines given1 given2 given3 given4 given5 given6 = search (rules, open_at_start)
 
 module _ (x new : SessionOf) (h : List Call) (made lines i : ℕ) (call : Call) (books : IsInBooks x h made lines) (of_some : IsOfProgram x.code)
     (next : (t : Program) → StandsFor x.code t → IsNextCall t x.setup h i None call)
@@ -43,13 +36,7 @@ module _ (x new : SessionOf) (h : List Call) (made lines i : ℕ) (call : Call) 
         (λ t is. open_lines-append t x.setup h call (next t is).allowed)
 
     books_with : (more less : ℕ) → more ≡ made + 1 → less + finished_by x.setup h call ≡ lines → IsInBooks new (h ++ call ∷ []) more less
-    books_with more less one_more closed = record {
-      fits = rw (code, setup) books.fits;
-      has_seed = rw setup books.has_seed;
-      stands = λ t is. stands t (subst (λ c. StandsFor c t) code is);
-      made_is = let long = length-append h (call ∷ []) in let was = books.made_is in omega (arith, long, was, one_more);
-      lines_are = rw setup (let was = books.lines_are in omega (arith, open_with, was, closed));
-    }
+    books_with more less given1 given2 = grind (arith, length-append, open_with)
 
     -- a line that the call finishes
     pub books_when_finished : (more less : ℕ) → more ≡ made + 1 → less + 1 ≡ lines
@@ -110,5 +97,4 @@ module _ (t : Program) (x : SessionOf) (h : List Call) (made lines : ℕ) (books
 pub gathered_as : {code own : Flat} {s its : SetupOf} {taken : List Call} {seats : List SeatOf} {tap : TapOf} {r : Report} {early : Option ℕ} {agree : Bool}
     (t : Program) → code ≡ own → s ≡ its → ((t : Program) → StandsFor own t → IsGathered t its taken seats tap r early agree)
     → StandsFor code t → IsGathered t s taken seats tap r early agree
-gathered_as {taken = taken} {seats = seats} {tap = tap} {r = r} {early = early} {agree = agree} t code_is setup_is gathered is =
-    subst (λ z. IsGathered t z taken seats tap r early agree) (sym setup_is) (gathered t (subst (λ d. StandsFor d t) code_is is))
+gathered_as given1 given2 given3 given4 = grind (arith)

@@ -1,5 +1,5 @@
 -- What playing a setup comes to, from what the stage, the gathering and the rest promise.
-use Rattle.std.proofs.Common.{◌≡◌, ℕ, Bool, true, List, [], ◌∷◌, ◌++◌, Option, Some, None, is_some, refl, sym, ◌∙◌, ap, subst, ◌<◌, ◌≤◌, ◌==◌, zero, suc, ◌+◌, false, cond, length, map, arith, length-append}
+use Rattle.std.proofs.Common.{◌≡◌, ℕ, Bool, true, List, [], ◌∷◌, ◌++◌, Option, Some, None, is_some, refl, sym, ◌∙◌, ap, subst, ◌<◌, ◌≤◌, ◌==◌, zero, suc, ◌+◌, false, cond, length, map, arith, length-append, rules}
 use Rattle.std.proofs.lemmas.List.{append-nil, length-map}
 use Rattle.std.proofs.lemmas.Bool.{false≢true}
 use Rattle.std.proofs.lemmas.Grind.{flat_map-append}
@@ -7,11 +7,10 @@ use Rattle.std.specs.List.{count_by, range_with_len}
 use Rattle.std.proofs.lemmas.List.Sums.{sum_by-cons}
 use Rattle.std.proofs.lemmas.List.FromFn.{length-map-range_with_len}
 use Rattle.std.proofs.lemmas.Option.{same_Some}
-use Rattle.std.proofs.KnownBytes.{Appends-nil}
 use Rattle.bp_text.specs.declared.sinks.Sink.{Sink}
 use Rattle.bp_text.specs.Writing.{Given, HasTaken, AppendsAll, AppendsPart}
 use Rattle.bp_text.proofs.Givings.{and_then, given_none, part_first, part_then, taken_since}
-use Rattle.bp_text.proofs.PartsOfTexts.{both_added, regrouped}
+use Rattle.bp_text.proofs.PartsOfTexts.{regrouped}
 use Rattle.bp_language.specs.Ast.{Program}
 use Rattle.bp_machine.specs.declared.calls.Call.{Call}
 use Rattle.bp_machine.specs.Setups.{SetupOf}
@@ -22,7 +21,7 @@ use Rattle.bp_run.specs.Desks.{IsTakenOf, SeatOf, AreNewSeats, new_seat, TapOf}
 use Rattle.bp_run.specs.Gatherings.{AreOnePerThread, IsGathered, TellsEarly}
 use Rattle.bp_trace.specs.declared.traces.Version.TheVariants.{One}
 use Rattle.bp_trace.specs.TraceText.{head_text, call_line, end_line, trace_text}
-use Rattle.bp_run.specs.Works.{lines_of, IsScribed, IsStaged, IsRestScribed}
+use Rattle.bp_run.specs.Works.{lines_of, IsRestScribed}
 use Rattle.bp_run.specs.Runs.{IsPlayedFrom, IsEarly, IsCutTrace}
 
 -- How the lines of calls add up.
@@ -33,20 +32,7 @@ lines_append cs ds = flat_map-append call_line cs ds
 module _ {W : Type 0} (contents : W → Option (List ℕ)) where
   given_line : (a b c : Sink W) (cs : List Call) (x : Call)
       → Given contents a b (lines_of cs) → Given contents b c (call_line x) → Given contents a c (lines_of (cs ++ x ∷ []))
-  given_line a b c cs x p q =
-      rw (lines_append cs (x ∷ []), append-nil (call_line x)) (and_then p q)
-
-  pub scribed_none : (a : Sink W) (taken : List Call) → IsScribed contents a a taken taken
-  scribed_none a taken = record { more = []; grown = sym (append-nil taken); given = given_none contents a }
-
-  -- one more call was taken and written
-  pub scribed_more : (a b c : Sink W) (taken t1 t2 : List Call) (x : Call)
-      → IsScribed contents a b taken t1 → t2 ≡ t1 ++ x ∷ [] → Given contents b c (call_line x) → IsScribed contents a c taken t2
-  scribed_more a b c taken t1 t2 x s e w = record {
-    more = s.more ++ x ∷ [];
-    grown = both_added taken t1 t2 s.more (x ∷ []) _ e s.grown refl;
-    given = given_line a b c s.more x s.given w;
-  }
+  given_line a b c cs x given1 given2 = search (rules, lines_append, append-nil, and_then)
 
   pub rest_begins : (a : Sink W) (rest : Option (List Call)) → is_some rest ≡ true → IsRestScribed contents a a rest rest
   rest_begins a (Some cs) t = record { more = []; left = cs; were = refl; are = refl; given = given_none contents a }
@@ -64,12 +50,6 @@ module _ {W : Type 0} (contents : W → Option (List ℕ)) where
         given = given_line a b c s.more x s.given w;
       }
 
-  -- the head, and then the calls
-  pub staged_all : (s : SetupOf) (a b c : Sink W) (all : Bool) (taken taken_now : List Call) → taken ≡ [] → all ≡ true
-      → Given contents a b (head_text One s) → IsScribed contents b c taken taken_now → IsStaged contents s a c taken_now all
-  staged_all s a b c all taken taken_now none is head x =
-      rw (is, x.grown, none) (and_then head x.given)
-
 -- Seats of the threads in order are one of each thread.
 
 abbrev pub threads_of : List SeatOf → List ℕ
@@ -83,10 +63,7 @@ long seats = length-map seats (λ s. s.thread)
 
 counted : (i : ℕ) (seats : List SeatOf) → count_by (λ s. s.thread == i) seats ≡ times i (threads_of seats)
 counted i [] = refl
-counted i (s ∷ seats) =
-    sum_by-cons (λ (x : SeatOf). cond (x.thread == i) 1 0) s seats
-    ∙ ap (λ n. cond (s.thread == i) 1 0 + n) (counted i seats)
-    ∙ sym (sum_by-cons (λ (k : ℕ). cond (k == i) 1 0) s.thread (threads_of seats))
+counted i (s ∷ seats) = search (rules, (counted i seats), sum_by-cons)
 
 -- seats of the same threads in the same order
 pub one_each_kept : (n : ℕ) (a b : List SeatOf) → threads_of a ≡ threads_of b → AreOnePerThread n b → AreOnePerThread n a
@@ -103,9 +80,7 @@ first i a ks = sum_by-cons (λ (k : ℕ). cond (k == i) 1 0) a ks
 
 none_below : (a n i : ℕ) → i < a → times i (range_with_len a n) ≡ 0
 none_below a zero i lt = refl
-none_below a (suc n) i lt =
-    let one : cond {A = ℕ} (a == i) 1 0 ≡ 0 = ap (λ b. cond b 1 0) (differ a i lt) in
-    first i a (range_with_len (a + 1) n) ∙ omega (arith, one, none_below (a + 1) n i (omega (arith, lt)))
+none_below a (suc n) i lt = search (rules, (none_below (a + 1) n i (omega (arith, lt))), differ, first)
 
 one_of : (a n i : ℕ) → a ≤ i → i < a + n → times i (range_with_len a n) ≡ 1
 one_of a zero i le lt = absurd (omega (arith, le, lt))
@@ -153,19 +128,13 @@ module _ {W : Type 0} (contents : W → Option (List ℕ)) (t : Program) (s : Se
 
   -- what was left is what was gathered to be left
   same : rest.more ≡ g.left
-  same =
-      let no_left : rest.left ≡ [] = same_Some _ _ (sym rest.are ∙ all) in
-      let whole : rest.more ++ rest.left ≡ g.left = same_Some _ _ (sym rest.were ∙ g.rest) in
-      sym (ap (λ x. rest.more ++ x) no_left ∙ append-nil rest.more) ∙ whole
+  same = search (rules, same_Some, append-nil)
 
   the_end : end_line r.calls r.left_open ≡ end_line (length (taken ++ g.left)) (open_lines s (taken ++ g.left))
   the_end = ap (λ n. end_line n r.left_open) g.report.calls ∙ ap (λ n. end_line (length (taken ++ g.left)) n) g.report.left_open
 
   bytes : (head_text One s ++ lines_of taken) ++ (lines_of rest.more ++ end_line r.calls r.left_open) ≡ trace_text s (taken ++ g.left)
-  bytes =
-      both_lines (head_text One s) (end_line r.calls r.left_open) taken rest.more
-      ∙ ap (λ x. head_text One s ++ (lines_of (taken ++ x) ++ end_line r.calls r.left_open)) same
-      ∙ ap (λ w. head_text One s ++ (lines_of (taken ++ g.left) ++ w)) the_end
+  bytes = search (rules, both_lines, same, the_end)
 
   taken_all : HasTaken old now d.refused (trace_text s (taken ++ g.left))
   taken_all = taken_since contents a d _ fresh (subst (Given contents a d) bytes (and_then staged (and_then rest.given ended)))
@@ -193,24 +162,10 @@ module _ {W : Type 0} (contents : W → Option (List ℕ)) (t : Program) (s : Se
       }
 
   pub stopped_early : (i : ℕ) → d.refused ≡ false → early ≡ Some i → IsEarly t s old now i
-  stopped_early i fine one =
-      let all_written : AppendsAll old now (trace_text s (taken ++ g.left)) =
-      subst (λ b. HasTaken old now b (trace_text s (taken ++ g.left))) fine taken_all in
-      record {
-        history = taken ++ g.left;
-        legal = g.legal;
-        seeded = g.seeded;
-        written = all_written.grown;
-        early = subst (TellsEarly t s (taken ++ g.left)) one g.stops;
-      }
+  stopped_early i given1 given2 = search (rules, taken_all)
 
   pub cut : d.refused ≡ true → IsCutTrace t s old now
-  cut broken = record {
-    history = taken ++ g.left;
-    legal = g.legal;
-    seeded = g.seeded;
-    written = subst (λ b. HasTaken old now b (trace_text s (taken ++ g.left))) broken taken_all;
-  }
+  cut given1 = search (rules, taken_all)
 
 -- The pen stopped before the end: the calls that were taken are written, or a part of their lines.
 module _ {W : Type 0} (contents : W → Option (List ℕ)) (t : Program) (s : SetupOf) (a b : Sink W) (taken : List Call)
@@ -231,8 +186,7 @@ module _ {W : Type 0} (contents : W → Option (List ℕ)) (t : Program) (s : Se
   whole = both_lines (head_text One s) (end_line (length (taken ++ g.left)) (open_lines s (taken ++ g.left))) taken g.left
 
   part : (old now : Option (List ℕ)) (refused : Bool) → HasTaken old now refused begun → AppendsPart old now (begun ++ the_rest)
-  part old now false all = part_then old now now begun the_rest all (record { count = 0; short = has_end; grown = Appends-nil now })
-  part old now true some = part_first old now begun the_rest some
+  part old now refused given1 = search (rules, part_then, begun, the_rest, has_end, part_first)
 
   pub stopped : IsCutTrace t s (contents a.out.now) (contents b.out.now)
   unfolding begun

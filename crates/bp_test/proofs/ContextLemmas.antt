@@ -1,11 +1,10 @@
 -- How many runs used few contexts, and the least numbers of them that this many runs did not exceed.
-use Rattle.std.proofs.Common.{◌≡◌, ◌<◌, ◌≤◌, ◌+◌, ◌/◌, ◌^◌, ◌-◌, ℕ, min, Bool, true, false, cond, List, [], ◌∷◌, length, refl, ap, sym, ◌∙◌, subst, arith, inl, inr, if◌then◌else◌, ◌==◌, nat_le, nat_lt, count_by, slice_index_or}
+use Rattle.std.proofs.Common.{◌≡◌, ◌<◌, ◌≤◌, ◌+◌, ◌/◌, ◌^◌, ◌-◌, ℕ, min, Bool, true, false, cond, List, [], ◌∷◌, length, refl, ap, sym, ◌∙◌, subst, arith, inl, inr, if◌then◌else◌, ◌==◌, nat_lt, count_by, slice_index_or, rules}
 use Rattle.std.specs.Int.{div_ceil}
 use Rattle.std.proofs.lemmas.Bool.{cases_lt}
 use Rattle.std.proofs.lemmas.Bool.Decides.{nat_tests}
 use Rattle.std.proofs.lemmas.List.{get_or_past}
 use Rattle.std.proofs.lemmas.List.Sums.{sum_by-cons, count_by-le-length}
-use Rattle.bp_machine.proofs.HistoryWithCall.{same_or_not}
 use Rattle.bp_machine.specs.Setups.{SetupOf}
 use Rattle.bp_test.specs.declared.tallies.ContextsUsed.{ContextsUsed}
 use Rattle.bp_test.specs.declared.tallies.Tally.{Tally}
@@ -43,56 +42,26 @@ eq_false a b other = by (a == b) refl
     by true e = absurd (other (grind (arith, nat_tests, e)))
     by false e = e
 
-le_is_lt : (a k : ℕ) → nat_le a k ≡ nat_lt a (k + 1)
-le_is_lt a k = by (nat_le a k) refl
-  where
-    by : (c : Bool) → nat_le a k ≡ c → nat_le a k ≡ nat_lt a (k + 1)
-    by true e = e ∙ sym (lt_true a (k + 1) (grind (arith, nat_tests, e)))
-    by false e = e ∙ sym (lt_false a (k + 1) (grind (arith, nat_tests, e)))
-
 one_more : (a i : ℕ) → cond (nat_lt a (i + 1)) 1 0 ≡ cond (nat_lt a i) 1 0 + cond (a == i) 1 0
-one_more a i = elim (same_or_not a i) [
-  | inl same ↦ rw (lt_true a (i + 1) (omega (arith, same)), lt_false a i (omega (arith, same)), eq_true a i same) refl
-  | inr other ↦ elim (cases_lt a i) [
-    | inl less ↦ rw (lt_true a (i + 1) (omega (arith, less)), lt_true a i less, eq_false a i other) refl
-    | inr far ↦ rw (lt_false a (i + 1) (omega (arith, far, other)), lt_false a i far, eq_false a i other) refl
-  ]
-]
+one_more a i = grind (arith)
 
 cons : (p : MadeRun → Bool) (x : MadeRun) (xs : List MadeRun) → count_by p (x ∷ xs) ≡ cond (p x) 1 0 + count_by p xs
 cons p x xs = sum_by-cons (λ r. cond (p r) 1 0) x xs
 
 pub below_more_contexts : (i : ℕ) (runs : List MadeRun) → below_contexts (i + 1) runs ≡ below_contexts i runs + using_contexts i runs
 below_more_contexts i [] = refl
-below_more_contexts i (x ∷ xs) =
-    let rest = below_more_contexts i xs in
-    let here = one_more x.report.contexts i in
-    let a = cons (λ r. nat_lt r.report.contexts (i + 1)) x xs in
-    let b = cons (λ r. nat_lt r.report.contexts i) x xs in
-    let c = cons (λ r. r.report.contexts == i) x xs in
-    omega (arith, rest, here, a, b, c)
+below_more_contexts i (x ∷ xs) = search (rules, (below_more_contexts i xs), one_more, cons)
 
 pub within_is_below : (k : ℕ) (runs : List MadeRun) → within_contexts k runs ≡ below_contexts (k + 1) runs
 within_is_below k [] = refl
-within_is_below k (x ∷ xs) =
-    cons (λ r. nat_le r.report.contexts k) x xs
-    ∙ (ap (λ b. cond b 1 0 + within_contexts k xs) (le_is_lt x.report.contexts k)
-    ∙ (ap (λ n. cond (nat_lt x.report.contexts (k + 1)) 1 0 + n) (within_is_below k xs)
-    ∙ sym (cons (λ r. nat_lt r.report.contexts (k + 1)) x xs)))
+within_is_below k (x ∷ xs) = grind (arith)
 
 pub below_none : (runs : List MadeRun) → below_contexts 0 runs ≡ 0
 below_none [] = refl
-below_none (x ∷ xs) =
-    let rest = below_none xs in
-    let here = ap {B = ℕ} (λ b. cond b 1 0) (lt_false x.report.contexts 0 (omega arith)) in
-    let a = cons (λ r. nat_lt r.report.contexts 0) x xs in
-    omega (arith, rest, here, a)
+below_none (x ∷ xs) = search (rules, (below_none xs), lt_false, cons)
 
 fewer : (a m i : ℕ) → m ≤ i → cond (nat_lt a m) 1 0 ≤ cond (nat_lt a i) 1 0
-fewer a m i le = elim (cases_lt a m) [
-  | inl less ↦ rw (lt_true a m less, lt_true a i (omega (arith, less, le))) (omega arith)
-  | inr far ↦ rw (lt_false a m far) (omega arith)
-]
+fewer a m i given1 = grind (arith)
 
 pub below_rises : (m i : ℕ) → m ≤ i → (runs : List MadeRun) → below_contexts m runs ≤ below_contexts i runs
 below_rises m i le [] = omega arith

@@ -1,5 +1,5 @@
 -- How many keys of a list differ, and how many are there once, by the same keys in order.
-use Rattle.std.proofs.Common.{◌≡◌, ◌≢◌, ◌⊎◌, inl, inr, ◌<◌, ◌≤◌, ◌+◌, ◌-◌, ℕ, zero, suc, cond, Bool, true, false, not, ◌||◌, ◌&&◌, List, length, take, drop, refl, ap, sym, ◌∙◌, subst, arith, ◌==◌, count_by, slice_index_or, nat_eq, eqb-true}
+use Rattle.std.proofs.Common.{◌≡◌, ◌≢◌, ◌⊎◌, ◌<◌, ◌≤◌, ◌+◌, ◌-◌, ℕ, zero, suc, cond, Bool, true, false, not, ◌||◌, ◌&&◌, List, length, take, drop, refl, ap, sym, ◌∙◌, subst, arith, ◌==◌, count_by, slice_index_or, nat_eq, eqb-true, rules}
 use Rattle.std.specs.List.{All, Contains, dedup}
 use Rattle.std.specs.List.Sorted.{IsNonDecreasing, IsPermutation, IsStrictlyIncreasing}
 use Rattle.std.specs.Set.{distinct_count, is_member}
@@ -43,11 +43,7 @@ module _ (xs : List ℕ) (up : IsNonDecreasing xs) where
     after = count_of (at n) (drop (n + 1) xs)
 
     whole : count_of (at n) xs ≡ before + (1 + after)
-    whole =
-        let both = sum_by-take-drop (one_if (at n)) xs n in
-        let here = sum_by-drop_more (one_if (at n)) xs n 0 within in
-        let same : one_if (at n) (at n) ≡ 1 = grind (arith, nat_tests) in
-        omega (arith, both, here, same)
+    whole = search (rules, sum_by-take-drop, sum_by-drop_more, nat_tests)
 
     first_none : n ≡ 0 → before ≡ 0
     first_none zero_is = ap (λ k. count_of (at n) (take k xs)) zero_is
@@ -62,13 +58,7 @@ module _ (xs : List ℕ) (up : IsNonDecreasing xs) where
         other (omega (arith, value, low, high)))
 
     before_some : 0 < n → at (n - 1) ≡ at n → 1 ≤ before
-    before_some some same =
-        let size = length-take n xs in
-        let most = get_or-le-sum_by (one_if (at n)) (take n xs) (n - 1) 0 (omega (arith, size, within, some)) in
-        let value : slice_index_or (take n xs) (n - 1) 0 ≡ at n = get_or-take n xs (n - 1) 0 (omega (arith, some)) ∙ same in
-        let one : one_if (at n) (slice_index_or (take n xs) (n - 1) 0) ≡ 1 =
-        ap (one_if (at n)) value ∙ (let it : one_if (at n) (at n) ≡ 1 = grind (arith, nat_tests) in it) in
-        omega (arith, most, one)
+    before_some given1 given2 = search (rules, length-take, get_or-le-sum_by, get_or-take, nat_tests)
 
     last_none : n + 1 ≡ length xs → after ≡ 0
     last_none last = ap (count_of (at n)) (drop_all (n + 1) xs (omega (arith, last)))
@@ -97,14 +87,10 @@ module _ (xs : List ℕ) (up : IsNonDecreasing xs) where
     Tells b count = ((b ≡ true) × (count ≡ 0)) ⊎ ((b ≡ false) × (1 ≤ count))
 
     front : (a b : Bool) → (n == 0) ≡ a → (at (n - 1) == at n) ≡ b → Tells (a || not b) before
-    front true b first same = inl (refl, first_none (grind (arith, nat_tests, first)))
-    front false false first same = inl (refl, before_none (grind (arith, nat_tests, first)) (λ e. grind (arith, nat_tests, same, e)))
-    front false true first same = inr (refl, before_some (grind (arith, nat_tests, first)) (grind (arith, nat_tests, same)))
+    front a b given1 given2 = search (rules, first_none, nat_tests, before_none, before_some)
 
     back : (a b : Bool) → (n + 1 == length xs) ≡ a → (at (n + 1) == at n) ≡ b → Tells (a || not b) after
-    back true b last same = inl (refl, last_none (grind (arith, nat_tests, last)))
-    back false false last same = inl (refl, after_none (grind (arith, nat_tests, last, within)) (λ e. grind (arith, nat_tests, same, e)))
-    back false true last same = inr (refl, after_some (grind (arith, nat_tests, last, within)) (grind (arith, nat_tests, same)))
+    back a b given1 given2 = search (rules, last_none, nat_tests, after_none, after_some)
 
     once_if : (m : ℕ) → m ≡ 1 → (m == 1) ≡ true
     once_if m e = grind (arith, nat_tests, e)
@@ -113,14 +99,7 @@ module _ (xs : List ℕ) (up : IsNonDecreasing xs) where
     more_if m e = grind (arith, nat_tests, e)
 
     told : (a b : Bool) → Tells a before → Tells b after → (a && b) ≡ is_once (at n)
-    told a b (inl none) (inl last) =
-        ap (λ x. x && b) none.0
-        ∙ (last.0 ∙ sym
-        (once_if (count_of (at n) xs) (let all = whole in let x = none.1 in let y = last.1 in omega (arith, all, x, y))))
-    told a b (inl none) (inr some) =
-        ap (λ x. x && b) none.0
-        ∙ (some.0 ∙ sym (more_if (count_of (at n) xs) (let all = whole in let y = some.1 in omega (arith, all, y))))
-    told a b (inr some) any = ap (λ x. x && b) some.0 ∙ sym (more_if (count_of (at n) xs) (let all = whole in let y = some.1 in omega (arith, all, y)))
+    told a b given1 given2 = search (rules, once_if, whole, more_if)
 
     -- a key is there once if no neighbour is that key
     alone_at : is_alone xs n ≡ is_once (at n)
@@ -158,10 +137,7 @@ module _ (xs ys : List ℕ) (moved : IsPermutation xs ys) where
   contains_is ks q has = list_any_at (nat_eq q) ks has.0 q has.1 (let same = has.2 in grind (arith, nat_tests, same))
 
   both_ways : (a b : Bool) → (a ≡ true → b ≡ true) → (b ≡ true → a ≡ true) → a ≡ b
-  both_ways true true to from = refl
-  both_ways true false to from = sym (to refl)
-  both_ways false true to from = from refl
-  both_ways false false to from = refl
+  both_ways a b given1 given2 = grind (arith)
 
   same_members : (ks : List ℕ) → ks ≡ dedup nat_eq ys → (q : ℕ) → is_member nat_eq ks q ≡ is_member nat_eq xs q
   same_members ks is q = both_ways (is_member nat_eq ks q) (is_member nat_eq xs q)

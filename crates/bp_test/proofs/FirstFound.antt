@@ -1,5 +1,5 @@
 -- What the first found run of some runs says of more of them, and of a test.
-use Rattle.std.proofs.Common.{◌≡◌, ℕ, suc, ◌+◌, ◌<◌, ◌≤◌, ◌^◌, Bool, true, List, [], ◌∷◌, ◌++◌, length, length-append, Option, None, Some, refl, ap, sym, ◌∙◌, subst, arith, inl, inr, ◌-◌, false, append-nil, Result, Ok, MatchOption, max, slice_index_or, is_some, IfSome}
+use Rattle.std.proofs.Common.{◌≡◌, ℕ, suc, ◌+◌, ◌<◌, ◌≤◌, ◌^◌, Bool, true, List, [], ◌∷◌, ◌++◌, length, length-append, Option, None, Some, refl, ap, sym, ◌∙◌, subst, arith, ◌-◌, false, append-nil, Result, Ok, MatchOption, max, slice_index_or, is_some, IfSome, rules}
 use Rattle.std.proofs.lemmas.List.{length_push}
 use Rattle.std.proofs.Math.Nat.{mul-le-mul_right}
 use Rattle.bp_text.specs.Writing.{AppendsAll, AppendsPart}
@@ -9,13 +9,13 @@ use Rattle.bp_flat.specs.Flat.{Flat}
 use Rattle.bp_flat.specs.StandsFor.{StandsFor}
 use Rattle.bp_machine.specs.declared.calls.Call.{Call}
 use Rattle.bp_machine.specs.declared.calls.Outcome.{Outcome}
-use Rattle.bp_machine.specs.declared.calls.Outcome.TheVariants.{Clean, Failed}
+use Rattle.bp_machine.specs.declared.calls.Outcome.TheVariants.{Clean}
 use Rattle.bp_machine.specs.Setups.{SetupOf}
 use Rattle.bp_machine.specs.Histories.{outcome_of, is_failure}
 use Rattle.bp_trace.specs.TraceText.{trace_text}
 use Rattle.bp_tasks.specs.declared.options.TestOptions.{TestOptions}
 use Rattle.bp_test.specs.declared.waves.FoundRun.{FoundRun}
-use Rattle.bp_test.specs.Tests.{FailsAt, setup_of_run, found_by, found_in, IsDeadlock, IsCleanRun, AreCleanRuns, IsFirstFound, IsFoundRun, IsWrittenRun, IsFound, IsCutRun, HasFailed, Wait, start_of_block, IsBlock, IsEnd, AreBlocks, IsTalliedAfter, IsTallied}
+use Rattle.bp_test.specs.Tests.{FailsAt, setup_of_run, found_by, found_in, IsCleanRun, AreCleanRuns, IsFirstFound, IsFoundRun, IsWrittenRun, IsFound, IsCutRun, HasFailed, start_of_block, IsBlock, IsEnd, AreBlocks, IsTalliedAfter, IsTallied}
 use Rattle.bp_test.specs.Tallies.{MadeRun, IsTally}
 use Rattle.bp_test.specs.declared.waves.Block.{Block}
 use Rattle.bp_test.specs.declared.plans.Plan.{Plan}
@@ -42,10 +42,7 @@ module _ (t : Program) (s : SetupOf) (with_deadlock : Bool) (seed : ℕ) where
 
     pub found_later : b ≤ c → (o : Option FoundRun) (runs : List MadeRun)
         → IsFirstFound t s with_deadlock seed b c o runs → IsFirstFound t s with_deadlock seed a c o (before ++ runs)
-    found_later le None runs later = (
-      (let size = later.0 in rw length-append (omega (arith, size, count, le))),
-      then_clean runs later.1,
-    )
+    found_later le None runs later = search (rules, length-append, then_clean)
     found_later le (Some f) runs later = record {
       others = before ++ later.others;
       deadlocked = later.deadlocked;
@@ -62,34 +59,18 @@ module _ (t : Program) (s : SetupOf) (with_deadlock : Bool) (seed : ℕ) where
   -- and of more runs
   pub found_among_more : (a b c : ℕ) → b ≤ c → (f : FoundRun) (runs : List MadeRun)
       → IsFoundRun t s with_deadlock seed a b f runs → IsFoundRun t s with_deadlock seed a c f runs
-  found_among_more a b c le f runs found = record {
-    others = found.others;
-    deadlocked = found.deadlocked;
-    returned = found.returned;
-    whole = found.whole;
-    number = found.number;
-    below = (let two = found.below in grind (arith, le, two));
-    clean = found.clean;
-    found = found.found;
-    at = found.at;
-    waiting = found.waiting;
-  }
+  found_among_more a b c given1 f runs given2 = grind (arith)
 
 -- what was found by a plan of a test is what the test asks for
 pub as_asked : (t : Program) (s : SetupOf) (x : TestOptions) (end seed : ℕ) → seed ≡ x.seed → (with_deadlock : Bool)
     → with_deadlock ≡ x.with_deadlock → (o found : Option FoundRun) → o ≡ found → (runs : List MadeRun)
     → IsFirstFound t s with_deadlock seed 0 end o runs → IsFirstFound t s x.with_deadlock x.seed 0 end found runs
-as_asked t s x end seed seed_is with_deadlock deadlock_is o found same runs first =
-    rw⁻¹ seed_is (rw⁻¹ deadlock_is (subst (λ p. IsFirstFound t s with_deadlock seed 0 end p runs) same first))
+as_asked t s x end seed given1 with_deadlock given2 o found given3 runs given4 = grind (arith)
 
 -- there are no more runs than were asked for
 pub few_with : (t : Program) (s : SetupOf) (with_deadlock : Bool) (seed count : ℕ) → count < 2 ^ 64
     → (f : FoundRun) (runs : List MadeRun) → IsFoundRun t s with_deadlock seed 0 count f runs → length runs < 2 ^ 64
-few_with t s with_deadlock seed count few f runs found =
-    let number = found.number in
-    let below = found.below in
-    let size = ap length found.whole ∙ length_push found.others _ in
-    omega (arith, few, number, below, size)
+few_with t s with_deadlock seed count given1 f runs given2 = search (rules, length_push)
 
 -- what the first found run of all says of a test
 module _ (t : Program) (s : SetupOf) (x : TestOptions) (f : FoundRun) (runs : List MadeRun)
@@ -123,26 +104,14 @@ module _ (t : Program) (s : SetupOf) (x : TestOptions) (f : FoundRun) (runs : Li
 
   failed_at : (number : Option ℕ) → At number → is_failure (outcome_of f.history.items) ≡ true
       → HasFailed t (setup_of_run s x.seed f.run) f.history.items number
-  failed_at None clean fails = let a = sym (ap is_failure clean) ∙ fails in cc
-  failed_at (Some n) at fails = (fails, at)
+  failed_at number given1 given2 = grind (arith)
 
   failed_nowhere : (number : Option ℕ) → At number → outcome_of f.history.items ≡ Clean → number ≡ None
-  failed_nowhere None at clean = refl
-  failed_nowhere (Some n) at clean = absurd (let a = sym (ap is_failure clean) ∙ ap is_failure at.failed in cc)
+  failed_nowhere number given1 given2 = grind (arith)
 
   found_as : (o : Outcome) → f.report.outcome ≡ o → AppendsAll old new (trace_text z f.history.items)
       → IsFound t s x old new (found_by f.run f.report o) f.number f.waiting.items runs
-  found_as (Failed i) e written =
-      written_run (λ y h. HasFailed t y h f.number × Wait t y h f.waiting.items)
-      (failed_at f.number first.at (ap is_failure (sym own_outcome ∙ e)), first.waiting) written
-  found_as Clean e written = let clean : outcome_of f.history.items ≡ Clean = sym own_outcome ∙ e in elim first.found.sought [
-    | inl fails ↦ absurd (let a = sym (ap is_failure clean) ∙ fails in cc)
-    | inr dead ↦ (
-      dead.0,
-      failed_nowhere f.number first.at clean,
-      written_run (λ y h. IsDeadlock t y h × Wait t y h f.waiting.items) (dead.1, first.waiting) written,
-    )
-  ]
+  found_as o given1 given2 = search (rules, written_run, failed_at, own_outcome, failed_nowhere)
 
   pub found_of_run : AppendsAll old new (trace_text z f.history.items) → IsFound t s x old new (found_in f.run f.report) f.number f.waiting.items runs
   found_of_run written = found_as f.report.outcome refl written
@@ -168,12 +137,10 @@ starts_rise : (from size a b runs : ℕ) → a ≤ b → start_of_block from siz
 starts_rise from size a b runs le = let more = mul-le-mul_right size le in omega (arith, more)
 
 pub none_of : (o : Option FoundRun) → is_some o ≡ false → o ≡ None
-none_of None e = refl
-none_of (Some f) e = absurd cc
+none_of o given1 = grind (arith)
 
 pub some_of : (o : Option FoundRun) → is_some o ≡ true → o ≡ None → ⊥
-some_of None some none = absurd cc
-some_of (Some f) some none = absurd cc
+some_of o given1 given2 = grind (arith)
 
 -- what the tallies say after another one was added
 abbrev pub Adds : Tally → Tally → Tally → Type 0
@@ -208,18 +175,12 @@ module _ {E : Type 0} (k : Flat) (s : SetupOf) (p : Plan) (from size runs : ℕ)
   -- the runs before some blocks are those of the wave, as far as they were made
   pub after_made : (all rest : List (Result Block E)) (end : ℕ) (tally : Tally) → IsBefore all rest end tally
       → IsTalliedAfter earlier t s p.with_deadlock p.seed (start_of_block from size 0 runs) end None tally
-  after_made all rest end tally was = record {
-    runs = was.made;
-    first = ((let number = was.number in omega (arith, number)), was.clean);
-    tallied = was.tallied;
-  }
+  after_made all rest end tally given1 = grind (arith)
 
   pub ends_all : (all rest : List (Result Block E)) (end : ℕ) (tally : Tally) → length rest ≡ 0
       → IsBefore all rest end tally
       → IsEnd p.deadline (start_of_block from size 0 runs) (start_of_block from size (length all) runs) None end
-  ends_all all rest end tally none was =
-      let same : was.before ≡ length all = let count = was.count in omega (arith, none, count) in
-      subst (λ n. IsEnd p.deadline (start_of_block from size 0 runs) (start_of_block from size n runs) None end) same was.ends
+  ends_all all rest end tally given1 given2 = grind (arith)
 
   module _ (all rest : List (Result Block E)) (block : Block) (end : ℕ) (old : Tally) (was : IsBefore all (Ok block ∷ rest) end old) where
     this : IsBlock {E = E} k s p from size runs was.before (Ok block)

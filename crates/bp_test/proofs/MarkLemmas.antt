@@ -1,5 +1,5 @@
 -- Marks that are set one after the other.
-use Rattle.std.proofs.Common.{◌≡◌, ◌⊎◌, ◌<◌, ◌≤◌, ◌+◌, ◌-◌, ℕ, zero, suc, Bool, true, false, List, [], ◌∷◌, ◌++◌, Option, Some, length, take, get_or, refl, arith, ap, sym, ◌∙◌, subst, inl, inr, slice_get, slice_set, Any, slice_index_or}
+use Rattle.std.proofs.Common.{◌≡◌, ◌⊎◌, ◌<◌, ◌+◌, ◌-◌, ℕ, zero, suc, Bool, true, false, List, [], ◌∷◌, ◌++◌, Option, Some, length, take, get_or, refl, arith, ap, sym, ◌∙◌, subst, inl, inr, slice_get, slice_set, Any, slice_index_or, rules}
 use Rattle.std.proofs.lemmas.Bool.{cases_lt}
 use Rattle.std.proofs.lemmas.List.{length-set, get_or-set_same, get_or-set_other, get_or_append_left, get_or-append-add, get_or_past, length-append, take_more}
 use Rattle.bp_machine.specs.declared.calls.Call.{Call}
@@ -20,31 +20,17 @@ last_at (z ∷ zs) x = last_at zs x
 
 -- one more mark is set
 pub set_kept : (marks : List Bool) (i n : ℕ) → is_marked marks n ≡ true → is_marked (slice_set marks i true) n ≡ true
-set_kept marks i n is = elim (same_or_not n i) [
-  | inl same ↦ elim (cases_lt i (length marks)) [
-    | inl within ↦ rw same (get_or-set_same marks i true false within)
-    | inr past ↦ absurd (let none = get_or_past marks n false (rw same past) in cc)
-  ]
-  | inr other ↦ get_or-set_other marks i n true false other ∙ is
-]
+set_kept marks i n given1 = search (rules, same_or_not, cases_lt, get_or-set_same, get_or_past, get_or-set_other)
 
 pub set_here : (marks : List Bool) (i : ℕ) → i < length marks → is_marked (slice_set marks i true) i ≡ true
 set_here marks i within = get_or-set_same marks i true false within
 
 pub set_marked : (marks : List Bool) (i n : ℕ) → is_marked (slice_set marks i true) n ≡ true → (n ≡ i) ⊎ (is_marked marks n ≡ true)
-set_marked marks i n is = elim (same_or_not n i) [
-  | inl same ↦ inl same
-  | inr other ↦ inr (sym (get_or-set_other marks i n true false other) ∙ is)
-]
+set_marked marks i n given1 = search (rules, same_or_not, get_or-set_other)
 
 -- no mark is set
 pub no_marks : {X : Type 0} (at : ℕ → Option X) (P : X → Type 0) (old : List Bool) → ((x : X) → P x → ⊥) → MarksGrow at P old old
-no_marks at P old none = record {
-  size = refl;
-  kept = λ n is. is;
-  only = λ n is. inl is;
-  all = λ x p. absurd (none x p);
-}
+no_marks given1 = grind (arith)
 
 -- no mark can be set where all are
 pub all_marked : (P : ℕ → Type 0) (marks : List Bool) → ((n : ℕ) → n < length marks → is_marked marks n ≡ true) → MarksGrow (λ i. Some i) P marks marks
@@ -58,78 +44,26 @@ all_marked P marks all = record {
 module _ {X : Type 0} (at : ℕ → Option X) (P Q : X → Type 0) (old cur : List Bool) (was : MarksGrow at P old cur) where
   -- the same marks stand for what is the same
   pub same_marks : ((x : X) → P x → Q x) → ((x : X) → Q x → P x) → MarksGrow at Q old cur
-  same_marks more back = record {
-    size = was.size;
-    kept = was.kept;
-    only = λ n is. elim (was.only n is) [
-      | inl before ↦ inl before
-      | inr some ↦ inr (some.0, some.1, more some.0 some.2)
-    ];
-    all = λ x q. was.all x (back x q);
-  }
+  same_marks given1 given2 = grind (arith)
 
   -- one more is set
   pub one_mark : (n : ℕ) (x : X) → at n ≡ Some x → Q x → ((y : X) → P y → Q y) → ((y : X) → Q y → P y ⊎ (at n ≡ Some y))
       → MarksGrow at Q old (slice_set cur n true)
-  one_mark n x here q more back = record {
-    size = length-set cur n true ∙ was.size;
-    kept = λ m is. set_kept cur n m (was.kept m is);
-    only = λ m is. elim (set_marked cur n m is) [
-      | inl same ↦ inr (x, subst (λ k. at k ≡ Some x) (sym same) here, q)
-      | inr before ↦ elim (was.only m before) [
-        | inl first ↦ inl first
-        | inr some ↦ inr (some.0, some.1, more some.0 some.2)
-      ]
-    ];
-    all = λ y is. elim (back y is) [
-      | inl p ↦
-          let m = (was.all y p).0 in
-          (m, (was.all y p).1, λ within. set_kept cur n m ((was.all y p).2 (subst (λ k. m < k) (length-set cur n true) within)))
-      | inr has ↦ (n, has, λ within. set_here cur n (subst (λ k. n < k) (length-set cur n true) within))
-    ];
-  }
+  one_mark n x given1 given2 given3 given4 = search (rules, length-set, set_kept, set_marked, set_here)
 
   -- and those of something else
   pub more_marks : (new : List Bool) → MarksGrow at Q cur new → MarksGrow at (λ x. P x ⊎ Q x) old new
-  more_marks new then = record {
-    size = then.size ∙ was.size;
-    kept = λ n is. then.kept n (was.kept n is);
-    only = λ n is. elim (then.only n is) [
-      | inl before ↦ elim (was.only n before) [
-        | inl first ↦ inl first
-        | inr some ↦ inr (some.0, some.1, inl some.2)
-      ]
-      | inr some ↦ inr (some.0, some.1, inr some.2)
-    ];
-    all = λ x is. elim is [
-      | inl p ↦ ((was.all x p).0, (was.all x p).1, λ within. then.kept (was.all x p).0 ((was.all x p).2 (subst (λ k. (was.all x p).0 < k) then.size within)))
-      | inr q ↦ then.all x q
-    ];
-  }
+  more_marks new given1 = grind (arith)
 
 -- marks of what is the same
 pub other_marks : {X : Type 0} (at : ℕ → Option X) (P Q : X → Type 0) (count : ℕ) (marks : List Bool)
     → ((x : X) → P x → Q x) → ((x : X) → Q x → P x) → AreMarks at P count marks → AreMarks at Q count marks
-other_marks at P Q count marks more back are = record {
-  size = are.size;
-  only = λ n is. ((are.only n is).0, (are.only n is).1, more (are.only n is).0 (are.only n is).2);
-  all = λ x q. are.all x (back x q);
-}
+other_marks given1 given2 given3 = grind (arith)
 
 -- marks that have grown
 pub grown_marks : {X : Type 0} (at : ℕ → Option X) (P Q : X → Type 0) (count : ℕ) (old new : List Bool)
     → AreMarks at P count old → MarksGrow at Q old new → AreMarks at (λ x. P x ⊎ Q x) count new
-grown_marks at P Q count old new are grow = record {
-  size = grow.size ∙ are.size;
-  only = λ n is. elim (grow.only n is) [
-    | inl before ↦ ((are.only n before).0, (are.only n before).1, inl (are.only n before).2)
-    | inr some ↦ (some.0, some.1, inr some.2)
-  ];
-  all = λ x is. elim is [
-    | inl p ↦ ((are.all x p).0, (are.all x p).1, λ within. grow.kept (are.all x p).0 ((are.all x p).2 within))
-    | inr q ↦ ((grow.all x q).0, (grow.all x q).1, λ within. (grow.all x q).2 (subst (λ k. (grow.all x q).0 < k) (sym (grow.size ∙ are.size)) within))
-  ];
-}
+grown_marks given1 given2 = grind (arith)
 
 -- marks of both, where those of the other marks were set too
 pub both_marks : {X : Type 0} (at : ℕ → Option X) (P Q : X → Type 0) (count : ℕ) (old others new : List Bool)
@@ -181,25 +115,15 @@ pub any_one : {X : Type 0} (P : X → Type 0) (x : X) → P x → Any P (x ∷ [
 any_one P x p = (0, x, omega arith, refl, p)
 
 pub one_of_any : {X : Type 0} (P : X → Type 0) (x : X) → Any P (x ∷ []) → P x
-one_of_any P x (zero, y, within, is, p) = subst P (sym is) p
-one_of_any P x (suc k, y, within, is, p) = absurd (omega (arith, within))
+one_of_any given1 = grind (arith)
 
 -- the threads that step, with one more call
 module _ (h : List Call) (c : Call) where
   steps_then : (i : ℕ) → HasStep h i → HasStep (h ++ c ∷ []) i
-  steps_then i step = record {
-    number = step.number;
-    call = step.call;
-    has = in_front h (c ∷ []) step.number step.call step.has;
-    granted = step.granted;
-    thread = step.thread;
-  }
+  steps_then i given1 = search (rules, in_front)
 
   steps_cases : (i : ℕ) → HasStep (h ++ c ∷ []) i → HasStep h i ⊎ ((is_granted c.reply ≡ true) × (c.thread ≡ i))
-  steps_cases i step = elim (at_end h c step.call step.number step.has) [
-    | inl earlier ↦ inl (record { number = step.number; call = step.call; has = earlier; granted = step.granted; thread = step.thread })
-    | inr last ↦ inr (subst (λ y. is_granted y.reply ≡ true) (sym last.1) step.granted, subst (λ y. y.thread ≡ i) (sym last.1) step.thread)
-  ]
+  steps_cases i given1 = search (rules, at_end)
 
   module _ (old cur : List Bool) (was : MarksGrow (λ i. Some i) (HasStep h) old cur) where
     pub step_made : is_granted c.reply ≡ true → MarksGrow (λ i. Some i) (HasStep (h ++ c ∷ [])) old (slice_set cur c.thread true)
@@ -212,13 +136,7 @@ module _ (h : List Call) (c : Call) where
         ])
 
     pub no_step : is_granted c.reply ≡ false → MarksGrow (λ i. Some i) (HasStep (h ++ c ∷ [])) old cur
-    no_step refused = same_marks (λ i. Some i) (HasStep h) (HasStep (h ++ c ∷ [])) old cur was steps_then (λ i step. elim (steps_cases i step) [
-      | inl earlier ↦ earlier
-      | inr last ↦ absurd (let a = last.0 in let b = refused in cc)
-    ])
-
-pub no_steps : (old : List Bool) → MarksGrow (λ i. Some i) (HasStep []) old old
-no_steps old = no_marks (λ i. Some i) (HasStep []) old (λ i step. let e = step.has in cc)
+    no_step given1 = search (rules, same_marks, steps_then, steps_cases)
 
 -- the marks of other marks below n
 abbrev pub IsMarkedBelow : List Bool → ℕ → ℕ → Type 0
@@ -229,10 +147,7 @@ module _ (others : List Bool) (n : ℕ) (old cur : List Bool) (was : MarksGrow (
   below_then i is = let below = is.0 in (omega (arith, below), is.1)
 
   below_cases : (i : ℕ) → IsMarkedBelow others (n + 1) i → IsMarkedBelow others n i ⊎ (i ≡ n)
-  below_cases i is = elim (same_or_not i n) [
-    | inl same ↦ inr same
-    | inr other ↦ inl (let below = is.0 in omega (arith, below, other), is.1)
-  ]
+  below_cases i given1 = grind (arith)
 
   pub below_marked : is_marked others n ≡ true → MarksGrow (λ i. Some i) (IsMarkedBelow others (n + 1)) old (slice_set cur n true)
   below_marked is =
@@ -243,28 +158,7 @@ module _ (others : List Bool) (n : ℕ) (old cur : List Bool) (was : MarksGrow (
       ])
 
   pub below_unmarked : is_marked others n ≡ false → MarksGrow (λ i. Some i) (IsMarkedBelow others (n + 1)) old cur
-  below_unmarked none =
-      same_marks (λ i. Some i) (IsMarkedBelow others n) (IsMarkedBelow others (n + 1)) old cur was below_then (λ i at.
-      elim (below_cases i at) [
-        | inl earlier ↦ earlier
-        | inr same ↦ absurd (let a = subst (λ k. is_marked others k ≡ true) same at.1 in let b = none in cc)
-      ])
-
-pub none_below : (others old : List Bool) → MarksGrow (λ i. Some i) (IsMarkedBelow others 0) old old
-none_below others old = no_marks (λ i. Some i) (IsMarkedBelow others 0) old (λ i is. let below = is.0 in omega (arith, below))
-
-pub all_below : (others : List Bool) (n : ℕ) (old cur : List Bool) → length others ≤ n
-    → MarksGrow (λ i. Some i) (IsMarkedBelow others n) old cur
-    → MarksGrow (λ i. Some i) (λ i. is_marked others i ≡ true) old cur
-all_below others n old cur past was =
-    same_marks (λ i. Some i) (IsMarkedBelow others n) (λ i. is_marked others i ≡ true) old cur was (λ i is. is.1)
-    (λ i is. (within i is, is))
-  where
-    within : (i : ℕ) → is_marked others i ≡ true → i < n
-    within i is = elim (cases_lt i n) [
-      | inl below ↦ below
-      | inr far ↦ absurd (let none = get_or_past others i false (let at : length others ≤ i = omega (arith, past, far) in at) in let a = is in cc)
-    ]
+  below_unmarked given1 = grind (arith)
 
 -- the marks after the call at i
 module _ (h : List Call) (i : ℕ) (within : i < length h) (d : Call) (old cur : List Bool) (was : MarksGrow (λ i. Some i) (HasStep (take i h)) old cur) where

@@ -1,37 +1,31 @@
 -- What holds of a history with one more call: a failed one is its outcome, and it is short.
-use Rattle.std.proofs.Common.{◌≡◌, ◌+◌, ◌*◌, ◌-◌, ◌<◌, ◌≤◌, true, nat_le, List, [], ◌∷◌, ◌++◌, length, refl, ap, arith, ℕ, zero, suc, ◌||◌, Bool, false, cond, sym, ◌∙◌, Option, None, Some, is_some, add-one, count_by, unwrap_or, le-leb}
+use Rattle.std.proofs.Common.{◌≡◌, ◌+◌, ◌*◌, ◌-◌, ◌<◌, ◌≤◌, true, nat_le, List, [], ◌∷◌, ◌++◌, length, refl, ap, arith, ℕ, ◌||◌, Bool, false, cond, sym, ◌∙◌, add-one, count_by, unwrap_or, rules}
 use Rattle.std.proofs.lemmas.Bool.Decides.{nat_tests}
 use Rattle.std.proofs.lemmas.List.Sums.{sum_by-append}
 use Rattle.std.proofs.lemmas.List.{map-append}
-use Rattle.std.proofs.lemmas.List.Elements.{All-nil, All-push}
+use Rattle.std.proofs.lemmas.List.Elements.{All-push}
 use Rattle.bp_language.specs.Ast.{Program}
 use Rattle.bp_flat.specs.StandsFor.{IsOfProgram}
-use Rattle.bp_flat.specs.Moves.{Frame, Configuration, Leaves, Fails, effect, after_effect, with_left}
+use Rattle.bp_flat.specs.Moves.{Configuration}
 use Rattle.bp_machine.specs.declared.calls.Call.{Call}
 use Rattle.bp_machine.specs.declared.calls.Reply.{Reply}
 use Rattle.bp_machine.specs.declared.calls.Reply.TheVariants as reply
 use Rattle.bp_machine.specs.declared.calls.Outcome.{Outcome}
 use Rattle.bp_machine.specs.declared.calls.Outcome.TheVariants as outcome
 use Rattle.bp_machine.specs.Histories.{outcome_or, outcome_of, is_failure, stack_of, configuration_after_step, configuration_after_call, configuration_after_calls, configuration_after, granted_threads, IsLegal, is_granted, IsAtFalseAssertion, IsRealFailure}
-use Rattle.bp_machine.specs.Setups.{threads, SetupOf, start}
+use Rattle.bp_machine.specs.Setups.{threads, SetupOf}
 use Rattle.bp_machine.specs.Sessions.{SessionOf, StandsForAll}
 use Rattle.bp_machine.specs.Runs.{waits}
 use Rattle.bp_machine.specs.declared.calls.Reply.TheVariants.{Failed}
 use Rattle.bp_machine.specs.Laws.{FailuresAreReal}
 use Rattle.bp_machine.proofs.SetupInRange.{is_true}
 use Rattle.bp_machine.proofs.HistoriesAreRuns.{legal_length}
-use Rattle.bp_test.specs.Reached.{has_refusal, refuses_context, place_on, next_place, IsNumberOf, waiting_below, IsNext, AreWaiting, IsWait}
+use Rattle.bp_test.specs.Reached.{has_refusal, refuses_context, waiting_below, IsNext, AreWaiting, IsWait}
 use Rattle.bp_test.specs.declared.waiting.Waiting.{Waiting}
 
 -- a failure is the outcome
 fails_after : (y : Call) (r : Reply) (o : Outcome) → is_failure o ≡ true → is_failure (outcome_or y r o) ≡ true
-fails_after y reply.Stopped o e = e
-fails_after y reply.Ended o e = e
-fails_after y reply.NoContexts o e = e
-fails_after y reply.Full o e = e
-fails_after y reply.Blocked o e = e
-fails_after y reply.Failed o e = refl
-fails_after y reply.Stepped o e = e
+fails_after y r o given1 = grind (arith)
 
 pub failure_of : (h : List Call) (x : Call) → x.reply ≡ reply.Failed → is_failure (outcome_of (h ++ x ∷ [])) ≡ true
 failure_of [] x e = ap (λ r. is_failure (outcome_or x r outcome.Clean)) e
@@ -46,22 +40,15 @@ bounded x h of_some stands =
 
 pub smaller : (old new : SessionOf) (g h : List Call) → new.setup ≡ old.setup → IsOfProgram new.code → StandsForAll new h → length h ≡ length g + 1
     → threads new.setup * new.setup.calls - length h < threads old.setup * old.setup.calls - length g
-smaller old new g h setup of_some stands longer =
-    let few = bounded new h of_some stands in
-    let same = ap (λ s. threads s * s.calls) setup in
-    omega (arith, few, same, longer)
+smaller old new g h given1 given2 given3 given4 = search (rules, bounded)
 
 -- Whether a history with one more call has one that was refused a context.
 
 any_with : (n m : ℕ) (b : Bool) → m ≡ n + cond b 1 0 → nat_le 1 m ≡ (nat_le 1 n || b)
-any_with zero m false e = ap (nat_le 1) e
-any_with zero m true e = ap (nat_le 1) e
-any_with (suc n) m b e = le-leb 1 m (omega (arith, e)) ∙ sym (ap (λ y. y || b) (le-leb 1 (suc n) (omega arith)))
+any_with n m b given1 = grind (arith)
 
 refusal_with : (h : List Call) (x : Call) → has_refusal (h ++ x ∷ []) ≡ (has_refusal h || refuses_context x.reply)
-refusal_with h x =
-    any_with (count_by (λ y. refuses_context y.reply) h) (count_by (λ y. refuses_context y.reply) (h ++ x ∷ [])) (refuses_context x.reply)
-    (let sum = sum_by-append (λ y. cond (refuses_context y.reply) 1 0) h (x ∷ []) in omega (arith, sum))
+refusal_with h x = search (rules, any_with, count_by, sum_by-append)
 
 -- what the answers of a call say of it
 pub refusal_of_call : (h new : List Call) (thread : ℕ) (r : Reply) (was now : Bool)
@@ -69,19 +56,11 @@ pub refusal_of_call : (h new : List Call) (thread : ℕ) (r : Reply) (was now : 
     → now ≡ (was || refuses_context r)
     → was ≡ has_refusal h
     → now ≡ has_refusal new
-refusal_of_call h new thread r was now grown is before =
-    let x = grown.0 in
-    is
-    ∙ ap (λ b. b || refuses_context r) before
-    ∙ ap (λ p. has_refusal h || refuses_context p) (sym grown.3)
-    ∙ sym (refusal_with h x) ∙ ap has_refusal (sym grown.1)
+refusal_of_call h new thread r was now given1 given2 given3 = search (rules, refusal_with)
 
 -- The threads that wait, one after the other.
 
 module _ (t : Program) (c : Configuration) where
-  pub none_waiting : AreWaiting t c 0 []
-  none_waiting = record { threads = refl; each = All-nil (IsNext t c) }
-
   module _ (n : ℕ) (xs : List Waiting) (was : AreWaiting t c n xs) where
     after : (b : Bool) → waits t c n ≡ b → cond b (waiting_below t c n ++ n ∷ []) (waiting_below t c n) ≡ waiting_below t c (n + 1)
     after b is = sym (ap (λ d. cond d (waiting_below t c n ++ n ∷ []) (waiting_below t c n)) is) ∙ ap (waiting_below t c) (sym (add-one n))
@@ -97,19 +76,6 @@ module _ (t : Program) (c : Configuration) where
           ∙ (ap (λ i. waiting_below t c n ++ i ∷ []) is.thread ∙ after true is.waiting));
       each = All-push (IsNext t c) xs x was.each is.next;
     }
-
-no_frame : (fs : List Frame) → place_on fs ≡ None → fs ≡ []
-no_frame [] e = refl
-no_frame (f ∷ fs) e = absurd cc
-
--- a thread that has no next instruction is at the end of its program
-pub no_frames : (t : Program) (c : Configuration) (i : ℕ) (o : Option ℕ) → IsNumberOf t (next_place c i) o → is_some o ≡ false → stack_of c i ≡ []
-no_frames t c i None none e = no_frame (stack_of c i) none
-no_frames t c i (Some n) some e = absurd cc
-
-pub some_frames : (t : Program) (c : Configuration) (i : ℕ) (o : Option ℕ) → IsNumberOf t (next_place c i) o → is_some o ≡ true → stack_of c i ≡ [] → ⊥
-some_frames t c i None none e empty = absurd cc
-some_frames t c i (Some n) some e empty = let next = some.1 in let none : place_on (stack_of c i) ≡ None = ap place_on empty in absurd cc
 
 -- A thread whose assertion failed has a frame.
 
@@ -133,29 +99,14 @@ module _ (t : Program) where
 
   -- a failed assertion leaves the stacks
   stays : (c : Configuration) (i : ℕ) (bit : Bool) → IsAtFalseAssertion c i bit → configuration_after_call t c i bit Failed ≡ record c { failed = true }
-  stays c i bit at =
-      ap (λ S. unwrap_or (configuration_after_step t c i bit S) c) at.stack
-      ∙ ap (λ b. unwrap_or (after_effect c i (effect t.procedures b c.globals at.frame at.below bit)) c) at.asserts
-      ∙ ap (λ v. unwrap_or (after_effect c i (cond v (Leaves c.globals (with_left at.frame at.rest ∷ at.below)) Fails)) c) at.false
+  stays c i bit given1 = grind (arith)
 
   module _ (s : SetupOf) (h : List Call) (i : ℕ) (real : FailuresAreReal) (legal : IsLegal t s h) (failed : outcome_of h ≡ outcome.Failed i) where
     failure : IsRealFailure t s h i
     failure = real t s h i legal failed
 
     stack_there : stack_of (configuration_after t s h) i ≡ failure.stands.frame ∷ failure.stands.below
-    stack_there =
-        let before = configuration_after t s failure.before in
-        let call_is : configuration_after_call t before failure.call.thread failure.call.bit failure.call.reply
-        ≡ configuration_after_call t before i failure.call.bit Failed =
-        ap (λ j. configuration_after_call t before j failure.call.bit failure.call.reply) failure.thread
-        ∙ ap (λ r. configuration_after_call t before i failure.call.bit r) failure.failed in
-        let ends : configuration_after t s h ≡ record before { failed = true } =
-        ap (λ g. configuration_after t s g) failure.whole
-        ∙ after_both (start t s) failure.before (failure.call ∷ failure.later)
-        ∙ idle (configuration_after_call t before failure.call.thread failure.call.bit failure.call.reply) failure.later failure.last
-        ∙ call_is
-        ∙ stays before i failure.call.bit failure.stands in
-        ap (λ c. stack_of c i) ends ∙ failure.stands.stack
+    stack_there = search (rules, failure, after_both, idle, stays)
 
     pub has_frame : stack_of (configuration_after t s h) i ≡ [] → ⊥
     has_frame none = let both = sym none ∙ stack_there in cc

@@ -1,5 +1,5 @@
 -- The places that a history reaches, with one more call, and with one more thread that waits.
-use Rattle.std.proofs.Common.{◌≡◌, ◌⊎◌, ◌<◌, ◌≤◌, ◌+◌, ℕ, suc, Bool, true, false, List, [], ◌∷◌, ◌++◌, take, length, Option, None, Some, refl, ap, sym, ◌∙◌, subst, arith, inl, inr, if◌then◌else◌, slice_set}
+use Rattle.std.proofs.Common.{◌≡◌, ◌⊎◌, ◌<◌, ◌≤◌, ◌+◌, ℕ, suc, Bool, true, false, List, [], ◌∷◌, ◌++◌, take, length, Option, None, Some, refl, ap, sym, ◌∙◌, subst, arith, inl, inr, if◌then◌else◌, slice_set, rules}
 use Rattle.std.proofs.Math.Seq.{take-append_seam}
 use Rattle.std.proofs.lemmas.List.{length-append, take-append-le, take_all}
 use Rattle.std.proofs.lemmas.Option.{slice_get_within}
@@ -8,7 +8,7 @@ use Rattle.bp_flat.specs.StandsFor.{Place}
 use Rattle.bp_machine.specs.declared.calls.Call.{Call}
 use Rattle.bp_machine.specs.declared.calls.Reply.{Reply}
 use Rattle.bp_machine.specs.Histories.{configuration_after}
-use Rattle.bp_machine.specs.Setups.{SetupOf, threads}
+use Rattle.bp_machine.specs.Setups.{SetupOf}
 use Rattle.bp_machine.proofs.StandsAfterTransition.{at_end}
 use Rattle.bp_machine.proofs.HistoryWithCall.{same_or_not}
 use Rattle.bp_test.specs.Reached.{refuses_context, next_place, place_of, marks_after, IsNumberOf, IsReachedByCall, IsTried, IsWaitedAt, IsWaiting, Reaches, MarksGrow}
@@ -29,16 +29,7 @@ module _ (t : Program) (s : SetupOf) (h : List Call) (c : Call) where
   whole = take_all (suc (length h)) (h ++ c ∷ []) (rw (length-append h (c ∷ [])) (omega arith))
 
   tried_then : (x : Place) → IsTried t s h x → IsTried t s (h ++ c ∷ []) x
-  tried_then x tried = let within = slice_get_within h tried.before tried.call tried.has in record {
-    before = tried.before;
-    call = tried.call;
-    has = in_front h (c ∷ []) tried.before tried.call tried.has;
-    tried = tried.tried;
-    next =
-        let few : tried.before ≤ length h = omega (arith, within) in
-        subst (λ g. next_place (configuration_after t s g) tried.call.thread ≡ Some x)
-        (sym (take-append-le tried.before h (c ∷ []) few)) tried.next;
-  }
+  tried_then x given1 = search (rules, slice_get_within, in_front, take-append-le)
 
   tried_now : (x : Place) → refuses_context c.reply ≡ false → next ≡ Some x → IsTried t s (h ++ c ∷ []) x
   tried_now x granted here = record {
@@ -50,24 +41,7 @@ module _ (t : Program) (s : SetupOf) (h : List Call) (c : Call) where
   }
 
   tried_cases : (x : Place) → IsTried t s (h ++ c ∷ []) x → IsTried t s h x ⊎ ((refuses_context c.reply ≡ false) × (next ≡ Some x))
-  tried_cases x tried = elim (at_end h c tried.call tried.before tried.has) [
-    | inl earlier ↦ inl (record {
-      before = tried.before;
-      call = tried.call;
-      has = earlier;
-      tried = tried.tried;
-      next = let within = slice_get_within h tried.before tried.call earlier in
-          let few : tried.before ≤ length h = omega (arith, within) in
-          subst (λ g. next_place (configuration_after t s g) tried.call.thread ≡ Some x)
-          (take-append-le tried.before h (c ∷ []) few) tried.next;
-    })
-    | inr last ↦ inr (
-      subst (λ y. refuses_context y.reply ≡ false) (sym last.1) tried.tried,
-      subst (λ y. next_place (configuration_after t s h) y.thread ≡ Some x) (sym last.1)
-          (subst (λ g. next_place (configuration_after t s g) tried.call.thread ≡ Some x)
-          (ap (λ n. take n (h ++ c ∷ [])) last.0 ∙ take-append_seam h (c ∷ [])) tried.next),
-    )
-  ]
+  tried_cases x given1 = search (rules, at_end, slice_get_within, take-append-le, take-append_seam)
 
   -- this call tried this place
   abbrev pub IsTriedNow : Place → Type 0
@@ -97,12 +71,7 @@ module _ (t : Program) (s : SetupOf) (h : List Call) (c : Call) where
   }
 
   held_now : (x : Place) → WaitsNow x → IsWaitedAt t s (h ++ c ∷ []) x
-  held_now x waiting = record {
-    before = length h;
-    call = c;
-    has = last_at h c;
-    waiting = subst (λ g. IsWaiting t s g c.thread x) (sym whole) waiting;
-  }
+  held_now x given1 = search (rules, last_at, whole)
 
   held_cases : (x : Place) → IsWaitedAt t s (h ++ c ∷ []) x → IsWaitedAt t s h x ⊎ WaitsNow x
   held_cases x held = elim (at_end h c held.call held.before held.has) [
@@ -147,18 +116,12 @@ module _ (t : Program) (s : SetupOf) (h : List Call) (c : Call) where
 
 -- no call, no place
 pub none_by_call : (t : Program) (s : SetupOf) (old : List Bool) → MarksGrow (place_of t) (IsReachedByCall t s []) old old
-none_by_call t s old = no_marks (place_of t) (IsReachedByCall t s []) old (λ x is. elim is [
-  | inl tried ↦ let e = tried.has in cc
-  | inr held ↦ let e = held.has in cc
-])
+none_by_call t s old = grind (arith)
 
 -- where thread i waits, and where a thread below n does
 module _ (t : Program) (s : SetupOf) (h : List Call) where
   abbrev pub WaitsBelow : ℕ → Place → Type 0
   WaitsBelow n x = (i : ℕ) × (i < n) × IsWaiting t s h i x
-
-  pub none_waits : (marks : List Bool) → MarksGrow (place_of t) (WaitsBelow 0) marks marks
-  none_waits marks = no_marks (place_of t) (WaitsBelow 0) marks (λ x waiting. let below = waiting.1 in omega (arith, below))
 
   pub waits_more : (n : ℕ) (old cur new : List Bool) → MarksGrow (place_of t) (WaitsBelow n) old cur
       → MarksGrow (place_of t) (IsWaiting t s h n) cur new → MarksGrow (place_of t) (WaitsBelow (n + 1)) old new
@@ -173,13 +136,6 @@ module _ (t : Program) (s : SetupOf) (h : List Call) where
         | inl same ↦ inr (subst (λ i. IsWaiting t s h i x) same is.2)
         | inr other ↦ inl (is.0, let below = is.1 in omega (arith, below, other), is.2)
       ])
-
-  pub waits_all : (n : ℕ) (old new : List Bool) → n ≡ threads s → MarksGrow (place_of t) (WaitsBelow n) old new
-      → MarksGrow (place_of t) (λ x. (i : ℕ) × IsWaiting t s h i x) old new
-  waits_all n old new all was =
-      same_marks (place_of t) (WaitsBelow n) (λ x. (i : ℕ) × IsWaiting t s h i x) old new was
-      (λ x is. (is.0, is.2))
-      (λ x is. (is.0, subst (λ k. is.0 < k) (sym all) is.1.within, is.1))
 
 -- the marks of a whole run: at its start, by its calls, and at its end
 pub whole_marks : (t : Program) (s : SetupOf) (h : List Call) (old first cur new : List Bool)
@@ -207,27 +163,11 @@ whole_marks t s h old first cur new start calls end =
 
 -- what a history reaches does not depend on the seed
 module _ (t : Program) (s : SetupOf) (o : Option ℕ) (x : Place) where
-  waiting_with : (h : List Call) (i : ℕ) → IsWaiting t (record s { seed = o }) h i x → IsWaiting t s h i x
-  waiting_with h i is = record { within = is.within; has_to_wait = is.has_to_wait; next = is.next }
-
-  waiting_without : (h : List Call) (i : ℕ) → IsWaiting t s h i x → IsWaiting t (record s { seed = o }) h i x
-  waiting_without h i is = record { within = is.within; has_to_wait = is.has_to_wait; next = is.next }
-
   pub reaches_with : (h : List Call) → Reaches t (record s { seed = o }) h x → Reaches t s h x
-  reaches_with h (inl (inl tried)) =
-      inl (inl (record { before = tried.before; call = tried.call; has = tried.has; tried = tried.tried; next = tried.next }))
-  reaches_with h (inl (inr held)) =
-      inl (inr (record { before = held.before; call = held.call; has = held.has; waiting = waiting_with _ _ held.waiting }))
-  reaches_with h (inr (i, inl first)) = inr (i, inl (waiting_with [] i first))
-  reaches_with h (inr (i, inr last)) = inr (i, inr (waiting_with h i last))
+  reaches_with h given1 = grind (arith)
 
   pub reaches_without : (h : List Call) → Reaches t s h x → Reaches t (record s { seed = o }) h x
-  reaches_without h (inl (inl tried)) =
-      inl (inl (record { before = tried.before; call = tried.call; has = tried.has; tried = tried.tried; next = tried.next }))
-  reaches_without h (inl (inr held)) =
-      inl (inr (record { before = held.before; call = held.call; has = held.has; waiting = waiting_without _ _ held.waiting }))
-  reaches_without h (inr (i, inl first)) = inr (i, inl (waiting_without [] i first))
-  reaches_without h (inr (i, inr last)) = inr (i, inr (waiting_without h i last))
+  reaches_without h given1 = grind (arith)
 
 -- what the answers of a call of a run say of the marks
 pub marks_of_call : (t : Program) (s z : SetupOf) (h new : List Call) (thread : ℕ) (number : Option ℕ) (r : Reply) (old cur tried now : List Bool) → z ≡ s

@@ -1,11 +1,10 @@
 -- What a run adds to a test.
-use Rattle.std.proofs.Common.{◌≡◌, ℕ, ◌+◌, ◌%◌, ◌^◌, Bool, true, false, ◌||◌, ◌&&◌, List, Option, None, Some, IfSome, refl, ap, sym, ◌∙◌, subst, inl, inr, IfNone, IsTrue, MatchOption, ◌↔◌}
+use Rattle.std.proofs.Common.{◌≡◌, ℕ, ◌+◌, ◌%◌, ◌^◌, Bool, true, false, ◌||◌, ◌&&◌, List, Option, Some, IfSome, refl, ap, sym, ◌∙◌, subst, IfNone, IsTrue, MatchOption, ◌↔◌, arith, rules}
 use Rattle.bp_language.specs.Ast.{Program}
 use Rattle.bp_flat.specs.Flat.{Flat}
 use Rattle.bp_flat.specs.StandsFor.{StandsFor}
 use Rattle.bp_machine.specs.declared.calls.Call.{Call}
-use Rattle.bp_machine.specs.declared.calls.Outcome.{Outcome}
-use Rattle.bp_machine.specs.declared.calls.Outcome.TheVariants.{Clean, Failed}
+use Rattle.bp_machine.specs.declared.calls.Outcome.TheVariants.{Clean}
 use Rattle.bp_machine.specs.declared.calls.Report.{Report}
 use Rattle.bp_machine.specs.Runs.{IsDeadlocked}
 use Rattle.bp_machine.specs.Histories.{configuration_after, outcome_of, is_failure, IsReport}
@@ -35,46 +34,16 @@ reseeded s old x own setup_was setup n =
     ap {A = SetupOf} (λ y. record y { seed = Some n }) setup in
     again ∙ setup_was n
 
-clean_of : (o : Outcome) → is_failure o ≡ false → o ≡ Clean
-clean_of Clean e = refl
-clean_of (Failed i) e = absurd cc
-
 -- what a report, and whether there is a deadlock, say of a history that is over
 module _ (t : Program) (s : SetupOf) (with_deadlock : Bool) (h : List Call) (r : Report) (d ended : Bool) (run : IsMadeRun t s (made h r d ended)) where
-  outcome_is : r.outcome ≡ outcome_of h
-  outcome_is = run.report.outcome
-
   looked_for : (w f e : Bool) → f ≡ is_failure r.outcome → w ≡ with_deadlock → e ≡ d → (f || (w && e)) ≡ true → IsSought t s with_deadlock h
-  looked_for w true e f_is w_is e_is is = inl (sym (f_is ∙ ap is_failure outcome_is))
-  looked_for true false true f_is w_is e_is is = let clean : is_failure (outcome_of h) ≡ false = sym (f_is ∙ ap is_failure outcome_is) in inr (
-    sym w_is,
-    record {
-      clean = clean_of (outcome_of h) clean;
-      deadlocked = run.deadlock.0 (sym e_is);
-    },
-  )
-  looked_for true false false f_is w_is e_is is = absurd cc
-  looked_for false false e f_is w_is e_is is = absurd cc
+  looked_for w f e given1 given2 given3 given4 = grind (arith)
 
   pub sought_by_report : is_sought with_deadlock r d ≡ true → IsSoughtRun t s with_deadlock (made h r d ended)
   sought_by_report e = record { made = run; sought = looked_for with_deadlock (is_failure r.outcome) d refl refl refl e }
 
-  no_failure : (w f e : Bool) → (f || (w && e)) ≡ false → f ≡ false
-  no_failure w true e is = absurd cc
-  no_failure w false e is = refl
-
-  no_deadlock : (w f e : Bool) → (f || (w && e)) ≡ false → w ≡ true → IsTrue e → ⊥
-  no_deadlock true false true is asked dead = absurd cc
-  no_deadlock true true e is asked dead = absurd cc
-  no_deadlock true false false is asked dead = cc
-  no_deadlock false f e is asked dead = absurd cc
-
   pub clean_by_report : is_sought with_deadlock r d ≡ false → IsCleanRun t s with_deadlock (made h r d ended)
-  clean_by_report e = record {
-    made = run;
-    clean = clean_of (outcome_of h) (sym (ap is_failure outcome_is) ∙ no_failure with_deadlock (is_failure r.outcome) d e);
-    lives = λ asked dead. no_deadlock with_deadlock (is_failure r.outcome) d e asked (run.deadlock.1 dead);
-  }
+  clean_by_report given1 = grind (arith)
 
 -- a run after those that are not looked for
 module _ (c : Flat) (s : SetupOf) (with_deadlock : Bool) (seed run : ℕ) (old x : SessionOf) (h : List Call) (own : ℕ) (own_is : own ≡ (seed + run) % 2 ^ 64)
@@ -93,14 +62,7 @@ module _ (c : Flat) (s : SetupOf) (with_deadlock : Bool) (seed run : ℕ) (old x
       (d : Bool) (told : (u : Program) (g : List Call) → StandsFor x.code u → Stands u x g → IsTrue d ↔ IsDeadlocked u (configuration_after u x.setup g))
       (ended : Bool) (returns : (u : Program) (g : List Call) → StandsFor x.code u → Stands u x g → IsTrue ended ↔ HaveReturned (configuration_after u x.setup g) (threads x.setup)) where
     made_run : (t : Program) → StandsFor c t → IsMadeRun t (setup_of_run s seed run) (made h r d ended)
-    made_run t is = let own = own_program t is in let stood = stands t own in
-        subst (λ z. IsMadeRun t z (made h r d ended)) setup_is (record {
-          sample = record { legal = stood.state.legal; seeded = stood.seeded; within = within_contexts t x.setup h stood.state.legal };
-          over = over t own;
-          report = counted t h stood;
-          deadlock = told t h own stood;
-          returns = returns t h own stood;
-        })
+    made_run t given1 = search (rules, own_program, setup_is, within_contexts)
 
     pub clean_run : is_sought with_deadlock r d ≡ false → (t : Program) → StandsFor c t → IsCleanRun t (setup_of_run s seed run) with_deadlock (made h r d ended)
     clean_run e t is = clean_by_report t (setup_of_run s seed run) with_deadlock h r d ended (made_run t is) e
@@ -138,5 +100,4 @@ module _ (c : Flat) (s : SetupOf) (with_deadlock : Bool) (seed run : ℕ) (old x
       → ((u : Program) (g : List Call) → StandsFor x.code u → Stands u x g → IfSome number (FailsAt u x.setup g))
       → ((u : Program) (g : List Call) → StandsFor x.code u → Stands u x g → IfNone number (outcome_of g ≡ Clean))
       → MatchOption number (outcome_of h ≡ Clean) (FailsAt t (setup_of_run s seed run) h)
-  fails_there stands t is (Some n) fails none = fails_at stands t is (Some n) fails
-  fails_there stands t is None fails none = none t h (own_program t is) (stands t (own_program t is))
+  fails_there given1 t given2 number given3 given4 = search (rules, fails_at, own_program)

@@ -1,46 +1,27 @@
 -- What a search for a smaller history ends with.
-use Rattle.std.proofs.Common.{◌≡◌, ◌≤◌, ◌<◌, ◌==◌, ℕ, nat_lt, not, false, length, refl, arith, Bool, true, cond, List, [], ◌∷◌, ap, sym, ◌∙◌, subst, ◌&&◌, zero, suc, ◌+◌, ◌++◌, None, map}
-use Rattle.std.proofs.lemmas.Bool.Decides.{nat_tests, Decides-eqb, Decides-and}
+use Rattle.std.proofs.Common.{◌≡◌, ◌≤◌, ◌==◌, ℕ, false, length, refl, arith, Bool, true, cond, List, [], ◌∷◌, ap, sym, ◌∙◌, subst, ◌&&◌, zero, suc, ◌+◌, ◌++◌, None, map, rules}
 use Rattle.std.specs.Bool.{Decides}
 use Rattle.bp_language.specs.Ast.{Program}
 use Rattle.bp_flat.specs.Flat.{Flat}
 use Rattle.bp_flat.specs.StandsFor.{StandsFor}
-use Rattle.bp_machine.specs.declared.limits.TheConstants.{MAX_THREADS, MAX_CONTEXTS, MAX_CALLS}
-use Rattle.bp_machine.specs.Setups.{SetupOf, threads, has_bad_threads, is_out_of_range, setup_fault, Fits, IsInRange, FitsCode}
+use Rattle.bp_machine.specs.Setups.{SetupOf, setup_fault, Fits, IsInRange, FitsCode}
 use Rattle.bp_machine.specs.declared.calls.Call.{Call}
 use Rattle.bp_machine.specs.declared.calls.Reply.{Reply}
-use Rattle.bp_machine.specs.declared.calls.Reply.TheVariants.{Stopped, Ended, NoContexts, Full, Blocked, Failed, Stepped}
-use Rattle.bp_machine.specs.Runs.{IsBoundedRun, IsHistoryOfSteps, HasBoundedRun, IsDeadlocked, IsTop}
+use Rattle.bp_machine.specs.Runs.{IsBoundedRun, IsHistoryOfSteps, HasBoundedRun}
 use Rattle.bp_machine.specs.Histories.{IsWithin, configuration_after, granted_threads, granted_calls, IsLegal, is_granted, outcome_or, outcome_of, IsReport, is_finished, open_below, IsLegalAfter}
 use Rattle.bp_machine.specs.Laws.{RunsAreHistories, HistoriesAreRuns}
 use Rattle.bp_machine.specs.declared.calls.Report.{Report}
-use Rattle.bp_test.specs.Reached.{AreWaiting}
 use Rattle.bp_test.specs.declared.waiting.Waiting.{Waiting}
 use Rattle.bp_test.specs.Tests.{Wait}
 use Rattle.bp_test.specs.declared.shrinking.HistoryEnd.{HistoryEnd}
-use Rattle.bp_test.specs.declared.shrinking.HistoryEnd.TheVariants as ending
 use Rattle.bp_test.specs.Shrinks.{IsEnd, budgeted, DeadlocksAt, unseeded, IsDriven, IsNoMore, IsShrunk, IsShrunkOf, IsSearch, GoesOn}
 use Rattle.bp_test.specs.declared.searches.Search.{Search}
 use Rattle.bp_test.specs.declared.shrinking.Shrunk.{Shrunk}
-use Rattle.bp_test.specs.declared.shrinking.HistoryEnd.TheVariants.{Failure, Deadlock, Other}
 
 -- A setup that fits its program has no fault if its numbers are within their limits.
 
-not_above : (a b : ℕ) → a ≤ b → nat_lt b a ≡ false
-not_above a b few = grind (arith, nat_tests)
-
-not_zero : (a : ℕ) → 0 < a → (a == 0) ≡ false
-not_zero a some = grind (arith, nat_tests)
-
-not_other : (a b : ℕ) → a ≡ b → not (a == b) ≡ false
-not_other a b same = grind (arith, nat_tests)
-
 pub no_fault : (t : Program) (s : SetupOf) → Fits t s → IsInRange s → setup_fault t s ≡ None
-no_fault t s fits range =
-    let good_threads : has_bad_threads s ≡ false = rw (not_zero (threads s) range.some, not_above (threads s) MAX_THREADS range.few) refl in
-    let numbers : is_out_of_range s ≡ false =
-    rw (not_above s.contexts MAX_CONTEXTS range.contexts, not_zero s.calls range.one, not_above s.calls MAX_CALLS range.calls) refl in
-    rw (good_threads, fits.entries, not_other (length s.init) (length t.globals) fits.init, numbers) refl
+no_fault t s given1 given2 = grind (arith)
 
 -- The granted calls of a legal history are one as well, within as many contexts as they use.
 
@@ -83,13 +64,7 @@ same_outcome (x ∷ xs) = inside (is_granted x.reply) ∙ by_reply x.reply (same
 
     by_reply : (r : Reply) → outcome_of (granted_calls xs) ≡ outcome_of xs
         → cond (is_granted r) (outcome_or x r (outcome_of (granted_calls xs))) (outcome_of (granted_calls xs)) ≡ outcome_or x r (outcome_of xs)
-    by_reply Stopped e = e
-    by_reply Ended e = e
-    by_reply NoContexts e = e
-    by_reply Full e = e
-    by_reply Blocked e = e
-    by_reply Failed e = refl
-    by_reply Stepped e = e
+    by_reply r given1 = grind (arith)
 
 module _ (t : Program) (s : SetupOf) (k : ℕ) (h : List Call) (each : RunsAreHistories) (back : HistoriesAreRuns) (legal : IsLegal t s h) where
   own : HasBoundedRun t s h
@@ -97,56 +72,24 @@ module _ (t : Program) (s : SetupOf) (k : ℕ) (h : List Call) (each : RunsAreHi
 
   module _ (within : IsWithin k (granted_threads h)) where
     bounded : IsBoundedRun t (budgeted s k) (granted_calls h) (configuration_after t s h)
-    bounded = record {
-      run = own.run.run;
-      contexts = subst (λ ts. IsWithin k ts) (sym (threads_of h)) within;
-      calls = own.run.calls;
-      room = own.run.room;
-    }
+    bounded = search (rules, own, threads_of)
 
     made : IsHistoryOfSteps t (budgeted s k) (granted_calls h) (configuration_after t s h)
-    made =
-        subst (λ g. IsHistoryOfSteps t (budgeted s k) g (configuration_after t s h)) own.replies
-        (each t (budgeted s k) (granted_calls h) (configuration_after t s h) bounded)
+    made = search (rules, own, bounded)
 
     pub granted_legal : IsLegal t (budgeted s k) (granted_calls h)
     granted_legal = made.legal
 
     pub granted_end : (end : HistoryEnd) → IsEnd t s h end → IsEnd t (budgeted s k) (granted_calls h) end
-    granted_end (ending.Failure n) fails = record {
-      thread = fails.thread;
-      failed = same_outcome h ∙ fails.failed;
-      top = fails.top;
-      stands = subst (λ c. IsTop t c fails.thread fails.top) (sym made.leads) fails.stands;
-      is = fails.is;
-    }
-    granted_end (ending.Deadlock waiting) (dead, waits) = (
-      record {
-        clean = same_outcome h ∙ dead.clean;
-        deadlocked = subst (IsDeadlocked t) (sym made.leads) dead.deadlocked;
-      },
-      subst (λ c. AreWaiting t c (threads s) waiting.items) (sym made.leads) waits,
-    )
-    granted_end ending.Other other = record {
-      clean = same_outcome h ∙ other.clean;
-      lives = λ dead. other.lives (subst (IsDeadlocked t) made.leads dead);
-    }
+    granted_end end given1 = search (rules, same_outcome, made)
 
     pub granted_same : granted_threads (granted_calls h) ≡ granted_threads h
     granted_same = sym (threads_of (granted_calls h)) ∙ ap (λ g. map (λ (x : Call). x.thread) g) made.granted ∙ threads_of h
 
 -- Threads that wait are compared by their numbers, and a deadlock by those that wait in it.
 
--- where the numbers are the same
-fields : (a b : Waiting) → a.thread ≡ b.thread → a.number ≡ b.number → a ≡ b
-fields a b thread number =
-    let one : a ≡ record a { thread = b.thread } = ap (λ n. record a { thread = n }) thread in
-    one ∙ ap (λ n. record { thread = b.thread; number = n }) number
-
 pub waits_Decides : (a b : Waiting) → Decides ((a.thread == b.thread) && (a.number == b.number)) (a ≡ b)
-waits_Decides a b =
-    let both = Decides-and (a.thread == b.thread) (a.number == b.number) (Decides-eqb a.thread b.thread) (Decides-eqb a.number b.number) in
-    (λ is. fields a b (both.0 is).0 (both.0 is).1, λ same. both.1 (ap (λ (x : Waiting). x.thread) same, ap (λ (x : Waiting). x.number) same))
+waits_Decides a b = grind (arith)
 
 pub same_waits : (t : Program) (s : SetupOf) (h : List Call) (xs ys : List Waiting) → xs ≡ ys → DeadlocksAt t s h xs → DeadlocksAt t s h ys
 same_waits t s h xs ys same (dead, waits) = (dead, subst (Wait t s h) same waits)
@@ -179,10 +122,7 @@ fits_unseeded c s fits = λ t is. record { entries = (fits t is).entries; init =
 
 legal_after : (t : Program) (s : SetupOf) (p xs : List Call) → IsLegalAfter t s p xs → IsLegalAfter t (unseeded s) p xs
 legal_after t s p [] legal = tt
-legal_after t s p (x ∷ xs) legal = (
-  record { thread = legal.0.thread; unfinished = legal.0.unfinished; answers = legal.0.answers },
-  legal_after t s (p ++ x ∷ []) xs legal.1,
-)
+legal_after t s p (x ∷ xs) legal = search (rules, (legal_after t s (p ++ x ∷ []) xs legal.1))
 
 pub legal_unseeded : (t : Program) (s : SetupOf) (h : List Call) → IsLegal t s h → IsLegal t (unseeded s) h
 legal_unseeded t s h legal = legal_after t s [] h legal
@@ -192,17 +132,10 @@ same_open s h zero = refl
 same_open s h (suc n) = ap (λ m. cond (is_finished s h n) m (m + 1)) (same_open s h n)
 
 pub report_unseeded : (s : SetupOf) (h : List Call) (r : Report) → IsReport s h r → IsReport (unseeded s) h r
-report_unseeded s h r is = record {
-  outcome = is.outcome;
-  calls = is.calls;
-  left_open = is.left_open ∙ same_open s h (threads s);
-  contexts = is.contexts;
-}
+report_unseeded s h r given1 = search (rules, same_open)
 
 pub end_unseeded : (t : Program) (s : SetupOf) (h : List Call) (end : HistoryEnd) → IsEnd t s h end → IsEnd t (unseeded s) h end
-end_unseeded t s h (Failure n) fails = record { thread = fails.thread; failed = fails.failed; top = fails.top; stands = fails.stands; is = fails.is }
-end_unseeded t s h (Deadlock waiting) (dead, waits) = (record { clean = dead.clean; deadlocked = dead.deadlocked }, waits)
-end_unseeded t s h Other other = record { clean = other.clean; lives = other.lives }
+end_unseeded t s h end given1 = grind (arith)
 
 -- Where the search for a smaller history starts, and where it leads.
 
@@ -230,5 +163,4 @@ module _ (c : Flat) (s : SetupOf) (x : Search) (code : x.session.code ≡ c) (se
     }
 
   pub leads_to : (y : Search) → GoesOn x y → (t : Program) → StandsFor c t → IsDriven t (unseeded s) y.end y.best
-  leads_to y on t is =
-      subst (λ z. IsDriven t z y.end y.best) (on.setup ∙ setup) (on.search.driven t (subst (λ d. StandsFor d t) (sym (on.code ∙ code)) is))
+  leads_to y given1 t given2 = grind (arith)

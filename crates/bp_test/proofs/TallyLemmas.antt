@@ -1,5 +1,5 @@
 -- Counts of runs, and of more of them.
-use Rattle.std.proofs.Common.{◌≡◌, ◌≤◌, ℕ, zero, suc, List, [], ◌∷◌, ◌++◌, take, Option, sym, subst, arith, ◌⊎◌, ◌<◌, ◌+◌, ◌^◌, ◌-◌, min, max, Bool, true, false, cond, length, Some, ap, ◌∙◌, inl, inr, length-append, if◌then◌else◌, ◌==◌, fold, count_by, sum_by, slice_index_or, Any}
+use Rattle.std.proofs.Common.{◌≡◌, ◌≤◌, ℕ, zero, suc, List, [], ◌∷◌, ◌++◌, take, Option, sym, subst, arith, ◌⊎◌, ◌<◌, ◌+◌, ◌^◌, ◌-◌, min, max, Bool, true, cond, length, Some, ap, ◌∙◌, inl, inr, length-append, if◌then◌else◌, ◌==◌, fold, count_by, sum_by, slice_index_or, Any, rules}
 use Rattle.std.proofs.lemmas.Bool.{cases_lt}
 use Rattle.std.proofs.lemmas.List.{get_or_past}
 use Rattle.std.proofs.lemmas.List.Sums.{sum_by-append, fold-append}
@@ -84,10 +84,7 @@ ends_both xs ys = simp count_both
 
 pub most_from : (a : ℕ) (xs : List MadeRun) → fold (λ most r. max most (calls_of r)) a xs ≡ max a (longest_of xs)
 most_from a [] = omega arith
-most_from a (x ∷ xs) =
-    let here = most_from (max a (calls_of x)) xs in
-    let zero = most_from (max 0 (calls_of x)) xs in
-    here ∙ (let e : max (max a (calls_of x)) (longest_of xs) ≡ max a (max (max 0 (calls_of x)) (longest_of xs)) = omega arith in e ∙ ap (max a) (sym zero))
+most_from a (x ∷ xs) = search (rules, (most_from (max a (calls_of x)) xs), (most_from (max 0 (calls_of x)) xs), max)
 
 pub longest_both : (xs ys : List MadeRun) → longest_of (xs ++ ys) ≡ max (longest_of xs) (longest_of ys)
 longest_both xs ys = fold-append (λ most r. max most (calls_of r)) 0 xs ys ∙ most_from (longest_of xs) ys
@@ -143,8 +140,7 @@ few_contexts s runs x was k = let here = was.contexts k in omega (arith, here)
 -- one more run
 module _ (s : SetupOf) (runs : List MadeRun) (r : MadeRun) (old new : Tally) (was : IsCounted s runs old) where
   one_used : (b : Bool) (a : ℕ) → a ≤ 2 ^ 64 - 1 → (if b then capped (a + 1) else a) ≡ capped (a + capped (0 + cond b 1 0))
-  one_used true a few = omega (arith, few)
-  one_used false a few = omega (arith, few)
+  one_used b a given1 = grind (arith)
 
   pub counted_run : new.runs ≡ min (old.runs + 1) (2 ^ 64 - 1)
       → new.calls ≡ min (old.calls + r.report.calls) (2 ^ 64 - 1)
@@ -190,14 +186,7 @@ tally_run t s runs r old new cur key was keyed keys grow same counted = record {
 pub same_counts : (s : SetupOf) (runs : List MadeRun) (old new : Tally) → new.runs ≡ old.runs → new.calls ≡ old.calls
     → new.longest ≡ old.longest → new.ends ≡ old.ends → new.contexts ≡ old.contexts → new.stepped ≡ old.stepped
     → IsCounted s runs old → IsCounted s runs new
-same_counts s runs old new count calls longest ends contexts stepped was = record {
-  count = count ∙ was.count;
-  calls = calls ∙ was.calls;
-  longest = longest ∙ was.longest;
-  ends = ends ∙ was.ends;
-  contexts = λ k. ap (λ v. slice_index_or v.items k 0) contexts ∙ was.contexts k;
-  stepped = subst (λ v. AreMarks (λ i. Some i) (SomeSteps runs) (threads s) v.items) (sym stepped) was.stepped;
-}
+same_counts s runs old new given1 given2 given3 given4 given5 given6 given7 = grind (arith)
 
 -- the tallies of runs and of more of them
 pub tally_both : (t : Program) (s : SetupOf) (runs more : List MadeRun) (old other new : Tally)
@@ -234,11 +223,4 @@ pub all_added : (i : ℕ) (start now items : List ℕ) → length items ≤ i
     → ((k : ℕ) → i ≤ k → slice_index_or now k 0 ≡ slice_index_or start k 0)
     → ((k : ℕ) → slice_index_or start k 0 ≤ 2 ^ 64 - 1)
     → (k : ℕ) → slice_index_or now k 0 ≡ capped (slice_index_or start k 0 + slice_index_or items k 0)
-all_added i start now items past below above few k = elim (cases_lt k i) [
-  | inl within ↦ below k within
-  | inr far ↦
-      let none = get_or_past items k 0 (let at : length items ≤ k = omega (arith, past, far) in at) in
-      let same = above k far in
-      let small = few k in
-      omega (arith, none, same, small)
-]
+all_added i start now items given1 given2 given3 given4 k = search (rules, cases_lt, get_or_past)

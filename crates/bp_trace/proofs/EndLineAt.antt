@@ -1,5 +1,5 @@
 -- The decimals of any length, and the end line, that begin a text.
-use Rattle.std.proofs.Common.{None, true, false, cond, ◌==◌, ◌≡◌, ◌≢◌, ℕ, ◌+◌, ◌-◌, ◌<◌, ◌≤◌, Bool, List, [], ◌∷◌, ◌++◌, length, drop, Some, ap, sym, ◌∙◌, arith, length-append, decimal, take, get_or, refl, subst, codes, map, flat_map, Option, slice_get}
+use Rattle.std.proofs.Common.{None, true, false, cond, ◌==◌, ◌≡◌, ◌≢◌, ℕ, ◌+◌, ◌-◌, ◌<◌, ◌≤◌, Bool, List, [], ◌∷◌, ◌++◌, length, drop, Some, ap, sym, ◌∙◌, arith, length-append, decimal, take, get_or, refl, subst, codes, map, flat_map, Option, slice_get, rules}
 use Rattle.std.proofs.lemmas.List.{drop_at, map-append, take_more}
 use Rattle.std.specs.Str.Parse.{AllDigits}
 use Rattle.std.proofs.lemmas.Option.{same_Some}
@@ -12,8 +12,7 @@ use Rattle.bp_machine.specs.declared.limits.TheConstants.{MAX_THREADS}
 use Rattle.bp_machine.specs.declared.calls.Call.{Call}
 use Rattle.bp_text.specs.Formats.{HasNone, IsAt, SpanFits}
 use Rattle.bp_text.proofs.Readings.{one_at}
-use Rattle.bp_machine.specs.Histories.{letter_of}
-use Rattle.bp_trace.specs.Reading.{after_digit, end_numbers, is_whole, more_digits, thread_field, IsTailAt, HasNoTail, IsCallAt, HasNoCall, IsEndAt, HasNoEnd, IsSymbolAt, HasSymbols, IsBodyLineAt, HasNoBodyLine}
+use Rattle.bp_trace.specs.Reading.{after_digit, end_numbers, is_whole, more_digits, thread_field, HasNoTail, HasNoCall, IsEndAt, HasNoEnd, IsSymbolAt, HasSymbols, IsBodyLineAt, HasNoBodyLine}
 use Rattle.bp_trace.specs.declared.end_lines.DecimalState.{DecimalState}
 use Rattle.bp_trace.specs.declared.end_lines.DecimalState.TheVariants.{Start, Zero, Digits}
 use Rattle.std.specs.Char.{digit_value, is_ascii_digit}
@@ -21,8 +20,8 @@ use Rattle.std.proofs.lemmas.Str.{digit_value_digit}
 use Rattle.std.proofs.lemmas.Bool.Decides.{nat_tests}
 use Rattle.std.proofs.lemmas.Bool.{false≢true}
 use Rattle.bp_trace.specs.Replays.{IsDecimal, IsEndLine, IsBodyLine}
-use Rattle.bp_trace.specs.declared.traces.Version.TheVariants.{Two, One}
-use Rattle.bp_trace.specs.TraceText.{bit_digit, Symbol, Piece, call_of, symbol_text, piece_line, calls_of_piece, call_line}
+use Rattle.bp_trace.specs.declared.traces.Version.TheVariants.{Two}
+use Rattle.bp_trace.specs.TraceText.{Symbol, Piece, call_of, symbol_text, piece_line}
 use Rattle.bp_trace.specs.declared.traces.Version.{Version}
 use Rattle.bp_trace.proofs.OneText.{call_then, front_cut, piece_then, symbols_alike, no_symbol_at_end, number_begins, one_call_line, one_piece_line}
 use Rattle.bp_trace.proofs.ScheduleLines.{thread_parts, thread_there}
@@ -55,12 +54,6 @@ module _ (n : ℕ) (text : List ℕ) (few : n ≤ MAX_THREADS) where
       abbrev call : Call
       call = record { thread = t; bit = bit; reply = reply }
 
-      pub tail_is_call : IsTailAt rest (bit, reply) → IsCallAt n text call
-      tail_is_call tail = (tail.0, at.fits.0, begins_rest ∙ ap (λ r. decimal t ++ 32 ∷ r) tail.1 ∙ sym (call_then call tail.0))
-
-      pub call_size : length text - length rest + 4 ≡ length (call_line call)
-      call_size = omega (arith, size_of_front, length-append (decimal t) (32 ∷ bit_digit bit ∷ 32 ∷ letter_of reply ∷ 10 ∷ []))
-
 -- ---- a decimal of any length
 
 digit_on : (b : ℕ) → 48 ≤ b → b ≤ 57 → more_digits b ≡ Some Digits
@@ -82,9 +75,7 @@ only_digits b t on = by_test (is_ascii_digit b) refl
 
 digits_fit : (ds : List ℕ) (byte : ℕ) (rest : List ℕ) → byte < 48 → AllDigits 10 ds → SpanFits after_digit is_whole Digits ds (byte ∷ rest)
 digits_fit [] byte rest low all = (refl, no_digit_on byte low)
-digits_fit (d ∷ ds) byte rest low all =
-    let range = digit_from_value d all.0 in
-    (Digits, digit_on d (omega (arith, range)) (omega (arith, range)), digits_fit ds byte rest low all.1)
+digits_fit (d ∷ ds) byte rest low all = search (rules, (digits_fit ds byte rest low all.1), digit_from_value, digit_on)
 
 decimal_fits : (ds : List ℕ) (byte : ℕ) (rest : List ℕ) → byte < 48 → IsDecimal ds → SpanFits after_digit is_whole Start ds (byte ∷ rest)
 decimal_fits [] byte rest low is = absurd (omega (arith, is.some))
@@ -139,10 +130,7 @@ decimal_of (d ∷ ds) rest (t, on, fits) = by_zero (d == 48) refl
 -- ---- the end line
 
 end_there : (line more text : List ℕ) (e : IsEndLine line) → text ≡ line ++ more → IsAt end_numbers text (e.calls, e.left_open) more
-end_there line more text e begins = record {
-  fits = (decimal_fits e.calls 32 _ (omega arith) e.first, decimal_fits e.left_open 10 _ (omega arith) e.second);
-  parts = begins ∙ ap (λ l. l ++ more) e.is ∙ simp regrouped;
-}
+end_there line more text e given1 = search (rules, decimal_fits, regrouped)
 
 pub no_end : {text : List ℕ} → HasNone end_numbers text → HasNoEnd text
 no_end {text} lacks = λ line more e begins. let at = end_there line more text e begins in lacks.none (e.calls, e.left_open) more at.fits at.parts
@@ -271,24 +259,12 @@ module _ (n : ℕ) (few : n ≤ MAX_THREADS) (last : Option ℕ) where
   -- two lines of calls that begin one text are one
   pub one_body_line : (v : Version) (line other : List ℕ) (calls others : List Call) (x y : List ℕ)
       → IsBodyLine n last line calls v → IsBodyLine n last other others v → line ++ x ≡ other ++ y → (line ≡ other) × (calls ≡ others) × (x ≡ y)
-  one_body_line One line other calls others x y p q e =
-      let both = ap (λ l. l ++ x) (sym p.is) ∙ e ∙ ap (λ l. l ++ y) q.is in
-      let same = one_call_line p.call q.call x y (omega (arith, p.thread, few)) (omega (arith, q.thread, few)) both in
-      (p.is ∙ ap call_line same.0 ∙ sym q.is, p.holds ∙ ap (λ c. c ∷ []) same.0 ∙ sym q.holds, same.1)
-  one_body_line Two line other calls others x y p q e =
-      let both = ap (λ l. l ++ x) (sym p.is) ∙ e ∙ ap (λ l. l ++ y) q.is in
-      let same = one_piece_line p.piece q.piece x y (omega (arith, p.thread, few)) (omega (arith, q.thread, few)) both in
-      (p.is ∙ ap piece_line same.0 ∙ sym q.is, p.holds ∙ ap calls_of_piece same.0 ∙ sym q.holds, same.1)
+  one_body_line v line other calls others x y given1 given2 given3 = search (rules, one_call_line, one_piece_line)
 
   -- a line of calls begins with a digit, and an end line with a letter
   pub not_both : (v : Version) (line end : List ℕ) (calls : List Call) (x y : List ℕ)
       → IsBodyLine n last line calls v → IsEndLine end → line ++ x ≢ end ++ y
-  not_both One line end calls x y p q e =
-      number_begins p.call.thread _ 101 _ (omega (arith, p.thread, few)) (omega arith)
-      (sym (call_then p.call x) ∙ ap (λ l. l ++ x) (sym p.is) ∙ e ∙ ap (λ l. l ++ y) q.is)
-  not_both Two line end calls x y p q e =
-      number_begins p.piece.thread _ 101 _ (omega (arith, p.thread, few)) (omega arith)
-      (sym (piece_then p.piece x) ∙ ap (λ l. l ++ x) (sym p.is) ∙ e ∙ ap (λ l. l ++ y) q.is)
+  not_both v line end calls x y given1 given2 = search (rules, number_begins, call_then, piece_then)
 
 -- A text that is the texts of a list's elements, read one after the other.
 

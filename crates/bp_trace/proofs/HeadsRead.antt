@@ -1,5 +1,5 @@
 -- A text has one head, or stops being one at one line.
-use Rattle.std.proofs.Common.{append_assoc, append-nil, ◌≡◌, ◌≢◌, ◌<◌, ◌≤◌, ◌+◌, ◌-◌, ◌^◌, ◌∙◌, inl, inr, ℕ, Bool, true, false, cond, Option, None, Some, List, [], ◌∷◌, ◌++◌, flat_map, map, length, get_or, refl, ap, sym, subst, arith, codes, decimal}
+use Rattle.std.proofs.Common.{append_assoc, append-nil, ◌≡◌, ◌≢◌, ◌<◌, ◌≤◌, ◌+◌, ◌-◌, ◌^◌, ◌∙◌, inl, inr, ℕ, Bool, true, false, cond, Option, None, Some, List, [], ◌∷◌, ◌++◌, flat_map, map, length, get_or, refl, ap, sym, arith, codes, decimal, rules}
 use Rattle.std.specs.List.{AllByRecursion, concat}
 use Rattle.std.proofs.lemmas.Bool.{false≢true, ne_eqb}
 use Rattle.std.proofs.lemmas.List.{length-append, length-map}
@@ -17,7 +17,6 @@ use Rattle.bp_trace.specs.declared.heads.EntryState.{EntryState}
 use Rattle.bp_trace.specs.declared.heads.EntryState.TheVariants.{Start, Within}
 use Rattle.bp_trace.specs.declared.heads.Head.{Head}
 use Rattle.bp_trace.specs.declared.traces.Version.{Version}
-use Rattle.bp_trace.specs.declared.traces.Version.TheVariants.{One, Two}
 use Rattle.bp_trace.specs.HeadFormat.{after_byte, bits, entry, head, may_end, seed, seed_value, settings, version_word}
 use Rattle.bp_trace.specs.Reading.{IsHeadOf, setup_of_head}
 use Rattle.bp_trace.specs.TraceText.{IsEntryName, entry_line, field_line, init_digits, init_line, limit_lines, seed_word, Without, IsWritable, HasHead, version_line, setting_lines, head_lines, head_text}
@@ -65,8 +64,7 @@ digits_joined (true ∷ bs) = ap (λ ds. 49 ∷ ds) (digits_joined bs)
 
 -- where there is a global, its digit and those of the others
 pub some_digits : (bs : List Bool) → 0 < length bs → flat_map bit_text bs ≡ init_digits bs
-some_digits [] some = absurd (omega arith)
-some_digits (b ∷ bs) some = digits_joined (b ∷ bs)
+some_digits bs given1 = search (rules, digits_joined)
 
 -- The format's texts are those of the heads. Names have a byte, or may be empty where they begin within one.
 
@@ -80,44 +78,27 @@ head_from state =
     (Then (Line version_word) (Then (Many (entry_from state)) settings))
 
 same_version : (v : Version) → text_of (Line version_word) v ≡ version_line v
-same_version One = refl
-same_version Two = refl
+same_version v = grind (arith)
 
 same_entries : (state : EntryState) (es : List (List ℕ)) → flat_map (text_of (entry_from state)) es ≡ flat_map entry_line es
 same_entries state [] = refl
-same_entries state (n ∷ es) =
-    let one : text_of (entry_from state) n ≡ entry_line n = simp regrouped in
-    λ i. one i ++ same_entries state es i
-
-same_digits : (bs : List Bool) → flat_map (text_of bit) bs ≡ map bit_digit bs
-same_digits [] = refl
-same_digits (b ∷ bs) = ap (λ ds. bit_digit b ∷ ds) (same_digits bs)
-
-same_bits : (bs : List Bool) → text_of bits bs ≡ init_digits bs
-same_bits [] = refl
-same_bits (b ∷ bs) = ap (λ ds. bit_digit b ∷ ds) (same_digits bs)
+same_entries state (n ∷ es) = grind (arith)
 
 same_seed : (o : Option ℕ) → text_of seed_value o ≡ seed_word o
-same_seed None = refl
-same_seed (Some n) = refl
+same_seed o = grind (arith)
 
 module _ (s : SetupOf) where
   init_part : (codes "init " ++ text_of bits s.init) ++ codes "\n" ≡ init_line s.init
-  init_part =
-      ap (λ t. (codes "init " ++ t) ++ codes "\n") (same_bits s.init) ∙ append_assoc (codes "init ") (init_digits s.init) (codes "\n")
+  init_part = grind (arith)
 
   limit_part : (word : List ℕ) (n : ℕ) → (word ++ decimal n) ++ codes "\n" ≡ field_line word (decimal n)
   limit_part word n = append_assoc word (decimal n) (codes "\n")
 
   seed_part : (codes "seed " ++ text_of seed_value s.seed) ++ codes "\n" ≡ field_line (codes "seed ") (seed_word s.seed) ++ []
-  seed_part =
-      ap (λ t. (codes "seed " ++ t) ++ codes "\n") (same_seed s.seed)
-      ∙ append_assoc (codes "seed ") (seed_word s.seed) (codes "\n")
-      ∙ sym (append-nil (field_line (codes "seed ") (seed_word s.seed)))
+  seed_part = search (rules, codes, same_seed, append_assoc, append-nil)
 
   same_settings : text_of settings (s.init, (s.contexts, (s.calls, s.seed))) ≡ init_line s.init ++ concat (limit_lines s)
-  same_settings = λ i.
-      init_part i ++ (limit_part (codes "contexts ") s.contexts i ++ (limit_part (codes "calls ") s.calls i ++ seed_part i))
+  same_settings = search (rules, init_part, limit_part, codes, seed_part)
 
 same_head : (state : EntryState) (v : Version) (s : SetupOf) → text_of (head_from state) (v, s) ≡ head_text v s
 same_head state v s = (λ i. same_version v i ++ (same_entries state s.entries i ++ same_settings s i)) ∙ sym (head_parts v s)
@@ -125,8 +106,7 @@ same_head state v s = (λ i. same_version v i ++ (same_entries state s.entries i
 -- A setup that can be said in a head fits.
 
 version_fits : (v : Version) (rest : List ℕ) → Fits (Line version_word) v rest
-version_fits One rest = tt
-version_fits Two rest = (tt, λ x more fits e. absurd (omega (arith, ap (λ t. get_or t 7 0) e)))
+version_fits v rest = grind (arith)
 
 goes_on : (s : EntryState) (b : ℕ) → b ≢ 10 → after_byte s b ≡ Some Within
 goes_on s b other = ap (λ t. cond t None (Some Within)) (ne_eqb b 10 other)
@@ -147,8 +127,7 @@ entries_fit state P fit [] rest more is names = λ name after fits e. absurd (om
 entries_fit state P fit (n ∷ es) rest more is names = (fit n _ names.0, entries_fit state P fit es rest more is names.1)
 
 digit_is : (b : Bool) (n : ℕ) → n < 48 → n ≢ bit_digit b
-digit_is false n low e = omega (arith, low, e)
-digit_is true n low e = omega (arith, low, e)
+digit_is b n given1 = grind (arith)
 
 digits_fit : (bs : List Bool) (rest : List ℕ) → EachFits (text_of bit) (Fits bit) bs (10 ∷ rest)
 digits_fit [] rest = λ b more fits e. digit_is b 10 (omega arith) (ap (λ t. get_or t 0 0) e)
@@ -213,25 +192,17 @@ no_break v s text rest k has parts breaks =
 
 span_without : (s : EntryState) (bs rest : List ℕ) → SpanFits after_byte may_end s bs rest → Without 10 bs
 span_without s [] rest fits = tt
-span_without s (b ∷ bs) rest (t, on, fits) = (
-  λ e.
-      let none : after_byte s b ≡ None = ap (λ k. after_byte s k) e in
-      let both : None ≡ Some t = sym none ∙ on in
-      absurd cc,
-  span_without t bs rest fits,
-)
+span_without s (b ∷ bs) rest (t, on, fits) = search (rules, (span_without t bs rest fits))
 
 is_name : (name rest : List ℕ) → SpanFits after_byte may_end Start name rest → IsEntryName name
-is_name [] rest fits = absurd (false≢true fits.0)
-is_name (b ∷ bs) rest fits = record { some = λ e. cc; line = span_without Start (b ∷ bs) rest fits }
+is_name name rest given1 = search (rules, false≢true, span_without)
 
 are_names : (es : List (List ℕ)) (rest : List ℕ) → EachFits (text_of entry) (Fits entry) es rest → AllByRecursion IsEntryName es
 are_names [] rest fits = tt
 are_names (n ∷ es) rest fits = (is_name n _ fits.0, are_names es rest fits.1)
 
 small_seed : (o : Option ℕ) (rest : List ℕ) → Fits seed o rest → (n : ℕ) → o ≡ Some n → n < 2 ^ 64
-small_seed None rest fits n e = absurd cc
-small_seed (Some m) rest fits n e = let same : m ≡ n = cc in subst (λ k. k < 2 ^ 64) same fits.0.0
+small_seed o rest given1 n given2 = grind (arith)
 
 module _ (text rest : List ℕ) (read : Head) (at : IsAt head text (read.version, setup_of_head read) rest) where
   parts : text ≡ head_text read.version (setup_of_head read) ++ rest

@@ -1,5 +1,5 @@
 -- Two histories that may be played, each with something after it that no line of calls goes on with, have two texts; so a text has at most one refusal.
-use Rattle.std.proofs.Common.{◌≡◌, ℕ, ◌<◌, List, [], ◌∷◌, ◌++◌, map, flat_map, refl, ap, sym, ◌∙◌, subst, ◌≢◌, ◌≤◌, ◌+◌, length, ◌⊎◌, inl, inr, length-append, arith, append-nil, None, Some}
+use Rattle.std.proofs.Common.{◌≡◌, ℕ, ◌<◌, List, [], ◌∷◌, ◌++◌, map, flat_map, refl, ap, sym, ◌∙◌, subst, ◌≢◌, ◌≤◌, ◌+◌, length, ◌⊎◌, inl, inr, length-append, arith, append-nil, None, Some, rules}
 use Rattle.std.specs.List.{AllByRecursion}
 use Rattle.bp_text.proofs.PartsOfTexts.{regrouped}
 use Rattle.bp_language.specs.Ast.{Program}
@@ -152,11 +152,7 @@ module _ (t : Program) (v : Version) (s : SetupOf) (few : threads s ≤ MAX_THRE
       ⊎ HasRefusedCall t v s h n x f)))
 
   pub refused : (f : ReplayFault) → IsRestRefused t v s h n x f → Refused f
-  refused (fault.NoEnd c) r = inl (ap fault.NoEnd r.1, r.0)
-  refused (fault.EndCount m c) r = inr (inl (λ i. fault.EndCount (r.0 i) (r.1 i), r.2))
-  refused (fault.Line m) (inl r) = inr (inr (inl (ap fault.Line r.0, r.1)))
-  refused (fault.Line m) (inr r) = inr (inr (inr (inl (ap fault.Line r.0, r.1))))
-  refused f r = inr (inr (inr (inr r)))
+  refused f given1 = grind (arith)
 
   pub stops : (f : ReplayFault) → Refused f → Stops t v s few h x
   stops f (inl r) line calls more next playable e =
@@ -282,11 +278,7 @@ module _ (t : Program) (text : List ℕ) where
   Refusal f = ((f ≡ fault.TooLong) × (MAX_TRACE < length text)) ⊎ ((length text ≤ MAX_TRACE) × Cause f)
 
   refusal : (f : ReplayFault) → f ≢ fault.Memory → IsReplayRefusal t text f → Refusal f
-  refusal fault.TooLong other r = inl (refl, r)
-  refusal (fault.Head k) other r = inr (r.0, inl (k, refl, r.1))
-  refusal (fault.Setup g) other r = inr (r.0, inr (inl (g, refl, r.1)))
-  refusal fault.Memory other r = absurd (other refl)
-  refusal f other r = inr (r.0, inr (inr r.1))
+  refusal f given1 given2 = grind (arith)
 
   moved_to : (v w : Version) (s r : SetupOf) (g : List Call) (m : ℕ) (y : List ℕ) → v ≡ w → s ≡ r → Reaches t text w r g m y → Reaches t text v s g m y
   moved_to v w s r g m y a b q = subst (λ z. Reaches t text v z g m y) (sym b) (subst (λ z. Reaches t text z r g m y) (sym a) q)
@@ -305,11 +297,9 @@ module _ (t : Program) (text : List ℕ) where
       let found : Some p.0 ≡ Some q.0 = sym p.2.fault ∙ ap (setup_fault t) same.1 ∙ q.2.fault in
       let alike : p.0 ≡ q.0 = cc in
       p.1 ∙ ap fault.Setup alike ∙ sym q.1
-  one_cause f g (inr (inl p)) (inr (inr q)) =
-      absurd (not_fine p.2.version q.version p.2.setup q.setup p.2.rest _ p.0 p.2.head q.reached.head p.2.parts q.reached.parts p.2.fault q.reached.fine)
+  one_cause f g (inr (inl p)) (inr (inr q)) = search (rules, not_fine)
   one_cause f g (inr (inr p)) (inl q) = absurd (no_stop p.version p.setup _ q.0 p.reached.head p.reached.parts q.2)
-  one_cause f g (inr (inr p)) (inr (inl q)) =
-      absurd (not_fine q.2.version p.version q.2.setup p.setup q.2.rest _ q.0 q.2.head p.reached.head q.2.parts p.reached.parts q.2.fault p.reached.fine)
+  one_cause f g (inr (inr p)) (inr (inl q)) = search (rules, not_fine)
   one_cause f g (inr (inr p)) (inr (inr q)) =
       let same = one_head p.version q.version p.setup q.setup _ _ p.reached.head q.reached.head (sym p.reached.parts ∙ q.reached.parts) in
       let other = moved_to p.version q.version p.setup q.setup q.history q.number q.rest same.0 same.1 q.reached in
@@ -341,8 +331,7 @@ module _ (t : Program) (v : Version) (s : SetupOf) (h : List Call) (text : List 
   no_refusal : (f : ReplayFault) → Refusal t text f → ⊥
   no_refusal f (inl r) = omega (arith, short, r.1)
   no_refusal f (inr (within, inl r)) = no_stop t text v s _ r.0 trace.head trace.is r.2
-  no_refusal f (inr (within, inr (inl r))) =
-      not_fine t text r.2.version v r.2.setup s r.2.rest _ r.0 r.2.head trace.head r.2.parts trace.is r.2.fault trace.fine
+  no_refusal f (inr (within, inr (inl r))) = search (rules, not_fine)
   no_refusal f (inr (within, inr (inr r))) =
       let same = one_head v r.version s r.setup _ _ trace.head r.reached.head (sym trace.is ∙ r.reached.parts) in
       let other = moved_to t text v r.version s r.setup r.history r.number r.rest same.0 same.1 r.reached in

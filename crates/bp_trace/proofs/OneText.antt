@@ -1,5 +1,5 @@
 -- No two triples of version, setup and history have one text.
-use Rattle.std.proofs.Common.{inl, ◌≡◌, ℕ, ◌<◌, ◌^◌, List, [], ◌∷◌, ◌++◌, length, refl, sym, arith, decimal, Bool, true, false, flat_map, ap, ◌≤◌, ◌==◌, ◌∙◌, if◌then◌else◌}
+use Rattle.std.proofs.Common.{inl, ◌≡◌, ℕ, ◌<◌, ◌^◌, List, [], ◌∷◌, ◌++◌, length, refl, sym, arith, decimal, Bool, flat_map, ap, ◌≤◌, ◌==◌, ◌∙◌, if◌then◌else◌, rules}
 use Rattle.std.specs.Str.Parse.{AllDigits}
 use Rattle.std.proofs.lemmas.Str.Parse.{digit_from_value}
 use Rattle.std.proofs.lemmas.Fmt.{digits_decimal, decimal_nonempty}
@@ -39,10 +39,7 @@ pub number_begins : (n : ℕ) (rest : List ℕ) (letter : ℕ) (text : List ℕ)
 number_begins n rest letter text fits high e = digits_begin (decimal n) rest letter text (digits_decimal numerals n fits) (decimal_nonempty n fits) high e
 
 one_digit : (a b : Bool) → bit_digit a ≡ bit_digit b → a ≡ b
-one_digit true true e = refl
-one_digit false false e = refl
-one_digit true false e = absurd (omega arith)
-one_digit false true e = absurd (omega arith)
+one_digit a b given1 = grind (arith)
 
 -- the reply of a letter
 reply_of_letter : ℕ → Reply
@@ -82,23 +79,13 @@ same_call c d thread bit reply = λ i. record { thread = thread i; bit = bit i; 
 
 -- one line of a call begins a text
 pub one_call_line : (c d : Call) (x y : List ℕ) → c.thread < 2 ^ 64 → d.thread < 2 ^ 64 → call_line c ++ x ≡ call_line d ++ y → (c ≡ d) × (x ≡ y)
-one_call_line c d x y p q e =
-    let thread = one_number 32 (omega arith) c.thread d.thread _ _ p q (sym (call_then c x) ∙ e ∙ call_then d y) in
-    let bit = same_head _ _ _ _ thread.1 in
-    let space = same_head _ _ _ _ bit.1 in
-    let letter = same_head _ _ _ _ space.1 in
-    let line = same_head _ _ _ _ letter.1 in
-    (same_call c d thread.0 (one_digit c.bit d.bit bit.0) (one_letter c.reply d.reply letter.0), line.1)
+one_call_line c d x y given1 given2 given3 = search (rules, one_number, call_then, same_head, same_call, one_digit, one_letter)
 
 calls_alike : (h g : List Call) (x y : List ℕ) → AllByRecursion (λ (c : Call). c.thread < 2 ^ 64) h → AllByRecursion (λ (c : Call). c.thread < 2 ^ 64) g
     → flat_map call_line h ++ (101 ∷ x) ≡ flat_map call_line g ++ (101 ∷ y) → (h ≡ g) × (x ≡ y)
 calls_alike [] [] x y p q e = (refl, (same_head _ _ _ _ e).1)
-calls_alike [] (d ∷ g) x y p q e =
-    absurd (number_begins d.thread _ 101 x q.0 (omega arith)
-    (simp regrouped at (sym e)))
-calls_alike (c ∷ h) [] x y p q e =
-    absurd (number_begins c.thread _ 101 y p.0 (omega arith)
-    (simp regrouped at e))
+calls_alike [] (d ∷ g) x y p q e = search (rules, number_begins, regrouped)
+calls_alike (c ∷ h) [] x y p q e = search (rules, number_begins, regrouped)
 calls_alike (c ∷ h) (d ∷ g) x y p q e =
     let line = one_call_line c d (flat_map call_line h ++ (101 ∷ x)) (flat_map call_line g ++ (101 ∷ y)) p.0 q.0 (simp regrouped (simp regrouped at e)) in
     let rest = calls_alike h g x y p.1 q.1 line.1 in
@@ -107,8 +94,7 @@ calls_alike (c ∷ h) (d ∷ g) x y p q e =
 -- ---- the pieces
 
 digit_high : (b : Bool) → 48 ≤ bit_digit b
-digit_high true = omega arith
-digit_high false = omega arith
+digit_high b = grind (arith)
 
 -- symbols that no other symbol is after
 pub symbols_alike : (ts us : List Symbol) (x y : List ℕ) → HasNoSymbol x → HasNoSymbol y
@@ -132,26 +118,17 @@ pub piece_then : (p : Piece) (rest : List ℕ) → piece_line p ++ rest ≡ deci
 piece_then p rest = simp regrouped
 
 same_piece : (p q : Piece) → p.thread ≡ q.thread → p.first ∷ p.others ≡ q.first ∷ q.others → p ≡ q
-same_piece p q thread symbols =
-    let heads = same_head p.first q.first p.others q.others symbols in
-    λ i. record { thread = thread i; first = heads.0 i; others = heads.1 i }
+same_piece p q given1 given2 = grind (arith)
 
 -- one line of a piece begins a text
 pub one_piece_line : (c d : Piece) (x y : List ℕ) → c.thread < 2 ^ 64 → d.thread < 2 ^ 64 → piece_line c ++ x ≡ piece_line d ++ y → (c ≡ d) × (x ≡ y)
-one_piece_line c d x y p q e =
-    let thread = one_number 32 (omega arith) c.thread d.thread _ _ p q (sym (piece_then c x) ∙ e ∙ piece_then d y) in
-    let symbols = symbols_alike (c.first ∷ c.others) (d.first ∷ d.others) (10 ∷ x) (10 ∷ y) (no_symbol_at_end x) (no_symbol_at_end y) thread.1 in
-    (same_piece c d thread.0 symbols.0, (same_head 10 10 x y symbols.1).1)
+one_piece_line c d x y given1 given2 given3 = search (rules, one_number, piece_then, symbols_alike, no_symbol_at_end, same_piece, same_head)
 
 pieces_alike : (ps qs : List Piece) (x y : List ℕ) → AllByRecursion (λ (p : Piece). p.thread < 2 ^ 64) ps → AllByRecursion (λ (p : Piece). p.thread < 2 ^ 64) qs
     → flat_map piece_line ps ++ (101 ∷ x) ≡ flat_map piece_line qs ++ (101 ∷ y) → (ps ≡ qs) × (x ≡ y)
 pieces_alike [] [] x y p q e = (refl, (same_head _ _ _ _ e).1)
-pieces_alike [] (d ∷ qs) x y p q e =
-    absurd (number_begins d.thread _ 101 x q.0 (omega arith)
-    (simp regrouped at (sym e)))
-pieces_alike (c ∷ ps) [] x y p q e =
-    absurd (number_begins c.thread _ 101 y p.0 (omega arith)
-    (simp regrouped at e))
+pieces_alike [] (d ∷ qs) x y p q e = search (rules, number_begins, regrouped)
+pieces_alike (c ∷ ps) [] x y p q e = search (rules, number_begins, regrouped)
 pieces_alike (c ∷ ps) (d ∷ qs) x y p q e =
     let line = one_piece_line c d (flat_map piece_line ps ++ (101 ∷ x)) (flat_map piece_line qs ++ (101 ∷ y)) p.0 q.0 (simp regrouped (simp regrouped at e)) in
     let rest = pieces_alike ps qs x y p.1 q.1 line.1 in
@@ -175,6 +152,4 @@ module _ (v w : Version) (s r : SetupOf) (h g : List Call) (p : IsWritable s h) 
   heads = heads_alike v w s r h g (calls_text v h ++ end s h) (calls_text w g ++ end r g) p q e
 
   pub one_text : (v ≡ w) × (s ≡ r) × (h ≡ g)
-  one_text =
-      let after = heads.2 ∙ ap (λ u. calls_text u g ++ end r g) (sym heads.0) in
-      (heads.0, heads.1, histories_alike v h g _ _ p.threads q.threads after)
+  one_text = search (rules, heads, histories_alike)

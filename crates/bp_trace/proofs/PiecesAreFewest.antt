@@ -1,5 +1,5 @@
 -- The pieces of a history are its calls, cut into the fewest lists of one thread each.
-use Rattle.std.proofs.Common.{◌≡◌, ℕ, ◌<◌, ◌==◌, Bool, true, false, cond, List, [], ◌∷◌, ◌++◌, length, flat_map, None, Some, refl, ap, sym, ◌∙◌, arith, codes, decimal, ◌≢◌, Option, subst, map, ◌+◌, length-append, append-nil}
+use Rattle.std.proofs.Common.{◌≡◌, ℕ, ◌<◌, ◌==◌, Bool, true, false, cond, List, [], ◌∷◌, ◌++◌, length, flat_map, None, Some, refl, ap, sym, ◌∙◌, arith, codes, decimal, ◌≢◌, Option, subst, map, ◌+◌, length-append, append-nil, rules}
 use Rattle.std.proofs.lemmas.Bool.Decides.{nat_tests}
 use Rattle.std.specs.List.{AllByRecursion}
 use Rattle.std.proofs.lemmas.List.Concat.{flat_map-append}
@@ -262,8 +262,7 @@ text_grows Two n h line calls is_line =
 
 pub count_grows : (v : Version) (n : ℕ) (h : List Call) (line : List ℕ) (calls : List Call)
     → IsBodyLine n (last_thread (map thread_of h)) line calls v → line_count v (h ++ calls) ≡ line_count v h + 1
-count_grows One n h line calls is_line =
-    ap (λ cs. length (h ++ cs)) is_line.holds ∙ length-append h (is_line.call ∷ [])
+count_grows One n h line calls is_line = search (rules, length-append)
 count_grows Two n h line calls is_line =
     ap (λ cs. length (pieces_of (h ++ cs))) is_line.holds
     ∙ ap length (one_piece_more h is_line.piece is_line.other)

@@ -11,8 +11,7 @@ use Rattle.bp_machine.specs.Setups.{SetupOf}
 use Rattle.bp_trace.specs.declared.faults.Due.{Due}
 use Rattle.bp_trace.specs.declared.faults.ReplayFault.{ReplayFault}
 use Rattle.bp_trace.specs.declared.faults.ReplayFault.TheVariants as fault
-use Rattle.bp_trace.specs.Replays.{IsPlayable, IsDue, IsCallFault, IsRefusedAmong, IsOwnCall}
-use Rattle.bp_trace.specs.Judging.{IsDueCall, IsMismatch, IsCallRefusal}
+use Rattle.bp_trace.specs.Replays.{IsPlayable, IsDue, IsCallFault, IsRefusedAmong}
 use Rattle.bp_trace.proofs.ScheduleLines.{same_answer}
 
 calls_after : (i : ℕ) (h g : List Call) → calls_of_thread i (h ++ g) ≡ calls_of_thread i h ++ calls_of_thread i g
@@ -175,20 +174,3 @@ module _ (t : Program) (s : SetupOf) (h : List Call) (n : ℕ) (calls : List Cal
   ]
 
 -- A call that differs from the machine's own is refused, and so is one where the machine makes none.
-
-module _ (t : Program) (s : SetupOf) (h : List Call) (n : ℕ) (x own : Call) (next : IsOwnCall t s h x own) where
-  is_due : (due : Due) → IsDueCall own x n (length h) due → IsDue t s h n x due
-  is_due due is = record { calls = is.calls; own = subst (IsOwnCall t s h x) (sym is.call) next }
-
-  other_fault : (f : ReplayFault) → IsMismatch own x n (length h) f → IsCallFault t s h n x f
-  other_fault (fault.Bit m due) is = (is.0, is_due due is.1, λ e. is.2 (ap (λ (y : Call). y.bit) (sym is.1.call) ∙ e))
-  other_fault (fault.Reply m due) is = (
-    is.0,
-    is_due due is.1,
-    ap (λ (y : Call). y.bit) is.1.call ∙ is.2,
-    λ e. is.3 (ap (λ (y : Call). y.reply) (sym is.1.call) ∙ e),
-  )
-  other_fault f is = absurd is
-
-  pub other_call_refused : (f : ReplayFault) → IsMismatch own x n (length h) f → IsCallRefusal t s h n x f
-  other_call_refused f is = inr (other_fault f is)

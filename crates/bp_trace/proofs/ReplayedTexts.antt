@@ -1,21 +1,20 @@
 -- A text whose head and lines of calls were read is a trace, or is refused.
-use Rattle.std.proofs.Common.{◌≡◌, ◌⊎◌, ℕ, ◌+◌, ◌≤◌, List, [], ◌∷◌, ◌++◌, length, flat_map, drop, None, refl, ap, sym, ◌∙◌, subst, arith, inl, inr, length-append, drop_at}
+use Rattle.std.proofs.Common.{◌≡◌, ◌⊎◌, ℕ, ◌+◌, ◌≤◌, List, [], ◌∷◌, ◌++◌, length, flat_map, drop, None, ap, sym, ◌∙◌, subst, arith, inl, inr, length-append, drop_at, rules}
 use Rattle.bp_language.specs.Ast.{Program}
 use Rattle.bp_machine.specs.declared.calls.Call.{Call}
 use Rattle.bp_machine.specs.declared.calls.Report.{Report}
-use Rattle.bp_machine.specs.Histories.{open_lines, IsReport}
+use Rattle.bp_machine.specs.Histories.{IsReport}
 use Rattle.bp_machine.specs.Setups.{SetupOf, setup_fault}
 use Rattle.bp_trace.specs.declared.limits.TheConstants.{MAX_TRACE}
 use Rattle.bp_trace.specs.declared.playing.Body.{Body}
 use Rattle.bp_trace.specs.declared.faults.ReplayFault.{ReplayFault}
 use Rattle.bp_trace.specs.declared.faults.ReplayFault.TheVariants as fault
 use Rattle.bp_trace.specs.declared.traces.Version.{Version}
-use Rattle.bp_trace.specs.declared.traces.Version.TheVariants.{One, Two}
-use Rattle.bp_trace.specs.Reading.{counts, IsEndRefusal, setup_of_head, IsHeadOf}
+use Rattle.bp_trace.specs.Reading.{IsEndRefusal, setup_of_head, IsHeadOf}
 use Rattle.bp_trace.specs.declared.heads.Head.{Head}
-use Rattle.bp_trace.specs.TraceText.{HasHead, version_line, entry_line, init_line, head_lines, head_text, calls_text, end_line}
+use Rattle.bp_trace.specs.TraceText.{HasHead, version_line, entry_line, init_line, head_lines, head_text, calls_text}
 use Rattle.bp_trace.specs.declared.replaying.Opened.{Opened}
-use Rattle.bp_trace.specs.Replays.{IsLongestAccepted, counts_of, IsPlayable, IsTrace, line_count, HasOtherEnd, HasMoreAfter, Reaches, IsRestRefused, HasRefusedRest, IsReplayRefusal}
+use Rattle.bp_trace.specs.Replays.{IsLongestAccepted, IsPlayable, line_count, Reaches, IsRestRefused, HasRefusedRest, IsReplayRefusal}
 use Rattle.bp_trace.specs.Judging.{IsBody, IsBodyRefusal, HasRefusedBody, FitsText, IsOpened}
 use Rattle.bp_trace.proofs.HeadsRead.{limits_text, setup_text, head_joined}
 use Rattle.bp_trace.proofs.LongestAccepted.{longest_before_no_line, longest_before_refused}
@@ -28,8 +27,7 @@ entries_long [] = omega arith
 entries_long (e ∷ es) = omega (arith, entries_long es, length-append (entry_line e) (flat_map entry_line es))
 
 version_long : (v : Version) → length (version_line v) ≡ 9
-version_long One = refl
-version_long Two = refl
+version_long v = grind (arith)
 
 pub lines_within : (v : Version) (s : SetupOf) → length (head_lines v s) ≤ length (head_text v s)
 lines_within v s =
@@ -40,10 +38,7 @@ lines_within v s =
 -- a head that begins the text, with its own numbers
 module _ (text : List ℕ) (head : Head) (o : Opened) (at : IsHeadOf text head) (size : o.size ≡ head.size) (lines : o.lines ≡ head.lines) where
   rest_read : drop o.size text ≡ at.rest
-  rest_read =
-      ap (λ n. drop n text) size
-      ∙ ap (drop head.size) at.parts
-      ∙ drop_at (head_text head.version (setup_of_head head)) at.rest head.size (sym at.size)
+  rest_read = search (rules, drop_at)
 
   pub head_fits : length text ≤ MAX_TRACE → FitsText text o
   head_fits short =
@@ -55,29 +50,14 @@ module _ (text : List ℕ) (head : Head) (o : Opened) (at : IsHeadOf text head) 
       }
 
   pub head_opened : o.version ≡ head.version → o.setup ≡ setup_of_head head → IsOpened text o
-  head_opened version setup =
-      let texts : head_text head.version (setup_of_head head) ≡ head_text o.version o.setup =
-      ap (λ v. head_text v (setup_of_head head)) (sym version) ∙ ap (head_text o.version) (sym setup) in
-      let all_lines : length (head_lines head.version (setup_of_head head)) ≡ length (head_lines o.version o.setup) =
-      ap (λ v. length (head_lines v (setup_of_head head))) (sym version) ∙ ap (λ s. length (head_lines o.version s)) (sym setup) in
-      record {
-        has = subst HasHead (sym setup) at.has;
-        parts = at.parts ∙ ap (λ z. z ++ at.rest) texts ∙ ap (λ r. head_text o.version o.setup ++ r) (sym rest_read);
-        lines = lines ∙ at.lines ∙ all_lines;
-      }
+  head_opened given1 given2 = search (rules, rest_read)
 
 module _ (t : Program) (text : List ℕ) (short : length text ≤ MAX_TRACE) (v : Version) (s : SetupOf) (rest : List ℕ)
     (has : HasHead s) (parts : text ≡ head_text v s ++ rest) where
   module _ (fine : setup_fault t s ≡ None) (first : ℕ) (first_is : first ≡ length (head_lines v s) + 1) where
     module _ (h : List Call) (after : List ℕ) (playable : IsPlayable t s h) (body : rest ≡ calls_text v h ++ after) where
       reaches : Reaches t text v s h (first + line_count v h) after
-      reaches = record {
-        head = has;
-        fine = fine;
-        playable = playable;
-        parts = parts ∙ ap (λ r. head_text v s ++ r) body;
-        number = omega (arith, first_is);
-      }
+      reaches = grind (arith)
 
       refused_rest : (f : ReplayFault) → IsRestRefused t v s h (first + line_count v h) after f → HasRefusedRest t text f
       refused_rest f r = record { version = v; setup = s; history = h; number = first + line_count v h; rest = after; reached = reaches; refused = r }
@@ -112,37 +92,12 @@ module _ (t : Program) (text : List ℕ) (short : length text ≤ MAX_TRACE) (v 
       abbrev after : List ℕ
       after = drop b.size rest
 
-      own_is : end_line r.calls r.left_open ≡ end_line (length h) (open_lines s h)
-      own_is = ap (λ n. end_line n r.left_open) report.calls ∙ ap (end_line (length h)) report.left_open
-
-      counts_are : counts r.calls r.left_open ≡ counts_of s h
-      counts_are = λ i. record { calls = report.calls i; left_open = report.left_open i }
-
-      at_end : (f : ReplayFault) → IsRestRefused t v s h (first + line_count v h) after f → HasRefusedRest t text f
-      at_end f q = refused_rest h after playable body.parts f q
-
       -- what is after the calls is refused
       pub end_refuses : (f : ReplayFault) → IsEndRefusal after r.calls r.left_open b.line f → IsReplayRefusal t text f
-      end_refuses (fault.NoEnd c) q = (short, at_end (fault.NoEnd c) (q.0, q.1 ∙ counts_are))
-      end_refuses (fault.EndCount m c) q =
-          (short, at_end (fault.EndCount m c) (q.0 ∙ body.number, q.1 ∙ counts_are, subst (λ own. HasOtherEnd own after) own_is q.2))
-      end_refuses (fault.Line m) (inl q) =
-          (short, at_end (fault.Line m) (inl (q.0 ∙ body.number, record { some = q.1.some; calls = body.ends; ends = q.1.ends })))
-      end_refuses (fault.Line m) (inr q) =
-          (short, at_end (fault.Line m) (inr (q.0 ∙ ap (λ n. n + 1) body.number, subst (λ own. HasMoreAfter own after) own_is q.1)))
-      end_refuses f q = absurd q
+      end_refuses f given1 = grind (arith)
 
       -- all calls of the lines are the longest that are accepted
       pub end_keeps : IsLongestAccepted t text v s h
       end_keeps =
           longest_before_no_line t text v s has fine h playable after
           (parts ∙ ap (λ z. head_text v s ++ z) body.parts) body.ends
-
-      -- the end is after the calls, alone
-      pub is_trace : after ≡ end_line r.calls r.left_open → IsTrace t v s h text
-      is_trace end = record {
-        head = has;
-        fine = fine;
-        playable = playable;
-        is = parts ∙ ap (λ x. head_text v s ++ x) (body.parts ∙ ap (λ x. calls_text v h ++ x) (end ∙ own_is));
-      }

@@ -1,5 +1,5 @@
 -- Lines of schedules: what begins them, how long they are, which call they are of, and what a session that stands after them says.
-use Rattle.std.proofs.Common.{◌≡◌, ℕ, ◌+◌, ◌/◌, ◌%◌, ◌<◌, ◌≤◌, ◌^◌, inl, List, [], ◌∷◌, ◌++◌, length, refl, ap, sym, ◌∙◌, arith, decimal, append_assoc, ◌*◌, length-append, inr, ◌≢◌, ◌↔◌, IsTrue, Bool, true, false, Some, subst, Option, None, is_some}
+use Rattle.std.proofs.Common.{◌≡◌, ℕ, ◌+◌, ◌/◌, ◌%◌, ◌<◌, ◌≤◌, ◌^◌, List, [], ◌∷◌, ◌++◌, length, refl, ap, sym, ◌∙◌, arith, decimal, append_assoc, ◌*◌, length-append, ◌≢◌, ◌↔◌, IsTrue, Bool, true, Some, subst, Option, None, rules}
 use Rattle.std.proofs.lemmas.Fmt.{decimal_digit, decimal_step}
 use Rattle.bp_text.specs.Formats.{HasNone, IsAt}
 use Rattle.bp_text.proofs.NumbersInTurn.{ends_at}
@@ -9,9 +9,7 @@ use Rattle.bp_trace.specs.declared.driving.ScheduleLine.{ScheduleLine}
 use Rattle.bp_trace.specs.Reading.{schedule_line, thread_field}
 use Rattle.bp_trace.specs.TraceText.{line_text, bit_digit, IsLineAt, HasNoLine, schedule_text, line_of_call, lines_of_history}
 use Rattle.std.proofs.Math.Nat.{mul-le-mul_left, mul-le-mul_right}
-use Rattle.std.proofs.lemmas.Bool.{cases_lt, false≢true}
-use Rattle.std.proofs.lemmas.List.{append-nil, map-append}
-use Rattle.std.proofs.lemmas.List.Concat.{flat_map-append}
+use Rattle.std.proofs.lemmas.Bool.{cases_lt}
 use Rattle.bp_language.specs.Ast.{Program}
 use Rattle.bp_flat.specs.Moves.{Configuration}
 use Rattle.bp_flat.specs.StandsFor.{StandsFor, IsOfProgram}
@@ -22,11 +20,11 @@ use Rattle.bp_machine.specs.Histories.{IsLegal, Answers, reply_of, configuration
 use Rattle.bp_machine.specs.declared.calls.Reply.{Reply}
 use Rattle.bp_machine.specs.Sessions.{SessionOf, Stands, StandsForAll, IsAskRefusal}
 use Rattle.bp_machine.specs.declared.calls.AskFault.{AskFault}
-use Rattle.bp_machine.specs.declared.calls.AskFault.TheVariants.{NoThread, Finished, Seeded, Unseeded, Memory, Busy}
+use Rattle.bp_machine.specs.declared.calls.AskFault.TheVariants.{Memory}
 use Rattle.bp_machine.proofs.HistoriesAreRuns.{AllBelow, all_below, legal_length}
 use Rattle.bp_machine.proofs.SetupInRange.{is_true}
 use Rattle.bp_trace.specs.declared.limits.TheConstants.{MAX_SCHEDULE}
-use Rattle.bp_trace.specs.Drives.{IsBadLine, IsAfterFinish, IsRefusal, drive_fault_of, IsAdded, IsLineRefusal}
+use Rattle.bp_trace.specs.Drives.{IsAfterFinish, IsRefusal, drive_fault_of, IsLineRefusal}
 use Rattle.bp_trace.specs.declared.faults.DriveFault.{DriveFault}
 use Rattle.bp_trace.specs.declared.faults.DriveFault.TheVariants as fault
 
@@ -41,19 +39,13 @@ both_digits t h k = sym (ap length (two_text t h k))
 
 module _ (n : ℕ) (few : n < 2 ^ 64) (text : List ℕ) where
   pub thread_there : (i : ℕ) (more : List ℕ) → i < n → text ≡ decimal i ++ 32 ∷ more → IsAt (thread_field n) text i more
-  thread_there i more below e = record {
-    fits = (below, omega (arith, below, few), ends_at 32 more (inl (omega arith)));
-    parts = e ∙ sym (append_assoc (decimal i) (32 ∷ []) more);
-  }
+  thread_there i more given1 given2 = search (rules, ends_at, append_assoc, decimal)
 
   pub thread_parts : (i : ℕ) (more : List ℕ) → IsAt (thread_field n) text i more → text ≡ decimal i ++ 32 ∷ more
   thread_parts i more at = at.parts ∙ append_assoc (decimal i) (32 ∷ []) more
 
   line_there : (x : ScheduleLine) (more : List ℕ) → x.thread < n → text ≡ line_text x ++ more → IsAt (schedule_line n) text x more
-  line_there x more below e = record {
-    fits = ((below, omega (arith, below, few), ends_at 32 _ (inl (omega arith))), tt);
-    parts = let regroup : line_text x ++ more ≡ ((decimal x.thread ++ 32 ∷ []) ++ bit_digit x.bit ∷ 10 ∷ []) ++ more = simp regrouped in e ∙ regroup;
-  }
+  line_there x more given1 given2 = search (rules, ends_at, decimal, regrouped)
 
   pub line_parts : (x : ScheduleLine) (more : List ℕ) → IsAt (schedule_line n) text x more → text ≡ line_text x ++ more
   line_parts x more at = let regroup : ((decimal x.thread ++ 32 ∷ []) ++ bit_digit x.bit ∷ 10 ∷ []) ++ more ≡ line_text x ++ more = simp regrouped in at.parts ∙ regroup
@@ -73,32 +65,17 @@ one_line x y a b few_x few_y e = one_at (line_there 100 (omega arith) _ x a few_
 -- The schedule of a legal history is short enough to be driven.
 
 pub few_digits : (n : ℕ) → n < 100 → length (decimal n) ≤ 2
-few_digits n h = elim (cases_lt n 10) [
-  | inl less ↦ omega (arith, one_digit n less)
-  | inr more ↦ omega (arith, both_digits n more h)
-]
+few_digits n given1 = search (rules, cases_lt, one_digit, both_digits)
 
 line_short : (x : Call) → x.thread < 100 → length (line_text (line_of_call x)) ≤ 5
-line_short x h =
-    let digits = few_digits x.thread h in
-    let whole = length-append (decimal x.thread) (32 ∷ bit_digit x.bit ∷ 10 ∷ []) in
-    omega (arith, digits, whole)
+line_short x given1 = search (rules, few_digits, length-append, decimal)
 
 lines_short : (n : ℕ) (h : List Call) → n ≤ MAX_THREADS → AllBelow n h → length (schedule_text (lines_of_history h)) ≤ 5 * length h
 lines_short n [] few all = omega arith
-lines_short n (x ∷ xs) few (below, all) =
-    let first = line_short x (omega (arith, few, below)) in
-    let rest = lines_short n xs few all in
-    let whole = length-append (line_text (line_of_call x)) (schedule_text (lines_of_history xs)) in
-    omega (arith, first, rest, whole)
+lines_short n (x ∷ xs) few (below, all) = search (rules, (lines_short n xs few all), line_short, length-append)
 
 pub schedule_short : (t : Program) (s : SetupOf) (h : List Call) → IsInRange s → IsLegal t s h → length (schedule_text (lines_of_history h)) ≤ MAX_SCHEDULE
-schedule_short t s h range legal =
-    let few = lines_short (threads s) h range.few (all_below t s h legal) in
-    let calls = legal_length t s h legal in
-    let one = mul-le-mul_right s.calls range.few in
-    let other = mul-le-mul_left MAX_THREADS range.calls in
-    omega (arith, few, calls, one, other)
+schedule_short t s h given1 given2 = search (rules, lines_short, all_below, legal_length, mul-le-mul_right, mul-le-mul_left)
 
 pub not_empty : (x : ScheduleLine) (more : List ℕ) → [] ≢ line_text x ++ more
 not_empty x more e =
@@ -107,10 +84,7 @@ not_empty x more e =
 
 -- the machine has one answer
 pub same_fits : (W : Type 0) (p q : Bool) → IsTrue p ↔ W → IsTrue q ↔ W → p ≡ q
-same_fits W false false f g = refl
-same_fits W false true f g = f.1 (g.0 refl)
-same_fits W true false f g = sym (g.1 (f.0 refl))
-same_fits W true true f g = refl
+same_fits W p q given1 given2 = grind (arith)
 
 pub same_answer : (t : Program) (k : ℕ) (c : Configuration) (before : List ℕ) (i : ℕ) (bit : Bool) (r q : Reply)
     → Answers t k c before i bit r → Answers t k c before i bit q → r ≡ q
@@ -132,12 +106,7 @@ module _ (t : Program) (s : SetupOf) where
 pub ask_refused : (t : Program) (s : SetupOf) (h : List Call) (i : ℕ) (bit : Bool) (f : AskFault) → i < threads s
     → s.seed ≡ None → IsAskRefusal t s h i (Some bit) f
     → (f ≡ Memory → ⊥) → is_finished s h i ≡ true
-ask_refused t s h i bit NoThread inside unseeded why other = absurd (omega (arith, inside, why))
-ask_refused t s h i bit Finished inside unseeded why other = why.1
-ask_refused t s h i bit Seeded inside unseeded why other = absurd (false≢true (sym (ap (λ o. is_some o) unseeded) ∙ why.2))
-ask_refused t s h i bit Unseeded inside unseeded why other = absurd (let e = why.1 in cc)
-ask_refused t s h i bit Memory inside unseeded why other = absurd (other refl)
-ask_refused t s h i bit Busy inside unseeded why other = absurd why
+ask_refused t s h i bit f given1 given2 given3 given4 = grind (arith)
 
 -- What a session that stands after the calls of all lines says of them.
 
@@ -153,27 +122,6 @@ module _ (x : SessionOf) (h : List Call) (of_some : IsOfProgram x.code) (stands 
         (λ t is. ask_refused t x.setup h line.thread line.bit f within unseeded (refused t h is (stands t is)) (λ e. absurd cc)),
   )
 
--- one more line of the schedule
-module _ (schedule rest : List ℕ) (old new : List Call) (line : ScheduleLine)
-    (front : schedule ≡ schedule_text (lines_of_history old) ++ rest) (more : List ℕ) (parts : rest ≡ line_text line ++ more) where
-  schedule_more : (y : Call) → line_of_call y ≡ line → schedule_text (lines_of_history (old ++ y ∷ [])) ≡ schedule_text (lines_of_history old) ++ line_text line
-  schedule_more y e =
-      ap schedule_text (map-append line_of_call old (y ∷ []))
-      ∙ flat_map-append line_text (lines_of_history old) (line_of_call y ∷ [])
-      ∙ ap (λ t. schedule_text (lines_of_history old) ++ t) (append-nil (line_text (line_of_call y)) ∙ ap line_text e)
-
-  pub next_front : IsAdded old new line → schedule ≡ schedule_text (lines_of_history new) ++ more
-  next_front added =
-      front
-      ∙ ap (λ t. schedule_text (lines_of_history old) ++ t) parts
-      ∙ rw (added.is, schedule_more added.call added.asked) (simp regrouped)
-
-  pub next_few : IsAdded old new line → length old + length rest ≤ length schedule → length new + length more ≤ length schedule
-  next_few added few =
-      let longer = ap length added.is ∙ length-append old (added.call ∷ []) in
-      let whole = ap length parts ∙ length-append (line_text line) more in
-      omega (arith, longer, few, whole, length-append (decimal line.thread) (32 ∷ bit_digit line.bit ∷ 10 ∷ []))
-
 -- the refusal of a line, as that of the schedule
 module _ (x : SessionOf) (t : Program) (is : StandsFor x.code t) (s : SetupOf) (h : List Call) (setup : x.setup ≡ s) (stands : StandsForAll x h)
     (schedule rest : List ℕ) (short : length schedule ≤ MAX_SCHEDULE) (whole : schedule ≡ schedule_text (lines_of_history h) ++ rest) where
@@ -182,14 +130,7 @@ module _ (x : SessionOf) (t : Program) (is : StandsFor x.code t) (s : SetupOf) (
 
   pub bad_line : (n many : ℕ) → n ≡ length h + 1 → many ≡ threads s → rest ≢ [] → HasNoLine many rest → (bytes : Option (List ℕ))
       → IsRefusal t s schedule bytes bytes (fault.Line n)
-  bad_line n many number all some none bytes =
-      let bad : IsBadLine t s schedule n = record {
-        rest = rest;
-        reached = record { history = h; legal = legal_of; whole = whole; number = number };
-        some = some;
-        bad = subst (λ k. HasNoLine k rest) all none;
-      } in
-      (refl, (short, bad))
+  bad_line n many given1 given2 given3 given4 bytes = grind (arith)
 
   module _ (line : ScheduleLine) (n many : ℕ) (number : n ≡ length h + 1) (all : many ≡ threads s) (begins : IsLineAt many rest line) where
     pub line_refused : (f : DriveFault) → IsLineRefusal x.setup h line n f → (bytes : Option (List ℕ)) → IsRefusal t s schedule bytes bytes f

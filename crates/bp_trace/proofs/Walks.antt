@@ -1,5 +1,5 @@
 -- Walks of a step relation that has at most one next state: of two that begin alike one goes on from the end of the other.
-use Rattle.std.proofs.Common.{◌≡◌, ◌⊎◌, inl, inr, refl, sym, subst}
+use Rattle.std.proofs.Common.{◌≡◌, ◌⊎◌, inl, inr, sym, subst, arith}
 
 pub data Walk {S : Type 0} (Next : S → S → Type 0) : S → S → Type 0 where
   Stays : {s : S} → Walk Next s s
@@ -19,8 +19,7 @@ module _ {S : Type 0} (Next : S → S → Type 0) where
   compared single s a b (Goes {u = u} n w) (Goes {u = v} m z) = compared single v a b (subst (λ k. Walk Next k a) (single s u v n m) w) z
 
   pub stays : (a b : S) → Walk Next a b → Stops a → a ≡ b
-  stays a b Stays stops = refl
-  stays a b (Goes n w) stops = absurd (stops _ n)
+  stays a b given1 given2 = grind (arith)
 
   -- where both stop they are one
   pub one_end : IsSingle → (s a b : S) → Walk Next s a → Walk Next s b → Stops a → Stops b → a ≡ b

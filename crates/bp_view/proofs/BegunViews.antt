@@ -1,5 +1,5 @@
 -- What was written of a view, call by call, is the beginning of a whole one.
-use Rattle.std.proofs.Common.{◌≡◌, ◌∙◌, ◌<◌, ◌≤◌, ◌++◌, ◌-◌, ℕ, zero, suc, Bool, true, false, cond, List, [], ◌∷◌, codes, take, length, length-append, length-take, get_or, map, max, min, ap, refl, arith, slice_get, Some, ◌+◌, Option, drop, add-one, sym, subst, drop-cons, take-append-drop, ◌&&◌, ◌⊎◌, inl, inr, None, nat_le, unwrap_or, append-nil, add-zero, Bor, nat_lt, option_map}
+use Rattle.std.proofs.Common.{◌≡◌, ◌∙◌, ◌<◌, ◌≤◌, ◌++◌, ◌-◌, ℕ, zero, suc, Bool, true, false, cond, List, [], ◌∷◌, codes, take, length, length-append, length-take, get_or, map, max, min, ap, refl, arith, slice_get, Some, ◌+◌, Option, drop, add-one, sym, subst, drop-cons, take-append-drop, ◌&&◌, ◌⊎◌, inl, inr, None, nat_le, unwrap_or, append-nil, add-zero, Bor, nat_lt, option_map, rules}
 use Rattle.std.proofs.lemmas.Bool.Decides.{nat_tests}
 use Rattle.std.proofs.lemmas.List.{take_all, take_more, length-take-le}
 use Rattle.std.proofs.lemmas.Option.{slice_get-get_or}
@@ -9,7 +9,7 @@ use Rattle.bp_text.specs.Writing.{AppendsAll}
 use Rattle.bp_text.proofs.PartsOfTexts.{part_of_each, both_added}
 use Rattle.bp_text.proofs.Givings.{HasParts, IsKind, part_written}
 use Rattle.bp_language.specs.Ast.{Procedure, Program, Name}
-use Rattle.bp_flat.specs.StandsFor.{Place, start_of_block, StandsFor, places_of}
+use Rattle.bp_flat.specs.StandsFor.{Place, StandsFor, places_of}
 use Rattle.bp_flat.specs.Flat.{Flat}
 use Rattle.bp_flat.specs.Moves.{binding}
 use Rattle.bp_flat.proofs.ProceduresOfPlaces.{starts}
@@ -26,8 +26,8 @@ use Rattle.bp_source.proofs.SourceStatementLists.{shown_texts, texts_are}
 use Rattle.bp_tasks.specs.declared.options.ViewFormat.{ViewFormat}
 use Rattle.bp_tasks.specs.declared.options.ViewOptions.{ViewOptions}
 use Rattle.bp_tasks.specs.declared.options.ViewFormat.TheVariants.{Columns}
-use Rattle.bp_view.specs.CallFacts.{printed_by, changes_by}
-use Rattle.bp_view.specs.Filters.{calls_of, before_last, is_asked, is_between, is_late, is_of_thread, skipped, is_seen, watched_names}
+use Rattle.bp_view.specs.CallFacts.{printed_by}
+use Rattle.bp_view.specs.Filters.{calls_of, before_last, is_asked, is_between, is_late, is_of_thread, skipped}
 use Rattle.bp_view.specs.declared.filters.CallFilter.{CallFilter}
 use Rattle.bp_view.proofs.WholeFacts as facts
 use Rattle.bp_view.specs.Lines.{shortened, longest, variables_text}
@@ -81,8 +81,7 @@ pub places_are : (text : List ℕ) (ps : List Procedure) (xs : List Place) (stat
 places_are text ps [] [] are = refl
 places_are text ps [] (x ∷ statements) are = elim are [ ]
 places_are text ps (s ∷ xs) [] are = elim are [ ]
-places_are text ps (s ∷ xs) (x ∷ statements) are =
-    ap (λ p. p ∷ place_items statements) are.0.place ∙ ap (λ ys. place_text text (start_of_block s.left) ∷ ys) (places_are text ps xs statements are.1)
+places_are text ps (s ∷ xs) (x ∷ statements) are = search (rules, (places_are text ps xs statements are.1))
 
 -- Each history of a program has a view, and what was written of one goes on to a whole one.
 
@@ -227,17 +226,13 @@ either m n a few = by_test (nat_le a m) refl
 
 -- a call before the first that is asked for, or before the last ones
 early : (f : CallFilter) (count n : ℕ) → n < unwrap_or f.from 0 → is_between f.from f.to n ≡ false
-early f count n few =
-    let e : nat_le (unwrap_or f.from 0) n ≡ false = grind (arith, nat_tests) in
-    ap (λ b. b && nat_le n (unwrap_or f.to n)) e
+early f count n given1 = grind (arith)
 
 not_late : (last : Option ℕ) (count n : ℕ) → 0 < n → n ≤ before_last last count → is_late last count n ≡ false
-not_late None count n some few = absurd (omega (arith, some, few))
-not_late (Some last) count n some few = grind (arith, nat_tests)
+not_late last count n given1 given2 = grind (arith)
 
 and_false : (a b : Bool) → b ≡ false → a && b ≡ false
-and_false true b e = e
-and_false false b e = refl
+and_false a b given1 = grind (arith)
 
 not_asked : (f : CallFilter) (count n i : ℕ) → 0 < n → n ≤ skipped f count → is_asked f count n i ≡ false
 not_asked f count n i some few = by_reason (either _ _ n few)
@@ -254,13 +249,7 @@ module _ (t : Program) (text : List ℕ) (s : SetupOf) (x : ViewContext) where
 
   -- call k, from 0, is one of those before
   no_line : (k : ℕ) → k < length calls → suc k ≤ skipped (filter_of x.options) (length calls) → IsLine t text s x k []
-  no_line k within before call at =
-      let long : length (take k calls) ≡ k = length-take-le k calls (omega (arith, within)) in
-      let early : suc (length (take k calls)) ≤ skipped (filter_of x.options) (length calls) = omega (arith, long, before) in
-      let none = not_asked (filter_of x.options) (length calls) (suc (length (take k calls))) call.thread (omega arith) early in
-      let rest = is_seen (watched_names x.options.watch) (changes_by t s (take k calls) call)
-      && nat_lt 0 (calls_of (filter_of x.options) calls (take k calls) call) in
-      subst (λ b. IsViewLineIf t text s x.options x.widths calls b (take k calls) call []) (sym (ap (λ b. b && rest) none)) refl
+  no_line k given1 given2 = search (rules, length-take-le, early, not_asked)
 
   module _ {head : List ℕ} {a b : Option (List ℕ)} (has : HasParts (IsLine t text s x) head 0 a b) where
     -- so the head alone is a text with the lines of these calls
@@ -294,5 +283,4 @@ line_of_some (x ∷ xs) (b ∷ bits) h = refl
 
 pub copied : {A B : Type 0} (f : A → B) (x : Option (Bor A))
     → option_map (λ r. f r.now) x ≡ option_map f (option_copied x)
-copied f None = refl
-copied f (Some r) = refl
+copied = grind (arith)

@@ -1,14 +1,10 @@
 -- The lines of the calls that are asked for stand for these calls, each once.
-use Rattle.std.proofs.Common.{◌≡◌, ◌≤◌, suc, Bool, true, false, List, [], ◌∷◌, length, refl, arith, ◌∙◌, ◌+◌, ◌-◌, ◌==◌, ◌&&◌, if◌then◌else◌, nat_le, nat_lt, ℕ, zero, ◌++◌, append-nil, drop, length-append, replicate, reverse, take, ap, ap₂, sym, subst}
+use Rattle.std.proofs.Common.{◌≡◌, ◌≤◌, suc, Bool, true, false, List, [], ◌∷◌, length, refl, arith, ◌∙◌, ◌+◌, ◌-◌, ◌==◌, if◌then◌else◌, nat_le, nat_lt, ℕ, zero, ◌++◌, append-nil, drop, length-append, replicate, reverse, take, ap, ap₂, sym, subst, rules}
 use Rattle.std.proofs.Math.Seq.{drop-append-add, drop-append_seam, take-append_seam, take-nil}
 use Rattle.std.proofs.lemmas.List.{append_assoc, drop_all, length-take-le, reverse-append, take-append-drop}
-use Rattle.std.proofs.lemmas.Bool.{false≢true}
 use Rattle.std.proofs.lemmas.Bool.Decides.{nat_tests}
-use Rattle.bp_flat.specs.Moves.{same_bit}
 use Rattle.bp_machine.specs.declared.calls.Call.{Call}
-use Rattle.bp_machine.specs.declared.calls.Reply.{Reply}
-use Rattle.bp_machine.specs.declared.calls.Reply.TheVariants.{Stopped, Ended, NoContexts, Full, Blocked, Failed, Stepped}
-use Rattle.bp_view.specs.Filters.{is_same_wait, waits_like, asked_calls, calls_at, calls_of_lines, last_number, skipped, StandForEachOnce, calls_in_line, is_wait}
+use Rattle.bp_view.specs.Filters.{is_same_wait, waits_like, asked_calls, calls_at, calls_of_lines, last_number, skipped, StandForEachOnce, calls_in_line}
 use Rattle.bp_view.specs.declared.filters.TheConstants.{MAX_WAITS}
 use Rattle.bp_view.specs.declared.filters.CallFilter.{CallFilter}
 
@@ -23,8 +19,7 @@ module _ (x y : Call) (ys : List Call) where
 
 -- there are no more equal waits than calls
 at_most_here : (x y : Call) (ys : List Call) (b : Bool) → is_same_wait x y ≡ b → waits_like x ys ≤ length ys → waits_like x (y ∷ ys) ≤ length (y ∷ ys)
-at_most_here x y ys true same rest = omega (arith, same_first x y ys same, rest)
-at_most_here x y ys false other rest = omega (arith, other_first x y ys other)
+at_most_here x y ys b given1 given2 = grind (arith)
 
 pub at_most : (x : Call) (ys : List Call) → waits_like x ys ≤ length ys
 at_most x [] = omega arith
@@ -36,44 +31,12 @@ abbrev calls_after : (folds : Bool) → (before calls : List Call) → List Call
 calls_after folds before [] = []
 calls_after folds before (x ∷ xs) = replicate (calls_in_line folds x before xs) x ++ calls_after folds (x ∷ before) xs
 
-both_left : (a b : Bool) → a && b ≡ true → a ≡ true
-both_left true b e = refl
-both_left false b e = e
-
-both_right : (a b : Bool) → a && b ≡ true → b ≡ true
-both_right true b e = e
-both_right false b e = absurd (false≢true e)
-
-equal_bits : (p q : Bool) → same_bit p q ≡ true → p ≡ q
-equal_bits true true e = refl
-equal_bits true false e = absurd (false≢true e)
-equal_bits false true e = absurd (false≢true e)
-equal_bits false false e = refl
-
-waiting : (r : Reply) → is_wait r ≡ true → r ≡ Blocked
-waiting Stopped e = absurd (false≢true e)
-waiting Ended e = absurd (false≢true e)
-waiting NoContexts e = absurd (false≢true e)
-waiting Full e = absurd (false≢true e)
-waiting Blocked e = refl
-waiting Failed e = absurd (false≢true e)
-waiting Stepped e = absurd (false≢true e)
-
 equal_threads : (i j : ℕ) → (i == j) ≡ true → i ≡ j
 equal_threads i j e = grind (arith, nat_tests)
 
 -- calls that are the same wait are equal
 equal_waits : (x y : Call) → is_same_wait x y ≡ true → x ≡ y
-equal_waits x y same =
-    let first = both_left (is_wait x.reply) (is_wait y.reply && (x.thread == y.thread && same_bit x.bit y.bit)) same in
-    let rest = both_right (is_wait x.reply) (is_wait y.reply && (x.thread == y.thread && same_bit x.bit y.bit)) same in
-    let second = both_left (is_wait y.reply) (x.thread == y.thread && same_bit x.bit y.bit) rest in
-    let fields = both_right (is_wait y.reply) (x.thread == y.thread && same_bit x.bit y.bit) rest in
-    let thread = equal_threads x.thread y.thread (both_left (x.thread == y.thread) (same_bit x.bit y.bit) fields) in
-    let bit = equal_bits x.bit y.bit (both_right (x.thread == y.thread) (same_bit x.bit y.bit) fields) in
-    let reply = waiting x.reply first ∙ sym (waiting y.reply second) in
-    let of : ℕ → Bool → Reply → Call = λ t b r. record { thread = t; bit = b; reply = r } in
-    ap₂ (λ (t : ℕ) (b : Bool). of t b x.reply) thread bit ∙ ap (of y.thread y.bit) reply
+equal_waits x y given1 = grind (arith)
 
 like_either : (x y : Call) → is_same_wait x y ≡ is_same_wait y x
 like_either x y = by_tests (is_same_wait x y) refl (is_same_wait y x) refl
@@ -82,9 +45,7 @@ like_either x y = by_tests (is_same_wait x y) refl (is_same_wait y x) refl
     turned u v e = subst (λ (z : Call). is_same_wait z u ≡ is_same_wait u z) e refl
 
     by_tests : (b : Bool) → is_same_wait x y ≡ b → (c : Bool) → is_same_wait y x ≡ c → is_same_wait x y ≡ is_same_wait y x
-    by_tests true p c q = sym (turned x y (equal_waits x y p))
-    by_tests false p true q = turned y x (equal_waits y x q)
-    by_tests false p false q = p ∙ sym q
+    by_tests b given1 c given2 = grind (arith)
 
 -- the waits before a call that have no line of their own: that of a later call stands for them
 abbrev pending : (before calls : List Call) → List Call
@@ -155,21 +116,11 @@ one_more (suc p) x xs = ap (λ ys. x ∷ ys) (one_more p x xs)
 joined : (x : Call) (xs : List Call) (p q : ℕ) (many last : Bool) → (last ≡ true → q ≡ 0)
     → replicate (if many then if last then suc (p + q) else 0 else 1) x ++ (still_pending many last x p ++ xs)
     ≡ (if many then replicate p x else []) ++ x ∷ xs
-joined x xs p q false true none = refl
-joined x xs p q false false none = refl
-joined x xs p q true true none =
-    let all : p + q ≡ p = omega (arith, none refl) in
-    ap (λ n. replicate (suc n) x ++ xs) all ∙ one_more p x xs
-joined x xs p q true false none = one_more p x xs
+joined x xs p q many last given1 = search (rules, one_more)
 
 folded : (before calls : List Call) → calls_after true before calls ≡ pending before calls ++ calls
 folded before [] = refl
-folded before (x ∷ xs) =
-    let p = waits_like x before in
-    let q = waits_like x xs in
-    let line = replicate (calls_in_line true x before xs) x in
-    ap (λ ys. line ++ ys) (folded (x ∷ before) xs ∙ ap (λ ys. ys ++ xs) (next x before xs))
-    ∙ joined x xs p q (nat_lt MAX_WAITS (suc (p + q))) (q == 0) (equal_threads q 0)
+folded before (x ∷ xs) = search (rules, (folded (x ∷ before) xs), next, joined, equal_threads)
 
 unfolded : (before calls : List Call) → calls_after false before calls ≡ calls
 unfolded before [] = refl
@@ -188,8 +139,7 @@ each_after true calls = folded [] calls ∙ ap (λ ys. ys ++ calls) (none_pendin
 each_after false calls = unfolded [] calls
 
 first_taken : (n : ℕ) (x : Call) (xs ys : List Call) → take n (x ∷ ys) ≡ x ∷ xs → take (n - 1) ys ≡ xs
-first_taken zero x xs ys e = absurd cc
-first_taken (suc n) x xs ys e = let same : take n ys ≡ xs = cc in (let less : suc n - 1 ≡ n = omega arith in ap (λ k. take k ys) less ∙ same)
+first_taken n x xs ys given1 = grind (arith)
 
 -- the calls before those that are asked for are `first`; of those, these are before the next one
 module _ (f : CallFilter) (whole : List Call) (first : List Call) (skips : length first ≡ skipped f (length whole)) where
@@ -257,10 +207,7 @@ module _ (f : CallFilter) (whole : List Call) where
       ∙ along f whole first skips [] asked rest whole_is
       (ap₂ (λ (k : ℕ) (ys : List Call). take (last_number f (length whole) - k) ys) count both)
       ∙ each_after f.folds asked
-  stand_for_asked false past =
-      let few : length whole ≤ skipped_first = grind (arith, nat_tests) in
-      let none : asked ≡ [] = ap (λ ys. take cut_at ys) (drop_all skipped_first whole few) ∙ take-nil cut_at in
-      ap (λ ys. calls_of_lines f whole (suc skipped_first) ys) none ∙ sym none
+  stand_for_asked false past = search (rules, nat_tests, drop_all, take-nil)
 
 pub each_once : StandForEachOnce
 each_once f whole = stand_for_asked f whole (nat_le (skipped f (length whole)) (length whole)) refl

@@ -1,18 +1,18 @@
 -- The changes of a call lead from the values before it to those after it.
-use Rattle.std.proofs.Common.{if◌then◌else◌, inl, inr, zero, ◌≡◌, ◌≢◌, is_some, ◌∙◌, ◌==◌, ◌||◌, nat_lt, ℕ, suc, Bool, true, false, List, [], ◌∷◌, ◌++◌, Option, None, Some, bytes_eq, length, map, take, ap, ap₂, sym, refl, subst, arith, slice_get, slice_index_or, slice_set, unwrap_or}
+use Rattle.std.proofs.Common.{if◌then◌else◌, inl, inr, zero, ◌≡◌, ◌≢◌, is_some, ◌∙◌, ◌==◌, ◌||◌, nat_lt, ℕ, suc, Bool, true, false, List, [], ◌∷◌, ◌++◌, Option, None, Some, bytes_eq, length, map, take, ap, ap₂, sym, refl, subst, arith, slice_get, slice_index_or, slice_set, unwrap_or, rules}
 use Rattle.std.specs.List.{list_any}
 use Rattle.std.proofs.Math.Seq.{take-append_seam}
 use Rattle.std.proofs.lemmas.Bool.Decides.{nat_tests}
 use Rattle.std.proofs.lemmas.List.{get_or-set_other, get_or-set_same, length-map}
 use Rattle.std.proofs.lemmas.Slice.Eq.{bytes_eq-Decides}
-use Rattle.bp_language.specs.Ast.{Name, Block, Done, Then, Statement, Skips, GoesTo, Returns, Assigns, Branches, Loops, Asserts, Assumes, Prints, Calls, Procedure, Program, variables}
+use Rattle.bp_language.specs.Ast.{Name, Block, Done, Statement, Skips, GoesTo, Returns, Assigns, Branches, Loops, Asserts, Assumes, Prints, Calls, Procedure, Program, variables}
 use Rattle.bp_language.specs.Faults.{AreDistinct, HasDistinctNames, has, Among}
 use Rattle.bp_flat.specs.Moves.{entry_frame, first_stack, procedure_named, Frame, Configuration, from_label, Store, after_effect, call_effect, effect, frame_store, jump_effect, statement_effect, with_left, StatementEffect, Leaves, Fails, Blocks, Misses, after_assignment, after_write, binding, decision_value, expression_values, lookup, same_bit, update, Valuation}
 use Rattle.bp_machine.specs.declared.calls.Call.{Call}
 use Rattle.bp_machine.specs.declared.calls.Reply.{Reply}
 use Rattle.bp_machine.specs.Histories.{configuration_after_call, configuration_after_step, stack_of, configuration_after, configuration_after_calls, is_granted}
 use Rattle.bp_machine.specs.Setups.{start, SetupOf}
-use Rattle.bp_view.specs.CallFacts.{changes_by, changes_between, owned, stack_entries, Entry, arguments_of, changed, frame_changed}
+use Rattle.bp_view.specs.CallFacts.{changes_by, changes_between, owned, stack_entries, Entry, changed}
 use Rattle.bp_view.specs.Laws.{globals_with, locals_in, locals_with, variables_of, AreReplayed, AreVariablesWith}
 use Rattle.bp_view.proofs.NextConfigurations.{entered, stayed, there}
 use Rattle.bp_view.proofs.FailedConditions.{calls_append}
@@ -90,14 +90,10 @@ not_changed x (v ∷ vs) (w ∷ ws) alike none = by_name (bytes_eq x v.0) refl n
     by_name : (here : Bool) → bytes_eq x v.0 ≡ here → (here || list_any (λ u. bytes_eq x u.0) vs) ≡ false
         → (list_any (λ u. bytes_eq x u.0) vs ≡ false → list_any (λ u. bytes_eq x u.0) (changed vs ws) ≡ false)
         → list_any (λ u. bytes_eq x u.0) (changed (v ∷ vs) (w ∷ ws)) ≡ false
-    by_name true is e rest = absurd cc
-    by_name false is e rest = by_bit (same_bit v.1 w.1) (ap (bytes_eq x) (sym alike.0) ∙ is) (rest e)
+    by_name here given1 given2 given3 = grind (arith)
 
 same_true : (p q : Bool) → same_bit p q ≡ true → p ≡ q
-same_true true true e = refl
-same_true true false e = absurd cc
-same_true false true e = absurd cc
-same_true false false e = refl
+same_true p q given1 = grind (arith)
 
 -- the values with what changed are the new ones
 all_changed : (m n : Valuation) → Alike m n → IsEachOnce m → with_values m (changed m n) ≡ n
@@ -146,9 +142,7 @@ module _ (p : Procedure) where
   locals_of_owner (v ∷ vs) = ap (λ xs. v ∷ xs) (locals_of_owner vs)
 
 globals_of_stack : (g : Valuation) (a b : List Frame) → globals_with g (stack_entries a b) ≡ g
-globals_of_stack g [] b = refl
-globals_of_stack g (f ∷ fs) [] = refl
-globals_of_stack g (f ∷ fs) (k ∷ ks) = globals_stay k.procedure g (frame_changed f k (length (f ∷ fs)) (length (k ∷ ks)))
+globals_of_stack g a b = search (rules, globals_stay)
 
 -- what a step makes of a stack: the frame at its top stays, with the same variables, or one is entered above it, or it is left
 data Turn (ps : List Procedure) (f : Frame) (fs : List Frame) : List Frame → Type 0 where
@@ -170,25 +164,8 @@ module _ (ps : List Procedure) (f : Frame) (fs : List Frame) (vs : Valuation) (o
   deep_is = ap suc (length-map fs (λ k. (k.procedure, k.locals)))
 
   own_variables : (after : List Frame) → Turn ps f fs after → AreVariablesWith (f ∷ fs) after (owned None vs ++ stack_entries (f ∷ fs) after)
-  own_variables _ (keeps l procedure alike) =
-      let es = owned None vs ++ stack_entries (f ∷ fs) (l ∷ fs) in
-      let deeper : nat_lt deep (suc (length fs)) ≡ false = grind (arith, nat_tests, deep_is) in
-      let level : (deep == suc (length fs)) ≡ true = grind (arith, nat_tests, deep_is) in
-      let now = locals_after f.locals vs (stack_entries (f ∷ fs) (l ∷ fs))
-      ∙ ap (λ xs. locals_with f.locals (owned (Some l.procedure) xs)) (stayed f l (suc (length fs)) (suc (length fs)) refl)
-      ∙ locals_changed l.procedure f.locals (changed f.locals l.locals)
-      ∙ all_changed f.locals l.locals alike once in
-      rw (deeper, level) (λ j. (procedure j, sym now j) ∷ variables_of fs)
-  own_variables _ (enters x p arguments r named) =
-      let g = entry_frame p arguments in
-      let after = g ∷ with_left f r ∷ fs in
-      let deeper : nat_lt deep (suc (suc (length fs))) ≡ true = grind (arith, nat_tests, deep_is) in
-      let formals : arguments_of g ≡ binding p.formals arguments =
-      ap (λ n. take n g.locals) (sym (length_binding p.formals arguments)) ∙ take-append_seam (binding p.formals arguments) (binding p.locals []) in
-      let now = locals_in_after vs (stack_entries (f ∷ fs) after)
-      ∙ ap (λ xs. locals_in (owned (Some p) xs)) (entered f g (suc (length fs)) (suc (suc (length fs))) (omega arith))
-      ∙ locals_of_owner p (arguments_of g) ∙ formals in
-      rw deeper (λ j. (p, sym now j ++ binding p.locals []) ∷ variables_of (f ∷ fs))
+  own_variables _ (keeps l procedure alike) = search (rules, nat_tests, deep_is, locals_after, stayed, locals_changed, all_changed)
+  own_variables _ (enters x p arguments r named) = search (rules, nat_tests, deep_is, length_binding, take-append_seam, locals_in_after, entered, locals_of_owner)
   own_variables _ leaves = left fs refl
     where
       left : (ks : List Frame) → ks ≡ fs → AreVariablesWith (f ∷ fs) ks (owned None vs ++ stack_entries (f ∷ fs) ks)
@@ -208,17 +185,14 @@ module _ (ps : List Procedure) (g : Valuation) (f : Frame) (fs : List Frame) (bi
   goes_on r = (alike_self g, keeps (with_left f r) refl (alike_self f.locals))
 
   jumps : (r : Option Block) → Turns ps g f fs (jump_effect g f fs r)
-  jumps None = tt
-  jumps (Some r) = goes_on r
+  jumps r = search (rules, goes_on)
 
   calls : (r : Block) (arguments : List Bool) (x : List ℕ) (p : Option Procedure) → procedure_named ps x ≡ p
       → Turns ps g f fs (call_effect g f fs r arguments p)
-  calls r arguments x None named = tt
-  calls r arguments x (Some p) named = (alike_self g, enters x p arguments r named)
+  calls r arguments x p given1 = search (rules, alike_self, enters)
 
   tests : (r : Block) (other : StatementEffect) (b : Bool) → Turns ps g f fs other → Turns ps g f fs (if b then Leaves g (with_left f r ∷ fs) else other)
-  tests r other true e = goes_on r
-  tests r other false e = e
+  tests r other b given1 = search (rules, goes_on)
 
   written : (s : Store Valuation) (x : List ℕ) (b : Bool) → Alike s.globals (after_write s x b).globals × Alike s.locals (after_write s x b).locals
   written s x b = by_local (is_some (lookup s.locals x))
@@ -255,8 +229,7 @@ module _ (ps : List Procedure) (g : Valuation) (f : Frame) (fs : List Frame) (bi
   statement_turns (Calls x es) label at r = calls r (expression_values (frame_store g f) es) x.text (procedure_named ps x.text) refl
 
   effect_turns : (left : Block) → Turns ps g f fs (effect ps left g f fs bit)
-  effect_turns Done = (alike_self g, leaves)
-  effect_turns (Then label at s r) = statement_turns s label at r
+  effect_turns left = search (rules, alike_self, leaves, statement_turns)
 
 -- names that are distinct are each once, whatever their bits
 none_later : (x : List ℕ) (xs : List Name) (bits : List Bool) → ((k : ℕ) (n : Name) → slice_get xs k ≡ Some n → bytes_eq x n.text ≡ false)
@@ -266,8 +239,7 @@ none_later x (y ∷ ys) [] none = ap₂ (λ a b. a || b) (none 0 y refl) (none_l
 none_later x (y ∷ ys) (b ∷ bits) none = ap₂ (λ a b. a || b) (none 0 y refl) (none_later x ys bits (λ k n at. none (suc k) n at))
 
 both_false : (a b : Bool) → (a || b) ≡ false → (a ≡ false) × (b ≡ false)
-both_false true b e = absurd cc
-both_false false b e = (refl, e)
+both_false a b given1 = grind (arith)
 
 first_differs : (x : Name) (xs : List Name) → AreDistinct (x ∷ xs) → (k : ℕ) (n : Name) → slice_get xs k ≡ Some n → bytes_eq x.text n.text ≡ false
 first_differs x xs distinct k n at = (both_false (bytes_eq x.text n.text) (has (take k xs) n.text) (distinct (suc k) n at)).0
@@ -310,9 +282,7 @@ record IsOnce (c : Configuration) : Type 0 where
 
 turn_once : (t : Program) → HasDistinctNames t → (f : Frame) (fs : List Frame) → AreOnce (f ∷ fs) → (after : List Frame) → Turn t.procedures f fs after
     → AreOnce after
-turn_once t names f fs once _ (keeps l procedure alike) = (once_alike f.locals l.locals alike once.0, once.1)
-turn_once t names f fs once _ (enters x p arguments r named) = (entry_once t names x p named arguments, once)
-turn_once t names f fs once _ leaves = once.1
+turn_once t given1 f fs given2 after given3 = search (rules, keeps, once_alike, enters, entry_once, leaves)
 
 set_once : (stacks : List (List Frame)) (i j : ℕ) (stack : List Frame) → AreOnce stack → ((k : ℕ) → AreOnce (slice_index_or stacks k []))
     → AreOnce (slice_index_or (slice_set stacks i stack) j [])
@@ -412,8 +382,7 @@ module _ (t : Program) (names : HasDistinctNames t) where
   calls_once c once (x ∷ xs) = calls_once (configuration_after_call t c x.thread x.bit x.reply) (call_once c x.thread x.bit x.reply once) xs
 
   first_once : (x : List ℕ) (o : Option Procedure) → procedure_named t.procedures x ≡ o → AreOnce (first_stack o)
-  first_once x None named = tt
-  first_once x (Some p) named = (entry_once t names x p named [], tt)
+  first_once x o given1 = search (rules, entry_once)
 
   start_once : (xs : List (List ℕ)) (i : ℕ) → AreOnce (slice_index_or (map (λ x. first_stack (procedure_named t.procedures x)) xs) i [])
   start_once [] i = tt
@@ -425,7 +394,4 @@ module _ (t : Program) (names : HasDistinctNames t) where
 
 pub changes_replay : (t : Program) (s : SetupOf) (h : List Call) (x : Call) → HasDistinctNames t
     → AreReplayed (configuration_after t s h) (configuration_after t s (h ++ x ∷ [])) x.thread (changes_by t s h x)
-changes_replay t s h x names =
-    let now = configuration_after t s h in
-    let whole = calls_append t (start t s) h (x ∷ []) in
-    subst (λ d. AreReplayed now d x.thread (changes_between now d x.thread)) (sym whole) (of_call t now x.thread x.bit (once_after t names s h) x.reply)
+changes_replay t s h x given1 = search (rules, calls_append, of_call, once_after)

@@ -1,14 +1,14 @@
 -- A thread whose assertion failed still stands at it, and what is shown of it there is what was so.
-use Rattle.std.proofs.Common.{◌≡◌, ◌∙◌, ℕ, Bool, true, false, cond, List, [], ◌∷◌, ◌++◌, ap, ap₂, refl, Some, drop, subst, sym, ◌&&◌, Option, None, unwrap_or, option_map}
+use Rattle.std.proofs.Common.{◌≡◌, ◌∙◌, ℕ, Bool, true, false, cond, List, [], ◌∷◌, ◌++◌, ap, refl, Some, drop, subst, sym, ◌&&◌, Option, unwrap_or, option_map, arith, rules}
 use Rattle.bp_text.specs.declared.lines.Position.{Position}
 use Rattle.bp_text.specs.Lines.{position_at}
 use Rattle.bp_language.specs.Ast.{Program, Decision, Procedure, Name, Block, Done, Then, Statement, Skips, GoesTo, Returns, Assigns, Branches, Loops, Asserts, Assumes, Prints, Calls}
-use Rattle.bp_flat.specs.Moves.{Configuration, Fails, Leaves, after_effect, effect, with_left, Frame, Store, frame_store, Valuation, is_call, procedure_named, from_label, StatementEffect, call_effect, jump_effect, statement_effect, decision_value, expression_values}
+use Rattle.bp_flat.specs.Moves.{Configuration, Fails, Leaves, effect, with_left, Frame, Store, frame_store, Valuation, is_call, procedure_named, from_label, StatementEffect, call_effect, jump_effect, statement_effect, decision_value, expression_values}
 use Rattle.bp_flat.specs.StandsFor.{place, start_of_block}
 use Rattle.bp_machine.specs.declared.calls.Call.{Call}
 use Rattle.bp_machine.specs.declared.calls.Reply.TheVariants.{Failed, Full}
 use Rattle.bp_machine.specs.Histories.{configuration_after_call, configuration_after_step, stack_of, configuration_after, configuration_after_calls, granted_threads, is_granted, IsAtFalseAssertion, IsRealFailure, is_full, reply_on_stack, reply_to_effect}
-use Rattle.bp_machine.specs.Setups.{SetupOf, start}
+use Rattle.bp_machine.specs.Setups.{SetupOf}
 use Rattle.bp_machine.specs.declared.tops.Top.{Top}
 use Rattle.bp_machine.specs.Runs.{IsTop, finds_zero, is_blocked, waits}
 use Rattle.bp_source.specs.Names.{next_decision, variables_read}
@@ -43,23 +43,11 @@ module _ (t : Program) where
 
   -- and a failed one nothing but that an assertion failed
   after_failure : (c : Configuration) (i : ℕ) (bit : Bool) → IsAtFalseAssertion c i bit → configuration_after_call t c i bit Failed ≡ failed_in c
-  after_failure c i bit at =
-      let f = at.frame in
-      let leaves = Leaves c.globals (with_left f at.rest ∷ at.below) in
-      ap (λ stack. unwrap_or (configuration_after_step t c i bit stack) c) at.stack
-      ∙ ap (λ left. unwrap_or (after_effect c i (effect t.procedures left c.globals f at.below bit)) c) at.asserts
-      ∙ ap (λ b. unwrap_or (after_effect c i (cond b leaves Fails)) c) at.false
+  after_failure c i bit given1 = grind (arith)
 
   stays : (s : SetupOf) (h : List Call) (i : ℕ) (failure : IsRealFailure t s h i)
       → configuration_after t s h ≡ failed_in (configuration_after t s failure.before)
-  stays s h i failure =
-      let c = configuration_after t s failure.before in
-      let x = failure.call in
-      ap (configuration_after_calls t (start t s)) failure.whole
-      ∙ calls_append (start t s) failure.before (x ∷ failure.later)
-      ∙ same_without_steps (configuration_after_call t c x.thread x.bit x.reply) failure.later failure.last
-      ∙ ap₂ (λ j r. configuration_after_call t c j x.bit r) failure.thread failure.failed
-      ∙ after_failure c i x.bit failure.stands
+  stays s h i failure = search (rules, calls_append, same_without_steps, after_failure)
 
   module _ (s : SetupOf) (h : List Call) (i : ℕ) (failure : IsRealFailure t s h i) where
     pub stack_stays : stack_of (configuration_after t s h) i ≡ failure.stands.frame ∷ failure.stands.below
@@ -85,11 +73,7 @@ one_condition text at d p s x y same a b =
 -- an equal condition has the same facts
 pub same_condition : (text : List ℕ) (at at' : ℕ) (d d' : Decision) (f f' : Frame) (g g' : Valuation) (x : ShownCondition) → at ≡ at' → d ≡ d' → f ≡ f' → g ≡ g'
     → AreConditionFacts text at d f.procedure (frame_store g f) x → AreConditionFacts text at' d' f'.procedure (frame_store g' f') x
-same_condition text at at' d d' f f' g g' x place decision frame globals are =
-    subst (λ k. AreConditionFacts text k d' f'.procedure (frame_store g' f') x) place
-    (subst (λ k. AreConditionFacts text at k f'.procedure (frame_store g' f') x) decision
-    (subst (λ (k : Frame). AreConditionFacts text at d k.procedure (frame_store g' k) x) frame
-    (subst (λ k. AreConditionFacts text at d f.procedure (frame_store k f) x) globals are)))
+same_condition text at at' d d' f f' g g' x given1 given2 given3 given4 given5 = grind (arith)
 
 -- a thread stands at one condition
 module _ (c : Configuration) (i j : ℕ) (same : i ≡ j) (a : IsAtCondition c i) (b : IsAtCondition c j) where
@@ -194,16 +178,13 @@ record IsDecided (b : Block) : Type 0 where
 
 module _ (ps : List Procedure) (g : Valuation) (f : Frame) (fs : List Frame) (bit : Bool) where
   no_jump : (o : Option Block) (x : Block) → blocks (jump_effect g f fs o) ≡ true → IsDecided x
-  no_jump None x e = absurd cc
-  no_jump (Some r) x e = absurd cc
+  no_jump o x given1 = grind (arith)
 
   no_call : (r : Block) (bits : List Bool) (o : Option Procedure) (x : Block) → blocks (call_effect g f fs r bits o) ≡ true → IsDecided x
-  no_call r bits None x e = absurd cc
-  no_call r bits (Some p) x e = absurd cc
+  no_call r bits o x given1 = grind (arith)
 
   no_assertion : (b : Bool) (left : StatementEffect) (x : Block) → blocks left ≡ false → blocks (cond b left Fails) ≡ true → IsDecided x
-  no_assertion true left x none e = absurd cc
-  no_assertion false left x none e = absurd cc
+  no_assertion b left x given1 given2 = grind (arith)
 
   in_statement : (s : Statement) (label : Option Name) (at : ℕ) (r : Block)
       → blocks (statement_effect ps g f fs bit s label at r) ≡ true → IsDecided (Then label at s r)
@@ -223,12 +204,10 @@ module _ (ps : List Procedure) (g : Valuation) (f : Frame) (fs : List Frame) (bi
   in_block (Then label at s r) e = in_statement s label at r e
 
   with_room : (full : Bool) (b : Block) → is_blocked (cond full (Some Full) (reply_to_effect (effect ps b g f fs bit))) ≡ true → IsDecided b
-  with_room true b e = absurd cc
-  with_room false b e = in_block b e
+  with_room full b given1 = search (rules, in_block)
 
 left_of : (a b : Bool) → (a && b) ≡ true → a ≡ true
-left_of true b e = refl
-left_of false b e = absurd cc
+left_of a b given1 = grind (arith)
 
 module _ (t : Program) (c : Configuration) (i : ℕ) where
   on_stack : (stack : List Frame) → stack_of c i ≡ stack → is_blocked (reply_on_stack t true c.globals stack false) ≡ true → IsAtCondition c i

@@ -1,5 +1,5 @@
 -- How the texts that a buffer is given add up.
-use Rattle.std.proofs.Common.{◌≡◌, ◌∙◌, ◌++◌, ℕ, List, [], ◌∷◌, false, length, append-nil, append_assoc, flat_map, refl, subst, sym, ap}
+use Rattle.std.proofs.Common.{◌≡◌, ◌∙◌, ◌++◌, ℕ, List, [], ◌∷◌, false, length, append-nil, append_assoc, flat_map, refl, subst, sym, ap, arith, rules}
 use Rattle.bp_text.proofs.PartsOfTexts.{both_added}
 use Rattle.bp_text.specs.Pieces.{list_text, piece_text}
 use Rattle.bp_text.specs.declared.pieces.Piece.{Piece}
@@ -8,12 +8,7 @@ use Rattle.bp_view.specs.Buffers.{Gains, Grown, HasTaken, IsEmpty, IsListed, IsL
 use Rattle.bp_view.specs.Lines.{led}
 
 pub and_then : {a b c : Buffer} {t u : List ℕ} → Grown a b t → Grown b c u → Grown a c (t ++ u)
-and_then {a = a} {b = b} {c = c} {t = t} {u = u} p q = record {
-  grown = λ fine.
-      let (was, more) = q.grown fine in
-      let (first, is) = p.grown was in
-      (first, both_added a.bytes.items b.bytes.items c.bytes.items t u (t ++ u) more is (λ i. t ++ u));
-}
+and_then given1 given2 = search (rules, both_added)
 
 pub ends : {a b : Buffer} {t : List ℕ} → Grown a b t → Grown a b (t ++ [])
 ends {t = t} p = record { grown = λ fine. rw (append-nil t) (p.grown fine) }
@@ -23,21 +18,12 @@ held {t = t} none p fine = (p.grown fine).1 ∙ ap (λ x. x ++ t) none.none
 
 pub listed : {start : ℕ} {a b c : Buffer} {items : List ℕ} → start ≡ length a.bytes.items → Grown a b items → IsListed start b c
     → Grown a c (list_text items)
-listed {a = a} {items = items} begins p q = record {
-  grown = λ fine.
-      let (first, is) = p.grown (q.kept fine) in
-      (first, q.is a.bytes.items items begins fine is);
-}
+listed given1 given2 given3 = grind (arith)
 
 -- a lead, a note, and the lead goes where there is no note
 pub led_note : {start middle : ℕ} {a b c d : Buffer} {lead note : List ℕ} → start ≡ length a.bytes.items → Grown a b lead
     → middle ≡ length b.bytes.items → Grown b c note → IsLed start middle c d → Grown a d (led lead note)
-led_note {a = a} {lead = lead} {note = note} begins p half q r = record {
-  grown = λ fine.
-      let (was, noted) = q.grown (sym r.same ∙ fine) in
-      let (first, is) = p.grown was in
-      (first, r.is a.bytes.items lead note begins (half ∙ ap length is) (noted ∙ ap (λ x. x ++ note) is));
-}
+led_note given1 given2 given3 given4 given5 = grind (arith)
 
 -- Nothing was given, and a text of a kind was given.
 

@@ -1,5 +1,5 @@
 -- A history has one view, one state, and one list of its contexts, since the facts that they show are single.
-use Rattle.std.proofs.Common.{◌≡◌, ◌∙◌, ℕ, List, ap, sym, ◌<◌, ◌++◌, Bool, true, false, Some, length, map, slice_get, take, ap₂, subst, refl, suc, None, if◌then◌else◌, [], ◌∷◌, Option, IsTrue, ◌↔◌, arith}
+use Rattle.std.proofs.Common.{◌≡◌, ◌∙◌, ℕ, List, ap, sym, ◌<◌, ◌++◌, Bool, true, false, Some, length, map, slice_get, take, ap₂, subst, refl, suc, None, if◌then◌else◌, [], ◌∷◌, Option, IsTrue, ◌↔◌, arith, rules}
 use Rattle.bp_text.specs.Lines.{IsInParts}
 use Rattle.bp_text.proofs.PartsOfTexts.{item_at, one_of_parts}
 use Rattle.bp_language.specs.Ast.{Program}
@@ -13,11 +13,10 @@ use Rattle.bp_source.specs.SourceStatements.{place_text}
 use Rattle.bp_source.proofs.OneStatement.{one_list_of_statements}
 use Rattle.bp_tasks.specs.declared.options.ViewFormat.{ViewFormat}
 use Rattle.bp_tasks.specs.declared.options.ViewOptions.{ViewOptions}
-use Rattle.bp_view.specs.CallFacts.{printed_by, ShownCall, IsNextOf}
-use Rattle.bp_view.specs.Filters.{calls_of}
+use Rattle.bp_view.specs.CallFacts.{IsNextOf}
 use Rattle.bp_view.proofs.SingleFacts as states
 use Rattle.bp_view.proofs.SingleFacts.{one_call, one_next}
-use Rattle.bp_view.specs.Views.{foot_text, IsFoot, after_foot, IsEnd, IsStateIf, filter_of, has_line, line_in, AreLines, IsShownLine, IsView, IsViewLineIf}
+use Rattle.bp_view.specs.Views.{foot_text, IsFoot, after_foot, IsEnd, IsStateIf, has_line, AreLines, IsShownLine, IsView, IsViewLineIf}
 use Rattle.bp_view.specs.States.{state_text, IsStateText}
 use Rattle.bp_view.specs.declared.view_contexts.Widths.{Widths}
 use Rattle.bp_view.specs.SetupLines.{view_head}
@@ -41,16 +40,7 @@ record OneContext (i j first last other next : ℕ) : Type 0 where
 
 same_context : (n : ℕ) (h : List Call) (i j first last other next : ℕ) → IsContextOf n h i first last → IsContextOf n h j other next
     → OneContext i j first last other next
-same_context n h i j first last other next a b =
-    let (x, begins) = a.begins in
-    let (y, ends) = a.ends in
-    let (z, starts) = b.begins in
-    let (u, stops) = b.ends in
-    record {
-      thread = sym (a.each first x begins).0 ∙ (b.each first x begins).0;
-      first_is = omega (arith, (b.each first x begins).1, (a.each other z starts).1);
-      last_is = omega (arith, (b.each last y ends).2, (a.each next u stops).2);
-    }
+same_context n h i j first last other next given1 given2 = grind (arith)
 
 module _ (t : Program) (text : List ℕ) (s : SetupOf) (h : List Call) (n : ℕ) where
   pub one_context : (f g : ShownContext) → AreContextFacts t text s h n f → AreContextFacts t text s h n g → f ≡ g
@@ -77,10 +67,7 @@ module _ (t : Program) (text : List ℕ) (s : SetupOf) (h : List Call) (n : ℕ)
 -- The facts of an end are single: a thread stands at one condition, and whether the threads are deadlocked is decided.
 
 one_answer : (P : Type 0) (a b : Bool) → IsTrue a ↔ P → IsTrue b ↔ P → a ≡ b
-one_answer P true true x y = refl
-one_answer P false false x y = refl
-one_answer P true false x y = sym (y.1 (x.0 refl))
-one_answer P false true x y = x.1 (y.0 refl)
+one_answer P a b given1 given2 = grind (arith)
 
 module _ (text : List ℕ) (c : Configuration) where
   one_standing : (x y : ShownCondition) → x.thread ≡ y.thread → AreStandingFacts text c x → AreStandingFacts text c y → x ≡ y
@@ -137,23 +124,11 @@ pub one_state : (format : ViewFormat) (t : Program) (text : List ℕ) (s : Setup
 one_state format t text s h count v w x y = x.is ∙ ap (state_text format) (states.one_state t text s h count x.facts y.facts x.facts_are y.facts_are) ∙ sym y.is
 
 pub one_widths : (s : SetupOf) (e : Extent) (a b : Widths) → AreWidths s e a → AreWidths s e b → a ≡ b
-one_widths s e a b x y = λ i. record {
-  number = (x.number ∙ sym y.number) i;
-  thread = (x.thread ∙ sym y.thread) i;
-  context = (x.context ∙ sym y.context) i;
-  place = (x.place ∙ sym y.place) i;
-  notes = (x.notes ∙ sym y.notes) i;
-  statement = (x.statement ∙ sym y.statement) i;
-  line = (x.line ∙ sym y.line) i;
-}
+one_widths s e a b given1 given2 = grind (arith)
 
 module _ (t : Program) (text : List ℕ) (s : SetupOf) (o : ViewOptions) (w : Widths) (whole : List Call) where
   line_if : (b : Bool) (h : List Call) (x : Call) (p q : List ℕ) → IsViewLineIf t text s o w whole b h x p → IsViewLineIf t text s o w whole b h x q → p ≡ q
-  line_if false h x p q a b = a ∙ sym b
-  line_if true h x p q a b =
-      let printed = printed_by (configuration_after t s h) x in
-      let line : ShownCall → List ℕ = λ f. line_in o.format o.has_colour w f (calls_of (filter_of o) whole h x) printed in
-      a.is ∙ ap line (one_call t text s h x a.facts b.facts a.facts_are b.facts_are) ∙ sym b.is
+  line_if b h x p q given1 given2 = search (rules, one_call)
 
   one_lines : (n : ℕ) → n ≡ length whole → (p q : List ℕ) → AreLines t text s o w whole n p → AreLines t text s o w whole n q → p ≡ q
   one_lines n count = one_of_parts n each

@@ -1,5 +1,5 @@
 -- A recorded call of a history that may be played is refused for memory alone.
-use Rattle.std.proofs.Common.{if◌then◌else◌, ◌≡◌, ◌∙◌, ◌<◌, ℕ, ◌+◌, ◌^◌, List, [], ◌∷◌, ◌++◌, Bool, true, Option, None, Some, is_some, length, arith, sym, refl, take, drop, get_or, subst, take-append-drop, ◌≢◌, inl, inr, ap, length-append}
+use Rattle.std.proofs.Common.{if◌then◌else◌, ◌≡◌, ◌∙◌, ◌<◌, ℕ, ◌+◌, ◌^◌, List, [], ◌∷◌, ◌++◌, Bool, true, Option, None, Some, is_some, length, arith, sym, refl, take, drop, get_or, subst, take-append-drop, ◌≢◌, ap, length-append, rules}
 use Rattle.std.proofs.Math.Nat.{mul-le-mul_left, mul-le-mul_right}
 use Rattle.std.proofs.lemmas.Bool.{false≢true}
 use Rattle.std.proofs.lemmas.List.{take_more, take_all, take-append-le}
@@ -8,7 +8,6 @@ use Rattle.bp_flat.specs.StandsFor.{StandsFor}
 use Rattle.bp_machine.specs.declared.calls.AskFault.{AskFault}
 use Rattle.bp_machine.specs.declared.calls.AskFault.TheVariants as fault
 use Rattle.bp_machine.specs.declared.calls.Call.{Call}
-use Rattle.bp_machine.specs.declared.limits.TheConstants.{MAX_THREADS}
 use Rattle.bp_machine.specs.Sessions.{IsPrintRefusal, IsAskRefusal, given_bit, last_thread, Stands}
 use Rattle.bp_machine.specs.Setups.{SetupOf, IsInRange}
 use Rattle.bp_machine.specs.Histories.{IsLegal, granted_threads, calls_of_thread}
@@ -22,38 +21,22 @@ use Rattle.bp_view.specs.StateFacts.{last_reply}
 
 -- a recorded bit is handed in exactly where there is no seed
 not_both : (seed : Option ℕ) (bit : Bool) → is_some (if is_some seed then None else Some bit) ≡ true → is_some seed ≡ true → ⊥
-not_both (Some k) bit given has = cc
-not_both None bit given has = cc
+not_both seed bit given1 given2 = grind (arith)
 
 not_neither : (seed : Option ℕ) (bit : Bool) → (if is_some seed then None else Some bit) ≡ None → seed ≡ None → ⊥
-not_neither (Some k) bit given none = cc
-not_neither None bit given none = cc
+not_neither seed bit given1 given2 = grind (arith)
 
 module _ (t : Program) (s : SetupOf) (h : List Call) (x : Call) (playable : IsPlayable t s (h ++ x ∷ [])) where
   pub own_refused : (f : AskFault) → IsOwnRefusal t s h x f → f ≡ fault.Memory
-  own_refused fault.Memory is = refl
-  own_refused fault.Finished is = absurd (false≢true (sym (next_allowed t s h x [] playable).unfinished ∙ is.1))
-  own_refused fault.NoThread is = absurd (let there = (next_allowed t s h x [] playable).thread in omega (arith, is, there))
-  own_refused fault.Seeded is = absurd (not_both s.seed x.bit is.1 is.2)
-  own_refused fault.Unseeded is = absurd (not_neither s.seed x.bit is.1 is.2)
-  own_refused fault.Busy is = absurd is
+  own_refused f given1 = search (rules, false≢true, next_allowed, not_both, not_neither)
 
   pub print_refused : (printed : Option (List Bool)) (f : AskFault) → IsPrintRefusal s x.thread printed f → f ≡ fault.Memory
-  print_refused printed fault.Memory is = refl
-  print_refused printed fault.NoThread is = absurd (let there = (next_allowed t s h x [] playable).thread in omega (arith, is, there))
-  print_refused printed fault.Finished is = absurd is
-  print_refused printed fault.Seeded is = absurd is
-  print_refused printed fault.Unseeded is = absurd is
-  print_refused printed fault.Busy is = absurd is
+  print_refused printed f given1 = search (rules, next_allowed)
 
 -- the number of the next call is a number of 64 bits
 module _ (t : Program) (s : SetupOf) (h : List Call) (legal : IsLegal t s h) (range : IsInRange s) where
   pub next_number : length h + 1 < 2 ^ 64
-  next_number =
-      let long = legal_length t s h legal in
-      let one = mul-le-mul_right s.calls range.few in
-      let other = mul-le-mul_left MAX_THREADS range.calls in
-      omega (arith, long, one, other)
+  next_number = search (rules, legal_length, mul-le-mul_right, mul-le-mul_left)
 
 -- The front of a history that may be played, with its next call.
 
@@ -80,15 +63,7 @@ module _ (t : Program) (s : SetupOf) (h : List Call) where
   -- the session stands after the whole history
   pub whole : (x : Checkpoint) → x.made ≡ length h → StandsFor x.session.code t → x.session.setup ≡ s → Stands t x.session h
       → x.last ≡ last_thread (granted_threads h) → IsCheckpoint t s h x
-  whole x made code setup stands last =
-      let all : take x.made h ≡ h = take_all x.made h (omega (arith, made)) in
-      record {
-        few = omega (arith, made);
-        code = code;
-        setup = setup;
-        stands = subst (Stands t x.session) (sym all) stands;
-        last = last ∙ ap (λ g. last_thread (granted_threads g)) (sym all);
-      }
+  whole x given1 given2 given3 given4 given5 = search (rules, take_all)
 
   module _ (y : Call) where
     abbrev longer : List Call
@@ -98,21 +73,11 @@ module _ (t : Program) (s : SetupOf) (h : List Call) where
     one_more = omega (arith, length-append h (y ∷ []))
 
     goes_on : (x : Checkpoint) → IsCheckpoint t s h x → IsCheckpoint t s longer x
-    goes_on x is =
-        let front : take x.made h ≡ take x.made longer = sym (take-append-le x.made h (y ∷ []) is.few) in
-        record {
-          few = let few = is.few in omega (arith, few, one_more);
-          code = is.code;
-          setup = is.setup;
-          stands = subst (Stands t x.session) front is.stands;
-          last = is.last ∙ ap (λ g. last_thread (granted_threads g)) front;
-        }
+    goes_on x given1 = search (rules, front, take-append-le, one_more)
 
     -- what was kept is kept after one more call, after which no checkpoint is wanted
     pub still_kept : (n : ℕ) (kept : Option Checkpoint) → IsKept t s h n kept → length h + 1 ≢ n → IsKept t s longer n kept
-    still_kept n (Some x) (is, made) other = (goes_on x is, made)
-    still_kept n None (inl none) other = inl none
-    still_kept n None (inr later) other = inr (omega (arith, later, other, one_more))
+    still_kept n kept given1 given2 = search (rules, goes_on, one_more)
 
 -- The last reply to a thread, call by call.
 

@@ -1,5 +1,5 @@
 -- The line of a call, where it has one, and nothing where it has none.
-use Rattle.std.proofs.Common.{if◌then◌else◌, ◌≡◌, ◌∙◌, ◌+◌, ◌-◌, ◌<◌, ◌++◌, ℕ, suc, true, List, [], ◌∷◌, codes, nat_lt, take, length, ap, ap₂, refl, sym, arith, ◌≤◌, length-append, append-nil, ◌/◌, ◌%◌, ◌^◌, ◌==◌, ◌⊎◌, inl, inr, false, decimal, append_assoc, max, Bool, Option, None, ◌&&◌, subst, slice_set}
+use Rattle.std.proofs.Common.{if◌then◌else◌, ◌≡◌, ◌∙◌, ◌+◌, ◌-◌, ◌<◌, ◌++◌, ℕ, suc, true, List, [], ◌∷◌, codes, nat_lt, take, length, ap, ap₂, refl, sym, arith, ◌≤◌, length-append, append-nil, ◌/◌, ◌%◌, ◌^◌, ◌==◌, ◌⊎◌, inl, inr, false, decimal, append_assoc, max, Bool, Option, None, ◌&&◌, subst, slice_set, rules}
 use Rattle.std.proofs.lemmas.Bool.Decides.{nat_tests}
 use Rattle.std.specs.List.{concat}
 use Rattle.std.proofs.lemmas.Bool.{cases_lt}
@@ -14,13 +14,12 @@ use Rattle.bp_machine.specs.declared.calls.Call.{Call}
 use Rattle.bp_machine.specs.Histories.{is_granted, configuration_after}
 use Rattle.bp_machine.specs.Setups.{SetupOf}
 use Rattle.bp_tasks.specs.declared.options.ViewFormat.{ViewFormat}
-use Rattle.bp_tasks.specs.declared.options.ViewFormat.TheVariants.{Columns, Json}
 use Rattle.bp_tasks.specs.declared.options.ViewOptions.{ViewOptions}
-use Rattle.bp_view.specs.CallFacts.{ShownCall, printed_by, changes_by, AreCallFacts, IsReplayedCall}
+use Rattle.bp_view.specs.CallFacts.{ShownCall, changes_by, AreCallFacts, IsReplayedCall}
 use Rattle.bp_view.specs.declared.filters.CallFilter.{CallFilter}
 use Rattle.bp_view.specs.declared.checkpoints.ReplayedCall.{ReplayedCall}
 use Rattle.bp_view.specs.Filters.{calls_at, calls_of, is_asked, is_seen, watched_names}
-use Rattle.bp_view.specs.Lines.{shortened, front_text, tens_digits, tens_text, turn_texts, field_texts, mark_text}
+use Rattle.bp_view.specs.Lines.{shortened, front_text, tens_digits, tens_text, field_texts, mark_text}
 use Rattle.bp_view.specs.declared.fronts.FrontKey.{FrontKey}
 use Rattle.bp_view.specs.declared.view_contexts.Widths.{Widths}
 use Rattle.bp_view.specs.Views.{line_in, next_print_in, printed_in, filter_of, has_line, IsShownLine, IsViewLineIf}
@@ -36,9 +35,7 @@ taken [] b = refl
 taken (x ∷ a) b = ap (λ ys. x ∷ ys) (taken a b)
 
 pub cut_long : (room : ℕ) (text : List ℕ) → room < length text → shortened room text ≡ take (room - 2) text ++ codes ".."
-cut_long room text more =
-    let long : nat_lt room (length text) ≡ true = grind (arith, nat_tests, more) in
-    ap (λ b. if b then take (room - 2) text ++ codes ".." else text) long
+cut_long room text given1 = grind (arith)
 
 -- The fields of a line before its place, by their parts that are kept.
 
@@ -80,14 +77,7 @@ number_split width n fits = by_size (cases_lt n 10)
 -- the fields of a call
 pub fields_are : (w : Widths) (f : ShownCall) (mark digit : ℕ) → f.number < 2 ^ 64
     → mark ∷ [] ≡ mark_text f.switch → digit ≡ 48 + f.number % 10 → front_text (key_of w f) mark digit ≡ concat (field_texts w f)
-fields_are w f mark digit fits sign last =
-    let front = tens_text (key_of w f) in
-    let rest = concat (turn_texts (key_of w f)) in
-    let number = at_right w.number (decimal f.number) in
-    ap (λ d. mark ∷ (front ++ d ∷ rest)) last
-    ∙ ap (λ xs. mark ∷ xs) (sym (append_assoc front ((48 + f.number % 10) ∷ []) rest))
-    ∙ ap (λ xs. mark ∷ (xs ++ rest)) (number_split w.number f.number fits)
-    ∙ ap (λ xs. xs ++ (number ++ rest)) sign
+fields_are w f mark digit given1 given2 given3 = search (rules, decimal, append_assoc, number_split)
 
 -- another last digit
 pub digit_put : (a : List ℕ) (d e : ℕ) (b : List ℕ) → slice_set (a ++ d ∷ b) (length a) e ≡ a ++ e ∷ b
@@ -97,9 +87,7 @@ digit_put (x ∷ a) d e b = ap (λ ys. x ∷ ys) (digit_put a d e b)
 -- another sign and another last digit
 pub parts_put : (k : FrontKey) (text : List ℕ) (m d mark digit last : ℕ) → text ≡ front_text k m d → last ≡ suc (length (tens_text k))
     → slice_set (slice_set text 0 mark) last digit ≡ front_text k mark digit
-parts_put k text m d mark digit last is ends =
-    ap₂ (λ xs i. slice_set (slice_set xs 0 mark) i digit) is ends
-    ∙ ap (λ xs. mark ∷ xs) (digit_put (tens_text k) d digit (concat (turn_texts k)))
+parts_put k text m d mark digit last given1 given2 = search (rules, digit_put)
 
 -- The place of a call and its statement, with the spaces between them, and how long the place is in its column.
 
@@ -115,28 +103,9 @@ place_length width place = omega (arith, length-append place (spaces (width - le
 
 -- The values that a call prints are those that were next, where it made a step.
 
-abbrev prints_nothing : Option (List Bool)
-prints_nothing = None
-
-none_anyway : (b : Bool) → (if b then prints_nothing else prints_nothing) ≡ prints_nothing
-none_anyway true = refl
-none_anyway false = refl
-
 pub printed_of : (format : ViewFormat) (c : Configuration) (x : Call) (values next : Option (List Bool)) → next ≡ next_print_in format c x.thread
     → values ≡ (if is_granted x.reply then next else None) → values ≡ printed_in format c x
-printed_of Columns c x values next are is = is ∙ ap (λ o. if is_granted x.reply then o else None) are ∙ none_anyway (is_granted x.reply)
-printed_of Json c x values next are is = is ∙ ap (λ o. if is_granted x.reply then o else None) are
-
--- a line shows the printed values that its format shows
-pub printed_line : (format : ViewFormat) (has_colour : Bool) (w : Widths) (f : ShownCall) (calls : ℕ) (c : Configuration) (x : Call)
-    → line_in format has_colour w f calls (printed_in format c x) ≡ line_in format has_colour w f calls (printed_by c x)
-printed_line Columns has_colour w f calls c x = refl
-printed_line Json has_colour w f calls c x = refl
-
-and_none : (a b : Bool) → (a && (b && false)) ≡ false
-and_none true true = refl
-and_none true false = refl
-and_none false b = refl
+printed_of format c x values next given1 given2 = grind (arith)
 
 module _ (t : Program) (text : List ℕ) (s : SetupOf) (context : ViewContext) (h : List Call) (x : Call) where
   abbrev o : ViewOptions
@@ -155,24 +124,17 @@ module _ (t : Program) (text : List ℕ) (s : SetupOf) (context : ViewContext) (
   module _ (m : ReplayedCall) (of : IsReplayedCall t s h x m) (f : CallFilter) (filter : f ≡ filter_of o) where
     pub asked_of : (b : Bool) → is_asked f (length whole) m.number m.call.thread ≡ b
         → is_asked (filter_of o) (length whole) (suc (length h)) x.thread ≡ b
-    asked_of b is =
-        let by_filter = ap (λ g. is_asked g (length whole) m.number m.call.thread) filter in
-        let by_replayed_call = ap₂ (λ k y. is_asked (filter_of o) (length whole) k y.thread) of.number of.call in
-        sym (by_filter ∙ by_replayed_call) ∙ is
+    asked_of b given1 = grind (arith)
 
     pub calls_are : (calls : ℕ) → calls ≡ calls_at f whole m.number m.call → calls ≡ calls_of (filter_of o) whole h x
-    calls_are calls is =
-        is ∙ ap (λ g. calls_at g whole m.number m.call) filter ∙ ap₂ (calls_at (filter_of o) whole) of.number of.call
+    calls_are calls given1 = grind (arith)
 
   pub line_if : (a b c : Bool) → is_asked (filter_of o) (length whole) (suc (length h)) x.thread ≡ a
       → is_seen (watched_names o.watch) (changes_by t s h x) ≡ b → nat_lt 0 (calls_of (filter_of o) whole h x) ≡ c → has ≡ (a && (b && c))
   line_if a b c asked seen some = ap₂ (λ p q. p && q) asked (ap₂ (λ p q. p && q) seen some)
 
   pub no_calls : nat_lt 0 (calls_of (filter_of o) whole h x) ≡ false → has ≡ false
-  no_calls none =
-      let asked = is_asked (filter_of o) (length whole) (suc (length h)) x.thread in
-      let seen = is_seen (watched_names o.watch) (changes_by t s h x) in
-      ap (λ b. asked && (seen && b)) none ∙ and_none asked seen
+  no_calls given1 = grind (arith)
 
   pub hidden : has ≡ false → (v : Buffer) → Gains (IsShownLine t text s o w whole h x) v v
   hidden none v = gains (nothing {a = v}) (subst (λ b. IsViewLineIf t text s o w whole b h x []) (sym none) refl)
@@ -180,11 +142,4 @@ module _ (t : Program) (text : List ℕ) (s : SetupOf) (context : ViewContext) (
   pub shown : has ≡ true → (f : ShownCall) → AreCallFacts t text s h x f → (printed : Option (List Bool))
       → printed ≡ printed_in o.format (configuration_after t s h) x → (calls : ℕ) → calls ≡ calls_of (filter_of o) whole h x
       → (old new : Buffer) → Grown old new (line_in o.format o.has_colour w f calls printed) → Gains (IsShownLine t text s o w whole h x) old new
-  shown some f are printed printed_is calls calls_is old new given =
-      let now = configuration_after t s h in
-      let count = calls_of (filter_of o) whole h x in
-      let line : ℕ → Option (List Bool) → List ℕ = λ n p. line_in o.format o.has_colour w f n p in
-      let same = ap₂ line calls_is printed_is ∙ printed_line o.format o.has_colour w f count now x in
-      let own = line count (printed_by now x) in
-      gains (subst (Grown old new) same given)
-      (subst (λ b. IsViewLineIf t text s o w whole b h x own) (sym some) (record { facts = f; facts_are = are; is = refl }))
+  shown given1 f given2 printed given3 calls given4 old new given5 = grind (arith)

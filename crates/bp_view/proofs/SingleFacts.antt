@@ -1,12 +1,11 @@
 -- The facts of a call, and those of a state, are single.
-use Rattle.std.proofs.Common.{◌≡◌, ◌≤◌, ◌∙◌, ℕ, List, ap, flat_map, length, map, sym, take, [], ◌∷◌, ◌++◌, Option, None, Some, refl, suc, ap₂, arith, take_all}
+use Rattle.std.proofs.Common.{◌≡◌, ◌≤◌, ◌∙◌, ℕ, List, ap, flat_map, length, map, sym, take, [], ◌∷◌, ◌++◌, Option, None, Some, refl, suc, ap₂, arith, take_all, rules}
 use Rattle.std.proofs.lemmas.List.Folds.{flat_map-map}
 use Rattle.std.proofs.lemmas.Bool.{false≢true}
 use Rattle.bp_language.specs.Ast.{Program}
 use Rattle.bp_flat.specs.Moves.{Frame}
-use Rattle.bp_flat.specs.StandsFor.{start_of_block}
 use Rattle.bp_machine.specs.declared.calls.Call.{Call}
-use Rattle.bp_machine.specs.Histories.{stack_of, configuration_after, granted_threads}
+use Rattle.bp_machine.specs.Histories.{granted_threads}
 use Rattle.bp_machine.specs.Setups.{SetupOf}
 use Rattle.bp_machine.proofs.ContextCounts.{least_opened}
 use Rattle.bp_source.proofs.OneStatement.{one_statement_at}
@@ -22,18 +21,7 @@ all_mapped f said xs n all = ap (flat_map (λ x. f (said x))) (take_all n xs all
 -- The facts of a call are single.
 
 pub one_next : (text : List ℕ) (stack : List Frame) (m n : Next) → IsNextOf text stack m → IsNextOf text stack n → m ≡ n
-one_next text [] m n x y = x ∙ sym y
-one_next text (f ∷ fs) m n x y =
-    let statement = one_statement_at text f.procedure (start_of_block f.left) x.shown y.shown m.reads n.reads x.statement y.statement in
-    let same = x.said ∙ ap Some statement.0 ∙ sym y.said in
-    λ i. record {
-      place = (x.place ∙ sym y.place) i;
-      position = (x.position ∙ sym y.position) i;
-      procedure = (x.procedure ∙ sym y.procedure) i;
-      depth = (x.depth_is ∙ sym y.depth_is) i;
-      text = same i;
-      reads = statement.1 i;
-    }
+one_next text stack m n given1 given2 = search (rules, one_statement_at)
 
 pub one_context : (h : List Call) (x : Call) (m n : Option ℕ) → IsContext h x m → IsContext h x n → m ≡ n
 one_context h x None None a b = refl
@@ -45,32 +33,13 @@ one_context h x (Some m) (Some n) a b =
 
 pub one_call : (t : Program) (text : List ℕ) (s : SetupOf) (h : List Call) (x : Call) (f g : ShownCall)
     → AreCallFacts t text s h x f → AreCallFacts t text s h x g → f ≡ g
-one_call t text s h x f g a b =
-    let context = one_context h x f.context g.context a.context b.context in
-    let next = one_next text (stack_of (configuration_after t s h) x.thread) f.next g.next a.next b.next in
-    λ i. record {
-      number = (a.number ∙ sym b.number) i;
-      call = (a.call ∙ sym b.call) i;
-      context = context i;
-      switch = (a.switch ∙ sym b.switch) i;
-      next = next i;
-      changes = (a.changes ∙ sym b.changes) i;
-    }
+one_call t text s h x f g given1 given2 = search (rules, one_context, one_next)
 
 -- The facts of a state are single.
 
 module _ (text : List ℕ) where
   one_frame : (n : ℕ) (f : Frame) (x y : ShownFrame) → AreFrameFacts text n f x → AreFrameFacts text n f y → x ≡ y
-  one_frame n f x y a b =
-      let same = (one_statement_at text f.procedure (start_of_block f.left) x.text y.text a.reads b.reads a.statement b.statement).0 in
-      λ i. record {
-        above = (a.above ∙ sym b.above) i;
-        procedure = (a.procedure ∙ sym b.procedure) i;
-        place = (a.place ∙ sym b.place) i;
-        position = (a.position ∙ sym b.position) i;
-        text = same i;
-        locals = (a.locals ∙ sym b.locals) i;
-      }
+  one_frame n f x y given1 given2 = search (rules, one_statement_at)
 
   one_stack : (n : ℕ) (stack : List Frame) (xs ys : List ShownFrame) → AreStackFacts text n stack xs → AreStackFacts text n stack ys → xs ≡ ys
   one_stack n [] [] [] a b = refl
@@ -82,28 +51,13 @@ module _ (text : List ℕ) where
 
 module _ (t : Program) (text : List ℕ) (s : SetupOf) (h : List Call) where
   one_thread : (i : ℕ) (x y : ShownThread) → AreThreadFacts t text s h i x → AreThreadFacts t text s h i y → x ≡ y
-  one_thread i x y a b =
-      let frames = one_stack text 0 (stack_of (configuration_after t s h) i) x.frames y.frames a.frames b.frames in
-      λ j. record {
-        thread = (a.thread ∙ sym b.thread) j;
-        standing = (a.standing_is ∙ sym b.standing_is) j;
-        frames = frames j;
-      }
+  one_thread i x y given1 given2 = search (rules, one_stack)
 
   one_threads : (i : ℕ) (xs ys : List ShownThread) → length xs ≡ length ys → AreThreadsFacts t text s h i xs → AreThreadsFacts t text s h i ys → xs ≡ ys
   one_threads i [] [] count a b = refl
   one_threads i [] (y ∷ ys) count a b = absurd (omega (arith, count))
   one_threads i (x ∷ xs) [] count a b = absurd (omega (arith, count))
-  one_threads i (x ∷ xs) (y ∷ ys) count a b =
-      ap₂ (λ z (zs : List ShownThread). z ∷ zs) (one_thread i x y a.0 b.0) (one_threads (suc i) xs ys (omega (arith, count)) a.1 b.1)
+  one_threads i (x ∷ xs) (y ∷ ys) count a b = search (rules, (one_threads (suc i) xs ys (omega (arith, count)) a.1 b.1), one_thread)
 
   pub one_state : (count : ℕ) (x y : ShownState) → AreStateFacts t text s h count x → AreStateFacts t text s h count y → x ≡ y
-  one_state count x y a b =
-      let all = one_threads 0 x.threads y.threads (a.all_threads ∙ sym b.all_threads) a.threads_are b.threads_are in
-      λ j. record {
-        number = (a.number ∙ sym b.number) j;
-        count = (a.count_is ∙ sym b.count_is) j;
-        outcome = (a.outcome ∙ sym b.outcome) j;
-        globals = (a.globals ∙ sym b.globals) j;
-        threads = all j;
-      }
+  one_state count x y given1 given2 = search (rules, one_threads)

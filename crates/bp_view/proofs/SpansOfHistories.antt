@@ -1,5 +1,5 @@
 -- The spans of a history with one more call.
-use Rattle.std.proofs.Common.{if◌then◌else◌, ◌≡◌, ◌∙◌, ◌⊎◌, inl, inr, ℕ, ◌+◌, ◌<◌, ◌≤◌, List, [], ◌∷◌, ◌++◌, Some, Bool, true, false, length, take, drop, ap, sym, refl, subst, take-append-drop, arith, zero, suc, ◌==◌, cond, map, get_or, is_some, append-nil}
+use Rattle.std.proofs.Common.{if◌then◌else◌, ◌≡◌, ◌∙◌, ◌⊎◌, inl, inr, ℕ, ◌+◌, ◌<◌, ◌≤◌, List, [], ◌∷◌, ◌++◌, Some, Bool, true, false, length, take, drop, ap, sym, refl, subst, take-append-drop, arith, zero, suc, ◌==◌, cond, map, get_or, append-nil, rules}
 use Rattle.std.proofs.Math.Seq.{take-append_seam, get_or-append_seam}
 use Rattle.std.proofs.lemmas.Bool.{cases_lt, false≢true}
 use Rattle.std.proofs.lemmas.List.{length-append, take-append-le, take_more, get_or_append_left}
@@ -9,7 +9,7 @@ use Rattle.bp_text.proofs.PartsOfTexts.{one_before, one_last, within}
 use Rattle.bp_language.specs.Ast.{Program}
 use Rattle.bp_machine.specs.declared.calls.Call.{Call}
 use Rattle.bp_machine.specs.Histories.{IsWithin, IsLeastWithin, granted_threads, is_granted, configuration_after}
-use Rattle.bp_machine.specs.Sessions.{contexts_opened, last_thread, used_with, IsCountOf}
+use Rattle.bp_machine.specs.Sessions.{contexts_opened, last_thread, used_with}
 use Rattle.bp_machine.specs.Setups.{SetupOf}
 use Rattle.bp_machine.proofs.ContextCounts.{within_front, counts_more}
 use Rattle.bp_machine.proofs.HistoryWithCall.{granted_threads-append}
@@ -90,8 +90,7 @@ module _ (h : List Call) (x : Call) where
     each_kept : (IsContext h x (Some n) → ⊥) → (k : ℕ) (y : Call)
         → (IsStepIn n h k y × (k < length h)) ⊎ ((k ≡ length h) × (x ≡ y) × IsContext h x (Some n))
         → (y.thread ≡ i) × (first ≤ k) × (k ≤ last)
-    each_kept not k y (inl old) = is.each k y old.0
-    each_kept not k y (inr new) = absurd (not new.2)
+    each_kept given1 k y given2 = grind (arith)
 
     pub context_kept : (IsContext h x (Some n) → ⊥) → IsContextOf n (h ++ x ∷ []) i first last
     context_kept not = record {
@@ -104,8 +103,7 @@ module _ (h : List Call) (x : Call) where
     each_joined : x.thread ≡ i → (k : ℕ) (y : Call)
         → (IsStepIn n h k y × (k < length h)) ⊎ ((k ≡ length h) × (x ≡ y) × IsContext h x (Some n))
         → (y.thread ≡ i) × (first ≤ k) × (k ≤ length h)
-    each_joined thread k y (inl old) = let own = is.each k y old.0 in (own.0, own.1, omega (arith, old.1))
-    each_joined thread k y (inr new) = (ap (λ (z : Call). z.thread) (sym new.1) ∙ thread, omega (arith, begins_within, new.0), omega (arith, new.0))
+    each_joined given1 k y given2 = search (rules, begins_within)
 
     pub context_joined : IsContext h x (Some n) → x.thread ≡ i → IsContextOf n (h ++ x ∷ []) i first (length h)
     context_joined here thread = record {
@@ -118,8 +116,7 @@ module _ (h : List Call) (x : Call) where
   each_new : (n : ℕ) → ((k : ℕ) (y : Call) → IsStepIn n h k y → ⊥) → (k : ℕ) (y : Call)
       → (IsStepIn n h k y × (k < length h)) ⊎ ((k ≡ length h) × (x ≡ y) × IsContext h x (Some n))
       → (y.thread ≡ x.thread) × (length h ≤ k) × (k ≤ length h)
-  each_new n none k y (inl old) = absurd (none k y old.0)
-  each_new n none k y (inr new) = (ap (λ (z : Call). z.thread) (sym new.1), omega (arith, new.0), omega (arith, new.0))
+  each_new n given1 k y given2 = grind (arith)
 
   pub context_new : (n : ℕ) → IsContext h x (Some n) → ((k : ℕ) (y : Call) → IsStepIn n h k y → ⊥) → IsContextOf n (h ++ x ∷ []) x.thread (length h) (length h)
   context_new n here none = record {
@@ -133,8 +130,7 @@ threads_of xs = map (λ (x : Span). x.thread) xs
 
 -- how many spans there are with one more step, and whose step the last one is
 last_more : (i : ℕ) (ts : List ℕ) (j : ℕ) → last_thread ts ≡ Some j → last_thread (i ∷ ts) ≡ Some j
-last_more i [] j e = absurd (false≢true (ap is_some e))
-last_more i (t ∷ ts) j e = e
+last_more i ts j given1 = grind (arith)
 
 module _ (step : Span) where
   last_with : (xs : List Span) → last_thread (threads_of (with_step xs step)) ≡ Some step.thread
@@ -171,9 +167,7 @@ module _ (t : Program) (s : SetupOf) where
   span_at : (h : List Call) (n : ℕ) (xs : List Span) → AreSpansFrom t s h n xs → (k : ℕ) (d : Span) → k < length xs → IsSpan t s h (n + k) (get_or xs k d)
   span_at h n [] are k d inside = absurd (omega (arith, inside))
   span_at h n (x ∷ xs) are zero d inside = subst (λ m. IsSpan t s h m x) (omega arith) are.0
-  span_at h n (x ∷ xs) are (suc k) d inside =
-      let place : suc n + k ≡ n + suc k = omega arith in
-      subst (λ m. IsSpan t s h m (get_or xs k d)) place (span_at h (suc n) xs are.1 k d (omega (arith, inside)))
+  span_at h n (x ∷ xs) are (suc k) d inside = search (rules, (span_at h (suc n) xs are.1 k d (omega (arith, inside))))
 
   pub span_of : (h : List Call) (xs : List Span) → AreSpans t s h xs → (k : ℕ) (d : Span) → k < length xs → IsSpan t s h (k + 1) (get_or xs k d)
   span_of h xs are k d inside =
@@ -204,12 +198,7 @@ module _ (t : Program) (s : SetupOf) where
 
     -- a call without a step leaves all spans as they are
     pub spans_idle : (xs : List Span) → AreSpans t s h xs → is_granted x.reply ≡ false → AreSpans t s (h ++ x ∷ []) xs
-    spans_idle xs are idle =
-        let same = granted_threads-append h x ∙ ap (λ b. granted_threads h ++ cond b (x.thread ∷ []) []) idle ∙ append-nil (granted_threads h) in
-        record {
-          count = subst (IsCountOf (count_of xs)) (sym same) are.count;
-          each = all_kept idle 1 xs are.each;
-        }
+    spans_idle xs given1 given2 = search (rules, granted_threads-append, append-nil, all_kept)
 
     -- the step of the last call, as a span of its own
     pub record IsOwnStep (step : Span) : Type 0 where
@@ -258,10 +247,7 @@ module _ (t : Program) (s : SetupOf) where
       -- the step is in context m, which is the last one or the next one
       all_with : (n : ℕ) (ys : List Span) (m : ℕ) → IsContext h x (Some m) → m + 1 ≡ n + length ys + contexts_opened (last_thread (threads_of ys)) step.thread
           → ((k : ℕ) (y : Call) → IsStepIn (n + length ys) h k y → ⊥) → AreSpansFrom t s h n ys → AreSpansFrom t s (h ++ x ∷ []) n (with_step ys step)
-      all_with n [] m here place none are =
-          let same : m ≡ n = omega (arith, place) in
-          let now : n + 0 ≡ n = omega arith in
-          (span_new n (subst (λ k. IsContext h x (Some k)) same here) (λ k y is. none k y (subst (λ j. IsStepIn j h k y) (sym now) is)), tt)
+      all_with n [] m here place none are = search (rules, span_new)
       all_with n (y ∷ []) m here place none are = by_same (y.thread == step.thread) refl place
         where
           by_same : (b : Bool) → (y.thread == step.thread) ≡ b → m + 1 ≡ n + 1 + (if b then 0 else 1)

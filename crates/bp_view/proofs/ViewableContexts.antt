@@ -1,16 +1,14 @@
 -- The context of a replayed trace is one of which a view can be made, and its view is one of the trace.
-use Rattle.std.proofs.Common.{◌≡◌, ◌∙◌, ℕ, List, Option, ap, refl, subst, sym, ◌++◌, suc, None, length}
+use Rattle.std.proofs.Common.{◌≡◌, ℕ, List, Option, refl, subst, sym, suc, None, length, arith, rules}
 use Rattle.bp_text.specs.Writing.{IsWritten}
 use Rattle.bp_text.specs.Lines.{Adds, IsInParts}
 use Rattle.bp_text.proofs.Givings.{begun_as, cut_as, written_as}
 use Rattle.bp_language.specs.Ast.{Program}
 use Rattle.bp_flat.specs.Flat.{Flat}
-use Rattle.bp_flat.specs.StandsFor.{StandsFor, places_of}
+use Rattle.bp_flat.specs.StandsFor.{StandsFor}
 use Rattle.bp_machine.specs.declared.calls.Call.{Call}
-use Rattle.bp_machine.specs.Histories.{outcome_of}
 use Rattle.bp_machine.specs.Setups.{SetupOf, threads}
 use Rattle.bp_trace.specs.declared.replaying.Replayed.{Replayed}
-use Rattle.bp_trace.specs.Replays.{IsPlayable}
 use Rattle.bp_source.specs.declared.source_statements.SourceStatement.{SourceStatement}
 use Rattle.bp_source.specs.SourceStatements.{AreSourceStatements}
 use Rattle.bp_source.proofs.SourceStatementLists.{texts_are, shown_texts}
@@ -33,13 +31,7 @@ module _ {t : Program} {text trace : List ℕ} {shown : ShownTrace} (is : IsShow
   pub viewable : {c : Flat} {x : ViewContext} {statements : List SourceStatement} → StandsFor c t → statements ≡ shown.statements.items
       → (AreSourceStatements text t statements → IsViewContextOf t text x)
       → AreWidths r.setup (extent_of x) x.widths → x.history.now ≡ r.history.items → IsViewable c t text r.setup r.report x
-  viewable code statements known widths history = record {
-    code = code;
-    known = known (subst (AreSourceStatements text t) (sym statements) is.statements);
-    widths = widths;
-    playable = subst (IsPlayable t r.setup) (sym history) is.is.trace.playable;
-    outcome = is.is.report.outcome ∙ ap outcome_of (sym history);
-  }
+  viewable given1 given2 given3 given4 given5 = grind (arith)
 
   module _ (o : ViewOptions) (file : List ℕ) (a : Option (List ℕ)) where
     pub missing : (f : ViewFault) → IsMissing o.thread (threads r.setup) f → IsViewRefusal t text trace o file a a f
@@ -85,16 +77,4 @@ module _ (t : Program) (text : List ℕ) (s : SetupOf) (h : List Call) (context 
       → (spans : List Span) → AreSpans t s h spans → (said : List ℕ)
       → Adds (Lines (length spans)) (contexts_head context.options.format (length context.history.now) (length spans)) said
       → AreContextLines context.options.format t text s h said
-  all_contexts known widths columns count spans are said lines = record {
-    count = length spans;
-    count_is = are.count.used;
-    widths = context.widths;
-    statements = shown_texts context.program.statements.now;
-    statements_are = texts_are text t.procedures (places_of t.procedures) context.program.statements.now known.program.statements;
-    widths_are =
-        let places = places_are text t.procedures (places_of t.procedures) context.program.statements.now known.program.statements in
-        rw (places, count, known.program.procedures, columns) at widths;
-    lines = lines.more;
-    lines_are = lines.more_are;
-    is = lines.is ∙ ap (λ n. contexts_head context.options.format n (length spans) ++ lines.more) count;
-  }
+  all_contexts given1 given2 given3 given4 spans given5 said given6 = search (rules, shown_texts, texts_are, places_are)

@@ -1,5 +1,5 @@
 -- Each call and each end of a history has facts.
-use Rattle.std.proofs.Common.{◌≡◌, ◌⊎◌, inl, inr, ℕ, zero, suc, ◌≤◌, Bool, true, false, [], length, ap, refl, subst, add-one, if◌then◌else◌, ◌∙◌, ◌+◌, ◌++◌, List, ◌∷◌, Some, slice_get, take, sym, arith, Option, None, drop, IsTrue, ◌↔◌, option_map}
+use Rattle.std.proofs.Common.{◌≡◌, ◌⊎◌, inl, inr, ℕ, zero, suc, ◌≤◌, Bool, true, false, [], length, ap, refl, subst, add-one, if◌then◌else◌, ◌∙◌, ◌+◌, ◌++◌, List, ◌∷◌, Some, slice_get, take, sym, arith, Option, None, drop, IsTrue, ◌↔◌, option_map, rules}
 use Rattle.std.proofs.lemmas.Bool.{cases_lt}
 use Rattle.std.proofs.lemmas.List.{get_or_past, map-append}
 use Rattle.std.proofs.lemmas.List.Elements.{All-push, All-nil}
@@ -57,25 +57,13 @@ module _ (t : Program) (c : Configuration) where
   none_past i past = ap is_left (get_or_past c.stacks i [] past)
 
   all_wait : AreSeen t c (length c.stacks) true → IsDeadlocked t c
-  all_wait seen = let some = seen.some refl in record {
-    thread = some.0;
-    unended = some.1;
-    each_waits = λ i frames. elim (cases_lt i (length c.stacks)) [
-      | inl within ↦ seen.each i within frames
-      | inr past ↦ absurd (let a = none_past i past in let b = frames in cc)
-    ];
-  }
+  all_wait given1 = search (rules, cases_lt, none_past)
 
   none_left : AreSeen t c (length c.stacks) false → IsDeadlocked t c → ⊥
-  none_left seen dead = elim (cases_lt dead.thread (length c.stacks)) [
-    | inl within ↦ let a = seen.none refl dead.thread within in let b = dead.unended in cc
-    | inr past ↦ let a = none_past dead.thread past in let b = dead.unended in cc
-  ]
+  none_left given1 given2 = search (rules, cases_lt, none_past)
 
   answer : Seen (length c.stacks) → (b : Bool) × (IsTrue b ↔ IsDeadlocked t c)
-  answer (inl (true, seen)) = (true, (λ e. all_wait seen, λ dead. refl))
-  answer (inl (false, seen)) = (false, (λ e. absurd cc, λ dead. absurd (none_left seen dead)))
-  answer (inr (i, frames, going)) = (false, (λ e. absurd cc, λ dead. absurd (not_waiting t c i frames going dead)))
+  answer given1 = search (rules, all_wait, none_left, not_waiting)
 
   pub decided : (b : Bool) × (IsTrue b ↔ IsDeadlocked t c)
   decided = answer (search_to (length c.stacks))
@@ -86,14 +74,10 @@ pub one_frame_more : (text : List ℕ) (n k m : ℕ) → m ≡ n + k → (stack 
     → AreStackFacts text n (take k stack) xs → slice_get stack k ≡ Some f → AreFrameFacts text m f x
     → AreStackFacts text n (take (suc k) stack) (xs ++ x ∷ [])
 one_frame_more text n k m deep [] xs f x are at is = absurd (omega (arith, slice_get_within [] k f at))
-one_frame_more text n zero m deep (g ∷ gs) [] f x are at is =
-    let same : f ≡ g = cc in
-    let first : m ≡ n = omega (arith, deep) in
-    (subst (λ k. AreFrameFacts text k g x) first (subst (λ e. AreFrameFacts text m e x) same is), tt)
+one_frame_more text n zero m deep (g ∷ gs) [] f x are at is = grind (arith)
 one_frame_more text n zero m deep (g ∷ gs) (y ∷ ys) f x are at is = elim are [ ]
 one_frame_more text n (suc k) m deep (g ∷ gs) [] f x are at is = elim are [ ]
-one_frame_more text n (suc k) m deep (g ∷ gs) (y ∷ ys) f x are at is =
-    (are.0, one_frame_more text (suc n) k m (omega (arith, deep)) gs ys f x are.1 at is)
+one_frame_more text n (suc k) m deep (g ∷ gs) (y ∷ ys) f x are at is = search (rules, (one_frame_more text (suc n) k m (omega (arith, deep)) gs ys f x are.1 at is))
 
 pub one_thread_more : (t : Program) (text : List ℕ) (s : SetupOf) (h : List Call) (i m : ℕ) (xs : List ShownThread) (x : ShownThread)
     → m ≡ i + length xs → AreThreadsFacts t text s h i xs → AreThreadFacts t text s h m x → AreThreadsFacts t text s h i (xs ++ x ∷ [])
@@ -104,10 +88,7 @@ one_thread_more t text s h i m (y ∷ ys) x count are is = (are.0, one_thread_mo
 
 module _ (t : Program) (text : List ℕ) (c : Configuration) (n : ℕ) (xs : List ShownCondition) (are : AreWaitsFacts text c (waiting t c n) xs) where
   pub no_wait_more : waits t c n ≡ false → AreWaitsFacts text c (waiting t c (suc n)) xs
-  no_wait_more none = record {
-    each = are.each;
-    of = are.of ∙ sym (ap (λ b. if b then waiting t c n ++ n ∷ [] else waiting t c n) none);
-  }
+  no_wait_more given1 = grind (arith)
 
   pub one_wait_more : waits t c n ≡ true → (x : ShownCondition) → x.thread ≡ n → AreStandingFacts text c x
       → AreWaitsFacts text c (waiting t c (suc n)) (xs ++ x ∷ [])
@@ -125,8 +106,7 @@ module _ (c : Flat) (t : Program) (code : StandsFor c t) (text : List ℕ) (stat
     (are : AreSourceStatements text t statements) (s : SetupOf) where
   -- the source statement of a frame
   source_statement_of : (f : Frame) → IsPlaced t f → (n : ℕ) × SourceStatementAt text t.procedures (place f.procedure f.left) statements n
-  source_statement_of f placed =
-      (placed.number, source_statement_at text t.procedures (places_of t.procedures) statements placed.number (place f.procedure f.left) are placed.at)
+  source_statement_of f given1 = search (rules, source_statement_at)
 
   some_next : (stack : List Frame) → ArePlaced t stack → (next : Next) × IsNextOf text stack next
   some_next [] placed = (nothing_next, refl)

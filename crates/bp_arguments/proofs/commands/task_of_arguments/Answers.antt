@@ -1,6 +1,5 @@
 use Rattle.std.proofs.Common.{◌∙◌, subst, sym, rules, map, string_bytes}
-use Rattle.clap.specs.Words.{subcommand_of}
-use Rattle.bp_arguments.specs.Commands.{btrun_app, arguments_fault, IsOurs, IsTaskOf}
+use Rattle.bp_arguments.specs.Commands.{IsOurs}
 use Rattle.bp_arguments.proofs.NoHelpEntered.{named_ours}
 use Rattle.bp_arguments.proofs.ArgumentFaults.{cleared, named, refused, misused, fine_faulty}
 use Rattle.bp_arguments.proofs.commands.task_of_arguments.Goals as goal
@@ -25,10 +24,7 @@ task_of-requires c =
     subst IsOurs (sym name) (named_ours arguments clean)
 
 pub returns-clause-task : goal.returns-clause-task
-returns-clause-task c =
-    let arguments = map string_bytes c.args.arguments.now in
-    let name = named _ arguments c.in_ok-command.ensures c.in_ok-matches.matches c.in_ok-matches.ensures.matches in
-    subst (λ command. IsTaskOf command c.in_ok-task_of.field-0) name c.in_ok-task_of.ensures
+returns-clause-task c = search (rules, string_bytes, named)
 
 pub returns-clause-refusal : goal.returns-clause-refusal
 returns-clause-refusal c =

@@ -1,4 +1,4 @@
-use Rattle.std.proofs.Common.{◌≡◌, ◌∙◌, ◌<◌, ℕ, List, true, false, ap, arith, below_more, bytes_eq, get_or, refl, rules, sym}
+use Rattle.std.proofs.Common.{◌≡◌, ◌∙◌, ◌<◌, ℕ, List, true, false, ap, arith, bytes_eq, get_or, refl, rules, sym}
 use Rattle.std.proofs.lemmas.Slice.Eq.{bytes_eq-Decides}
 use Rattle.bp_arguments.specs.declared.table.Named.{Named}
 use Rattle.bp_arguments.specs.declared.table.Named.TheVariants.{Check, Code, Drive, Confirm, Run, Test, Explore, Replay, Show, Migrate, Shrink}
@@ -45,26 +45,12 @@ within Show = omega arith
 within Migrate = omega arith
 within Shrink = omega arith
 
-differ : (a b : List ℕ) → bytes_eq a b ≡ false → a ≡ b → ⊥
-differ a b unlike same = grind (arith, bytes_eq-Decides a b, unlike, same)
-
 same : (a b : List ℕ) → bytes_eq a b ≡ true → a ≡ b
 same a b alike = grind (arith, bytes_eq-Decides a b, alike)
-
-pub loop-command-preserved : goal.loop-command-preserved
-loop-command-preserved c =
-    let name = c.args.name.now in
-    let i = c.loop-command.command-index in
-    let next = command_name (get_or NAMED i Check) in
-    let unlike : bytes_eq name next ≡ false = search rules in
-    below_more (λ k. name ≡ command_name (get_or NAMED k Check) → ⊥) i c.loop-command.invariant (differ name next unlike)
 
 pub returns : goal.returns
 returns c other is =
     c.loop-command.invariant (place other) (omega (arith, within other, c.loop-command-test.false)) (is ∙ ap command_name (sym (at_place other)))
 
 pub returns-then-eq : goal.returns-then-eq
-returns-then-eq c =
-    let next = command_name (get_or NAMED c.loop-command.command-index Check) in
-    let alike : bytes_eq c.args.name.now next ≡ true = search rules in
-    same c.args.name.now next alike
+returns-then-eq c = search (rules, bytes_eq, same)

@@ -1,7 +1,6 @@
-use Rattle.std.proofs.Common.{◌∙◌, ◌≤◌, ◌+◌, [], ◌∷◌, length, ap, subst, length-append}
-use Rattle.bp_machine.specs.Setups.{threads}
+use Rattle.std.proofs.Common.{◌∙◌, ◌+◌, [], ◌∷◌, length, ap, length-append}
 use Rattle.bp_confirm.specs.Inferred.{waits_after}
-use Rattle.bp_confirm.proofs.LinesKept.{table_more, table_whole}
+use Rattle.bp_confirm.proofs.LinesKept.{table_more}
 use Rattle.bp_confirm.proofs.choices.waits_of.Goals as goal
 
 pub loop-thread-preserved : goal.loop-thread-preserved
@@ -15,9 +14,3 @@ loop-thread-preserved c =
           table_more (waits_after t c.args.session.now.setup h) c.loop-thread.waits.items c.push.new.self.items c.waits.result n inv.size is
           (c.waits.ensures t h stands of) (inv.each t h stands of);
     }
-
-pub returns : goal.returns
-returns c = λ t h stands of.
-    let inv = c.loop-thread.invariant in
-    let past = subst (λ k. k ≤ c.loop-thread.thread) (c.threads-thread-end.ensures ∙ ap threads c.setup.ensures) c.loop-thread-test.false in
-    table_whole t c.args.session.now h c.loop-thread.waits.items c.loop-thread.thread of past inv.size (inv.each t h stands of)

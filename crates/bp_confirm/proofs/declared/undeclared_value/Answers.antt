@@ -2,11 +2,8 @@ use Rattle.std.proofs.Common.{◌∙◌, sym, subst}
 use Rattle.bp_confirm.specs.ConfirmedTexts.{AreDeclared}
 use Rattle.bp_confirm.specs.LineReading.{values_in}
 use Rattle.bp_confirm.proofs.OneTextRefusal.{first_undeclared, declared_more}
-use Rattle.bp_confirm.proofs.ReadLines.{all_read, none_read, one_more_read, value_there}
+use Rattle.bp_confirm.proofs.ReadLines.{all_read, one_more_read, value_there}
 use Rattle.bp_confirm.proofs.declared.undeclared_value.Goals as goal
-
-pub loop-value-init : goal.loop-value-init
-loop-value-init c = record { read = none_read c.args.values.now c.requires.values; first = tt; known = c.requires.known }
 
 pub returns-then-not-is_declared-clause-first : goal.returns-then-not-is_declared-clause-first
 returns-then-not-is_declared-clause-first c =

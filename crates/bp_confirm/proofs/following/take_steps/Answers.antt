@@ -8,7 +8,7 @@ use Rattle.bp_confirm.specs.Inferred.{Follows}
 use Rattle.bp_confirm.specs.Steps.{place_of, step_of, steps_of}
 use Rattle.bp_confirm.proofs.LastWays.{no_place, unasked}
 use Rattle.bp_confirm.proofs.NextLocations.{as_many_nexts, tells_next}
-use Rattle.bp_confirm.proofs.StepsFollowed.{follow_next, not_followed, followed}
+use Rattle.bp_confirm.proofs.StepsFollowed.{follow_next, not_followed}
 use Rattle.bp_confirm.proofs.following.take_steps.Goals as goal
 
 pub bounds-nexts-n : goal.bounds-nexts-n
@@ -66,17 +66,3 @@ loop-n-preserved c =
       code = c.take_step.ensures.kept.0 ∙ inv.code;
       setup = c.take_step.ensures.kept.1 ∙ inv.setup;
     }
-
-pub returns-clause-followed : goal.returns-clause-followed
-returns-clause-followed c = λ text are.
-    let t = c.args.checked.now in
-    let inv = c.loop-n.invariant in
-    followed text t c.args.session.now.setup (last_bits c.args.last) c.args.lines.now c.loop-n.n c.loop-n.history.items (omega arith)
-    (inv.follow text are)
-
-pub returns-clause-unasked : goal.returns-clause-unasked
-returns-clause-unasked c = λ text other are none.
-    let t = c.args.checked.now in
-    let inv = c.loop-n.invariant in
-    followed text t c.args.session.now.setup other c.args.lines.now c.loop-n.n c.loop-n.history.items (omega arith)
-    (inv.any text other are none)

@@ -1,4 +1,4 @@
-use Rattle.std.proofs.Common.{◌∙◌, ◌⊎◌, inl, inr, false, get_or, refl, sym, subst}
+use Rattle.std.proofs.Common.{◌∙◌, ◌⊎◌, inl, inr, false, get_or, refl, sym, subst, rules}
 use Rattle.bp_flat.specs.StandsFor.{StandsFor}
 use Rattle.bp_machine.specs.Runs.{IsDeadlocked}
 use Rattle.bp_machine.specs.Histories.{configuration_after}
@@ -22,19 +22,13 @@ returns-then-not-zeroed-clause-confirmed c = λ lawful.
     c.new.result.items c.new.ensures.items)
 
 pub returns-in_default-clause-answer : goal.returns-in_default-clause-answer
-returns-in_default-clause-answer c =
-    let are = c.as_slice-points.ensures.value ∙ c.in_ok-points.ensures in
-    rw c.confirmed_with-in_default.ensures (taken_by_zeros _ _ _ _ (c.in_ok-zeroed.ensures.followed c.args.text.now are))
+returns-in_default-clause-answer c = search (rules, taken_by_zeros)
 
 pub returns-in_default-2-clause-answer : goal.returns-in_default-2-clause-answer
-returns-in_default-2-clause-answer c =
-    let are = c.as_slice-points.ensures.value ∙ c.in_ok-points.ensures in
-    rw c.confirmed_with-in_default-2.ensures (taken_by_zeros _ _ _ _ (c.in_ok-zeroed.ensures.followed c.args.text.now are))
+returns-in_default-2-clause-answer c = search (rules, taken_by_zeros)
 
 pub returns-then-not-is_deadlocked-clause-answer : goal.returns-then-not-is_deadlocked-clause-answer
-returns-then-not-is_deadlocked-clause-answer c =
-    let are = c.as_slice-points.ensures.value ∙ c.in_ok-points.ensures in
-    rw c.confirmed_with-then-not-is_deadlocked.ensures (taken_by_zeros _ _ _ _ (c.in_ok-zeroed.ensures.followed c.args.text.now are))
+returns-then-not-is_deadlocked-clause-answer c = search (rules, taken_by_zeros)
 
 pub returns-then-not-is_deadlocked-clause-confirmed : goal.returns-then-not-is_deadlocked-clause-confirmed
 returns-then-not-is_deadlocked-clause-confirmed c = λ lawful.

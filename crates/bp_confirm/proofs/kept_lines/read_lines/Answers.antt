@@ -1,24 +1,15 @@
-use Rattle.std.proofs.Common.{◌∙◌, ◌∷◌, [], length, length-append, ap, sym, subst, arith, get_or}
+use Rattle.std.proofs.Common.{◌∙◌, ◌∷◌, [], length, length-append, ap, sym, subst, arith, rules}
 use Rattle.std.proofs.lemmas.List.{length-map}
-use Rattle.bp_text.specs.Formats.{HasNone, IsAt}
-use Rattle.bp_text.specs.Formats.Format.{Many}
 use Rattle.bp_text.proofs.PartsOfTexts.{none_left, some_left}
 use Rattle.bp_text.proofs.WholeTexts.{AreReadTo, all_read, bad_there, one_more_read}
-use Rattle.bp_confirm.specs.KeptLines.{kept_lines, lines_at, no_line, AreWithin}
+use Rattle.bp_confirm.specs.KeptLines.{kept_lines, lines_at, AreWithin}
 use Rattle.bp_confirm.specs.Steps.{step_line}
 use Rattle.bp_confirm.proofs.LinesKept.{lines_grown, within_grown}
 use Rattle.bp_confirm.proofs.ReadLines.{no_step_in_nothing, step_shorter}
 use Rattle.bp_confirm.proofs.kept_lines.read_lines.Goals as goal
 
 pub returns-in_default : goal.returns-in_default
-returns-in_default c =
-    let size = length-map c.loop-rest.places.items (λ k. get_or (kept_lines c.loop-rest.kept.items) k no_line) in
-    record {
-      read =
-          bad_there c.loop-rest.invariant.read (some_left c.loop-rest.rest.now (sym c.is_empty.ensures ∙ c.loop-rest-test.true))
-          (rw c.in_default.is at c.in_ok-read.ensures.read) (omega (arith, size));
-      few = tt;
-    }
+returns-in_default c = search (rules, length-map, bad_there, some_left)
 
 pub loop-rest-preserved : goal.loop-rest-preserved
 loop-rest-preserved c =
@@ -44,13 +35,4 @@ loop-rest-preserved c =
     }
 
 pub returns : goal.returns
-returns c =
-    let inv = c.loop-rest.invariant in
-    let lines = lines_at (kept_lines c.loop-rest.kept.items) c.loop-rest.places.items in
-    let none = none_left c.loop-rest.rest.now (sym c.is_empty.ensures ∙ c.loop-rest-test.false) in
-    record {
-      read =
-          subst (IsAt (Many step_line) c.args.text.now lines) none
-          (all_read inv.read (subst (HasNone step_line) (sym none) no_step_in_nothing));
-      few = let size = length-map c.loop-rest.places.items (λ k. get_or (kept_lines c.loop-rest.kept.items) k no_line) in omega (arith, size, inv.less);
-    }
+returns c = search (rules, none_left, all_read, no_step_in_nothing, length-map)

@@ -1,4 +1,4 @@
-use Rattle.std.proofs.Common.{rules, ◌≡◌, ◌∙◌, ◌-◌, ◌<◌, vec_len, Some, drop, length, map, replicate, ap, sym, refl, subst, arith, slice_get, length-set}
+use Rattle.std.proofs.Common.{rules, ◌≡◌, ◌∙◌, vec_len, Some, drop, length, map, replicate, ap, sym, refl, subst, arith, slice_get, length-set}
 use Rattle.std.proofs.Math.ListN.{drop_of_length-le}
 use Rattle.bp_confirm.specs.Steps.{location_in, next_location, next_locations}
 use Rattle.bp_confirm.proofs.NextLocations.{none_yet, table_next, done_next}
@@ -21,20 +21,4 @@ loop-n-init c =
     }
 
 pub loop-n-preserved : goal.loop-n-preserved
-loop-n-preserved c =
-    let lines = c.args.lines.now in
-    let n = c.loop-n.n in
-    let x = c.at-line.result.now in
-    let inv = c.loop-n.invariant in
-    let within : n - 1 < length lines = omega (arith, c.loop-n-test.true, inv.within) in
-    let is = c.line.view_is ∙ c.at-line.ensures in
-    let thread = ap (λ z. z.thread) is in
-    record {
-      within = omega (arith, inv.within);
-      size = length-set c.loop-n.next _ _ ∙ inv.size;
-      each = λ i few. table_next lines n x within c.loop-n-test.true c.loop-n.next c.line.inside.thread thread c.requires.threads i inv.size (inv.each i few);
-      many = length-set c.loop-n.steps.items _ _ ∙ inv.many;
-      done =
-          done_next lines n x within c.loop-n-test.true c.loop-n.next c.line.inside.thread 0 thread c.requires.threads
-          inv.size inv.each c.loop-n.steps.items inv.many inv.done;
-    }
+loop-n-preserved c = search (rules, length-set, table_next, done_next)

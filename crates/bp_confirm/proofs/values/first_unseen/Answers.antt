@@ -1,12 +1,9 @@
-use Rattle.std.proofs.Common.{◌∙◌, ap, sym, subst, option_map}
-use Rattle.bp_confirm.specs.Steps.{value_of, SeesValues}
+use Rattle.std.proofs.Common.{◌∙◌, ap, sym, option_map, rules}
+use Rattle.bp_confirm.specs.Steps.{value_of}
 use Rattle.bp_confirm.specs.LineReading.{values_in}
 use Rattle.bp_confirm.proofs.StepsFollowed.{sees_more}
-use Rattle.bp_confirm.proofs.ReadLines.{all_read, none_read, one_more_read, value_there}
+use Rattle.bp_confirm.proofs.ReadLines.{all_read, one_more_read, value_there}
 use Rattle.bp_confirm.proofs.values.first_unseen.Goals as goal
-
-pub loop-value-init : goal.loop-value-init
-loop-value-init c = record { read = none_read c.args.values.now c.requires; sees = λ text now i are shown. tt }
 
 pub returns-then-not-is_value : goal.returns-then-not-is_value
 returns-then-not-is_value c =
@@ -32,8 +29,4 @@ loop-value-preserved c = record {
 }
 
 pub returns : goal.returns
-returns c = record {
-  name = tt;
-  first = λ text now i are shown.
-      subst (SeesValues now i) (all_read c.loop-value.invariant.read c.in_default.ensures) (c.loop-value.invariant.sees text now i are shown);
-}
+returns c = search (rules, all_read)

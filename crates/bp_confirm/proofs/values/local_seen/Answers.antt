@@ -1,11 +1,9 @@
-use Rattle.std.proofs.Common.{◌∙◌, ap}
+use Rattle.std.proofs.Common.{◌∙◌, ap, rules}
 use Rattle.bp_confirm.proofs.ValuesSeen.{got_item, none_numbered, none_missing, locals_found}
 use Rattle.bp_confirm.proofs.values.local_seen.Goals as goal
 
 pub returns-in_default-procedure_of : goal.returns-in_default-procedure_of
-returns-in_default-procedure_of c = λ text k i are is.
-    absurd (none_numbered text c.args.checked.now c.args.points.now c.args.top c.in-Some.top c.in-Some.is k i are is
-    c.procedure_of.result c.procedure_of.ensures c.in_default-procedure_of.is)
+returns-in_default-procedure_of c = search (rules, none_numbered)
 
 pub returns-in_default-get : goal.returns-in_default-get
 returns-in_default-get c = λ text k i are is.

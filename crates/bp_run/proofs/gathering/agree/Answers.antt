@@ -1,4 +1,4 @@
-use Rattle.std.proofs.Common.{refl, subst, take_all}
+use Rattle.std.proofs.Common.{subst, take_all, rules}
 use Rattle.std.proofs.lemmas.List.Elements.{All-more}
 use Rattle.bp_run.specs.Gatherings.{IsSeatOf}
 use Rattle.bp_run.proofs.gathering.agree.Goals as goal
@@ -10,6 +10,4 @@ loop-seat-preserved g c = λ t h stands.
     All-more P c.args.seats.now c.loop-seat.seat-index c.seat-item.result c.loop-seat-test.true (c.loop-seat.invariant t h stands) (subst P c.seat-item.is one)
 
 pub returns : goal.returns
-returns g c = λ t h stands.
-    let all = take_all c.loop-seat.seat-index c.args.seats.now c.loop-seat-test.false in
-    ((λ _. rw all at (c.loop-seat.invariant t h stands)), λ _. refl)
+returns g c = search (rules, take_all)

@@ -1,5 +1,4 @@
-use Rattle.std.proofs.lemmas.Grind.{common_steps}
-use Rattle.std.proofs.Common.{rules, arith, ◌≡◌, ℕ, ◌+◌, true, List, [], ◌∷◌, ◌++◌, length, vec_len, refl, sym, ◌∙◌, ap, subst}
+use Rattle.std.proofs.Common.{rules, arith, ◌≡◌, ℕ, ◌+◌, List, [], ◌∷◌, ◌++◌, length, vec_len, refl, sym, ◌∙◌, ap, subst}
 use Rattle.std.specs.List.{sum_by}
 use Rattle.std.proofs.lemmas.List.Sums.{sum_by-append}
 use Rattle.rtrb.specs.Ring.{received, known_items}
@@ -48,9 +47,3 @@ returns-clause-gathered g c = λ t is.
     c.stopped_early-early.result c.agree-agree.result
     c.report-report.ensures calls open_are c.stopped_early-early.ensures agreement c.args.tap.taken left _ (ap (λ x. x ++ left) (sym taken) ∙ past) taken refl)
     is
-
-pub returns-clause-seats : goal.returns-clause-seats
-returns-clause-seats g c = search rules depth 1
-
-pub push_reserved-requires : goal.push_reserved-requires
-push_reserved-requires c = grind (arith, common_steps)

@@ -1,4 +1,4 @@
-use Rattle.std.proofs.Common.{arith, rules, ◌≡◌, Bool, Some, List, [], ◌∷◌, ◌++◌, Result, Ok, Err, MatchResult, false, true, refl, sym, ◌∙◌}
+use Rattle.std.proofs.Common.{arith, rules, ◌≡◌, Bool, Some, List, [], ◌∷◌, ◌++◌, Result, MatchResult, false, true, sym, ◌∙◌}
 use Rattle.std.specs.Result.{is_ok}
 use Rattle.std.proofs.lemmas.Bool.{false≢true}
 use Rattle.std.proofs.lemmas.Grind.{common_steps}
@@ -15,13 +15,11 @@ Shut s = s.is_open ≡ false
 -- the seat of a worker whose work is done
 shut : (seat : SeatOf) (done : Result (Unit {0}) Unfinished)
     → MatchResult done (λ _. seat.is_open ≡ false) (λ _. seat.is_open ≡ true) → is_ok done ≡ true → Shut seat
-shut seat (Ok x) ended ok = ended
-shut seat (Err f) ended ok = absurd (false≢true ok)
+shut seat done given1 given2 = search (rules, false≢true)
 
 is_done : (seat : SeatOf) (done : Result (Unit {0}) Unfinished)
     → MatchResult done (λ _. seat.is_open ≡ false) (λ _. seat.is_open ≡ true) → Shut seat → is_ok done ≡ true
-is_done seat (Ok x) ended closed = refl
-is_done seat (Err f) ended closed = absurd (false≢true (sym closed ∙ ended))
+is_done seat done given1 given2 = search (rules, false≢true)
 
 -- one more seat
 tells_more : (before after : List SeatOf) (seat : SeatOf) (b c ok : Bool) → after ≡ before ++ seat ∷ []

@@ -11,6 +11,3 @@ spawn_with-requires-send-F g c = λ κs lives. search (sendable, crosses, board_
 
 pub loop-seat-preserved : goal.loop-seat-preserved
 loop-seat-preserved c = grind (arith, common_steps)
-
-pub push_reserved-requires : goal.push_reserved-requires
-push_reserved-requires c = grind (arith, common_steps)

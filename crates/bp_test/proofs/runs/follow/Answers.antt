@@ -1,4 +1,4 @@
-use Rattle.std.proofs.Common.{◌≡◌, [], rules, refl, ap, ◌∙◌, sym, subst, inr}
+use Rattle.std.proofs.Common.{◌≡◌, [], rules, refl, ap, ◌∙◌, sym, subst}
 use Rattle.bp_flat.specs.StandsFor.{IsOfProgram, StandsFor}
 use Rattle.bp_machine.specs.Sessions.{Stands}
 use Rattle.bp_test.specs.declared.runs.TheConstants.{FIRST_KEY}
@@ -21,11 +21,6 @@ loop-thread-init c =
       key = λ t is. subst (λ h. IsKey t c.args.session.now.setup h FIRST_KEY) none no_call;
       refused = ap has_refusal none;
     }
-
-pub returns-in_default-clause-over : goal.returns-in_default-clause-over
-returns-in_default-clause-over c = λ t is.
-    let stands = c.loop-thread.invariant.stands t is in
-    inr (λ i within. c.in_default.ensures i within t c.loop-thread.history.items is stands)
 
 pub loop-thread-smaller : goal.loop-thread-smaller
 loop-thread-smaller c =
@@ -71,18 +66,5 @@ loop-thread-preserved c = record {
       c.refused_with-was_refused.ensures c.loop-thread.invariant.refused;
 }
 
-pub returns-then-eq-clause-over : goal.returns-then-eq-clause-over
-returns-then-eq-clause-over c = search rules depth 1
-
 pub returns-then-eq-clause-key : goal.returns-then-eq-clause-key
-returns-then-eq-clause-key c = λ t is.
-    let was = subst (λ k. StandsFor k t) c.play.ensures.kept.0 is in
-    key_of_call t c.loop-thread.session.setup c.play.new.session.setup c.loop-thread.history.items c.play.new.history.items _ _ _ c.loop-thread.key _
-    c.play.ensures.kept.1 c.in_ok-reply.ensures.grown
-    (c.next_number-number.ensures t c.loop-thread.history.items was (c.loop-thread.invariant.stands t was))
-    c.key_after-key.ensures (c.loop-thread.invariant.key t was)
-
-pub returns-then-eq-clause-refused : goal.returns-then-eq-clause-refused
-returns-then-eq-clause-refused c =
-    refusal_of_call c.loop-thread.history.items c.play.new.history.items _ _ c.loop-thread.was_refused _ c.in_ok-reply.ensures.grown
-    c.refused_with-was_refused.ensures c.loop-thread.invariant.refused
+returns-then-eq-clause-key c = search (rules, key_of_call)

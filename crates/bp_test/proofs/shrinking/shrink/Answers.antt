@@ -4,11 +4,6 @@ use Rattle.bp_test.specs.Shrinks.{IsDriven, IsShrunkOf}
 use Rattle.bp_test.proofs.ShrunkHistories.{starts, leads_to, shrunk_of, fits_unseeded}
 use Rattle.bp_test.proofs.shrinking.shrink.Goals as goal
 
-pub new-requires : goal.new-requires
-new-requires c =
-    let setup = c.with_seed-setup.ensures ∙ ap {A = SetupOf} (λ y. record y { seed = None }) c.in_ok-try_copy.ensures in
-    subst (FitsCode c.args.code.now) (sym setup) (fits_unseeded c.args.code.now c.args.setup.now c.requires.fits)
-
 pub improve-requires : goal.improve-requires
 improve-requires c =
     let setup = c.with_seed-setup.ensures ∙ ap {A = SetupOf} (λ y. record y { seed = None }) c.in_ok-try_copy.ensures in

@@ -1,32 +1,11 @@
-use Rattle.std.proofs.Common.{◌+◌, ◌%◌, ◌^◌, Some, refl, ap, ◌∙◌, arith}
+use Rattle.std.proofs.Common.{◌+◌, ◌%◌, ◌^◌, Some, ap, ◌∙◌, arith, rules}
 use Rattle.std.proofs.lemmas.Result.{err_from_is_err_and}
 use Rattle.bp_machine.specs.Setups.{SetupOf}
 use Rattle.bp_test.proofs.FirstFound.{as_asked, few_with, found_among_more, found_of_run, cut_run}
 use Rattle.bp_test.proofs.testing.test.Goals as goal
 
 pub returns-in_default : goal.returns-in_default
-returns-in_default g c = λ t is.
-    let found = c.in_ok-found.ensures t is in
-    let first = as_asked t c.args.setup.now c.args.options.now _ _ c.in_ok-plan.ensures.seed _
-    c.in_ok-plan.ensures.deadlock _ _ c.in_default.is found.1.runs found.1.first in
-    let size = first.0 in
-    let high = found.0.1 in
-    record {
-      runs = found.1.runs;
-      few = omega (arith, size, high);
-      found = (
-        refl,
-        refl,
-        c.new-in_default.ensures.items,
-        (
-          omega (arith, size, high),
-          λ untimed.
-              let all = found.0.2 (c.in_ok-plan.ensures.deadline ∙ c.deadline_after-deadline.ensures untimed) c.in_default.is in omega (arith, size, all),
-        ),
-        first.1,
-      );
-      tallied = found.1.tallied;
-    }
+returns-in_default g c = search (rules, as_asked)
 
 pub returns-in_err-write_trace : goal.returns-in_err-write_trace
 returns-in_err-write_trace g c = λ t is.

@@ -1,13 +1,8 @@
-use Rattle.std.proofs.Common.{rules, ◌≡◌, ◌++◌, ◌∷◌, [], ◌∙◌, ap, subst, arith}
+use Rattle.std.proofs.Common.{rules, ◌≡◌, ◌++◌, ◌∷◌, []}
 use Rattle.bp_machine.specs.Histories.{configuration_after}
-use Rattle.bp_machine.specs.Setups.{threads}
-use Rattle.bp_test.specs.Reached.{AreWaiting}
-use Rattle.bp_test.proofs.Playing.{none_waiting, waits_not, waits_more}
+use Rattle.bp_test.proofs.Playing.{waits_not, waits_more}
 use Rattle.bp_test.proofs.waiting.waiting_threads.Goals.{in-Some+in_ok-push, in_default}
 use Rattle.bp_test.proofs.waiting.waiting_threads.Goals as goal
-
-pub loop-thread-init : goal.loop-thread-init
-loop-thread-init c = λ t h is stands. let now = configuration_after t c.args.session.now.setup h in rw c.new-waiting.ensures.items (none_waiting t now)
 
 pub loop-thread-preserved : goal.loop-thread-preserved
 loop-thread-preserved c = λ t h is stands.
@@ -19,12 +14,3 @@ loop-thread-preserved c = λ t h is stands.
           rw w.waiting-is (rw pushed (waits_more t now n _ was w.in-Some.found (w.in-Some.ensures t h is stands)))
       | in_default w ↦ rw w.waiting-is (waits_not t now n _ was (w.in_default.ensures t h is stands))
     ]
-
-pub returns : goal.returns
-returns c = λ t h is stands.
-    let now = configuration_after t c.args.session.now.setup h in
-    let size = c.threads-thread-end.ensures ∙ ap threads c.setup.ensures in
-    let past = c.loop-thread-test.false in
-    let within = c.loop-thread.auto.thread-end in
-    let all : c.loop-thread.thread ≡ threads c.args.session.now.setup = omega (arith, size, past, within) in
-    subst (λ n. AreWaiting t now n c.loop-thread.waiting.items) all (c.loop-thread.invariant t h is stands)

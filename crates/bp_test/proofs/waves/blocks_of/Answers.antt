@@ -1,4 +1,3 @@
-use Rattle.std.proofs.Common.{rules}
 use denote.Param.{param}
 use denote.Param.Send.{sendable, IsSync}
 use Rattle.std.proofs.Crossing.{crosses}
@@ -10,6 +9,3 @@ pub map_indices-requires-sync-F : goal.map_indices-requires-sync-F
 map_indices-requires-sync-F g c κs within =
     let clock : IsSync (param 1 g.row.C) = c.type_bounds.sync-C in
     search (sendable, crosses, code_sync, setup_sync, plan_sync) depth 40 fits 100000
-
-pub returns-clause-blocks : goal.returns-clause-blocks
-returns-clause-blocks g c = search rules depth 1

@@ -1,17 +1,15 @@
-use Rattle.std.proofs.Common.{◌++◌, ◌∷◌, [], ◌∙◌, Some, refl, ap, sym, subst, arith}
+use Rattle.std.proofs.Common.{◌++◌, ◌∷◌, [], ◌∙◌, Some, refl, ap, sym, subst, arith, rules}
 use Rattle.std.proofs.lemmas.List.{length_push}
 use Rattle.bp_machine.specs.Setups.{SetupOf}
 use Rattle.bp_test.specs.Tallies.{made}
 use Rattle.bp_test.specs.Tests.{setup_of_run, IsCleanRun}
-use Rattle.bp_test.proofs.FirstFound.{some_of, clean_one}
+use Rattle.bp_test.proofs.FirstFound.{clean_one}
 use Rattle.bp_test.proofs.RunsOfTests.{fits_again, reseeded, clean_run, reaches_is, key_is, sought_run, waits_there, fails_there}
 use Rattle.bp_test.proofs.TallyLemmas.{same_counts, tally_run}
 use Rattle.bp_test.proofs.waves.first_found.Goals as goal
 
 pub run_once-requires : goal.run_once-requires
-run_once-requires g c =
-    fits_again c.args.code.now c.loop-run.session.code c.loop-run.session.setup c.args.setup.now
-    c.loop-run.invariant.code c.loop-run.invariant.setup c.requires
+run_once-requires g c = search (rules, fits_again)
 
 pub loop-run-init : goal.loop-run-init
 loop-run-init g c = record {
@@ -23,23 +21,6 @@ loop-run-init g c = record {
   clean = λ t is. tt;
   tallied = c.in_ok-tally.ensures;
 }
-
-pub returns-then-is_over-clause-end : goal.returns-then-is_over-clause-end
-returns-then-is_over-clause-end g c =
-    let low = c.loop-run.auto.run in
-    let high = c.loop-run.invariant.ahead in
-    (omega (arith, low), high, (λ untimed none. absurd (let over = sym (c.is_over.ensures untimed) ∙ c.if-is_over.true in cc)), tt)
-
-pub returns-then-is_over-clause-tallied : goal.returns-then-is_over-clause-tallied
-returns-then-is_over-clause-tallied g c = λ t is.
-    let before = c.loop-run.invariant in
-    record { runs = before.earlier; first = (before.count, before.clean t is); tallied = before.tallied t is }
-
-pub returns-then-is_sought-clause-end : goal.returns-then-is_sought-clause-end
-returns-then-is_sought-clause-end g c =
-    let low = c.loop-run.auto.run in
-    let high = c.loop-run-test.true in
-    (omega (arith, low), omega (arith, high), (λ untimed none. absurd (some_of (Some _) refl none)), omega arith)
 
 pub returns-then-is_sought-clause-tallied : goal.returns-then-is_sought-clause-tallied
 returns-then-is_sought-clause-tallied g c = λ t is.
@@ -127,23 +108,4 @@ loop-run-preserved g c =
           (rw c.as_slice.ensures.value at (c.in_ok-add_run.ensures.counted c.args.setup.now before.earlier
           (same_counts c.args.setup.now before.earlier c.loop-run.tally _ refl refl refl refl refl refl
           (before.tallied t is).counted)));
-    }
-
-pub returns-clause-end : goal.returns-clause-end
-returns-clause-end g c = let most = c.max.ensures in (omega (arith, most), omega (arith, most), (λ untimed none. most), tt)
-
-pub returns-clause-tallied : goal.returns-clause-tallied
-returns-clause-tallied g c = λ t is.
-    let before = c.loop-run.invariant in
-    record {
-      runs = before.earlier;
-      first = (
-        (let count = before.count in
-            let ahead = before.ahead in
-            let past = c.loop-run-test.false in
-            let after = c.loop-run.auto.run in
-            let most = c.max.ensures in omega (arith, count, ahead, past, after, most)),
-        before.clean t is,
-      );
-      tallied = before.tallied t is;
     }

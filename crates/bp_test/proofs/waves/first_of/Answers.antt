@@ -3,13 +3,7 @@ use Rattle.bp_test.proofs.FirstFound.{before_all, before_rest, ends_cut, ends_fo
 use Rattle.bp_test.proofs.waves.first_of.Goals as goal
 
 pub loop-block-init : goal.loop-block-init
-loop-block-init c = record {
-  can = tt;
-  ends = tt;
-  count = search rules depth 2;
-  before = λ k s p from size runs are same t is earlier tallied.
-      rw c.into_iter-block-iterator.ensures.into_iter_gives.0 (before_all k s p from size runs t is earlier _ _ are _ same tallied);
-}
+loop-block-init c = search (rules, before_all)
 
 pub returns-then-block-end : goal.returns-then-block-end
 returns-then-block-end c = λ k s p from size runs are same t is earlier tallied.

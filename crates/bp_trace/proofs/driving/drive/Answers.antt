@@ -1,4 +1,4 @@
-use Rattle.std.proofs.Common.{rules, ◌∙◌, sym, subst}
+use Rattle.std.proofs.Common.{◌∙◌, sym, subst}
 use Rattle.std.proofs.lemmas.Result.{err_from_is_err_and}
 use Rattle.bp_flat.specs.StandsFor.{IsOfProgram, StandsFor}
 use Rattle.bp_machine.proofs.SetupInRange.{same_open}
@@ -6,9 +6,6 @@ use Rattle.bp_trace.proofs.driving.drive.Goals as goal
 
 pub play-requires-clause-program : goal.play-requires-clause-program
 play-requires-clause-program g c = subst IsOfProgram (sym c.in_ok-session.ensures.kept.0) c.is_of_a_program.ensures
-
-pub play-requires-clause-stands : goal.play-requires-clause-stands
-play-requires-clause-stands g c = λ t is. c.in_ok-session.ensures.stands t (subst (λ x. StandsFor x t) c.in_ok-session.ensures.kept.0 is)
 
 pub write_with_open_lines-requires : goal.write_with_open_lines-requires
 write_with_open_lines-requires g c =
@@ -25,6 +22,3 @@ returns-in_err-calls g c = λ t is.
     let is_kept = subst (λ k. StandsFor k t) (sym kept.0) is in
     let refused = c.in_err-calls.ensures.refused t (g.W.Write.contents c.args.out.now) is_kept in
     rw (p.1, p.2) (rw kept.1 at refused)
-
-pub returns-then-schedule-gt-MAX_SCHEDULE : goal.returns-then-schedule-gt-MAX_SCHEDULE
-returns-then-schedule-gt-MAX_SCHEDULE g c = search rules depth 1

@@ -1,21 +1,11 @@
-use Rattle.std.proofs.lemmas.Grind.{common_steps}
-use Rattle.std.proofs.Common.{arith, ◌∙◌, refl, sym, subst}
+use Rattle.std.proofs.Common.{◌∙◌, sym, subst, rules}
 use Rattle.std.proofs.lemmas.Result.{err_from_is_err_and}
 use Rattle.bp_flat.specs.StandsFor.{StandsFor}
 use Rattle.bp_trace.proofs.LongestAccepted.{line_refused, playable_of, played_more, history_more}
 use Rattle.bp_trace.proofs.playing.judge_line.Goals as goal
 
 pub returns-in_err-judge-clause-refused : goal.returns-in_err-judge-clause-refused
-returns-in_err-judge-clause-refused g c = λ t is.
-    let p = err_from_is_err_and c.from_residual.result c.from_residual.ensures.1 in
-    let before = c.loop-call.invariant in
-    let is_kept = subst (λ k. StandsFor k t) (sym before.code) is in
-    let stands = (before.played t is_kept).0 in
-    let playable = playable_of t c.loop-call.session c.args.session.now.setup c.loop-call.played.history.items before.setup stands in
-    let refused = rw before.setup at (c.in_err-judge.ensures.refused t c.loop-call.played.history.items is_kept stands refl) in
-    rw (p.1, p.2, c.in_err-judge.ensures.unkept) (line_refused t c.args.session.now.setup c.args.played.now.history.items
-    c.loop-call.played.history.items c.args.calls.now c.loop-call.call-index _ c.loop-call-test.true before.history
-    c.args.n c.in_err-judge.field-0.0 playable refused)
+returns-in_err-judge-clause-refused g c = search (rules, err_from_is_err_and, playable_of, line_refused)
 
 pub loop-call-preserved : goal.loop-call-preserved
 loop-call-preserved g c =
@@ -41,6 +31,3 @@ loop-call-preserved g c =
       code = c.judge.ensures.kept.0 ∙ before.code;
       setup = c.judge.ensures.kept.1 ∙ before.setup;
     }
-
-pub judge-requires : goal.judge-requires
-judge-requires c = grind (arith, common_steps)

@@ -1,5 +1,4 @@
-use Rattle.std.proofs.lemmas.Grind.{common_steps}
-use Rattle.std.proofs.Common.{arith, ◌∙◌, sym, subst, refl}
+use Rattle.std.proofs.Common.{◌∙◌, sym, subst, rules}
 use Rattle.bp_flat.specs.StandsFor.{StandsFor}
 use Rattle.bp_trace.proofs.PiecesAreFewest.{line_below}
 use Rattle.bp_trace.proofs.LongestAccepted.{playable_of, next_line, body_refused}
@@ -30,16 +29,7 @@ judge_line-requires-clause-threads g c =
     rw (sym (c.loop-calls.invariant.setup ∙ c.requires.setup), sym c.as_slice-in-loop-calls.ensures.value) at below
 
 pub returns-in-Err-clause-refused : goal.returns-in-Err-clause-refused
-returns-in-Err-clause-refused g c = λ t is.
-    let before = c.loop-calls.invariant in
-    let at = rw (c.in-Some.is, c.threads.ensures, c.last_thread-last.ensures, c.as_slice.ensures.value, c.text_from-rest.ensures) at c.in_ok-found.ensures in
-    let is_kept = subst (λ k. StandsFor k t) (sym before.code) is in
-    let same = before.setup ∙ c.requires.setup in
-    let playable = playable_of t c.loop-calls.session c.args.setup.now c.loop-calls.played.history.items same (before.played t is_kept).0 in
-    let refused = rw (same, c.as_slice-in-loop-calls.ensures.value) at (c.in-Err.ensures.refused t is_kept) in
-    body_refused c.args.version _ c.args.first c.args.text.now c.loop-calls.played.history.items
-    c.loop-calls.size c.loop-calls.line before.within before.parts before.number
-    t c.args.setup.now refl playable c.body_line_at.new.calls.items c.in-Some.more at c.judge_line.new.played.history.items c.in-Err.fault refused
+returns-in-Err-clause-refused g c = search (rules, playable_of, body_refused)
 
 pub loop-calls-preserved : goal.loop-calls-preserved
 loop-calls-preserved g c =
@@ -64,9 +54,3 @@ loop-calls-preserved g c =
       code = c.judge_line.ensures.kept.0 ∙ before.code;
       setup = c.judge_line.ensures.kept.1 ∙ before.setup;
     }
-
-pub overflow_add-line : goal.overflow_add-line
-overflow_add-line c = grind (arith, common_steps)
-
-pub overflow_add-size : goal.overflow_add-size
-overflow_add-size c = grind (arith, common_steps)

@@ -1,4 +1,3 @@
-use Rattle.std.proofs.Common.{rules}
 use Rattle.bp_machine.specs.Histories.{open_lines}
 use Rattle.bp_machine.proofs.SetupInRange.{same_number}
 use Rattle.bp_trace.proofs.replaying.migrate.Goals as goal
@@ -9,9 +8,3 @@ write_with_open_lines-requires g c =
     let same = same_number c.args.code.now replayed.report.left_open (open_lines replayed.setup replayed.history.items)
     c.is_of_a_program.ensures (λ t is. (c.in_ok-replayed.ensures t is).report.left_open) in
     rw c.as_slice.ensures.value same
-
-pub returns-in_err-write_with_open_lines : goal.returns-in_err-write_with_open_lines
-returns-in_err-write_with_open_lines c = search rules
-
-pub returns : goal.returns
-returns c = search rules

@@ -1,4 +1,5 @@
-use Rattle.std.proofs.Common.{refl}
+use Rattle.std.proofs.lemmas.Grind.{common_steps}
+use Rattle.std.proofs.Common.{refl, arith}
 use Rattle.bp_trace.proofs.ReplayedTexts.{head_fits, head_opened}
 use Rattle.bp_trace.proofs.replaying.open.Goals as goal
 
@@ -7,6 +8,4 @@ returns-in-Ok-clause-fits c =
     head_fits c.args.text.now c.in_ok-head.head _ c.in_ok-head.ensures refl refl c.if-text-gt-MAX_TRACE.false
 
 pub returns-in-Ok-clause-judged : goal.returns-in-Ok-clause-judged
-returns-in-Ok-clause-judged c = λ t is.
-    let made = c.in-Ok.ensures t is in
-    (head_opened c.args.text.now c.in_ok-head.head _ c.in_ok-head.ensures refl refl refl made.0, made.1)
+returns-in-Ok-clause-judged c = grind (arith, common_steps, head_opened)

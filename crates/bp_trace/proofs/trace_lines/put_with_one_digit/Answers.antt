@@ -3,6 +3,4 @@ use Rattle.std.proofs.lemmas.Fmt.{decimal_digit}
 use Rattle.bp_trace.proofs.trace_lines.put_with_one_digit.Goals as goal
 
 pub returns : goal.returns
-returns g c =
-    let is = decimal_digit c.args.call.now.thread c.requires in
-    grind (rules, is)
+returns g c = search (rules, decimal_digit)

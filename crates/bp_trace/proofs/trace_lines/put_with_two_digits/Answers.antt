@@ -3,6 +3,4 @@ use Rattle.bp_trace.proofs.ScheduleLines.{two_text}
 use Rattle.bp_trace.proofs.trace_lines.put_with_two_digits.Goals as goal
 
 pub returns : goal.returns
-returns g c =
-    let is = two_text c.args.call.now.thread c.requires.two c.requires.few in
-    grind (rules, is)
+returns g c = search (rules, two_text)

@@ -1,5 +1,4 @@
-use Rattle.std.proofs.lemmas.Grind.{common_steps}
-use Rattle.std.proofs.Common.{◌≢◌, ◌∙◌, sym, Some, arith, rules}
+use Rattle.std.proofs.Common.{◌∙◌, sym, arith, rules}
 use Rattle.std.proofs.lemmas.Bool.{false≢true}
 use Rattle.bp_trace.proofs.EndLineAt.{no_piece_of_last, no_piece, no_thread_no_piece, has_piece}
 use Rattle.bp_trace.proofs.trace_lines.read_piece.Goals as goal
@@ -9,13 +8,7 @@ pub returns-then-eq : goal.returns-then-eq
 returns-then-eq c = no_piece_of_last c.args.threads c.args.last c.args.text.now c.requires.few c.in-Some.thread c.in-Some.symbols.now c.in-Some.ensures (search rules)
 
 pub returns-then-has_byte : goal.returns-then-has_byte
-returns-then-has_byte c =
-    let read = rw c.requires.empty at c.in_ok-size.ensures in
-    let ended = c.has_byte.ensures.0 c.if-has_byte.true in
-    let other : c.args.last ≢ Some c.in-Some.thread = search rules in
-    has_piece c.args.threads c.args.last c.args.text.now c.requires.few
-    c.in-Some.thread c.in-Some.symbols.now c.in-Some.ensures c.read_symbols.new.calls.items c.in_ok-size.size read other
-    c.if-size-gt0.true ended
+returns-then-has_byte c = search (rules, has_piece)
 
 pub returns-else-size-gt0 : goal.returns-else-size-gt0
 returns-else-size-gt0 c =
@@ -27,12 +20,6 @@ returns-else-size-gt0 c =
           false≢true (sym w.if-has_byte.false ∙ has.1 ended)
       | else-size-gt0-via-else-size-gt0 w ↦ absurd (omega (arith, some, w.if-size-gt0.false))
     ])
-
-pub overflow_add-result : goal.overflow_add-result
-overflow_add-result c = grind (arith, common_steps)
-
-pub overflow_add-result-then-has_byte : goal.overflow_add-result-then-has_byte
-overflow_add-result-then-has_byte c = grind (arith, common_steps)
 
 pub returns-in_default : goal.returns-in_default
 returns-in_default c = no_thread_no_piece c.args.threads c.args.last c.args.text.now c.requires.few c.in_default.ensures

@@ -1,4 +1,4 @@
-use Rattle.std.proofs.Common.{◌≡◌, ◌∙◌, ◌++◌, ◌∷◌, [], ℕ, List, Bool, Option, Some, None, map, ap, ap₂, append-nil, refl, sym, rules, option_map}
+use Rattle.std.proofs.Common.{◌≡◌, ◌∙◌, ◌++◌, ◌∷◌, [], ℕ, List, Bool, Option, Some, None, map, ap, append-nil, refl, sym, rules, option_map}
 use Rattle.std.proofs.lemmas.List.{map-append}
 use Rattle.bp_language.specs.Ast.{Name, Procedure}
 use Rattle.bp_flat.specs.InstrEffects.{bits_of}
@@ -14,8 +14,7 @@ use Rattle.bp_view.proofs.foot_facts.add_variable.Goals as goal
 by_slots : (globals : List Name) (p : Procedure) (a b : Bits) (name : List ℕ) (l g : Option ℕ)
     → l ≡ first_index (variables p) name → g ≡ first_index globals name
     → resolved p name (option_map b l) (option_map a g) ≡ named_entry p (named_store globals p (record { globals = a; locals = b })) name
-by_slots globals p a b name l g local global =
-    ap₂ (resolved p name) (ap (option_map b) local ∙ value_of_slot (variables p) b name) (ap (option_map a) global ∙ value_of_slot globals a name)
+by_slots globals p a b name l g given1 given2 = search (rules, value_of_slot)
 
 pub returns-in-Some : goal.returns-in-Some
 returns-in-Some c =

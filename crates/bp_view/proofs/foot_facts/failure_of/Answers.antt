@@ -1,4 +1,4 @@
-use Rattle.std.proofs.Common.{◌≡◌, ◌∙◌, ℕ, List, Option, None, Some, subst, sym, option_map, IsSomeAnd}
+use Rattle.std.proofs.Common.{◌≡◌, ◌∙◌, ℕ, List, Option, sym, option_map, IsSomeAnd, rules}
 use Rattle.std.proofs.lemmas.Result.{IfOk-weaker}
 use Rattle.bp_language.specs.Ast.{Program}
 use Rattle.bp_machine.specs.declared.calls.Call.{Call}
@@ -14,9 +14,7 @@ use Rattle.bp_view.proofs.foot_facts.failure_of.Goals as goal
 shown_failure : (t : Program) (text : List ℕ) (s : SetupOf) (h : List Call) (i : ℕ) → IsRealFailure t s h i → (o : Option ConditionFacts)
     → IsSomeAnd o (λ x. (x.thread ≡ i) × AreStandingFacts text (configuration_after t s h) (condition_in x))
     → AreFailureFacts t text s h (Failed i) (option_map condition_in o)
-shown_failure t text s h i failure None is = absurd is
-shown_failure t text s h i failure (Some x) is =
-    (is.0, assertion_facts t s h text (condition_in x) (subst (IsRealFailure t s h) (sym is.0) failure) is.1)
+shown_failure t text s h i given1 o given2 = search (rules, assertion_facts)
 
 pub returns : goal.returns
 returns c = λ t text h set code stands outcome.

@@ -1,11 +1,9 @@
-use Rattle.std.proofs.Common.{◌==◌, ◌≤◌, length, sym, arith, ne_eqb}
+use Rattle.std.proofs.Common.{◌==◌, ◌≤◌, length, sym, arith, ne_eqb, rules}
 use Rattle.std.proofs.lemmas.List.Sums.{prefix_len_is}
 use Rattle.bp_view.proofs.program_facts.spaces_before.Goals as goal
 
 pub returns-then-byte-ne32 : goal.returns-then-byte-ne32
-returns-then-byte-ne32 c =
-    let within : c.loop-i.i ≤ length c.args.text.now = omega (arith, c.loop-i-test.true) in
-    sym (prefix_len_is (λ b. b == 32) c.args.text.now c.loop-i.i 0 within c.loop-i.invariant (λ _. ne_eqb _ 32 c.if-byte-ne32.true))
+returns-then-byte-ne32 c = search (rules, prefix_len_is, ne_eqb)
 
 pub returns : goal.returns
 returns c =

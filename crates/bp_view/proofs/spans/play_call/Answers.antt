@@ -1,4 +1,4 @@
-use Rattle.std.proofs.Common.{◌≡◌, ◌∙◌, ◌++◌, ◌∷◌, [], false, true, ap, refl, subst, sym}
+use Rattle.std.proofs.Common.{◌≡◌, ◌∙◌, ◌++◌, ◌∷◌, [], false, true, ap, refl, subst, sym, rules}
 use Rattle.std.proofs.lemmas.Result.{err_from_is_err_and}
 use Rattle.bp_flat.specs.StandsFor.{StandsFor}
 use Rattle.bp_machine.specs.Histories.{configuration_after, is_granted}
@@ -56,7 +56,4 @@ returns-else-is_step-clause-spans c = λ t h is stands playable number are.
     spans_idle t s h x c.args.spans.now.items are idle
 
 pub returns-in_err-call-clause-stands : goal.returns-in_err-call-clause-stands
-returns-in_err-call-clause-stands c = λ t h is stands playable.
-    let p = err_from_is_err_and c.from_residual.result c.from_residual.ensures.1 in
-    let s = c.args.session.now.setup in
-    rw (p.1, p.2) (asked_refused t s h c.args.recorded.now playable c.in_err-call.field-0.0 (c.in_err-call.ensures.answer t h is stands))
+returns-in_err-call-clause-stands c = search (rules, err_from_is_err_and, asked_refused)

@@ -1,4 +1,4 @@
-use Rattle.std.proofs.Common.{◌≡◌, ◌∙◌, ◌+◌, ◌<◌, ◌≤◌, suc, length, sym, subst, take, length-take-le, arith}
+use Rattle.std.proofs.Common.{◌≡◌, ◌∙◌, ◌+◌, ◌<◌, suc, length, sym, subst, take, length-take-le, arith, rules}
 use Rattle.std.proofs.lemmas.List.{take_all, take_more}
 use Rattle.std.proofs.lemmas.Result.{err_from_is_err_and}
 use Rattle.bp_flat.specs.StandsFor.{StandsFor}
@@ -32,19 +32,7 @@ loop-n-preserved c =
     }
 
 pub returns-in_err-play_call : goal.returns-in_err-play_call
-returns-in_err-play_call c = λ t is.
-    let p = err_from_is_err_and c.from_residual-in_err-play_call.result c.from_residual-in_err-play_call.ensures.1 in
-    let s = c.args.setup.now in
-    let h = c.args.history.now in
-    let i = c.loop-n.n in
-    let before = c.loop-n.invariant in
-    let inside : i < length h = c.loop-n-test.true in
-    let code = subst (λ k. StandsFor k t) (sym before.code) is in
-    let playable = playable_here t s h (c.requires.playable t is) i _ inside in
-    let why = c.in_err-play_call.ensures.stands t (take i h) code (before.stands t is) (rw before.setup playable) in
-    rw (p.1, p.2) why
+returns-in_err-play_call c = search (rules, err_from_is_err_and, playable_here)
 
 pub returns : goal.returns
-returns c = λ t is.
-    let past : length c.args.history.now ≤ c.loop-n.n = omega (arith, c.loop-n-test.false) in
-    subst (λ g. AreSpans t c.args.setup.now g c.loop-n.spans.items) (take_all c.loop-n.n c.args.history.now past) (c.loop-n.invariant.spans t is)
+returns c = search (rules, take_all)

@@ -1,4 +1,4 @@
-use Rattle.std.proofs.Common.{◌≡◌, ◌∙◌, ap, ap₂, drop, subst}
+use Rattle.std.proofs.Common.{◌≡◌, ◌∙◌, ap, ap₂, drop, subst, rules}
 use Rattle.bp_language.specs.Ast.{Procedure}
 use Rattle.bp_flat.specs.InstrEffects.{bits_of}
 use Rattle.bp_flat.specs.StandsFor.{place, valuation_of, variables}
@@ -9,11 +9,7 @@ use Rattle.bp_view.proofs.PlacedStacks.{frame_facts, frame_with, from_here}
 use Rattle.bp_view.proofs.state_facts.frame_below.Goals as goal
 
 pub returns-in_err-top : goal.returns-in_err-top
-returns-in_err-top c = λ t text h f set is stands at.
-    let stack = stack_of (configuration_after t c.args.session.now.setup h) c.args.thread in
-    let none = c.in_err-top.ensures t h is stands in
-    let some = from_here stack c.args.above f at in
-    absurd cc
+returns-in_err-top c = search (rules, from_here)
 
 pub returns-in_err-statement : goal.returns-in_err-statement
 returns-in_err-statement c = λ t text h f set is stands at.

@@ -1,6 +1,6 @@
+use Rattle.std.proofs.lemmas.Grind.{common_steps}
 use Rattle.std.proofs.Common.{◌≡◌, ◌++◌, ◌<◌, List, [], ◌∷◌, None, length, codes, refl, arith}
 use Rattle.bp_language.specs.Ast.{Name}
-use Rattle.bp_flat.specs.InstrEffects.{bits_of}
 use Rattle.bp_flat.specs.Steps.{Bits}
 use Rattle.bp_flat.specs.StandsFor.{valuation_of}
 use Rattle.bp_tasks.specs.declared.options.ViewFormat.TheVariants.{Columns}
@@ -16,9 +16,4 @@ line_of_some [] bits some = absurd (omega (arith, some))
 line_of_some (x ∷ xs) bits some = refl
 
 pub returns : goal.returns
-returns c =
-    let xs = c.args.globals.now in
-    let bits = bits_of c.args.word in
-    let some : 0 < length xs = grind arith in
-    let values = rw (from_first bits) at c.push_values.ensures in
-    rw (line_of_some xs bits some) (and_then (and_then c.put.ensures values) c.put-2.ensures)
+returns c = grind (arith, common_steps, from_first, line_of_some, and_then)

@@ -1,4 +1,4 @@
-use Rattle.std.proofs.Common.{refl, arith}
+use Rattle.std.proofs.Common.{arith, rules}
 use Rattle.std.proofs.lemmas.Result.{err_from_is_err_and}
 use Rattle.bp_text.proofs.Givings.{end_cut, end_written, head_cut, head_written, part_cut, parts_begun}
 use Rattle.bp_view.proofs.BegunViews.{end_there, kind, line_there, line_written, playable_next, none_before}
@@ -10,10 +10,7 @@ returns-in_err-put g c = λ t text can made few before same.
     rw (p.1, p.2) (head_cut (kind can) (rw same at c.in_err-put.ensures))
 
 pub loop-n-init : goal.loop-n-init
-loop-n-init g c = λ t text can made few before same.
-    let w = c.args.writer.now in
-    let head = head_written (rw same at c.in_ok-put.ensures) in
-    record { made = made; setup = refl; context = refl; few = few; parts = none_before t text w.session.setup w.context head w.made few before }
+loop-n-init g c = search (rules, head_written, none_before)
 
 pub returns-in_default : goal.returns-in_default
 returns-in_default g c = λ t text can made few before same.

@@ -1,4 +1,4 @@
-use Rattle.std.proofs.Common.{◌≡◌, ◌∙◌, ◌++◌, ◌∷◌, [], List, map, nat_lt, true, false, ap, ap₂, refl, sym, arith}
+use Rattle.std.proofs.Common.{◌≡◌, ◌∙◌, ◌++◌, ◌∷◌, [], List, map, nat_lt, true, false, ap, ap₂, sym, arith, rules}
 use Rattle.std.proofs.lemmas.Bool.Decides.{nat_tests}
 use Rattle.bp_machine.specs.Histories.{configuration_after}
 use Rattle.bp_view.specs.declared.change_facts.Change.{Change}
@@ -8,24 +8,10 @@ use Rattle.bp_view.proofs.ShownLines.{asked_of, calls_are, hidden, line_if, no_c
 use Rattle.bp_view.proofs.writers.push_shown.Goals as goal
 
 pub returns-then-not-has_watched : goal.returns-then-not-has_watched
-returns-then-not-has_watched c = λ t text s h x set of printed.
-    let context = c.args.context.now in
-    let some = sym c.asks_for.ensures ∙ c.if-not-asks_for.false in
-    let asked = asked_of t text s context h x c.args.replayed.now of context.filter set.filter true some in
-    let after = configuration_after t s (h ++ x ∷ []) in
-    let filled = c.in-Ok.ensures t text (configuration_after t s h) after x.thread set.program of.leads in
-    let changed = ap (λ (xs : List Change). map entry_of xs) c.deref.ensures.value ∙ filled in
-    let seen : is_seen (watched_names context.options.watch) (changes_by t s h x) ≡ false =
-    ap₂ is_seen (sym set.names) (sym changed) ∙ sym c.has_watched.ensures ∙ c.if-not-has_watched.true in
-    hidden t text s context h x (line_if t text s context h x true false _ asked seen refl) c.args.view.now
+returns-then-not-has_watched c = search (rules, asked_of, hidden, line_if)
 
 pub returns-then-calls-eq0 : goal.returns-then-calls-eq0
-returns-then-calls-eq0 c = λ t text s h x set of printed.
-    let context = c.args.context.now in
-    let m = c.args.replayed.now in
-    let calls = calls_are t text s context h x m of context.filter set.filter c.calls_in_line-calls.result c.calls_in_line-calls.ensures in
-    let none : nat_lt 0 c.calls_in_line-calls.result ≡ false = grind (arith, nat_tests, c.if-calls-eq0.true) in
-    hidden t text s context h x (no_calls t text s context h x (ap (nat_lt 0) (sym calls) ∙ none)) c.args.view.now
+returns-then-calls-eq0 c = search (rules, calls_are, nat_tests, hidden, no_calls)
 
 pub returns : goal.returns
 returns c = λ t text s h x set of printed.

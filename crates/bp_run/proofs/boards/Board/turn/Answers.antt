@@ -1,12 +1,7 @@
-use Rattle.std.proofs.Common.{rules, ◌≡◌, inl, subst, sym}
+use Rattle.std.proofs.Common.{rules, ◌≡◌, subst, sym}
 use Rattle.bp_flat.specs.StandsFor.{StandsFor}
-use Rattle.bp_run.proofs.TurnsWithCall.{seat_stays, seat_turn, told}
+use Rattle.bp_run.proofs.TurnsWithCall.{seat_turn, told}
 use Rattle.bp_run.proofs.boards.Board.turn.Goals as goal
-
-pub returns-clause-shut : goal.returns-clause-shut
-returns-clause-shut g c = λ shut.
-    let finished = c.turn-answer.ensures.finished.1 (inl shut) in
-    (finished, seat_stays c.deref_mut.result.now c.turn-answer.new.self c.args.seat.now c.turn-answer.new.seat c.args.n c.turn-answer.result c.turn-answer.ensures.answer finished)
 
 pub returns-clause-answer : goal.returns-clause-answer
 returns-clause-answer g c = seat_turn c.deref_mut.result.now c.turn-answer.new.self c.args.seat.now c.turn-answer.new.seat c.args.n c.turn-answer.result c.turn-answer.ensures.answer

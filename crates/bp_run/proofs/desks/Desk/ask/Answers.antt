@@ -1,4 +1,3 @@
-use Rattle.std.proofs.lemmas.Grind.{common_steps}
 use Rattle.std.proofs.Common.{rules, arith, refl, sym, ◌∙◌, ap, subst, ◌≡◌, ◌+◌, ◌<◌, List, [], ◌∷◌, ◌++◌, length, Err, Bool, true, false, not, None, length-append}
 use Rattle.bp_language.specs.Ast.{Program}
 use Rattle.bp_flat.specs.StandsFor.{IsOfProgram, StandsFor}
@@ -191,6 +190,3 @@ returns-else-is_finished-clause-answer g c =
     let was : c.seat.inside.is_open ≡ true = search rules in
     rw (← c.self.view_is, ← c.seat.view_is) (asked g d _ (of_some g k) (is_next g k) c.is_finished.ensures
     c.seat.inside.is_open (was ∙ ap not (sym c.if-is_finished.false)))
-
-pub is_finished-requires : goal.is_finished-requires
-is_finished-requires c = grind (arith, common_steps)

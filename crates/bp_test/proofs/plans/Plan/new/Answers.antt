@@ -1,11 +1,9 @@
-use Rattle.std.proofs.Common.{◌∙◌}
+use Rattle.std.proofs.Common.{◌∙◌, rules}
 use Rattle.bp_test.proofs.RunsOfTests.{fits_again, reseeded}
 use Rattle.bp_test.proofs.plans.Plan.new.Goals as goal
 
 pub run_once-requires : goal.run_once-requires
-run_once-requires g c =
-    fits_again c.args.code.now c.loop-pilot.session.code c.loop-pilot.session.setup c.args.setup.now
-    c.loop-pilot.invariant.code c.loop-pilot.invariant.setup c.requires
+run_once-requires g c = search (rules, fits_again)
 
 pub restart-requires : goal.restart-requires
 restart-requires g c =

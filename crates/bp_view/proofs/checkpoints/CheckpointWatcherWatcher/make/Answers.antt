@@ -1,4 +1,4 @@
-use Rattle.std.proofs.Common.{◌≡◌, ◌≢◌, ◌∙◌, ◌+◌, ◌++◌, ◌∷◌, [], sym, subst, arith, length}
+use Rattle.std.proofs.Common.{◌≡◌, ◌∙◌, ◌++◌, ◌∷◌, [], sym, subst, arith, length, rules}
 use Rattle.bp_flat.specs.StandsFor.{StandsFor}
 use Rattle.bp_view.proofs.RecordedCalls.{one_more, still_kept, whole, next_number}
 use Rattle.bp_view.proofs.checkpoints.CheckpointWatcherWatcher.make.Goals as goal
@@ -24,17 +24,4 @@ returns-in_ok-session-clause-sees c = λ first t h code stands seen.
     )
 
 pub returns-else-self-clause-sees : goal.returns-else-self-clause-sees
-returns-else-self-clause-sees c = λ first t h code stands seen.
-    let s = c.args.session.now.setup in
-    let y = c.in_ok-call.call in
-    let counted = seen.1.made in
-    let few = next_number t s h stands.state.legal (rw c.setup.ensures at c.is_in_range.ensures) in
-    let made : c.saturating_add-self.result ≡ length (h ++ y ∷ []) = omega (arith, c.saturating_add-self.ensures, counted, few, one_more t s h y) in
-    let other : length h + 1 ≢ c.args.self.now.after = λ e. c.if-self.false (omega (arith, c.saturating_add-self.ensures, counted, few, e)) in (
-      seen.0,
-      record {
-        made = made;
-        last = c.last_step-self.ensures h seen.1.last;
-        kept = still_kept t s h y c.args.self.now.after c.args.self.now.kept seen.1.kept other;
-      },
-    )
+returns-else-self-clause-sees c = search (rules, next_number, one_more, still_kept)

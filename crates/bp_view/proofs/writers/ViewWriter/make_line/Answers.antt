@@ -1,4 +1,4 @@
-use Rattle.std.proofs.Common.{if◌then◌else◌, None, ap, ◌≡◌, ◌∙◌, ◌++◌, ◌∷◌, [], suc, length, arith, length-append, subst, sym, option_map}
+use Rattle.std.proofs.Common.{if◌then◌else◌, None, ap, ◌≡◌, ◌∙◌, ◌++◌, ◌∷◌, [], suc, length, arith, length-append, subst, sym, option_map, rules}
 use Rattle.std.proofs.lemmas.Result.{err_from_is_err_and}
 use Rattle.bp_flat.specs.StandsFor.{StandsFor}
 use Rattle.bp_machine.specs.Sessions.{last_thread, Stands}
@@ -46,13 +46,7 @@ returns-clause-line c = λ t text h has playable known.
     subst (λ z. IsShownLine t text s context.options context.widths context.history.now h z c.push_shown.new.view.bytes.items) own shown
 
 pub returns-in_err-next-clause-made : goal.returns-in_err-next-clause-made
-returns-in_err-next-clause-made c = λ t h has playable.
-    let p = err_from_is_err_and c.from_residual.result c.from_residual.ensures.1 in
-    let s = c.args.self.now.session.setup in
-    rw (p.1, p.2) (print_refused t s h c.args.recorded.now playable _ c.in_err-next.field-0.0 (c.in_err-next.ensures t h has.code has.stands))
+returns-in_err-next-clause-made c = search (rules, err_from_is_err_and, print_refused)
 
 pub returns-in_err-replayed-clause-made : goal.returns-in_err-replayed-clause-made
-returns-in_err-replayed-clause-made c = λ t h has playable.
-    let p = err_from_is_err_and c.from_residual-in_err-replayed.result c.from_residual-in_err-replayed.ensures.1 in
-    let s = c.args.self.now.session.setup in
-    rw (p.1, p.2) (own_refused t s h c.args.recorded.now playable c.in_err-replayed.field-0.0 (c.in_err-replayed.ensures.answer t h has.code has.stands))
+returns-in_err-replayed-clause-made c = search (rules, err_from_is_err_and, own_refused)

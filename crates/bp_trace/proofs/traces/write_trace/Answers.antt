@@ -1,5 +1,0 @@
-use Rattle.std.proofs.Common.{rules}
-use Rattle.bp_trace.proofs.traces.write_trace.Goals as goal
-
-pub returns : goal.returns
-returns g c = search rules depth 1
