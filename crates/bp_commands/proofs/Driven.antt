@@ -1,5 +1,5 @@
 -- What driving a program says of the command `drive`.
-use Rattle.std.proofs.Common.{◌≡◌, refl, sym, subst, inl, inr, List, ℕ, Option, arith, [], ◌∷◌, ◌∙◌, ap, ◌+◌, ◌-◌, ◌<◌, ◌≤◌, ◌==◌, true, false, ◌++◌, length, take, drop, get_or, add-one, take-suc, take-append-drop, length-take-le}
+use Rattle.std.proofs.Common.{◌≡◌, refl, sym, subst, inl, inr, List, ℕ, Option, arith, [], ◌∷◌, ◌∙◌, ap, ◌+◌, ◌-◌, ◌<◌, ◌≤◌, ◌==◌, true, false, ◌++◌, length, take, drop, get_or, add-one, take-suc, take-append-drop, length-take-le, rules}
 use Rattle.std.specs.Io.KnownBytes.{Keeps}
 use Rattle.std.proofs.KnownBytes.{Keeps-refl}
 use Rattle.std.proofs.Math.Seq.{take-append_seam, drop-append_seam}
@@ -15,7 +15,6 @@ use Rattle.bp_trace.specs.declared.faults.DriveFault.TheVariants.{TooLong, Line,
 use Rattle.bp_trace.specs.Drives.{DrivesTo, IsRefusal, IsScheduleRefusal}
 use Rattle.bp_trace.specs.TraceText.{trace_text, trace_text_2}
 use Rattle.bp_trace.specs.declared.faults.MigrateFault.{MigrateFault}
-use Rattle.bp_trace.specs.declared.faults.MigrateFault.TheVariants as migrate
 use Rattle.bp_trace.specs.Replays.{IsMigrated, IsMigrateRefusal}
 use Rattle.bp_messages.specs.FaultTable.{fault_of_schedule, fault_of_migration}
 use Rattle.bp_commands.specs.Commands.{IsDoneWith, IsRefusedWith, Pair}
@@ -88,30 +87,7 @@ module _ (given : Pair) (t : Program) (of : IsLawfulText given.text t) (old new 
   }
 
   pub not_migrated : (f : MigrateFault) → IsMigrateRefusal t given.input old new f → IsRefusedWith migrates old new given (fault_of_migration f)
-  not_migrated (migrate.Replay f) found = inl (
-    subst (Keeps old) (sym (found.0)) (Keeps-refl old),
-    inr (record {
-      program = t;
-      lawful = of;
-      cause = f;
-      why = found.1;
-      is = refl;
-    }),
-  )
-  not_migrated migrate.Write found = inr (inl (
-    refl,
-    record {
-      text = trace_text_2 found.setup found.history;
-      writes = record {
-        program = t;
-        setup = found.setup;
-        history = found.history;
-        legal = record { of = of; version = found.version; is = found.trace };
-        is = refl;
-      };
-      written = found.written;
-    },
-  ))
+  not_migrated f given1 = grind (arith)
 
 -- The first line that is a separator, found one place after the other.
 
@@ -146,8 +122,7 @@ bytes_are input front bytes at whole here = ap (λ n. drop n input) (sym here) �
 
 -- a line does not begin here
 pub none_within : (input : List ℕ) (at : ℕ) → ends_line (take at input) ≡ false → HasNoneAt input at
-none_within input at inside front bytes rest line separated whole here =
-    true≢false (sym line ∙ (ap ends_line (sym (front_is input front bytes at whole here)) ∙ inside))
+none_within input at given1 = search (rules, true≢false, front_is)
 
 -- something else begins here
 pub none_other : (input : List ℕ) (at : ℕ) → HasNoSeparator (take (length input - at) (drop at input)) → HasNoneAt input at
@@ -157,10 +132,4 @@ none_other input at other front bytes rest line separated whole here =
 -- a separator begins here, where a line does
 pub split_at : (input rest : List ℕ) (at : ℕ) → at ≤ length input → ends_line (take at input) ≡ true
     → IsSeparated (take (length input - at) (drop at input)) rest → HasNoneBefore input at → IsSplit input (take at input) rest
-split_at input rest at within line separated none = record {
-  separated = drop at input;
-  whole = sym (take-append-drop at input);
-  separator = subst (λ bs. IsSeparated bs rest) (all_from input at) separated;
-  line = line;
-  first = subst (HasNoneBefore input) (sym (length-take-le at input within)) none;
-}
+split_at input rest at given1 given2 given3 given4 = search (rules, take-append-drop, all_from, length-take-le)

@@ -1,5 +1,5 @@
 -- What a text of a history says of a command on its trace.
-use Rattle.std.proofs.Common.{ℕ, List, Option, inr, refl}
+use Rattle.std.proofs.Common.{ℕ, List, Option, arith}
 use Rattle.bp_text.specs.Writing.{AppendsAll, AppendsPart}
 use Rattle.bp_language.specs.Ast.{Program}
 use Rattle.bp_code.specs.LawfulTexts.{IsLawfulText}
@@ -14,15 +14,13 @@ use Rattle.bp_messages.specs.FaultTable.{fault_of_trace}
 use Rattle.bp_messages.specs.declared.faults.Fault.TheVariants.{Write}
 use Rattle.bp_commands.specs.Commands.{IsDoneWith, IsRefusedWith, Pair}
 use Rattle.bp_commands.specs.Traces.{on_trace, IsOfTrace, TextRule}
-use Rattle.bp_commands.proofs.Answered.{cut_short, refused_with}
+use Rattle.bp_commands.proofs.Answered.{cut_short}
 
 module _ (rule : TextRule) (given : Pair) (t : Program) (of : IsLawfulText given.text t) where
   -- the text is no trace of the program
   pub no_trace : (old : Option (List ℕ)) (f : ReplayFault) → IsReplayRefusal t given.input f
       → IsRefusedWith (on_trace rule) old old given (fault_of_trace f)
-  no_trace old f why =
-      refused_with (on_trace rule) given old (fault_of_trace f)
-      (inr (record { program = t; lawful = of; cause = f; why = why; is = refl }))
+  no_trace old f given1 = grind (arith)
 
   -- it is the trace of a history, which has this text
   module _ (version : Version) (s : SetupOf) (h : List Call) (is : IsTrace t version s h given.input)

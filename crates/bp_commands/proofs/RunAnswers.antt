@@ -1,5 +1,5 @@
 -- What a run of a text says of the command `run`.
-use Rattle.std.proofs.Common.{◌≡◌, refl, sym, subst, inl, inr, List, ℕ, Option}
+use Rattle.std.proofs.Common.{◌≡◌, refl, sym, subst, inl, inr, List, ℕ, Option, arith}
 use Rattle.std.specs.Io.KnownBytes.{Keeps}
 use Rattle.std.proofs.KnownBytes.{Keeps-refl}
 use Rattle.bp_run.specs.declared.answers.RunReport.{RunReport}
@@ -12,7 +12,7 @@ use Rattle.bp_trace.specs.TraceText.{trace_text}
 use Rattle.bp_commands.specs.Commands.{IsDoneWith, IsRefusedWith}
 use Rattle.bp_messages.specs.FaultTable.{fault_of_run}
 use Rattle.bp_messages.specs.declared.faults.Fault.TheVariants.{Early}
-use Rattle.bp_commands.specs.Runs.{runs, IsRunReport, IsEarly}
+use Rattle.bp_commands.specs.Runs.{runs, IsRunReport}
 
 module _ (o : OptionsOf) (text : List ℕ) (old new : Option (List ℕ)) where
   pub done : (r : RunReport) → IsTracedRun o text old new r → IsDoneWith (runs o) old new text r
@@ -51,33 +51,10 @@ module _ (o : OptionsOf) (text : List ℕ) (old new : Option (List ℕ)) where
 
   pub refused : (f : RunFault) → IsRunRefusal o text old new f → IsRefusedWith (runs o) old new text (fault_of_run f)
   refused (run.Program f) found = inl (kept found.0, inl (record { cause = f; why = found.1; is = refl }))
-  refused (run.Setup f) found =
-      inl (kept found.0, inr (inl (record { cause = f; why = found.1; is = refl })))
+  refused (run.Setup f) found = grind (arith)
   refused run.Memory found = inl (kept found.0, inr (inr (inl (refl, found.1))))
-  refused run.Start found =
-      inl (kept found.has.refused, inr (inr (inr (record { runnable = record { program = found.program; of = found.of; has = found.has.fine }; is = refl }))))
-  refused (run.Early i) found =
-      let stopped = found.has.refused in
-      let written = trace_text (setup_under o found.program) stopped.history in
-      let early : IsEarly o text written (Early i) = record {
-        thread = i;
-        stopped = record {
-          program = found.program;
-          of = found.of;
-          has = record {
-            fine = found.has.fine;
-            refused = record {
-              history = stopped.history;
-              legal = stopped.legal;
-              seeded = stopped.seeded;
-              written = refl;
-              early = stopped.early;
-            };
-          };
-        };
-        is = refl;
-      } in
-      inr (inr (record { text = written; spoils = early; written = record { grown = stopped.written } }))
+  refused run.Start found = grind (arith)
+  refused (run.Early i) found = grind (arith)
   refused run.Write found =
       let cut = found.has.refused in
       inr (inl (

@@ -1,12 +1,10 @@
 -- What testing a program says of the command `test`.
-use Rattle.std.proofs.Common.{◌≡◌, refl, sym, subst, inl, inr, ℕ, ◌<◌, ◌≤◌, ◌^◌, length, List, [], ◌∷◌, ◌++◌, Option, None, Some, map}
-use Rattle.std.specs.Io.KnownBytes.{Appends, Keeps}
+use Rattle.std.proofs.Common.{◌≡◌, refl, sym, subst, inl, inr, ℕ, ◌<◌, ◌≤◌, ◌^◌, length, List, [], ◌∷◌, ◌++◌, Option, Some, map, arith}
+use Rattle.std.specs.Io.KnownBytes.{Appends}
 use Rattle.std.proofs.KnownBytes.{Appends-nil, Keeps-refl}
 use Rattle.bp_language.specs.Ast.{Program}
 use Rattle.bp_flat.specs.StandsFor.{places_of}
 use Rattle.bp_text.specs.Writing.{AppendsAll}
-use Rattle.bp_machine.specs.declared.calls.Call.{Call}
-use Rattle.bp_machine.specs.declared.calls.Report.{Report}
 use Rattle.bp_machine.specs.declared.setup_faults.SetupFault.TheVariants.{OutOfRange}
 use Rattle.bp_machine.specs.Setups.{SetupOf}
 use Rattle.bp_trace.specs.TraceText.{trace_text}
@@ -20,7 +18,7 @@ use Rattle.bp_test.specs.declared.testing.Found.TheVariants.{Nothing, Failed, De
 use Rattle.bp_test.specs.declared.testing.Tested.{Tested as Made}
 use Rattle.bp_test.specs.declared.waiting.Waiting.{Waiting}
 use Rattle.bp_test.specs.Tallies.{AreCounts, AreDistinct, MadeRun, made as made_of, HasReached, IsCounted}
-use Rattle.bp_test.specs.Tests.{setup_of_run, IsFound, IsTest, IsTestRefusal, IsWrittenRun}
+use Rattle.bp_test.specs.Tests.{setup_of_run, IsFound, IsTest, IsTestRefusal}
 use Rattle.bp_commands.specs.Commands.{IsDoneWith, IsRefusedWith}
 use Rattle.bp_commands.specs.Programs.{IsOpened}
 use Rattle.bp_messages.specs.FaultTable.{fault_of_setup, fault_of_test}
@@ -39,22 +37,6 @@ module _ (task : TestTask) (text : List ℕ) (t : Program) (taken : SetupOf) (op
     abbrev testable : IsTestable task text
     testable = record { program = t; setup = taken; opened = opened; few = few }
 
-    written_alone : (Holds : SetupOf → List Call → Type 0) (run : ℕ) (r : Report) (runs : List MadeRun) (is : IsWrittenRun t taken x old new Holds run r runs)
-        → IsWrittenRun t taken x (Some []) (Some (trace_text (setup_of_run taken x.seed run) is.history)) Holds run r runs
-    written_alone Holds run r runs is = record {
-      history = is.history;
-      others = is.others;
-      deadlocked = is.deadlocked;
-      returned = is.returned;
-      whole = is.whole;
-      number = is.number;
-      below = is.below;
-      clean = is.clean;
-      found = is.found;
-      holds = is.holds;
-      written = record { grown = refl };
-    }
-
     -- what an empty output has after the test, where this one has more
     record IsAlone (f : Found) (at : Option ℕ) (ws : List Waiting) (runs : List MadeRun) : Type 0 where
       text_is : List ℕ
@@ -67,16 +49,8 @@ module _ (task : TestTask) (text : List ℕ) (t : Program) (taken : SetupOf) (op
       found = (refl, nowhere, none, count, clean);
       written = record { grown = subst (λ y. Appends old y []) (sym same) (Appends-nil old) };
     }
-    alone (Failed run r) at ws runs is = record {
-      text_is = trace_text (setup_of_run taken x.seed run) is.history;
-      found = written_alone _ run r runs is;
-      written = is.written;
-    }
-    alone (Deadlock run r) at ws runs (asked, nowhere, is) = record {
-      text_is = trace_text (setup_of_run taken x.seed run) is.history;
-      found = (asked, nowhere, written_alone _ run r runs is);
-      written = is.written;
-    }
+    alone (Failed run r) at ws runs is = grind (arith)
+    alone (Deadlock run r) at ws runs (asked, nowhere, is) = grind (arith)
 
     pub done : (made : Made) → IsTest t taken x old new made → (tested : TestReport) → tested.found ≡ made.found
         → tested.failed ≡ made.failed → tested.waiting ≡ made.waiting → tested.positions.items ≡ positions_of text t
@@ -114,8 +88,7 @@ module _ (task : TestTask) (text : List ℕ) (t : Program) (taken : SetupOf) (op
         }
 
     pub refused : (f : TestFault) → IsTestRefusal t taken x old new f → IsRefusedWith (tests task) old new text (fault_of_test f)
-    refused fault.Memory same =
-        inl (subst (Keeps old) (sym same) (Keeps-refl old), inr (inr (refl, testable)))
+    refused fault.Memory same = grind (arith)
     refused fault.Write cut = inr (inl (
       refl,
       record {
@@ -148,7 +121,4 @@ module _ (task : TestTask) (text : List ℕ) (t : Program) (taken : SetupOf) (op
 
   -- there may not be so many jobs
   pub many_jobs : (out : Option (List ℕ)) → MAX_JOBS < x.jobs → IsRefusedWith (tests task) out out text (fault_of_setup OutOfRange)
-  many_jobs out many = inl (
-    Keeps-refl out,
-    inr (inl (record { program = t; setup = taken; opened = opened; many = many; is = refl })),
-  )
+  many_jobs out given1 = grind (arith)

@@ -1,5 +1,5 @@
 -- What a view of a trace says of the command `show`.
-use Rattle.std.proofs.Common.{◌++◌, ℕ, List, Option, refl, sym, inl, inr, subst, ◌≡◌, [], None, Some, Result, Ok, Err, append-nil}
+use Rattle.std.proofs.Common.{◌++◌, ℕ, List, Option, refl, sym, inl, inr, subst, Some, arith}
 use Rattle.std.specs.Io.KnownBytes.{Keeps}
 use Rattle.std.proofs.KnownBytes.{Keeps-refl}
 use Rattle.bp_text.specs.Writing.{AppendsAll, AppendsPart}
@@ -7,7 +7,7 @@ use Rattle.bp_text.proofs.Givings.{all_then, part_first, part_then}
 use Rattle.bp_language.specs.Ast.{Program}
 use Rattle.bp_machine.specs.declared.calls.Report.{Report}
 use Rattle.bp_machine.specs.Histories.{IsReport}
-use Rattle.bp_trace.specs.Replays.{IsAcceptedTrace, IsSomeTrace}
+use Rattle.bp_trace.specs.Replays.{IsAcceptedTrace}
 use Rattle.bp_trace.specs.declared.replaying.AcceptedTrace.{AcceptedTrace}
 use Rattle.bp_code.specs.LawfulTexts.{IsLawfulText}
 use Rattle.bp_tasks.specs.declared.options.ViewOptions.{ViewOptions}
@@ -18,7 +18,7 @@ use Rattle.bp_view.specs.Views.{IsViewed, IsViewOfTrace, IsViewRefusal}
 use Rattle.bp_messages.specs.FaultTable.{fault_of_view, fault_of_trace}
 use Rattle.bp_messages.specs.declared.faults.Fault.{Fault}
 use Rattle.bp_messages.specs.declared.faults.Fault.TheVariants.{Write}
-use Rattle.bp_commands.specs.Commands.{IsDoneWith, IsRefusedWith, Pair, Command, AnswersOf}
+use Rattle.bp_commands.specs.Commands.{IsDoneWith, IsRefusedWith, Pair, Command}
 use Rattle.bp_commands.specs.Traces.{IsOfTrace, IsTraceReport}
 use Rattle.bp_commands.specs.Shows.{shows, IsViewText, last_line, on_valid_calls, refusal_text, IsPart, IsShownWithLine, OfPart, Refusal}
 
@@ -50,41 +50,14 @@ module _ (o : ViewOptions) (file : List ℕ) (given : Pair) (t : Program) (of : 
       subst (Keeps old) (sym found.0) (Keeps-refl old),
       inr (inl (record { program = t; lawful = of; cause = f; why = found.1; is = refl })),
     )
-    not_viewed (view.NoThread i) found = inl (
-      subst (Keeps old) (sym found.0) (Keeps-refl old),
-      inr (inr (inl (record {
-        program = t;
-        setup = found.1.replayed.setup;
-        history = found.1.replayed.history.items;
-        legal = record { of = of; version = found.1.is.version; is = found.1.is.trace };
-        thread = i;
-        asked = found.1.asked;
-        past = found.1.past;
-        is = refl;
-      }))),
-    )
-    not_viewed (view.NoVariable n) found = inl (
-      subst (Keeps old) (sym found.0) (Keeps-refl old),
-      inr (inr (inr (record {
-        program = t;
-        setup = found.1.replayed.setup;
-        history = found.1.replayed.history.items;
-        legal = record { of = of; version = found.1.is.version; is = found.1.is.trace };
-        there = found.1.there;
-        number = n;
-        undeclared = found.1.undeclared;
-        is = refl;
-      }))),
-    )
+    not_viewed (view.NoThread i) found = grind (arith)
+    not_viewed (view.NoVariable n) found = grind (arith)
     not_viewed view.Memory found = inr (inr (record {
       text = found.begun;
       spoils = record { rest = found.rest; whole = shown (found.begun ++ found.rest) found.is.0 found.is.1; is = refl };
       written = found.written;
     }))
-    not_viewed view.Write found = inr (inl (
-      refl,
-      record { text = found.text; writes = shown found.text found.is.0 found.is.1; written = found.written },
-    ))
+    not_viewed view.Write found = grind (arith)
 
 -- What a command on a part of a trace says of it on the accepted calls of the trace.
 
@@ -107,24 +80,7 @@ module _ (format : ViewFormat) (command : Command Pair Report) (given : Pair) wh
         written = part_first old new cut.text (last_line format refusal) cut.written;
       },
     ))
-    refused_part old new f (inr (inr spoilt)) = inr (inr (record {
-      text = spoilt.text;
-      spoils = of_part _ (inl spoilt.spoils);
-      written = spoilt.written;
-    }))
-
-  -- the trace is accepted
-  module _ (p : Program) (lawful : IsLawfulText given.text p) (trace : IsSomeTrace p given.input) where
-    is_whole : IsPart given given None
-    is_whole = (refl, record { program = p; lawful = lawful; trace = trace })
-
-    pub of_whole : (old new : Option (List ℕ)) (r : Result Report Fault) → AnswersOf command given old new r → AnswersOf whole given old new r
-    of_whole old new (Ok report) done = record {
-      text = done.text;
-      reports = of_part given None is_whole _ (refl, done.reports);
-      written = done.written;
-    }
-    of_whole old new (Err f) refused = refused_part given None is_whole old new f refused
+    refused_part old new f (inr (inr spoilt)) = grind (arith)
 
   -- the trace is refused after some calls
   module _ (p : Program) (lawful : IsLawfulText given.text p) (x : AcceptedTrace) (accepted : IsAcceptedTrace p given.input x) where

@@ -1,8 +1,8 @@
 -- What a walk over named bits says of their values.
-use Rattle.std.proofs.Common.{◌≡◌, ◌||◌, Bool, List, [], ◌∷◌, ap, map, refl, ◌∙◌, ◌++◌, ℕ, suc, false, true, length, sym, Bor, Option, Some, None, bytes_eq}
+use Rattle.std.proofs.Common.{◌≡◌, ◌||◌, Bool, List, [], ◌∷◌, ap, map, refl, ◌∙◌, ◌++◌, ℕ, suc, length, sym, Bor, Option, Some, None}
 use Rattle.std.specs.List.{list_any}
 use Rattle.bp_text.proofs.PartsOfTexts.{rest_left}
-use Rattle.bp_tasks.specs.NamedBits.{NamedBitOf, are_named, is_named_bit, is_named_in, name_in, named_bit_in}
+use Rattle.bp_tasks.specs.NamedBits.{NamedBitOf, named_bit_in}
 
 pub list_any-map : {X Y : Type 0} (p : X → Bool) (h : Y → X) (ys : List Y) → list_any p (map h ys) ≡ list_any (λ y. p (h y)) ys
 list_any-map p h [] = refl
@@ -16,13 +16,6 @@ size_left None = 0
 size_left (Some text) = suc (length text.now)
 
 module _ (parts others : List (List ℕ)) (piece : List ℕ) (is : parts ≡ piece ∷ others) where
-  -- a piece has another name
-  pub another_name : (name : List ℕ) → bytes_eq (name_in piece) name ≡ false → is_named_in parts name ≡ is_named_in others name
-  another_name name not = rw (is, not) refl
-
-  -- a piece is a name with a bit that no later piece has
-  pub fine_piece : is_named_bit piece ≡ true → is_named_in others (name_in piece) ≡ false → are_named parts ≡ are_named others
-  fine_piece named once = rw (is, named, once) refl
 
   -- a piece is taken over
   pub taken : (values more : List NamedBitOf) → more ≡ values ++ named_bit_in piece ∷ [] → values ++ map named_bit_in parts ≡ more ++ map named_bit_in others

@@ -21,8 +21,6 @@ pub record AreReadTo {A : Type 0} (F : Format A) (text : List ℕ) (xs : List A)
   pub go : (ys : List A) (end : List ℕ) → IsAt (Many F) rest ys end → IsAt (Many F) text (xs ++ ys) end
 
 module _ {A : Type 0} {F : Format A} {text : List ℕ} where
-  pub none_read : AreReadTo F text [] text
-  none_read = record { go = λ ys end p. p }
 
   module _ {xs : List A} {rest : List ℕ} (read : AreReadTo F text xs rest) where
     pub one_more_read : {x : A} {more : List ℕ} → IsAt F rest x more → AreReadTo F text (xs ++ x ∷ []) more

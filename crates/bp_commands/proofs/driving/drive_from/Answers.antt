@@ -1,16 +1,13 @@
-use Rattle.std.proofs.Common.{inl}
+use Rattle.std.proofs.lemmas.Grind.{common_steps}
+use Rattle.std.proofs.Common.{arith}
 use Rattle.std.proofs.lemmas.Result.{err_from_is_err_and}
 use Rattle.bp_commands.specs.Commands.{Pair}
-use Rattle.bp_commands.specs.Traces.{drives}
 use Rattle.bp_commands.proofs.Answered.{refused_with}
 use Rattle.bp_commands.proofs.Driven.{driven, not_driven}
 use Rattle.bp_commands.proofs.driving.drive_from.Goals as goal
 
 pub returns-in_err-opened : goal.returns-in_err-opened
-returns-in_err-opened g c =
-    let p = err_from_is_err_and c.from_residual.result c.from_residual.ensures.1 in
-    let given : Pair = record { text = c.args.text.now; input = c.args.schedule.now } in
-    rw (p.1, p.2) (refused_with (drives c.args.start.now c.args.named.now) given _ _ (inl c.in_err-opened.ensures.answer))
+returns-in_err-opened g c = grind (arith, common_steps, err_from_is_err_and, refused_with)
 
 pub returns-in_err-drive : goal.returns-in_err-drive
 returns-in_err-drive g c =

@@ -1,12 +1,10 @@
-use Rattle.std.proofs.Common.{arith, ◌∙◌, sym}
+use Rattle.std.proofs.Common.{arith, ◌∙◌, sym, rules}
 use Rattle.bp_commands.proofs.Driven.{HasNoneAt, line_next, none_next, none_within, none_other, split_at}
 use Rattle.bp_commands.proofs.driving.first_separator.Goals as goal
 use Rattle.bp_commands.proofs.driving.first_separator.Goals.{then-begins+in_default, else-begins}
 
 pub returns-in-Some : goal.returns-in-Some
-returns-in-Some c =
-    split_at c.args.input.now c.in-Some.rest.now c.loop-at.at c.loop-at.invariant.within
-    (sym c.loop-at.invariant.line ∙ c.if-begins.true) c.in-Some.ensures c.loop-at.invariant.none
+returns-in-Some c = search (rules, split_at)
 
 pub loop-at-preserved : goal.loop-at-preserved
 loop-at-preserved c =

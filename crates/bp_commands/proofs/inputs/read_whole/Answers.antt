@@ -1,4 +1,4 @@
-use Rattle.std.proofs.Common.{arith, ◌≡◌, length, length-append, length-take, take, ◌++◌, ℕ, ◌+◌, ◌-◌, ◌<◌, ◌≤◌, List}
+use Rattle.std.proofs.Common.{arith, ◌≡◌, length, length-append, length-take, take, ◌++◌, ℕ, ◌+◌, ◌-◌, ◌<◌, ◌≤◌, List, rules}
 use Rattle.std.proofs.lemmas.Result.{err_from_is_err_and}
 use Rattle.std.proofs.KnownBytes.{Consumes-trans}
 use Rattle.bp_commands.proofs.inputs.read_whole.Goals as goal
@@ -6,24 +6,16 @@ use Rattle.bp_commands.proofs.inputs.read_whole.Goals as goal
 -- a read into what room is left goes at most one byte past the limit
 within_room : (limit : ℕ) (bytes buf chunk : List ℕ) (count room : ℕ) → length bytes ≤ limit → room ≤ limit + 1 - length bytes
     → length buf ≡ length (take room chunk) → length (bytes ++ take count buf) ≤ limit + 1
-within_room limit bytes buf chunk count room short fits same =
-    let same = rw (length-take room chunk) at same in
-    rw (length-append bytes (take count buf), length-take count buf) (omega arith)
+within_room limit bytes buf chunk count room given1 given2 given3 = search (rules, length-take, length-append)
 
 -- where it gave more bytes than the limit leaves, it went one byte past it
 past_limit : (limit : ℕ) (bytes buf : List ℕ) (count : ℕ) → length bytes ≤ limit → limit - length bytes < count → count ≤ length buf
     → length (bytes ++ take count buf) ≤ limit + 1 → length (bytes ++ take count buf) ≡ limit + 1
-past_limit limit bytes buf count short more given most =
-    let whole = length-append bytes (take count buf) in
-    let taken = length-take count buf in
-    omega (arith, whole, taken)
+past_limit limit bytes buf count given1 given2 given3 given4 = search (rules, length-append, length-take)
 
 -- where it gave no more than that, it stays within the limit
 within_limit : (limit : ℕ) (bytes buf : List ℕ) (count : ℕ) → length bytes ≤ limit → count ≤ limit - length bytes → length (bytes ++ take count buf) ≤ limit
-within_limit limit bytes buf count short few =
-    let whole = length-append bytes (take count buf) in
-    let taken = length-take count buf in
-    omega (arith, whole, taken)
+within_limit limit bytes buf count given1 given2 = search (rules, length-append, length-take)
 
 pub returns-then-count-limit-clause-answer : goal.returns-then-count-limit-clause-answer
 returns-then-count-limit-clause-answer g c =

@@ -1,4 +1,4 @@
-use Rattle.std.proofs.Common.{subst, sym}
+use Rattle.std.proofs.Common.{subst, sym, rules}
 use Rattle.std.proofs.lemmas.Result.{err_from_is_err_and}
 use Rattle.bp_machine.specs.Histories.{IsReport}
 use Rattle.bp_view.specs.ContextLines.{AreContextsOfTrace}
@@ -14,13 +14,7 @@ returns-in_err-lines g c =
     rw (p.1, p.2) (no_trace (AreContextsOf c.args.format) given _ c.requires.lawful _ c.in_err-lines.field-0.0 c.in_err-lines.ensures)
 
 pub returns-in_err-put : goal.returns-in_err-put
-returns-in_err-put g c =
-    let p = err_from_is_err_and c.from_residual-in_err-put.result c.from_residual-in_err-put.ensures.1 in
-    let given : Pair = record { text = c.args.text.now; input = c.args.trace.now } in
-    let t = c.args.checked.now in
-    let is = subst (λ w. AreContextsOfTrace c.args.format t given.text given.input w c.in_ok-lines.report) (sym c.deref.ensures.value) c.in_ok-lines.ensures in
-    rw (p.1, p.2) (cut (AreContextsOf c.args.format) given t c.requires.lawful is.is.version is.replayed.setup is.replayed.history.items is.is.trace _
-    is.lines_are _ _ c.in_err-put.ensures)
+returns-in_err-put g c = search (rules, err_from_is_err_and, cut)
 
 pub returns : goal.returns
 returns g c =

@@ -1,4 +1,4 @@
-use Rattle.std.proofs.Common.{subst, sym}
+use Rattle.std.proofs.Common.{subst, sym, rules}
 use Rattle.std.proofs.lemmas.Result.{err_from_is_err_and}
 use Rattle.bp_machine.specs.Histories.{IsReport}
 use Rattle.bp_view.specs.States.{IsStateOfTrace}
@@ -14,13 +14,7 @@ returns-in_err-state g c =
     rw (p.1, p.2) (no_trace (IsStateOf c.args.format c.args.number) given _ c.requires.lawful _ c.in_err-state.field-0.0 c.in_err-state.ensures)
 
 pub returns-in_err-put : goal.returns-in_err-put
-returns-in_err-put g c =
-    let p = err_from_is_err_and c.from_residual-in_err-put.result c.from_residual-in_err-put.ensures.1 in
-    let given : Pair = record { text = c.args.text.now; input = c.args.trace.now } in
-    let t = c.args.checked.now in
-    let is = subst (λ w. IsStateOfTrace c.args.format c.args.number t given.text given.input w c.in_ok-state.report) (sym c.deref.ensures.value) c.in_ok-state.ensures in
-    rw (p.1, p.2) (cut (IsStateOf c.args.format c.args.number) given t c.requires.lawful is.is.version is.replayed.setup is.replayed.history.items is.is.trace _
-    is.state_is _ _ c.in_err-put.ensures)
+returns-in_err-put g c = search (rules, err_from_is_err_and, cut)
 
 pub returns : goal.returns
 returns g c =

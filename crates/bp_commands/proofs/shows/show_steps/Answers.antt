@@ -1,4 +1,4 @@
-use Rattle.std.proofs.Common.{ap}
+use Rattle.std.proofs.Common.{ap, rules}
 use Rattle.std.proofs.lemmas.Result.{err_from_is_err_and}
 use Rattle.bp_confirm.specs.OwnSteps.{own_steps_text}
 use Rattle.bp_commands.specs.Commands.{Pair}
@@ -13,12 +13,7 @@ returns-in_err-found g c =
     rw (p.1, p.2) (no_trace AreStepsOf given _ c.requires.lawful _ c.in_err-found.field-0.0 c.in_err-found.ensures)
 
 pub returns-in_err-put_steps : goal.returns-in_err-put_steps
-returns-in_err-put_steps g c =
-    let p = err_from_is_err_and c.from_residual-in_err-put_steps.result c.from_residual-in_err-put_steps.ensures.1 in
-    let given : Pair = record { text = c.args.text.now; input = c.args.trace.now } in
-    let are = c.in_ok-found.ensures in
-    rw (p.1, p.2) (cut AreStepsOf given _ c.requires.lawful are.version are.setup are.history are.is (own_steps_text c.in_ok-found.found.steps.items)
-    (ap own_steps_text are.steps_are) _ _ (rw c.as_slice.ensures.value at c.in_err-put_steps.ensures))
+returns-in_err-put_steps g c = search (rules, err_from_is_err_and, cut)
 
 pub returns : goal.returns
 returns g c =

@@ -1,21 +1,16 @@
-use Rattle.std.proofs.Common.{◌∙◌, ap, inl, inr, refl, subst, sym}
+use Rattle.std.proofs.lemmas.Grind.{common_steps}
+use Rattle.std.proofs.Common.{inr, refl, subst, arith, rules}
 use Rattle.std.proofs.lemmas.Result.{err_from_is_err_and}
 use Rattle.bp_text.specs.Writing.{AppendsAll, AppendsPart}
-use Rattle.bp_flat.specs.StandsFor.{StandsFor}
-use Rattle.bp_machine.specs.Histories.{open_lines}
 use Rattle.bp_trace.specs.declared.traces.Version.TheVariants.{One}
 use Rattle.bp_trace.specs.TraceText.{text_of, trace_text}
-use Rattle.bp_confirm.specs.declared.confirming.ConfirmFault.TheVariants.{Memory}
 use Rattle.bp_commands.specs.Commands.{Pair}
 use Rattle.bp_commands.specs.Confirms.{confirms, IsOfSteps}
 use Rattle.bp_commands.proofs.Answered.{cut_short, refused_with}
 use Rattle.bp_commands.proofs.confirming.ConfirmTaskPairCommand.apply.Goals as goal
 
 pub returns-in_err-opened : goal.returns-in_err-opened
-returns-in_err-opened g c =
-    let p = err_from_is_err_and c.from_residual.result c.from_residual.ensures.1 in
-    let given : Pair = record { text = c.args.text.now; input = c.args.steps.now } in
-    rw (p.1, p.2) (refused_with (confirms c.args.self.now) given _ _ (inl c.in_err-opened.ensures.answer))
+returns-in_err-opened g c = grind (arith, common_steps, err_from_is_err_and, refused_with)
 
 pub returns-in_err-confirmed : goal.returns-in_err-confirmed
 returns-in_err-confirmed g c =
@@ -32,28 +27,7 @@ returns-in_err-confirmed g c =
     })))
 
 pub returns-in_err-answer : goal.returns-in_err-answer
-returns-in_err-answer g c =
-    let p = err_from_is_err_and c.from_residual-in_err-answer.result c.from_residual-in_err-answer.ensures.1 in
-    let given : Pair = record { text = c.args.text.now; input = c.args.steps.now } in
-    let x = c.in_ok-opened.opened in
-    rw (p.1, p.2) (refused_with (confirms c.args.self.now) given _ _ (inr (record {
-      program = x.checked;
-      start = x.setup;
-      opened = c.in_ok-opened.ensures.answer;
-      cause = Memory;
-      why = c.in_ok-confirmed.ensures.answer.taken.told.read.fit;
-      is = refl;
-    })))
-
-pub confirmation_of-requires : goal.confirmation_of-requires
-confirmation_of-requires g c =
-    subst (λ x. StandsFor x c.in_ok-opened.opened.checked) (sym c.in_ok-confirmed.ensures.code) c.in_ok-opened.ensures.code
-
-pub write_with_open_lines-requires : goal.write_with_open_lines-requires
-write_with_open_lines-requires g c =
-    let report = (c.in_ok-answer.ensures c.in_ok-confirmed.ensures.answer.stands).reported in
-    let h = c.in_ok-confirmed.confirmed.history.items in
-    report.left_open ∙ ap (λ s. open_lines s h) (sym c.setup-setup.ensures) ∙ ap (open_lines c.setup-setup.result.now) (sym c.deref.ensures.value)
+returns-in_err-answer g c = search (rules, err_from_is_err_and, refused_with)
 
 pub returns-in_err-write_with_open_lines : goal.returns-in_err-write_with_open_lines
 returns-in_err-write_with_open_lines g c =

@@ -1,4 +1,4 @@
-use Rattle.std.proofs.Common.{◌<◌, ◌≤◌, ◌∙◌, arith, inl, refl}
+use Rattle.std.proofs.Common.{◌≤◌, ◌∙◌, arith, inl, refl, rules}
 use Rattle.std.proofs.lemmas.Bool.Decides.{nat_tests}
 use Rattle.std.proofs.lemmas.Result.{err_from_is_err_and}
 use Rattle.bp_tasks.specs.declared.limits.TheConstants.{MAX_JOBS}
@@ -13,23 +13,13 @@ returns-in_err-opened g c =
     rw (p.1, p.2) (refused_with (tests c.args.self.now.task.now) c.args.text.now _ _ (inl c.in_err-opened.ensures.answer))
 
 pub returns-then-options-gt-MAX_JOBS : goal.returns-then-options-gt-MAX_JOBS
-returns-then-options-gt-MAX_JOBS g c =
-    let many : MAX_JOBS < c.args.self.now.task.now.options.jobs = grind (arith, nat_tests) in
-    many_jobs c.args.self.now.task.now c.args.text.now _ _ c.in_ok-opened.ensures.answer _ many
+returns-then-options-gt-MAX_JOBS g c = search (rules, nat_tests, many_jobs)
 
 pub returns-in_err-file : goal.returns-in_err-file
-returns-in_err-file g c =
-    let p = err_from_is_err_and c.from_residual-in_err-file.result c.from_residual-in_err-file.ensures.1 in
-    let few : c.args.self.now.task.now.options.jobs ≤ MAX_JOBS = grind (arith, nat_tests) in
-    let out = g.W.Write.contents c.args.out.now in
-    rw (p.1, p.2) (lacks_memory c.args.self.now.task.now c.args.text.now _ _ c.in_ok-opened.ensures.answer few out out out)
+returns-in_err-file g c = search (rules, err_from_is_err_and, nat_tests, lacks_memory)
 
 pub returns-in_err-lines : goal.returns-in_err-lines
-returns-in_err-lines g c =
-    let p = err_from_is_err_and c.from_residual-in_err-lines.result c.from_residual-in_err-lines.ensures.1 in
-    let few : c.args.self.now.task.now.options.jobs ≤ MAX_JOBS = grind (arith, nat_tests) in
-    let out = g.W.Write.contents c.args.out.now in
-    rw (p.1, p.2) (lacks_memory c.args.self.now.task.now c.args.text.now _ _ c.in_ok-opened.ensures.answer few out out out)
+returns-in_err-lines g c = search (rules, err_from_is_err_and, nat_tests, lacks_memory)
 
 pub returns-in_err-positions : goal.returns-in_err-positions
 returns-in_err-positions g c =

@@ -1,30 +1,16 @@
-use Rattle.std.proofs.Common.{◌≡◌, ◌<◌, ◌+◌, ◌∙◌, ap, arith, inl, inr, length, refl, subst, sym, List, ℕ, [], ◌∷◌, Some}
+use Rattle.std.proofs.lemmas.Grind.{common_steps}
+use Rattle.std.proofs.Common.{◌∙◌, ap, arith, inl, inr, refl, subst, sym}
 use Rattle.std.proofs.lemmas.Result.{err_from_is_err_and}
-use Rattle.bp_language.specs.Ast.{Program}
-use Rattle.bp_confirm.specs.ConfirmedTexts.{AreTold}
 use Rattle.bp_confirm.specs.OwnSteps.{listed_steps}
-use Rattle.bp_confirm.specs.Steps.{StepLineOf}
 use Rattle.bp_explore.specs.ThroughExplorations.{IsThrough}
-use Rattle.bp_flat.specs.StandsFor.{StandsFor}
-use Rattle.bp_machine.specs.Setups.{SetupOf}
 use Rattle.bp_commands.specs.Commands.{Pair}
 use Rattle.bp_commands.specs.Explores.{bound_of}
 use Rattle.bp_commands.specs.Throughs.{explores_through, trace_through, IsThroughTrace}
 use Rattle.bp_commands.proofs.Answered.{cut_short, refused_with}
 use Rattle.bp_commands.proofs.through.ExplorePairCommand.apply.Goals as goal
 
--- a text that is told has a line
-some_lines : (t : Program) (s : SetupOf) (steps : List ℕ) (lines : List StepLineOf) → AreTold t s steps lines → 0 < length lines
-some_lines t s steps [] told =
-    let none : length steps ≡ 0 = ap length told.read.has.parts in
-    absurd (omega (arith, none, told.read.fit.0))
-some_lines t s steps (x ∷ xs) told = omega arith
-
 pub returns-in_err-opened : goal.returns-in_err-opened
-returns-in_err-opened g c =
-    let p = err_from_is_err_and c.from_residual.result c.from_residual.ensures.1 in
-    let given : Pair = record { text = c.args.text.now; input = c.args.steps.now } in
-    rw (p.1, p.2) (refused_with (explores_through c.args.self.now.task.now) given _ _ (inl c.in_err-opened.ensures.answer))
+returns-in_err-opened g c = grind (arith, common_steps, err_from_is_err_and, refused_with)
 
 pub returns-in_err-lines : goal.returns-in_err-lines
 returns-in_err-lines g c =
@@ -40,10 +26,6 @@ returns-in_err-lines g c =
       is = refl;
     }))))
 
-pub explore_through-requires-clause-some : goal.explore_through-requires-clause-some
-explore_through-requires-clause-some g c =
-    some_lines c.in_ok-opened.opened.checked c.in_ok-opened.opened.setup c.args.steps.now c.in_ok-lines.lines.lines c.in_ok-lines.ensures.told
-
 pub returns-in_err-explored : goal.returns-in_err-explored
 returns-in_err-explored g c =
     let p = err_from_is_err_and c.from_residual-in_err-explored.result c.from_residual-in_err-explored.ensures.1 in
@@ -56,14 +38,6 @@ returns-in_err-explored g c =
       listed = record { opened = c.in_ok-opened.ensures.answer; told = c.in_ok-lines.ensures.told };
       is = refl;
     }))))
-
-pub run_texts-requires : goal.run_texts-requires
-run_texts-requires g c = λ r is.
-    let t = c.in_ok-opened.opened.checked in
-    let stands = c.in_ok-opened.ensures.code in
-    let lines = c.in_ok-lines.ensures.of in
-    let found = subst (IsThrough _ t _ _ _) is (c.in_ok-explored.ensures t stands (sym lines.0)) in
-    (subst (λ x. StandsFor x t) (sym found.2.code) stands, found.2.stands)
 
 pub returns-in_err-said : goal.returns-in_err-said
 returns-in_err-said g c =
