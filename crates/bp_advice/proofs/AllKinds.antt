@@ -1,14 +1,11 @@
 -- Each kind of token is tried, and offered where it may follow.
-use Rattle.std.proofs.Common.{◌≡◌, ◌&&◌, ℕ, Bool, true, false, cond, List, [], ◌∷◌, Option, None, Some, refl, sym, ap, ◌∙◌, nat_eq, ◌<◌, ◌+◌, ◌++◌, get_or, subst, arith, below_more, ◌≢◌, ◌↔◌, IsTrue, length, inl, inr, ◌⊎◌, rules}
+use Rattle.bp_advice.proofs.Common.{◌≡◌, ◌&&◌, ℕ, Bool, true, false, cond, List, [], ◌∷◌, Option, None, Some, refl, sym, ap, ◌∙◌, nat_eq, ◌<◌, ◌+◌, ◌++◌, get_or, subst, arith, below_more, ◌≢◌, ◌↔◌, IsTrue, length, inl, inr, ◌⊎◌, rules, All-contains, All-push, Contains-append_left, Contains-push, false≢true, constants, symbols, long_symbols, reserved_word, reserved_words, kind_of, IsReal, Lexeme, IsCut, ends, first_bad_byte, first_open_brace, tokens_of, HasTokens, MayFollow, MayFollowAs, IsJudged, IsProgram, BeginsProgram}
 use Rattle.std.proofs.lemmas.Bool.Decides.{Decides-eqb}
 use Rattle.std.proofs.lemmas.Slice.Eq.{bytes_eq-Decides}
 use Rattle.std.specs.Map.{lookup}
 use Rattle.std.specs.Option.{unwrap_or}
 use Rattle.std.specs.Str.{bytes_eq}
 use Rattle.std.specs.List.{All, Contains}
-use Rattle.std.proofs.lemmas.List.Elements.{All-contains, All-push, Contains-append_left, Contains-push}
-use Rattle.std.proofs.lemmas.Bool.{false≢true}
-use Rattle.bp_language.specs.Tokens.{constants, symbols, long_symbols, reserved_word, reserved_words, kind_of, IsReal, Lexeme, IsCut, ends, first_bad_byte, first_open_brace, tokens_of, HasTokens}
 use Rattle.bp_language.specs.declared.tokens.LexemeKind.{LexemeKind}
 use Rattle.bp_language.specs.declared.tokens.LexemeKind.TheVariants.{White, Comment, Identifier, Braced, Constant, Symbol}
 use Rattle.bp_language.specs.declared.tokens.TokenKind.{TokenKind}
@@ -20,7 +17,6 @@ use Rattle.bp_syntax.specs.Refusals.{read_fault_number, OneRefusal, NoRefusalOfP
 use Rattle.bp_syntax.specs.declared.faults.ReadFault.{ReadFault}
 use Rattle.bp_syntax.specs.declared.faults.ReadFault.TheVariants.{Syntax, Memory}
 use Rattle.bp_syntax.specs.Lexer.{TakesLexeme, lexeme_of}
-use Rattle.bp_advice.specs.Explanations.{MayFollow, MayFollowAs, IsJudged, IsProgram, BeginsProgram}
 
 -- A kind of token has one spelling, unless it is that of names.
 

@@ -1,7 +1,5 @@
 -- What is shown is plain.
-use Rattle.std.proofs.Common.{◌≡◌, ◌==◌, ◌||◌, ℕ, Bool, true, List, map, slice_index_or, refl, if◌then◌else◌, arith}
-use Rattle.std.proofs.lemmas.List.Elements.{All-map}
-use Rattle.bp_advice.specs.Explanations.{is_plain, shown, IsPlain}
+use Rattle.bp_advice.proofs.Common.{◌≡◌, ◌==◌, ◌||◌, ℕ, Bool, true, List, map, slice_index_or, refl, if◌then◌else◌, arith, All-map, is_plain, shown, IsPlain}
 
 plain_if : (b : ℕ) (p w : Bool) → is_plain b ≡ p → is_plain (if p then b else if w then 32 else 63) ≡ true
 plain_if b p w given1 = grind (arith)

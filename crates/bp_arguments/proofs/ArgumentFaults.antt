@@ -1,16 +1,9 @@
 -- Which kind of fault refuses arguments, from what a parse of them answers.
-use Rattle.std.proofs.Common.{◌≡◌, ◌∙◌, ap, ap₂, refl, sym, subst, inl, inr, true, List, Option, Some, None, [], ◌∷◌, arith}
+use Rattle.bp_arguments.proofs.Common.{◌≡◌, ◌∙◌, ap, ap₂, refl, sym, subst, inl, inr, true, List, Option, Some, None, [], ◌∷◌, arith, HasKind, Kinds, or_else, HasMatchesOf, app_of, is_simple, subcommand_of, subcommand_rows_of, fault_of, is_simple_and_free, Row, Text, Command, btrun_app, arguments_fault, misuse_fault, misuse_kind, misuse_of}
 use Rattle.std.specs.Option.{option_map_or}
-use Rattle.clap.specs.Kinds.{HasKind, Kinds, or_else}
-use Rattle.clap.specs.Simple.{HasMatchesOf, app_of, is_simple, subcommand_of, subcommand_rows_of}
-use Rattle.clap.specs.Faults.{fault_of, is_simple_and_free}
-use Rattle.clap.specs.Walk.{Row, Text}
 use Rattle.clap.specs.Values.{kind_of}
-use Rattle.clap.specs.declared.builder.command.Command.{Command}
 use Rattle.clap.specs.declared.error.Error.{Error}
 use Rattle.clap.specs.declared.parser.matches.ArgMatches.{ArgMatches}
-use Rattle.bp_arguments.specs.Commands.{btrun_app, arguments_fault}
-use Rattle.bp_arguments.specs.Misuses.{misuse_fault, misuse_kind, misuse_of}
 use Rattle.bp_arguments.specs.declared.misuses.Misuse.{Misuse}
 
 is_exact : is_simple_and_free btrun_app ≡ true

@@ -1,20 +1,13 @@
 -- What a match on an argument's value says of the rows of a parse.
-use Rattle.std.proofs.Common.{◌≡◌, refl, codes, map, option_map, unwrap_or, List, [], ◌∷◌, Bor, Option, Some, None, ◌∙◌, ap, sym, Bool, true, false, if◌then◌else◌, ◌^◌, ℕ, Result, find, option_and_then, length, nat_lt, ltb-true, lt-ltb, arith, rules}
-use Rattle.clap.specs.Walk.{Text, Row, row_of, rows_of}
-use Rattle.std.specs.Str.{bytes_eq}
-use Rattle.clap.proofs.WalkLemmas.{find_row, both}
+use Rattle.bp_arguments.proofs.Common.{◌≡◌, refl, codes, map, option_map, unwrap_or, List, [], ◌∷◌, Bor, Option, Some, None, ◌∙◌, ap, sym, Bool, true, false, if◌then◌else◌, ◌^◌, ℕ, Result, find, option_and_then, length, nat_lt, ltb-true, lt-ltb, arith, rules, Text, Row, row_of, rows_of, bytes_eq, find_row, both, matched_of, ReadsOne, list_all, is_from_line, is_on_line, option_name, is_number_text, number_in, number_of, IsNumberIn, IsNumberText, IsNumberOf}
 use Rattle.clap.specs.Facts.{Entry}
-use Rattle.clap.specs.Matches.{matched_of, ReadsOne}
 use Rattle.clap.specs.declared.parser.matches.Found.{Found}
 use Rattle.clap.specs.declared.parser.matches.MatchedArg.{MatchedArg}
 use Rattle.clap.specs.declared.parser.matches.ValueSource.{ValueSource}
-use Rattle.std.specs.List.{list_all}
 use Rattle.std.specs.Char.{digit_value}
 use Rattle.std.specs.Str.Parse.{AllDigits, IsNumeral, without_leading_plus, ParsesUnsigned}
 use Rattle.clap.specs.ValueTests.{is_numeral}
-use Rattle.bp_arguments.specs.Misuses.{is_from_line, is_on_line, option_name}
 use Rattle.bp_arguments.specs.declared.misuses.OptionName.{OptionName}
-use Rattle.bp_arguments.specs.Values.{is_number_text, number_in, number_of, IsNumberIn, IsNumberText, IsNumberOf}
 
 module _ (given : Option (Bor (List (Bor Text)))) (all : Option (List Text)) (same : option_map (λ s. map (λ v. v.now) s.now) given ≡ all) where
   pub names_read : (names : Bor (List (Bor Text))) → given ≡ Some names → map (λ v. v.now) names.now ≡ unwrap_or all (codes "main" ∷ [])

@@ -1,3 +1,4 @@
+pub mod Common
 mod NoHelpEntered
 mod GivenArguments
 mod ArgumentFaults

@@ -1,22 +1,12 @@
 -- Where arguments have no fault, the command that they name is one of ours: at `help` a parse ends.
-use Rattle.std.proofs.Common.{◌≡◌, refl, false, Result, IfOk, codes, ◌||◌, cond, option_map, inl, inr, ◌⊎◌, ℕ, Bool, List, Option, Some, None, is_some, [], ◌∷◌, arith, subst, find, rules}
+use Rattle.bp_arguments.proofs.Common.{◌≡◌, refl, false, Result, IfOk, codes, ◌||◌, cond, option_map, inl, inr, ◌⊎◌, ℕ, Bool, List, Option, Some, None, is_some, [], ◌∷◌, arith, subst, find, rules, Rule, Held, Names, Row, Step, next, trailing, subcommand, value, Text, Waiting, Walk, arg_by_index, answers_to, word_met, to_positional, after_step, walked_from, walk_from, nothing_held, stop_after, App, app_of, with_subcommand, Shape, built, entered, names_of, label_of, rows_at, subcommand_of, argument_words, Command, out-Command, fold, bytes_eq, bytes_eq-Decides, Kinds, or_else, IsAmong, word_fault, step_fault, turn_fault, fault_of, btrun_app, IsOurs, IsNamed, IsOfKind, IsOfOne}
 use Rattle.clap.specs.Built.{AddsSubcommand}
-use Rattle.clap.specs.Walk.{Rule, Held, Names, Row, Step, next, trailing, subcommand, value, Text, Waiting, Walk, arg_by_index, answers_to, word_met, to_positional, after_step, walked, walked_from, walk_from, nothing_held, stop_after}
-use Rattle.clap.specs.Simple.{App, app_of, with_subcommand, Shape, built, entered, names_of, label_of, rows_at, subcommand_of, argument_words}
-use Rattle.clap.specs.declared.builder.command.Command.{Command}
-use Rattle.clap.specs.declared.builder.command.Command.TheViews.{out-Command}
-use Rattle.std.specs.List.{fold}
-use Rattle.std.specs.Str.{bytes_eq}
-use Rattle.std.proofs.lemmas.Slice.Eq.{bytes_eq-Decides}
-use Rattle.clap.specs.Kinds.{Kinds, or_else, IsAmong}
-use Rattle.clap.specs.Faults.{word_fault, step_fault, turn_fault, walk_fault, fault_of}
+use Rattle.clap.specs.Walk.{walked}
+use Rattle.clap.specs.Faults.{walk_fault}
 use Rattle.clap.proofs.OnLiterals.{clap_on_literals}
 use Rattle.clap.specs.declared.error.kind.ErrorKind.{ErrorKind}
 use Rattle.clap.specs.declared.error.kind.ErrorKind.TheVariants.{OutOfMemory}
-use Rattle.bp_arguments.specs.Commands.{btrun_app, IsOurs}
 use Rattle.bp_arguments.specs.declared.table.Named.TheVariants as name
-use Rattle.bp_arguments.specs.Values.{IsNamed}
-use Rattle.bp_arguments.specs.NoTasks.{IsOfKind, IsOfOne}
 use Rattle.bp_arguments.specs.declared.no_tasks.NoTask.{NoTask}
 use Rattle.bp_arguments.specs.declared.no_tasks.NoTask.TheVariants.{Memory}
 

@@ -1,22 +1,7 @@
 -- The faults of a program are those of its parts.
-use Rattle.std.proofs.Common.{◌≡◌, ◌⊎◌, ℕ, ◌<◌, ◌≤◌, ◌||◌, ◌&&◌, Bool, true, false, nat_lt, nat_eq, nat_le, cond, Option, None, Some, refl, inl, inr, arith, List, [], ◌∷◌, ◌++◌, sym, subst, map, Result, IfOk, zero, suc, ◌+◌, length, get_or, take, ap, ◌∙◌, rules}
-use Rattle.std.proofs.lemmas.Bool.Decides.{nat_tests}
-use Rattle.std.specs.Option.{option_to_list}
-use Rattle.std.specs.Borrow.{Bor}
-use Rattle.std.proofs.lemmas.List.{take_more, map-append, append-nil}
-use Rattle.bp_language.specs.Ast.{Procedure, Program, Name, Expression, Statement, Assigns, Calls, GoesTo}
-use Rattle.bp_language.specs.declared.stmts.Stmt.{Stmt}
-use Rattle.bp_language.specs.Blocks.{block_of, statement_of}
-use Rattle.bp_language.specs.Depth.{depth, statement_depth}
+use Rattle.bp_code.proofs.Common.{◌≡◌, ◌⊎◌, ℕ, ◌<◌, ◌≤◌, ◌||◌, ◌&&◌, Bool, true, false, nat_lt, nat_eq, nat_le, cond, Option, None, Some, refl, inl, inr, arith, List, [], ◌∷◌, ◌++◌, sym, subst, map, Result, IfOk, zero, suc, ◌+◌, length, get_or, take, ap, ◌∙◌, rules, nat_tests, option_to_list, Bor, take_more, map-append, Procedure, Program, Name, Expression, Statement, Assigns, Calls, GoesTo, Stmt, block_of, statement_of, depth, statement_depth, CheckFault, Among, Labelled, statements, IsFault, IsUndeclared, IsUneven, HasTargetTwice, statements_inside, labels_of, TwiceGlobal, TwiceProcedure, TwiceLocal, TwiceLabel, UnknownVariable, UnknownProcedure, UnknownLabel, Arity, Lengths, TwiceTarget, Limit, Memory, MAX_GLOBALS, MAX_PROCEDURES, Among-front, Among-back, Among-split, Found, IsNotAfter, IsLeast, IsRefusal, Finds, is_not_after, least_of, IsStatementFault, IsFaultOfNames, IsProcedureFault, IsFaultOfProcedures, Only, IsMisuse, names_of, labelled_of, all_labelled}
+use Rattle.std.proofs.lemmas.List.{append-nil}
 use Rattle.bp_language.proofs.GrownLists.{regrouped}
-use Rattle.bp_language.specs.declared.faults.CheckFault.{CheckFault}
-use Rattle.bp_language.specs.Faults.{Among, Labelled, statements, IsFault, IsUndeclared, IsUneven, HasTargetTwice, statements_inside, labels_of}
-use Rattle.bp_language.specs.declared.faults.CheckFault.TheVariants.{TwiceGlobal, TwiceProcedure, TwiceLocal, TwiceLabel, UnknownVariable, UnknownProcedure, UnknownLabel, Arity, Lengths, TwiceTarget, Limit, Memory}
-use Rattle.bp_language.specs.declared.limits.TheConstants.{MAX_GLOBALS, MAX_PROCEDURES}
-use Rattle.bp_language.proofs.LawsOfLawfulPrograms.{Among-front, Among-back, Among-split}
-use Rattle.bp_code.specs.declared.checks.Found.{Found}
-use Rattle.bp_code.specs.Refusals.{IsNotAfter, IsLeast, IsRefusal}
-use Rattle.bp_code.specs.Sets.{Finds, is_not_after, least_of, IsStatementFault, IsFaultOfNames, IsProcedureFault, IsFaultOfProcedures, Only, IsMisuse, names_of, labelled_of, all_labelled}
 
 -- The least fault of two sets together is the lesser of their least faults.
 

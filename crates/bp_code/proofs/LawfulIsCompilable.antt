@@ -1,17 +1,11 @@
 -- Lawful programs have a code: each name in them is declared.
-use Rattle.std.proofs.Common.{◌≡◌, refl, sym, ap, subst, ◌∙◌, ℕ, ◌+◌, ◌≤◌, true, false, cond, List, [], ◌∷◌, Option, Some, is_some, length, length-append, bytes_eq, arith, ◌⊎◌, ◌||◌, Bool, ◌++◌, IsSome, inl, inr, option_map, rules}
-use Rattle.std.specs.Option.{option_or, option_to_list}
+use Rattle.bp_code.proofs.Common.{◌≡◌, refl, sym, ap, subst, ◌∙◌, ℕ, ◌+◌, ◌≤◌, true, false, cond, List, [], ◌∷◌, Option, Some, is_some, length, length-append, bytes_eq, arith, ◌⊎◌, ◌||◌, Bool, ◌++◌, IsSome, inl, inr, option_map, rules, option_or, option_to_list, Name, Block, Done, Then, Statement, Skips, GoesTo, Returns, Assigns, Branches, Loops, Asserts, Assumes, Prints, Calls, Procedure, Program, Expression, Constant, Variable, Negation, Operation, Decision, procedure_named, variables, has, Uses, SomeUses, DecisionUses, Mentions, Among, Labelled, statements, statements_inside, labels_of, HasFewNames, IsSound, HasSoundStatements, EachName, NamesInExpression, NamesInExpressions, NamesInDecision, chain, has_label, from_label, from_inside, Heading, heading_named, AllCompilableIn, HaveFew, HasNames, HasNamesIn, IsCompilableIn, IsCompilable, IsKnown, IsKnownIn, Environment, block_size, size, label_number, inner_number, headings_from, slot_of}
 use Rattle.std.proofs.lemmas.List.Folds.{list_any-append}
-use Rattle.bp_language.specs.Ast.{Name, Block, Done, Then, Statement, Skips, GoesTo, Returns, Assigns, Branches, Loops, Asserts, Assumes, Prints, Calls, Procedure, Program, Expression, Constant, Variable, Negation, Operation, Decision, procedure_named, variables, procedures_size}
-use Rattle.bp_language.specs.Faults.{has, Uses, SomeUses, DecisionUses, Mentions, Among, Labelled, statements, statements_inside, labels_of, HasFewNames, IsSound, HasSoundStatements}
-use Rattle.bp_language.specs.NamesIn.{EachName, NamesInExpression, NamesInExpressions, NamesInDecision}
+use Rattle.bp_language.specs.Ast.{procedures_size}
 use Rattle.bp_flat.specs.declared.limits.TheConstants.{SLOTS}
-use Rattle.bp_flat.specs.Moves.{chain, has_label, from_label, from_inside, procedure_named}
-use Rattle.bp_flat.specs.Flat.{Heading, heading_named}
+use Rattle.bp_flat.specs.Moves.{procedure_named}
 use Rattle.bp_code.proofs.RepeatedNames.{first_has}
-use Rattle.bp_code.specs.Compilable.{AllCompilableIn, HaveFew, HasNames, HasNamesIn, IsCompilableIn, IsCompilable}
-use Rattle.bp_code.specs.Known.{IsKnown, IsKnownIn}
-use Rattle.bp_code.specs.Compiled.{Environment, block_size, size, label_number, inner_number, headings_from, slot_of, HasSlot}
+use Rattle.bp_code.specs.Compiled.{HasSlot}
 
 -- Names that are declared in a program are known in the scopes of its procedures.
 

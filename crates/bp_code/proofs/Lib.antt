@@ -1,3 +1,4 @@
+pub mod Common
 mod BlockItems
 mod CompiledStandsFor
 pub mod LawfulIsCompilable

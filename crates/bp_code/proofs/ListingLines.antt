@@ -1,10 +1,5 @@
 -- The lines of a listing from one number on.
-use Rattle.std.proofs.Common.{◌≡◌, ℕ, ◌+◌, map, List, [], ◌∷◌, refl, ap, ◌∙◌, zero, suc, ◌-◌, ◌<◌, ◌≤◌, ◌++◌, length, take, drop, get_or, rules}
-use Rattle.bp_language.specs.Ast.{Name, Procedure}
-use Rattle.bp_flat.specs.Flat.{Heading, Instruction}
-use Rattle.bp_flat.proofs.ProceduresOfPlaces.{drop_item, dropped_all}
-use Rattle.bp_code.specs.Compiled.{block_size, headings_from}
-use Rattle.bp_code.specs.Listing.{heading_line, instruction_line, instruction_lines, lines_between, end_before, procedure_lines}
+use Rattle.bp_code.proofs.Common.{◌≡◌, ℕ, ◌+◌, map, List, [], ◌∷◌, refl, ap, ◌∙◌, zero, suc, ◌-◌, ◌<◌, ◌≤◌, ◌++◌, length, take, drop, get_or, rules, Name, Procedure, Heading, Instruction, drop_item, dropped_all, block_size, headings_from, heading_line, instruction_line, instruction_lines, lines_between, end_before, procedure_lines}
 
 -- The names of headings.
 

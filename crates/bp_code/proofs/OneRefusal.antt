@@ -1,11 +1,7 @@
 -- A program has at most one refusal, memory aside: two least faults of one set are one fault at one
 -- place.
-use Rattle.std.proofs.Common.{◌≡◌, ◌≢◌, ℕ, List, [], ◌∷◌, refl, arith}
-use Rattle.bp_language.specs.Ast.{Program}
-use Rattle.bp_language.specs.declared.faults.CheckFault.{CheckFault}
+use Rattle.bp_code.proofs.Common.{◌≡◌, ◌≢◌, ℕ, List, [], ◌∷◌, refl, arith, Program, CheckFault, IsFault, IsLawful, IsNotAfter, IsLeast, IsRefusal}
 use Rattle.bp_language.specs.declared.faults.CheckFault.TheVariants as fault
-use Rattle.bp_language.specs.Faults.{IsFault, IsLawful}
-use Rattle.bp_code.specs.Refusals.{IsNotAfter, IsLeast, IsRefusal}
 
 -- the faults and their numbers
 abbrev numbers : List (ℕ × CheckFault)

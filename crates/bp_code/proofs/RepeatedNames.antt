@@ -1,17 +1,6 @@
 -- Names that stand twice in a list, or past a limit.
-use Rattle.std.proofs.Common.{◌≡◌, ℕ, zero, suc, ◌+◌, ◌<◌, ◌≤◌, nat_lt, ◌||◌, Bool, true, false, List, [], ◌∷◌, length, get_or, take, drop, map, cond, Option, None, Some, is_some, refl, ap, sym, ◌∙◌, arith, slice_get, drop-cons, bytes_eq, ◌⊎◌, inl, inr, subst, ◌++◌, rules}
-use Rattle.std.proofs.lemmas.Option.{slice_get_within, slice_get_past, slice_get-get_or, slice_get-map}
-use Rattle.std.specs.Option.{option_copied, IfSome}
-use Rattle.std.specs.Borrow.{Bor}
-use Rattle.std.proofs.lemmas.List.{length-map, take_more, map-append}
-use Rattle.bp_language.specs.Ast.{Name, Procedure, procedure_named}
+use Rattle.bp_code.proofs.Common.{◌≡◌, ℕ, zero, suc, ◌+◌, ◌<◌, ◌≤◌, nat_lt, ◌||◌, Bool, true, false, List, [], ◌∷◌, length, get_or, take, drop, map, cond, Option, None, Some, is_some, refl, ap, sym, ◌∙◌, arith, slice_get, drop-cons, bytes_eq, ◌⊎◌, inl, inr, subst, ◌++◌, rules, slice_get_within, slice_get_past, slice_get-get_or, slice_get-map, option_copied, IfSome, Bor, length-map, take_more, map-append, Name, Procedure, procedure_named, expression_of, has, first_index_from, first_index, IsNameAt, IsTwice, Among, Uses, SomeUses, CheckFault, Among-front, Among-back, Among-split, Found, names_of, Only, Finds, least_of, IsStray}
 use Rattle.bp_language.specs.declared.exprs.Expr.{Expr}
-use Rattle.bp_language.specs.Views.{expression_of}
-use Rattle.bp_language.specs.Faults.{has, first_index_from, first_index, IsNameAt, IsTwice, Among, Uses, SomeUses}
-use Rattle.bp_language.specs.declared.faults.CheckFault.{CheckFault}
-use Rattle.bp_language.proofs.LawsOfLawfulPrograms.{Among-front, Among-back, Among-split}
-use Rattle.bp_code.specs.declared.checks.Found.{Found}
-use Rattle.bp_code.specs.Sets.{names_of, Only, Finds, least_of, IsStray}
 use Rattle.bp_code.proofs.FaultsOfParts.{finds_both, finds_same}
 
 -- Where a text stands first in a list of names.

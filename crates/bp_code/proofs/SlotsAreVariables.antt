@@ -1,18 +1,10 @@
 -- Slots are read and written as the variables are that they stand for.
-use Rattle.std.proofs.Common.{◌≡◌, refl, sym, ap, ◌∙◌, ℕ, suc, ◌+◌, ◌<◌, true, false, cond, List, [], ◌∷◌, length, map, get_or, Option, None, Some, IsSome, option_map, unwrap_or, bytes_eq, arith, add-one, subst, Bool, not, slice_get, rules}
-use Rattle.std.specs.Option.{option_and_then, option_or}
-use Rattle.std.proofs.lemmas.List.{length-map}
-use Rattle.std.proofs.lemmas.Option.{slice_get-get_or}
-use Rattle.bp_language.specs.Ast.{Name, Expression, Constant, Variable, Negation, Operation, Decision, Procedure, Program}
-use Rattle.bp_language.specs.Faults.{first_index_from, first_index}
-use Rattle.bp_language.specs.NamesIn.{EachName, NamesInExpression, NamesInExpressions, NamesInDecision}
-use Rattle.bp_flat.specs.Flat.{Heading, heading_named}
+use Rattle.bp_code.proofs.Common.{◌≡◌, refl, sym, ap, ◌∙◌, ℕ, suc, ◌+◌, ◌<◌, true, false, cond, List, [], ◌∷◌, length, map, get_or, Option, None, Some, IsSome, option_map, unwrap_or, bytes_eq, arith, add-one, subst, Bool, not, slice_get, rules, option_and_then, option_or, length-map, slice_get-get_or, Name, Expression, Constant, Variable, Negation, Operation, Decision, Procedure, Program, first_index_from, first_index, EachName, NamesInExpression, NamesInExpressions, NamesInDecision, Heading, heading_named, lookup, update, variable_value, after_write, after_assignment, operation_value, expression_value, expression_values, Store, valuation_of, named_store, AreValues, IsTestOf, AreTargets, slot_of, Environment, slot_in, slots_in, formula_in, formulas_in, test_in}
 use Rattle.bp_flat.specs.declared.slots.Slot.{Slot}
 use Rattle.bp_flat.specs.declared.slots.Slot.TheVariants.{Global, Local}
-use Rattle.bp_flat.specs.Moves.{lookup, update, variable_value, after_write, after_assignment, operation_value, expression_value, expression_values, Store}
 use Rattle.bp_flat.specs.Steps.{Bits, with_bit, slot_bit, with_slot, with_slots, formula_value, formula_values}
-use Rattle.bp_flat.specs.StandsFor.{valuation_of, variables, named_store, AreValues, IsTestOf, AreTargets}
-use Rattle.bp_code.specs.Compiled.{slot_of, HasSlot, Environment, slot_in, slots_in, formula_in, formulas_in, test_in}
+use Rattle.bp_flat.specs.StandsFor.{variables}
+use Rattle.bp_code.specs.Compiled.{HasSlot}
 
 -- The first index of a name in a table is within the table, and finds the heading of that name.
 

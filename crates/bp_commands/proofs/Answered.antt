@@ -1,13 +1,5 @@
 -- What a command answers where it refuses, and where it is given what it reads.
-use Rattle.std.proofs.Common.{refl, inl, inr, ℕ, List, Option, Result, ◌≡◌, ◌≢◌, [], ◌∷◌, subst, arith}
-use Rattle.std.proofs.KnownBytes.{Keeps-refl}
-use Rattle.bp_text.specs.Writing.{AppendsPart}
-use Rattle.bp_machine.specs.Setups.{StartOf}
-use Rattle.bp_tasks.specs.NamedBits.{NamedBitOf}
-use Rattle.bp_messages.specs.declared.faults.Fault.{Fault}
-use Rattle.bp_messages.specs.declared.faults.Fault.TheVariants.{Write}
-use Rattle.bp_commands.specs.Commands.{Command, IsNotDone, IsRefusedWith, AnswersOf, Inputs}
-use Rattle.bp_commands.specs.Programs.{by_names, OfNames}
+use Rattle.bp_commands.proofs.Common.{refl, inl, inr, ℕ, List, Option, Result, ◌≡◌, ◌≢◌, [], ◌∷◌, subst, arith, Keeps-refl, AppendsPart, StartOf, NamedBitOf, Fault, Write, Command, IsNotDone, IsRefusedWith, AnswersOf, Inputs, by_names, OfNames}
 
 module _ {X R : Type 0} (command : Command X R) (given : X) (old : Option (List ℕ)) where
   pub refused_with : (f : Fault) → command.Refuses given f → IsRefusedWith command old old given f

@@ -1,18 +1,13 @@
 -- What a run tells of a fault is of the inputs that were read, or of why they were not.
-use Rattle.std.proofs.Common.{◌≡◌, ℕ, List, Option, Result, Ok, Err, inl, inr, true, None, Some, IfOk, Vec, ◌∙◌, subst, arith}
+use Rattle.bp_commands.proofs.Common.{◌≡◌, ℕ, List, Option, Result, Ok, Err, inl, inr, true, None, Some, IfOk, Vec, ◌∙◌, subst, arith, Writes, Fault, AnswerRule, IsEndOf, AreReadOr, IsSaid, IsSaidOfRead, IsTold, IsConcluded, IsObjectRead, IsReported, IsSaidFor, IsTextOf, IsFlushed, Inputs}
 use Rattle.std.specs.declared.alloc.AllocError.{AllocError}
 use Rattle.std.specs.declared.alloc.Global.{Global}
-use Rattle.bp_text.specs.Writing.{Writes}
 use Rattle.bp_advice.specs.declared.explanations.Explanation.{Explanation}
 use Rattle.bp_tasks.specs.declared.tasks.FaultFormat.{FaultFormat}
 use Rattle.bp_tasks.specs.declared.tasks.FaultFormat.TheVariants as format
 use Rattle.bp_tasks.specs.FaultFormats.{is_explained}
-use Rattle.bp_messages.specs.declared.faults.Fault.{Fault}
 use Rattle.bp_commands.specs.declared.run_ends.Explained.{Explained}
 use Rattle.bp_commands.specs.declared.run_ends.RunEnd.{RunEnd}
-use Rattle.bp_commands.specs.FaultReports.{AnswerRule, IsEndOf, AreReadOr, IsSaid, IsSaidOfRead, IsTold, IsConcluded, IsObjectRead, IsReported, IsSaidFor, IsTextOf}
-use Rattle.bp_commands.specs.Jobs.{IsFlushed}
-use Rattle.bp_commands.specs.Commands.{Inputs}
 
 module _ {X R : Type 0} (inputs : Inputs X) (given : X) where
   module _ (Explains : X → Fault → Explanation → Type 0) where

@@ -1,25 +1,11 @@
 -- What driving a program says of the command `drive`.
-use Rattle.std.proofs.Common.{◌≡◌, refl, sym, subst, inl, inr, List, ℕ, Option, arith, [], ◌∷◌, ◌∙◌, ap, ◌+◌, ◌-◌, ◌<◌, ◌≤◌, ◌==◌, true, false, ◌++◌, length, take, drop, get_or, add-one, take-suc, take-append-drop, length-take-le, rules}
-use Rattle.std.specs.Io.KnownBytes.{Keeps}
-use Rattle.std.proofs.KnownBytes.{Keeps-refl}
+use Rattle.bp_commands.proofs.Common.{◌≡◌, refl, sym, subst, inl, inr, List, ℕ, Option, arith, [], ◌∷◌, ◌∙◌, ap, ◌+◌, ◌-◌, ◌<◌, ◌≤◌, ◌==◌, true, false, ◌++◌, length, take, drop, get_or, add-one, take-suc, take-append-drop, length-take-le, rules, Keeps, Keeps-refl, all_from, Program, IsLawfulText, Report, SetupOf, StartOf, NamedBitOf, trace_text, trace_text_2, IsMigrated, IsMigrateRefusal, fault_of_schedule, fault_of_migration, IsDoneWith, IsRefusedWith, Pair, IsOpened, drives, migrates, ends_line, HasNoSeparator, HasNoneBefore, IsScheduleRefused, IsSeparated, IsSplit}
 use Rattle.std.proofs.Math.Seq.{take-append_seam, drop-append_seam}
 use Rattle.std.proofs.lemmas.Bool.{cases_lt, true≢false}
-use Rattle.bp_text.proofs.Givings.{all_from}
-use Rattle.bp_language.specs.Ast.{Program}
-use Rattle.bp_code.specs.LawfulTexts.{IsLawfulText}
-use Rattle.bp_machine.specs.declared.calls.Report.{Report}
-use Rattle.bp_machine.specs.Setups.{SetupOf, StartOf}
-use Rattle.bp_tasks.specs.NamedBits.{NamedBitOf}
 use Rattle.bp_trace.specs.declared.faults.DriveFault.{DriveFault}
 use Rattle.bp_trace.specs.declared.faults.DriveFault.TheVariants.{TooLong, Line, AfterFinish, Memory, Write}
 use Rattle.bp_trace.specs.Drives.{DrivesTo, IsRefusal, IsScheduleRefusal}
-use Rattle.bp_trace.specs.TraceText.{trace_text, trace_text_2}
 use Rattle.bp_trace.specs.declared.faults.MigrateFault.{MigrateFault}
-use Rattle.bp_trace.specs.Replays.{IsMigrated, IsMigrateRefusal}
-use Rattle.bp_messages.specs.FaultTable.{fault_of_schedule, fault_of_migration}
-use Rattle.bp_commands.specs.Commands.{IsDoneWith, IsRefusedWith, Pair}
-use Rattle.bp_commands.specs.Programs.{IsOpened}
-use Rattle.bp_commands.specs.Traces.{drives, migrates, ends_line, HasNoSeparator, HasNoneBefore, IsScheduleRefused, IsSeparated, IsSplit}
 
 module _ (start : StartOf) (named : List NamedBitOf) (given : Pair) (t : Program) (s : SetupOf) (opened : IsOpened start named given.text t s)
     (old new : Option (List ℕ)) where

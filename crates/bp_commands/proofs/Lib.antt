@@ -1,3 +1,4 @@
+pub mod Common
 pub mod Answered
 mod ConcludedReads
 mod Driven

@@ -1,19 +1,7 @@
 -- What a text of a history says of a command on its trace.
-use Rattle.std.proofs.Common.{ℕ, List, Option, arith}
-use Rattle.bp_text.specs.Writing.{AppendsAll, AppendsPart}
-use Rattle.bp_language.specs.Ast.{Program}
-use Rattle.bp_code.specs.LawfulTexts.{IsLawfulText}
-use Rattle.bp_machine.specs.declared.calls.Call.{Call}
-use Rattle.bp_machine.specs.declared.calls.Report.{Report}
-use Rattle.bp_machine.specs.Histories.{IsReport}
-use Rattle.bp_machine.specs.Setups.{SetupOf}
+use Rattle.bp_commands.proofs.Common.{ℕ, List, Option, arith, AppendsAll, AppendsPart, Program, IsLawfulText, Call, Report, IsReport, SetupOf, IsReplayRefusal, IsTrace, fault_of_trace, Write, IsDoneWith, IsRefusedWith, Pair, on_trace, IsOfTrace, TextRule}
 use Rattle.bp_trace.specs.declared.faults.ReplayFault.{ReplayFault}
 use Rattle.bp_trace.specs.declared.traces.Version.{Version}
-use Rattle.bp_trace.specs.Replays.{IsReplayRefusal, IsTrace}
-use Rattle.bp_messages.specs.FaultTable.{fault_of_trace}
-use Rattle.bp_messages.specs.declared.faults.Fault.TheVariants.{Write}
-use Rattle.bp_commands.specs.Commands.{IsDoneWith, IsRefusedWith, Pair}
-use Rattle.bp_commands.specs.Traces.{on_trace, IsOfTrace, TextRule}
 use Rattle.bp_commands.proofs.Answered.{cut_short}
 
 module _ (rule : TextRule) (given : Pair) (t : Program) (of : IsLawfulText given.text t) where

@@ -1,18 +1,10 @@
 -- What a run of a text says of the command `run`.
-use Rattle.std.proofs.Common.{◌≡◌, refl, sym, subst, inl, inr, List, ℕ, Option, arith}
-use Rattle.std.specs.Io.KnownBytes.{Keeps}
-use Rattle.std.proofs.KnownBytes.{Keeps-refl}
+use Rattle.bp_commands.proofs.Common.{◌≡◌, refl, sym, subst, inl, inr, List, ℕ, Option, arith, Keeps, Keeps-refl, OptionsOf, trace_text, IsDoneWith, IsRefusedWith, fault_of_run, Early, runs, IsRunReport}
 use Rattle.bp_run.specs.declared.answers.RunReport.{RunReport}
 use Rattle.bp_run.specs.declared.answers.RunFault.{RunFault}
 use Rattle.bp_run.specs.declared.answers.RunFault.TheVariants as run
-use Rattle.bp_tasks.specs.RunOptions.{OptionsOf}
 use Rattle.bp_run.specs.Options.{setup_under}
 use Rattle.bp_run.specs.Runs.{IsTracedRun, IsRunRefusal}
-use Rattle.bp_trace.specs.TraceText.{trace_text}
-use Rattle.bp_commands.specs.Commands.{IsDoneWith, IsRefusedWith}
-use Rattle.bp_messages.specs.FaultTable.{fault_of_run}
-use Rattle.bp_messages.specs.declared.faults.Fault.TheVariants.{Early}
-use Rattle.bp_commands.specs.Runs.{runs, IsRunReport}
 
 module _ (o : OptionsOf) (text : List ℕ) (old new : Option (List ℕ)) where
   pub done : (r : RunReport) → IsTracedRun o text old new r → IsDoneWith (runs o) old new text r

@@ -1,23 +1,9 @@
 -- What shrinking the history of a trace says of the command `shrink`.
-use Rattle.std.proofs.Common.{◌≡◌, ◌⊎◌, true, List, refl, ap, sym, subst, arith, inl, inr}
-use Rattle.bp_language.specs.Ast.{Program}
-use Rattle.bp_code.specs.LawfulTexts.{IsLawfulText}
-use Rattle.bp_machine.specs.declared.calls.Call.{Call}
-use Rattle.bp_machine.specs.Histories.{outcome_of, is_failure}
-use Rattle.bp_machine.specs.Setups.{SetupOf}
-use Rattle.bp_test.specs.Tests.{IsDeadlock}
+use Rattle.bp_commands.proofs.Common.{◌≡◌, ◌⊎◌, true, List, refl, ap, sym, subst, arith, inl, inr, Program, IsLawfulText, Call, outcome_of, is_failure, SetupOf, IsDeadlock, IsEnd, budgeted, IsShrunk, One, trace_text, IsReplayed, IsTrace, Fault, Memory, Pair, IsOfTrace, IsTraceOf, IsTraceReport, FailAlike, DeadlockAlike, IsEndRefusal, IsShrunkText, HasNoFailure, LacksMemory}
 use Rattle.bp_test.specs.declared.shrinking.HistoryEnd.{HistoryEnd}
 use Rattle.bp_test.specs.declared.shrinking.HistoryEnd.TheVariants.{Failure, Deadlock, Other}
 use Rattle.bp_test.specs.declared.shrinking.Shrunk.{Shrunk}
-use Rattle.bp_test.specs.Shrinks.{IsEnd, budgeted, IsShrunk}
 use Rattle.bp_trace.specs.declared.replaying.Replayed.{Replayed}
-use Rattle.bp_trace.specs.declared.traces.Version.TheVariants.{One}
-use Rattle.bp_trace.specs.TraceText.{trace_text}
-use Rattle.bp_trace.specs.Replays.{IsReplayed, IsTrace}
-use Rattle.bp_messages.specs.declared.faults.Fault.{Fault}
-use Rattle.bp_messages.specs.declared.faults.Fault.TheVariants.{Memory}
-use Rattle.bp_commands.specs.Commands.{Pair}
-use Rattle.bp_commands.specs.Traces.{IsOfTrace, IsTraceOf, IsTraceReport, FailAlike, DeadlockAlike, IsEndRefusal, IsShrunkText, HasNoFailure, LacksMemory}
 
 -- histories of one end that is kept end alike
 alike : (t : Program) (s z : SetupOf) (h g : List Call) (end : HistoryEnd) → (end ≡ Other → ⊥) → IsEnd t s h end

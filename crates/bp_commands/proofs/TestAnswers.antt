@@ -1,16 +1,9 @@
 -- What testing a program says of the command `test`.
-use Rattle.std.proofs.Common.{◌≡◌, refl, sym, subst, inl, inr, ℕ, ◌<◌, ◌≤◌, ◌^◌, length, List, [], ◌∷◌, ◌++◌, Option, Some, map, arith}
-use Rattle.std.specs.Io.KnownBytes.{Appends}
-use Rattle.std.proofs.KnownBytes.{Appends-nil, Keeps-refl}
-use Rattle.bp_language.specs.Ast.{Program}
+use Rattle.bp_commands.proofs.Common.{◌≡◌, refl, sym, subst, inl, inr, ℕ, ◌<◌, ◌≤◌, ◌^◌, length, List, [], ◌∷◌, ◌++◌, Option, Some, map, arith, Appends, Appends-nil, Keeps-refl, Program, AppendsAll, SetupOf, trace_text, MAX_JOBS, setup_of_run, IsFound, IsTest, IsTestRefusal, IsDoneWith, IsRefusedWith, IsOpened, fault_of_setup, fault_of_test, Memory, tests, AreListed, IsTestable}
 use Rattle.bp_flat.specs.StandsFor.{places_of}
-use Rattle.bp_text.specs.Writing.{AppendsAll}
 use Rattle.bp_machine.specs.declared.setup_faults.SetupFault.TheVariants.{OutOfRange}
-use Rattle.bp_machine.specs.Setups.{SetupOf}
-use Rattle.bp_trace.specs.TraceText.{trace_text}
 use Rattle.bp_test.specs.declared.testing.TestFault.{TestFault}
 use Rattle.bp_test.specs.declared.testing.TestFault.TheVariants as fault
-use Rattle.bp_tasks.specs.declared.limits.TheConstants.{MAX_JOBS}
 use Rattle.bp_tasks.specs.declared.options.TestOptions.{TestOptions}
 use Rattle.bp_tasks.specs.declared.tasks.TestTask.{TestTask}
 use Rattle.bp_test.specs.declared.testing.Found.{Found}
@@ -18,13 +11,7 @@ use Rattle.bp_test.specs.declared.testing.Found.TheVariants.{Nothing, Failed, De
 use Rattle.bp_test.specs.declared.testing.Tested.{Tested as Made}
 use Rattle.bp_test.specs.declared.waiting.Waiting.{Waiting}
 use Rattle.bp_test.specs.Tallies.{AreCounts, AreDistinct, MadeRun, made as made_of, HasReached, IsCounted}
-use Rattle.bp_test.specs.Tests.{setup_of_run, IsFound, IsTest, IsTestRefusal}
-use Rattle.bp_commands.specs.Commands.{IsDoneWith, IsRefusedWith}
-use Rattle.bp_commands.specs.Programs.{IsOpened}
-use Rattle.bp_messages.specs.FaultTable.{fault_of_setup, fault_of_test}
-use Rattle.bp_messages.specs.declared.faults.Fault.TheVariants.{Memory}
 use Rattle.bp_messages.specs.declared.summaries.TestReport.{TestReport}
-use Rattle.bp_commands.specs.Tests.{tests, AreListed, IsTestable}
 use Rattle.bp_source.specs.SourceStatements.{AreStatements}
 use Rattle.bp_source.specs.StatementLines.{positions_of}
 

@@ -1,26 +1,10 @@
 -- What a view of a trace says of the command `show`.
-use Rattle.std.proofs.Common.{◌++◌, ℕ, List, Option, refl, sym, inl, inr, subst, Some, arith}
-use Rattle.std.specs.Io.KnownBytes.{Keeps}
-use Rattle.std.proofs.KnownBytes.{Keeps-refl}
-use Rattle.bp_text.specs.Writing.{AppendsAll, AppendsPart}
-use Rattle.bp_text.proofs.Givings.{all_then, part_first, part_then}
-use Rattle.bp_language.specs.Ast.{Program}
-use Rattle.bp_machine.specs.declared.calls.Report.{Report}
-use Rattle.bp_machine.specs.Histories.{IsReport}
-use Rattle.bp_trace.specs.Replays.{IsAcceptedTrace}
+use Rattle.bp_commands.proofs.Common.{◌++◌, ℕ, List, Option, refl, sym, inl, inr, subst, Some, arith, Keeps, Keeps-refl, AppendsAll, AppendsPart, all_then, part_first, part_then, Program, Report, IsReport, IsAcceptedTrace, IsLawfulText, IsViewed, IsViewOfTrace, IsViewRefusal, fault_of_view, fault_of_trace, Fault, Write, IsDoneWith, IsRefusedWith, Pair, Command, IsOfTrace, IsTraceReport, shows, IsViewText, last_line, on_valid_calls, refusal_text, IsPart, IsShownWithLine, OfPart, Refusal}
 use Rattle.bp_trace.specs.declared.replaying.AcceptedTrace.{AcceptedTrace}
-use Rattle.bp_code.specs.LawfulTexts.{IsLawfulText}
 use Rattle.bp_tasks.specs.declared.options.ViewOptions.{ViewOptions}
 use Rattle.bp_tasks.specs.declared.options.ViewFormat.{ViewFormat}
 use Rattle.bp_view.specs.declared.faults.ViewFault.{ViewFault}
 use Rattle.bp_view.specs.declared.faults.ViewFault.TheVariants as view
-use Rattle.bp_view.specs.Views.{IsViewed, IsViewOfTrace, IsViewRefusal}
-use Rattle.bp_messages.specs.FaultTable.{fault_of_view, fault_of_trace}
-use Rattle.bp_messages.specs.declared.faults.Fault.{Fault}
-use Rattle.bp_messages.specs.declared.faults.Fault.TheVariants.{Write}
-use Rattle.bp_commands.specs.Commands.{IsDoneWith, IsRefusedWith, Pair, Command}
-use Rattle.bp_commands.specs.Traces.{IsOfTrace, IsTraceReport}
-use Rattle.bp_commands.specs.Shows.{shows, IsViewText, last_line, on_valid_calls, refusal_text, IsPart, IsShownWithLine, OfPart, Refusal}
 
 module _ (o : ViewOptions) (file : List ℕ) (given : Pair) (t : Program) (of : IsLawfulText given.text t) where
   -- a view of a trace is what the command writes and reports

@@ -1,20 +1,11 @@
 -- The bit by the effects of an instruction is that of the statement which it stands for.
-use Rattle.std.proofs.Common.{◌≡◌, ◌==◌, ℕ, arith, Bool, true, false, cond, not, ◌&&◌, List, [], Option, None, Some, refl, ap, sym, ◌∙◌, subst, slice_get, is_none, MatchBool, rules}
-use Rattle.std.proofs.lemmas.Option.{slice_get-map}
-use Rattle.std.proofs.lemmas.Bool.{false≢true}
-use Rattle.std.proofs.lemmas.Bool.Decides.{nat_tests}
-use Rattle.bp_language.specs.Ast.{Block, Done, Then, Returns, Branches, Loops, Asserts, Assumes, Choose, Decide, Procedure, Program, Expression}
+use Rattle.bp_confirm.proofs.Common.{◌≡◌, ◌==◌, ℕ, arith, Bool, true, false, cond, not, ◌&&◌, List, [], Option, None, Some, refl, ap, sym, ◌∙◌, subst, slice_get, is_none, MatchBool, rules, slice_get-map, false≢true, nat_tests, Block, Done, Then, Returns, Branches, Loops, Asserts, Assumes, Choose, Decide, Procedure, Program, Expression, store_of, effect_of, chain, Formula, Instruction, If, While, places_of, Remains, Does, IsTestOf, start_of_block, starts_of, bit_towards, bit_of_block, IsClearWay, IsClear, AreBothWays, IsAmbiguous, NextNumbers, bit_towards_number, bit_of_effects, bit_of_instruction, are_both_there, is_fork, is_fork_block, splits}
 use Rattle.bp_flat.specs.declared.effects.Effect.{Effect}
 use Rattle.bp_flat.specs.declared.effects.Effect.TheVariants as instr
 use Rattle.bp_flat.specs.declared.stores.Store.{Store}
-use Rattle.bp_flat.specs.InstrEffects.{store_of, effect_of}
-use Rattle.bp_flat.specs.Moves.{chain}
-use Rattle.bp_flat.specs.Flat.{Formula, Instruction, If, While}
-use Rattle.bp_flat.specs.StandsFor.{Place, places_of, Remains, Does, IsTestOf, start_of_block, starts_of}
+use Rattle.bp_flat.specs.StandsFor.{Place}
 use Rattle.bp_flat.specs.Steps.{instruction_effect, step_to, test_value}
 use Rattle.bp_confirm.specs.Steps as point
-use Rattle.bp_confirm.specs.Inferred.{bit_towards, bit_of_block, IsClearWay, IsClear, AreBothWays, IsAmbiguous}
-use Rattle.bp_confirm.specs.FollowedSteps.{NextNumbers, bit_towards_number, bit_of_effects, bit_of_instruction, are_both_there, is_fork, is_fork_block, splits}
 
 -- continues at this instruction
 pub record GoesOnAt (e : Effect) (n : ℕ) : Type 0 where

@@ -1,9 +1,6 @@
 -- Elements of lists, by their places.
-use Rattle.std.proofs.Common.{◌≡◌, ◌∙◌, ◌+◌, ◌<◌, ℕ, zero, suc, List, [], ◌∷◌, ◌++◌, length, take, drop, get_or, None, Some, slice_get, refl, ap, sym, subst, arith, take-append-drop}
-use Rattle.std.specs.List.{AllByRecursion}
-use Rattle.std.proofs.Math.Seq.{drop-cons}
-use Rattle.std.proofs.lemmas.List.{take_more}
-use Rattle.std.proofs.lemmas.Option.{get_or_from_slice_get, slice_get_within}
+use Rattle.bp_confirm.proofs.Common.{◌≡◌, ◌∙◌, ◌+◌, ◌<◌, ℕ, zero, suc, List, [], ◌∷◌, ◌++◌, length, take, drop, get_or, None, Some, slice_get, refl, ap, sym, subst, arith, AllByRecursion, drop-cons, take_more, get_or_from_slice_get, slice_get_within}
+use Rattle.std.proofs.Common.{take-append-drop}
 
 module _ {X : Type 0} where
   -- what follows the first n

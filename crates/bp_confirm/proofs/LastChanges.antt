@@ -1,18 +1,6 @@
 -- At most one step changes last what is seen, and a call does not change what is seen before it.
-use Rattle.std.proofs.Common.{◌≡◌, ◌∙◌, ◌<◌, ◌≤◌, ◌⊎◌, inl, inr, ℕ, Bool, List, [], ◌∷◌, ◌++◌, length, take, Option, None, Some, refl, ap, sym, subst, arith, length-append, ◌+◌, drop, get_or, map, option_map, slice_get, rules}
+use Rattle.bp_confirm.proofs.Common.{◌≡◌, ◌∙◌, ◌<◌, ◌≤◌, ◌⊎◌, inl, inr, ℕ, Bool, List, [], ◌∷◌, ◌++◌, length, take, Option, None, Some, refl, ap, sym, subst, arith, length-append, ◌+◌, drop, get_or, map, option_map, slice_get, rules, take_all, take-append-le, drop_of_length-le, Program, Valuation, Call, configuration_after, IsLeastWithin, SetupOf, contexts_opened, opened, opened_none, opened_more, opened_least, IsLastChange, seen_by, seen_after, IsDifference, IsFirstUnseen, StepLineOf, thread_of}
 use Rattle.std.proofs.Math.Nat.{eq-or-lt_of_le}
-use Rattle.std.proofs.lemmas.List.{take_all, take-append-le}
-use Rattle.std.proofs.Math.ListN.{drop_of_length-le}
-use Rattle.bp_language.specs.Ast.{Program}
-use Rattle.bp_flat.specs.Moves.{Valuation}
-use Rattle.bp_machine.specs.declared.calls.Call.{Call}
-use Rattle.bp_machine.specs.Histories.{configuration_after, IsLeastWithin}
-use Rattle.bp_machine.specs.Setups.{SetupOf}
-use Rattle.bp_machine.specs.Sessions.{contexts_opened}
-use Rattle.bp_machine.proofs.ContextCounts.{opened, opened_none, opened_more, opened_least}
-use Rattle.bp_confirm.specs.Confirms.{IsLastChange, seen_by, seen_after, IsDifference}
-use Rattle.bp_confirm.specs.Steps.{IsFirstUnseen, StepLineOf}
-use Rattle.bp_confirm.specs.ConfirmedTexts.{thread_of}
 use Rattle.bp_confirm.proofs.Elements.{rest_at}
 
 -- where two see the same after each of the first n steps

@@ -1,14 +1,5 @@
 -- The ways of a step with each of its last bits, beside that of any other call.
-use Rattle.std.proofs.Common.{◌≡◌, Bool, false, List, Option, None, Some, refl, option_map, true, inl, ◌⊎◌, arith}
-use Rattle.bp_language.specs.Ast.{Block, Program, Procedure}
-use Rattle.bp_flat.specs.Moves.{Frame, StatementEffect, Leaves, Fails, effect, Valuation}
-use Rattle.bp_machine.specs.declared.calls.Call.{Call}
-use Rattle.bp_machine.specs.Histories.{stack_of, configuration_after}
-use Rattle.bp_machine.specs.Setups.{SetupOf}
-use Rattle.bp_machine.specs.Runs.{is_left}
-use Rattle.bp_confirm.specs.FollowedSteps.{is_fork_on}
-use Rattle.bp_confirm.specs.Inferred.{LastBits, bit_of_block, Follows, IsClear}
-use Rattle.bp_confirm.specs.Steps.{Place, StepOf, next_place}
+use Rattle.bp_confirm.proofs.Common.{◌≡◌, Bool, false, List, Option, None, Some, refl, option_map, true, inl, ◌⊎◌, arith, Block, Program, Procedure, Frame, StatementEffect, Leaves, Fails, effect, Valuation, Call, stack_of, configuration_after, SetupOf, is_left, is_fork_on, LastBits, bit_of_block, Follows, IsClear, Place, StepOf, next_place}
 use Rattle.bp_confirm.proofs.StepMoves.{AgreeStacks}
 
 -- Where no last bit decides, a step is followed with any last bits.

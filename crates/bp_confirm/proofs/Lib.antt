@@ -1,3 +1,4 @@
+pub mod Common
 pub mod Agreeing
 pub mod StepMoves
 pub mod BitsOfEffects

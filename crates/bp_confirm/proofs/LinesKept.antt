@@ -1,19 +1,9 @@
 -- Lines that are kept, and the places at which they are found.
-use Rattle.std.proofs.Common.{◌≡◌, ◌∙◌, ◌++◌, ◌∷◌, [], ◌<◌, ◌-◌, ◌≢◌, ℕ, zero, suc, List, Option, None, Some, Bor, length, take, get_or, refl, ap, sym, subst, arith, length-append, ◌&&◌, ◌==◌, Bool, true, false, not, ap₂, ◌+◌, slice_get, IfSome, MatchOption, is_some, rules}
-use Rattle.std.specs.List.{AllByRecursion}
-use Rattle.std.proofs.lemmas.List.{append-nil, map-append, get_or_append_left, get_or_push, take_at}
-use Rattle.std.proofs.lemmas.Option.{slice_get-get_or, slice_get-map}
-use Rattle.std.proofs.lemmas.Bool.{cases_lt}
-use Rattle.bp_flat.specs.Moves.{Configuration, Valuation}
-use Rattle.bp_machine.specs.Histories.{stack_of}
-use Rattle.bp_confirm.specs.declared.kept_lines.KeptLine.{KeptLine}
-use Rattle.bp_confirm.specs.KeptLines.{kept_lines, lines_at, no_line, AreWithin, GrowsByOne, IsKeptLine, IsStepThere}
-use Rattle.bp_text.specs.Formats.{IsAt, text_of}
-use Rattle.bp_confirm.specs.Steps.{StepLineOf, step_line, stands_at, step_of, steps_of, StepOf, value_seen, IsFirstUnseen, SeesValues}
+use Rattle.bp_confirm.proofs.Common.{◌≡◌, ◌∙◌, ◌++◌, ◌∷◌, [], ◌<◌, ◌-◌, ◌≢◌, ℕ, zero, suc, List, Option, None, Some, Bor, length, take, get_or, refl, ap, sym, subst, arith, length-append, ◌&&◌, ◌==◌, Bool, true, false, not, ap₂, ◌+◌, slice_get, IfSome, MatchOption, is_some, rules, AllByRecursion, append-nil, map-append, get_or_append_left, get_or_push, take_at, slice_get-get_or, slice_get-map, cases_lt, Configuration, Valuation, stack_of, KeptLine, kept_lines, lines_at, no_line, AreWithin, GrowsByOne, IsKeptLine, IsStepThere, IsAt, text_of, StepLineOf, step_line, stands_at, step_of, steps_of, StepOf, value_seen, IsFirstUnseen, SeesValues, is_value, sees_values}
 use Rattle.bp_confirm.proofs.Elements.{all_at_place}
 use Rattle.bp_confirm.proofs.ReadLines.{line_before}
 use Rattle.std.proofs.Math.Bool.{and-false}
-use Rattle.bp_confirm.specs.OwnSteps.{is_step, is_value, sees_values}
+use Rattle.bp_confirm.specs.OwnSteps.{is_step}
 
 -- where more lines are kept, those at the same places are the same
 lines_same : (xs more : List StepLineOf) (ks : List ℕ) → AreWithin xs ks → lines_at (xs ++ more) ks ≡ lines_at xs ks

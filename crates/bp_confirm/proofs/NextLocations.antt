@@ -1,27 +1,6 @@
 -- The location of a thread before its next step is that of the place of the next step.
-use Rattle.std.proofs.Common.{◌≡◌, ◌≢◌, ◌==◌, ◌<◌, ◌+◌, ◌-◌, ◌∙◌, ℕ, zero, suc, Bool, true, false, cond, List, [], ◌∷◌, length, drop, get_or, map, replicate, set, Option, None, Some, refl, ap, sym, option_map, arith, subst, nat_lt, slice_get, rules}
-use Rattle.std.specs.List.{AllByRecursion}
-use Rattle.std.proofs.lemmas.Bool.Decides.{nat_tests}
-use Rattle.std.proofs.lemmas.Option.{slice_get-get_or, slice_get_past}
-use Rattle.std.proofs.lemmas.List.{drop-set, length-map, map-set}
-use Rattle.bp_machine.proofs.HistoryWithCall.{set_other, set_same}
+use Rattle.bp_confirm.proofs.Common.{◌≡◌, ◌≢◌, ◌==◌, ◌<◌, ◌+◌, ◌-◌, ◌∙◌, ℕ, zero, suc, Bool, true, false, cond, List, [], ◌∷◌, length, drop, get_or, map, replicate, set, Option, None, Some, refl, ap, sym, option_map, arith, subst, nat_lt, slice_get, rules, AllByRecursion, nat_tests, slice_get-get_or, slice_get_past, drop-set, length-map, map-set, set_other, set_same, drop-length, false≢true, position_at, Block, Done, Then, Program, IsTextOf, Configuration, chain, place, start_of_block, starts_of, MAX_THREADS, stack_of, configuration_after, Location, LastBits, some_follow, AreBothAt, AreBothWays, IsAmbiguous, IsAmbiguousOnStack, TellsNext, place_of, StepLineOf, step_of, steps_of, location_in, next_location, next_locations, next_place, Place, End, Line, Column, GoesOnAt, IsReason, OnlyLinesAreAmbiguous}
 use Rattle.bp_confirm.proofs.Elements.{all_at_place, rest_at}
-use Rattle.std.proofs.Math.Seq.{drop-length}
-use Rattle.std.proofs.lemmas.Bool.{false≢true}
-use Rattle.bp_text.specs.Lines.{position_at}
-use Rattle.bp_language.specs.Ast.{Block, Done, Then, Program}
-use Rattle.bp_language.specs.Texts.{IsTextOf}
-use Rattle.bp_flat.specs.Moves.{Configuration, chain}
-use Rattle.bp_flat.specs.StandsFor.{place, start_of_block, starts_of}
-use Rattle.bp_machine.specs.declared.limits.TheConstants.{MAX_THREADS}
-use Rattle.bp_machine.specs.Histories.{stack_of, configuration_after}
-use Rattle.bp_confirm.specs.declared.step_lines.Location.{Location}
-use Rattle.bp_confirm.specs.Inferred.{LastBits, some_follow, AreBothAt, AreBothWays, IsAmbiguous, IsAmbiguousOnStack}
-use Rattle.bp_confirm.specs.FollowedSteps.{TellsNext}
-use Rattle.bp_confirm.specs.Steps.{place_of, StepLineOf, step_of, steps_of, location_in, next_location, next_locations, next_place, Place}
-use Rattle.bp_confirm.specs.declared.step_lines.Location.TheVariants.{End, Line, Column}
-use Rattle.bp_confirm.specs.Confirms.{GoesOnAt, IsReason}
-use Rattle.bp_confirm.specs.Laws.{OnlyLinesAreAmbiguous}
 use Rattle.bp_confirm.proofs.OnePosition.{IsFull, full_place, one_byte_each}
 use Rattle.bp_confirm.proofs.StartsInOrder.{start_within, starts_distinct}
 

@@ -1,26 +1,7 @@
 -- Steps have one history, and refused steps have none.
-use Rattle.std.proofs.Common.{◌≡◌, ◌∙◌, ◌⊎◌, inl, inr, ℕ, List, [], ◌∷◌, ◌++◌, refl, ap, sym, subst, ◌+◌, zero, suc, Bool, true, false, cond, not, get_or, arith, rules}
-use Rattle.std.proofs.lemmas.List.{map-append, map_push}
-use Rattle.std.proofs.Math.Path.{fun_ext}
-use Rattle.bp_language.specs.Ast.{Program}
-use Rattle.bp_flat.specs.Moves.{Configuration}
-use Rattle.bp_machine.specs.declared.calls.Call.{Call}
-use Rattle.bp_machine.specs.Runs.{IsDeadlocked, has_frames, waits, reply_of_step, history_of_run}
-use Rattle.bp_machine.specs.Histories.{configuration_after, stack_of, configuration_after_call, IsLegalAfter}
-use Rattle.bp_machine.specs.Setups.{SetupOf, threads, start}
-use Rattle.bp_machine.specs.Sessions.{SessionOf, Stands}
-use Rattle.bp_machine.specs.Laws.{RunsAreHistories}
+use Rattle.bp_confirm.proofs.Common.{◌≡◌, ◌∙◌, ◌⊎◌, inl, inr, ℕ, List, [], ◌∷◌, ◌++◌, refl, ap, sym, subst, ◌+◌, zero, suc, Bool, true, false, cond, not, get_or, arith, rules, map-append, map_push, fun_ext, Program, Configuration, Call, IsDeadlocked, has_frames, waits, reply_of_step, history_of_run, configuration_after, stack_of, configuration_after_call, IsLegalAfter, SetupOf, threads, start, SessionOf, Stands, RunsAreHistories, configuration_after-append, StepReason, Ambiguous, StepRefusal, ForStuck, IsStepRefusal, StepLineOf, step_of, steps_of, StepOf, TakeAfter, Takes, stands_at, SeesValues, TakeEach, LastBits, zeros, ones, Follows, FollowAfter, IsFollowed, waits_after, waiting_bits, deciding, EndsDeadlocked, EndsOtherwise, differ, IsConfirmed, IsTaken, OneConfirmed, RefusedIsNotTaken, MovesTake, IsRunOfSteps, RefusedFrontHasNoRun, RefusedHasNoRun, LastChoice}
 use Rattle.bp_machine.proofs.Deadlocks.{AreSeen, seen_none, seen_ended, seen_waiting, not_waiting, all_seen}
-use Rattle.bp_machine.proofs.HistoryWithCall.{configuration_after-append}
 use Rattle.bp_machine.proofs.RunsAreHistories.{reply_granted, goes_there}
-use Rattle.bp_confirm.specs.declared.confirming.StepReason.{StepReason}
-use Rattle.bp_confirm.specs.declared.confirming.StepReason.TheVariants.{Ambiguous}
-use Rattle.bp_confirm.specs.declared.confirming.StepRefusal.{StepRefusal}
-use Rattle.bp_confirm.specs.Confirms.{ForStuck, IsStepRefusal}
-use Rattle.bp_confirm.specs.Steps.{StepLineOf, step_of, steps_of, StepOf, TakeAfter, Takes, stands_at, SeesValues}
-use Rattle.bp_confirm.specs.Inferred.{TakeEach, LastBits, zeros, ones, Follows, FollowAfter, IsFollowed, waits_after, waiting_bits, deciding, EndsDeadlocked, EndsOtherwise, differ, IsConfirmed, IsTaken}
-use Rattle.bp_confirm.specs.Laws.{OneConfirmed, RefusedIsNotTaken, MovesTake, IsRunOfSteps, RefusedFrontHasNoRun, RefusedHasNoRun}
-use Rattle.bp_confirm.specs.declared.choices.LastChoice.{LastChoice}
 
 module _ (t : Program) (s : SetupOf) (last : LastBits) where
   pub one_call : (h : List Call) (x : StepOf) (later : List StepOf) (a b : Call) → Follows t s last h x later a → Follows t s last h x later b → a ≡ b

@@ -1,20 +1,10 @@
 -- No two bytes of a text have one position.
-use Rattle.std.proofs.Common.{◌≡◌, ◌≢◌, ◌<◌, ◌≤◌, ◌+◌, ◌-◌, ◌==◌, ◌++◌, ℕ, suc, Bool, true, false, cond, not, List, [], ◌∷◌, length, reverse, take, drop, get_or, refl, ap, sym, ◌∙◌, subst, arith, inl, inr, ◌⊎◌, length-append, Option, Some, slice_get}
-use Rattle.std.specs.List.{prefix_len, filter, AllByRecursion}
-use Rattle.std.proofs.lemmas.List.{take-take, drop-take, take-append-drop, reverse-append}
+use Rattle.bp_confirm.proofs.Common.{◌≡◌, ◌≢◌, ◌<◌, ◌≤◌, ◌+◌, ◌-◌, ◌==◌, ◌++◌, ℕ, suc, Bool, true, false, cond, not, List, [], ◌∷◌, length, reverse, take, drop, get_or, refl, ap, sym, ◌∙◌, subst, arith, inl, inr, ◌⊎◌, length-append, Option, Some, slice_get, prefix_len, filter, AllByRecursion, take-take, drop-take, take-append-drop, reverse-append, cases_order, drop-cons, position_after, position_at, regrouped, Name, Block, Done, Then, Statement, Branches, Loops, Procedure, Program, Token, IsForm, branch, loop, IsStmt, labelled, unlabelled, IsStmts, one_stmt, more_stmts, IsProc, proc, IsProcs, no_proc, more_procs, Derives, program, chain, place, places, places_in, places_of}
 use Rattle.std.proofs.lemmas.List.Elements.{filter-append}
 use Rattle.std.proofs.lemmas.List.Folds.{length-prefix_len}
-use Rattle.std.proofs.lemmas.Bool.{cases_order}
-use Rattle.std.proofs.Math.Seq.{drop-cons}
 use Rattle.bp_text.specs.declared.lines.Position.{Position}
-use Rattle.bp_text.specs.Lines.{position_after, position_at}
-use Rattle.bp_text.proofs.PartsOfTexts.{regrouped}
-use Rattle.bp_language.specs.Ast.{Name, Block, Done, Then, Statement, Branches, Loops, Procedure, Program}
-use Rattle.bp_language.specs.Tokens.{Token}
-use Rattle.bp_language.specs.Grammar.{IsForm, branch, loop, IsStmt, labelled, unlabelled, IsStmts, one_stmt, more_stmts, IsProc, proc, IsProcs, no_proc, more_procs, Derives, program}
 use Rattle.bp_confirm.proofs.Elements.{all_got}
-use Rattle.bp_flat.specs.Moves.{chain}
-use Rattle.bp_flat.specs.StandsFor.{Place, place, places, places_in, places_of}
+use Rattle.bp_flat.specs.StandsFor.{Place}
 
 parts : (n m : ℕ) (xs : List ℕ) → take n xs ++ take m (drop n xs) ≡ take (n + m) xs
 parts n m xs =

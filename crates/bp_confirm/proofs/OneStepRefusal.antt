@@ -1,23 +1,5 @@
 -- Steps have at most one refusal, and none where a history confirms them.
-use Rattle.std.proofs.Common.{◌≡◌, ◌≢◌, ◌∙◌, ℕ, zero, suc, Bool, true, List, [], ◌∷◌, ◌++◌, length, Option, None, Some, refl, ap, sym, subst, ◌+◌, arith, length-append, rules}
-use Rattle.std.proofs.lemmas.Bool.{false≢true}
-use Rattle.std.proofs.lemmas.List.{append-nil, map-append, map_push}
-use Rattle.bp_text.proofs.PartsOfTexts.{regrouped}
-use Rattle.bp_language.specs.Ast.{Block, Done, Then, Program}
-use Rattle.bp_flat.specs.Moves.{Configuration, chain, Valuation}
-use Rattle.bp_flat.specs.StandsFor.{place, start_of_block}
-use Rattle.bp_machine.specs.declared.calls.Call.{Call}
-use Rattle.bp_machine.specs.declared.calls.Reply.{Reply}
-use Rattle.bp_machine.specs.Histories.{stack_of, configuration_after, is_finished}
-use Rattle.bp_machine.specs.Setups.{SetupOf}
-use Rattle.bp_code.specs.LawfulTexts.{IsLawfulText}
-use Rattle.bp_confirm.specs.declared.confirming.Difference.{Difference}
-use Rattle.bp_confirm.specs.declared.confirming.StepReason.{StepReason}
-use Rattle.bp_confirm.specs.declared.confirming.StepReason.TheVariants.{Elsewhere, Ambiguous, Finished, Refused, Differs}
-use Rattle.bp_confirm.specs.Confirms.{seen_by, seen_after, IsLastChange, GoesOnAt, IsAnswered, IsReason, IsUnclear, SeesOther, StandsAtPlace, ForStuck, IsStepRefusal, stand_of}
-use Rattle.bp_confirm.specs.Inferred.{AreBothAt, AreBothWays, IsAmbiguous, IsAmbiguousOnStack, IsClear, IsClearOnStack, IsClearWay, LastBits, Follows, FollowAfter, IsFollowed}
-use Rattle.bp_confirm.specs.Steps.{Place, StepOf, value_seen, IsFirstUnseen, StepLineOf, step_of, steps_of, Takes}
-use Rattle.bp_confirm.specs.declared.confirming.StepRefusal.{StepRefusal}
+use Rattle.bp_confirm.proofs.Common.{◌≡◌, ◌≢◌, ◌∙◌, ℕ, zero, suc, Bool, true, List, [], ◌∷◌, ◌++◌, length, Option, None, Some, refl, ap, sym, subst, ◌+◌, arith, length-append, rules, false≢true, append-nil, map-append, map_push, regrouped, Block, Done, Then, Program, Configuration, chain, Valuation, place, start_of_block, Call, Reply, stack_of, configuration_after, is_finished, SetupOf, IsLawfulText, Difference, StepReason, Elsewhere, Ambiguous, Finished, Refused, Differs, seen_by, seen_after, IsLastChange, GoesOnAt, IsAnswered, IsReason, IsUnclear, SeesOther, StandsAtPlace, ForStuck, IsStepRefusal, stand_of, AreBothAt, AreBothWays, IsAmbiguous, IsAmbiguousOnStack, IsClear, IsClearOnStack, IsClearWay, LastBits, Follows, FollowAfter, IsFollowed, Place, StepOf, value_seen, IsFirstUnseen, StepLineOf, step_of, steps_of, Takes, StepRefusal}
 use Rattle.bp_confirm.proofs.OnePosition.{IsFull, full_place}
 use Rattle.bp_confirm.proofs.StepMoves.{other_values, seen_same}
 use Rattle.bp_confirm.proofs.LastChanges.{one_change}

@@ -1,30 +1,9 @@
 -- A text of steps has at most one refusal, and none where a history confirms them.
-use Rattle.std.proofs.Common.{◌≡◌, ◌∙◌, ◌<◌, ◌+◌, ℕ, Bool, true, false, List, [], ◌∷◌, length, take, drop, get_or, Some, refl, ap, sym, subst, arith, ◌≢◌, slice_get, rules}
-use Rattle.std.proofs.Math.ListN.{length-take}
-use Rattle.std.proofs.lemmas.Bool.{false≢true}
-use Rattle.bp_language.specs.Ast.{Program}
-use Rattle.bp_flat.specs.Moves.{Valuation}
-use Rattle.bp_machine.specs.Setups.{SetupOf}
-use Rattle.bp_machine.specs.declared.calls.Call.{Call}
-use Rattle.bp_machine.proofs.ContextCounts.{least_opened}
+use Rattle.bp_confirm.proofs.Common.{◌≡◌, ◌∙◌, ◌<◌, ◌+◌, ℕ, Bool, true, false, List, [], ◌∷◌, length, take, drop, get_or, Some, refl, ap, sym, subst, arith, ◌≢◌, slice_get, rules, length-take, false≢true, Program, Valuation, SetupOf, Call, least_opened, IsLawfulText, declares, ContextBound, Kept, AsUsed, StepLineOf, HasLines, IsBadLine, AreDeclared, IsFirstUndeclared, AreDeclaredLines, IsFirstStray, AreRead, HasFitLength, IsConfirmedText, IsStepsRefusal, IsSetupFor, contexts_allowed, IsDeclared, IsOfNoThread, IsOfNoVariable, IsStepRefusal, ConfirmFault, TooLong, NoSteps, NoThread, NoVariable, Step, Memory, StepRefusal, LastChoice, zeros, NoRefusalOfConfirmed, OneRefusal, none_bad, one_bad, one_reading, slice_get_within}
 use Rattle.bp_trace.specs.declared.limits.TheConstants.{MAX_SCHEDULE}
-use Rattle.bp_code.specs.LawfulTexts.{IsLawfulText}
-use Rattle.bp_source.specs.Names.{declares}
-use Rattle.bp_tasks.specs.declared.tasks.ContextBound.{ContextBound}
-use Rattle.bp_tasks.specs.declared.tasks.ContextBound.TheVariants.{Kept, AsUsed}
-use Rattle.bp_confirm.specs.Steps.{StepLineOf, HasLines, IsBadLine}
-use Rattle.bp_confirm.specs.ConfirmedTexts.{AreDeclared, IsFirstUndeclared, AreDeclaredLines, IsFirstStray, AreRead, HasFitLength, IsConfirmedText, IsStepsRefusal, IsSetupFor, contexts_allowed, IsDeclared, IsOfNoThread, IsOfNoVariable}
-use Rattle.bp_confirm.specs.Confirms.{IsStepRefusal}
-use Rattle.bp_confirm.specs.declared.confirming.ConfirmFault.{ConfirmFault}
-use Rattle.bp_confirm.specs.declared.confirming.ConfirmFault.TheVariants.{TooLong, NoSteps, Line, NoThread, NoVariable, Step, Memory}
-use Rattle.bp_confirm.specs.declared.confirming.StepRefusal.{StepRefusal}
-use Rattle.bp_confirm.specs.declared.choices.LastChoice.{LastChoice}
-use Rattle.bp_confirm.specs.Inferred.{zeros}
-use Rattle.bp_confirm.specs.Laws.{NoRefusalOfConfirmed, OneRefusal}
-use Rattle.bp_text.proofs.WholeTexts.{none_bad, one_bad, one_reading}
+use Rattle.bp_confirm.specs.declared.confirming.ConfirmFault.TheVariants.{Line}
 use Rattle.bp_trace.proofs.HeadsRead.{all_of_both}
 use Rattle.bp_confirm.proofs.Elements.{all_here, first_once, parts_at, parts_got, take_got}
-use Rattle.std.proofs.lemmas.Option.{slice_get_within}
 use Rattle.bp_confirm.proofs.OneStepRefusal.{not_followed_too, one_step_refusal}
 
 -- The first value, and the first line, of what is not declared.

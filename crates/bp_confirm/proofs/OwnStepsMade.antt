@@ -1,48 +1,13 @@
 -- A run makes the steps that it reports itself, and their text is confirmed.
-use Rattle.std.proofs.Common.{◌≡◌, ◌∙◌, ◌==◌, ℕ, zero, suc, Bool, true, false, cond, List, [], ◌∷◌, ◌++◌, Option, None, Some, refl, ap, sym, subst, arith, ◌+◌, option_map, unwrap_or, slice_get, slice_index_or, append-nil, ◌≤◌, map, length, nat_lt, length-take, rules}
-use Rattle.std.specs.List.{AllByRecursion}
-use Rattle.std.proofs.lemmas.Bool.Decides.{nat_tests}
-use Rattle.bp_text.specs.Lines.{position_at}
-use Rattle.bp_text.proofs.PartsOfTexts.{both_added}
-use Rattle.bp_language.specs.Ast.{Program}
-use Rattle.bp_flat.specs.Moves.{Frame, Configuration, Moves}
-use Rattle.bp_flat.specs.StandsFor.{start_of_block, starts_of}
-use Rattle.bp_machine.specs.Histories.{stack_of, configuration_after_call, configuration_after, configuration_after_calls, granted_calls, IsLegalAfter, is_granted, IsWithin, IsLegal}
-use Rattle.bp_machine.specs.Laws.{RunsAreHistories, HistoriesAreRuns}
-use Rattle.bp_machine.specs.declared.calls.Call.{Call}
-use Rattle.bp_machine.specs.Runs.{IsBoundedRun, IsTop, history_of_run, IsDeadlocked}
-use Rattle.bp_machine.specs.Setups.{SetupOf, start, threads}
-use Rattle.bp_machine.specs.declared.tops.Top.{Top}
-use Rattle.bp_machine.proofs.RealFailures.{is_step, step_moves}
-use Rattle.bp_machine.proofs.HistoryWithCall.{configuration_after-append}
-use Rattle.bp_confirm.specs.declared.confirming.StepReason.{StepReason}
-use Rattle.bp_confirm.specs.declared.confirming.StepReason.TheVariants.{Elsewhere, Ambiguous, Finished, Refused, Differs}
-use Rattle.bp_confirm.specs.declared.step_lines.Location.{Location}
-use Rattle.bp_confirm.specs.declared.step_lines.Location.TheVariants.{End, Line, Column}
-use Rattle.bp_confirm.specs.Laws.{OwnLinesAreConfirmed, IsMoveOf, MovesTake, IsRunOfSteps, OwnDeadlockIsConfirmed, OwnTextIsConfirmed}
-use Rattle.bp_confirm.specs.Confirms.{ForStuck, IsStepRefusal}
-use Rattle.bp_confirm.specs.OwnSteps.{exact_location, next_start, IsOwnLine, AreOwnLines, own_step, own_steps, own_steps_from, lines_of_steps, own_line, StepsAreOfTheRun, TextIsOfLines, own_steps_text}
-use Rattle.bp_confirm.specs.Steps.{place_of, stands_at, StepLineOf, step_of, steps_of, next_location, SeesValues, HasLines, IsBadLine, step_line, value}
+use Rattle.bp_confirm.proofs.Common.{◌≡◌, ◌∙◌, ◌==◌, ℕ, zero, suc, Bool, true, false, cond, List, [], ◌∷◌, ◌++◌, Option, None, Some, refl, ap, sym, subst, arith, ◌+◌, option_map, unwrap_or, slice_get, slice_index_or, ◌≤◌, map, length, nat_lt, rules, AllByRecursion, nat_tests, position_at, both_added, Program, Frame, Configuration, Moves, start_of_block, starts_of, stack_of, configuration_after_call, configuration_after, configuration_after_calls, granted_calls, IsLegalAfter, is_granted, IsWithin, IsLegal, RunsAreHistories, HistoriesAreRuns, Call, IsBoundedRun, IsTop, history_of_run, IsDeadlocked, SetupOf, start, threads, Top, is_step, step_moves, configuration_after-append, StepReason, Elsewhere, Ambiguous, Finished, Refused, Differs, Location, End, Line, Column, OwnLinesAreConfirmed, IsMoveOf, MovesTake, IsRunOfSteps, OwnDeadlockIsConfirmed, OwnTextIsConfirmed, ForStuck, IsStepRefusal, exact_location, next_start, IsOwnLine, AreOwnLines, own_step, own_steps, own_steps_from, lines_of_steps, own_line, StepsAreOfTheRun, TextIsOfLines, own_steps_text, place_of, stands_at, StepLineOf, step_of, steps_of, next_location, SeesValues, HasLines, IsBadLine, step_line, value, SourcePoint, points_from, source_points_of, IsTextOf, MAX_CONTEXTS, MAX_THREADS, ContextBound, AsUsed, ConfirmFault, Memory, NoSteps, NoThread, NoVariable, Step, TooLong, StepRefusal, zeros, IsConfirmed, HasFitLength, IsStepsRefusal, IsSetupFor, contexts_allowed, thread_of, AreDeclaredLines, IsFirstStray, IsOfNoThread, IsOfNoVariable, LastChoice, EachFits, Fits, text_of, none_bad, one_reading}
+use Rattle.std.proofs.Common.{append-nil, length-take}
 use Rattle.bp_confirm.specs.declared.noted_steps.OwnStep.{OwnStep}
-use Rattle.bp_confirm.specs.declared.source_points.SourcePoint.{SourcePoint}
-use Rattle.bp_confirm.specs.FollowedSteps.{points_from, source_points_of}
 use Rattle.bp_confirm.proofs.NextLocations.{only_lines}
 use Rattle.bp_confirm.proofs.OneConfirmed.{refused_has_no_run, run_takes}
 use Rattle.bp_confirm.proofs.ValuesSeen.{top_start}
 use Rattle.bp_text.proofs.LinesOfTexts.{column_within, line_within}
 use Rattle.bp_language.specs.declared.limits.TheConstants.{TEXT_LIMIT}
-use Rattle.bp_language.specs.Texts.{IsTextOf}
-use Rattle.bp_machine.specs.declared.limits.TheConstants.{MAX_CONTEXTS, MAX_THREADS}
-use Rattle.bp_tasks.specs.declared.tasks.ContextBound.{ContextBound}
-use Rattle.bp_tasks.specs.declared.tasks.ContextBound.TheVariants.{AsUsed}
-use Rattle.bp_confirm.specs.declared.confirming.ConfirmFault.{ConfirmFault}
-use Rattle.bp_confirm.specs.declared.confirming.ConfirmFault.TheVariants.{Line, Memory, NoSteps, NoThread, NoVariable, Step, TooLong}
-use Rattle.bp_confirm.specs.declared.confirming.StepRefusal.{StepRefusal}
-use Rattle.bp_confirm.specs.Inferred.{zeros, IsConfirmed}
-use Rattle.bp_confirm.specs.ConfirmedTexts.{HasFitLength, IsStepsRefusal, IsSetupFor, contexts_allowed, thread_of, AreDeclaredLines, IsFirstStray, IsOfNoThread, IsOfNoVariable}
-use Rattle.bp_confirm.specs.declared.choices.LastChoice.{LastChoice}
-use Rattle.bp_text.specs.Formats.{EachFits, Fits, text_of}
-use Rattle.bp_text.proofs.WholeTexts.{none_bad, one_reading}
+use Rattle.bp_confirm.specs.declared.confirming.ConfirmFault.TheVariants.{Line}
 use Rattle.bp_confirm.proofs.ReadLines.{IsShortLocation, line_fits, no_step_in_nothing}
 use Rattle.bp_confirm.proofs.OneTextRefusal.{IsStray, no_thread, no_variable, stray_alone}
 use Rattle.bp_confirm.proofs.DeadlocksTaken.{deadlock_is_taken}

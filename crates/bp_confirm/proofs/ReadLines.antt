@@ -1,21 +1,12 @@
 -- How a line of steps is read, whatever is after it; and the values on it.
-use Rattle.std.proofs.Common.{◌≡◌, ◌≢◌, ◌<◌, ◌≤◌, ◌+◌, ◌^◌, ◌∙◌, inl, inr, ℕ, List, [], ◌∷◌, ◌++◌, flat_map, length, length-append, refl, ap, sym, subst, arith, codes, decimal, append_assoc, suc, Some, drop, ◌-◌, Bool, take, rules}
-use Rattle.bp_text.specs.Formats.{EachFits, EndsNumber, Fits, HasNone, IsAt, text_of, AreAll, Lacks, SpanFits}
+use Rattle.bp_confirm.proofs.Common.{◌≡◌, ◌≢◌, ◌<◌, ◌≤◌, ◌+◌, ◌^◌, ◌∙◌, inl, inr, ℕ, List, [], ◌∷◌, ◌++◌, flat_map, length, length-append, refl, ap, sym, subst, arith, codes, decimal, append_assoc, suc, Some, drop, ◌-◌, Bool, take, rules, EachFits, EndsNumber, Fits, HasNone, IsAt, text_of, AreAll, Lacks, SpanFits, regrouped, Valuation, Location, End, Line, Column, StepLineOf, after_byte, location, may_end, step_line, value, append-nil, take_at, IsNext, next_value, no_next, after_name, values_from, values_in, SaysValues}
 use Rattle.bp_text.specs.Formats.Format.{Many}
 use Rattle.bp_text.proofs.NumbersInTurn.{ends_at, no_digit_first}
-use Rattle.bp_text.proofs.PartsOfTexts.{regrouped}
 use Rattle.bp_text.proofs.SpansInTurn.{same_stop}
-use Rattle.bp_flat.specs.Moves.{Valuation}
-use Rattle.bp_confirm.specs.declared.step_lines.Location.{Location}
-use Rattle.bp_confirm.specs.declared.step_lines.Location.TheVariants.{End, Line, Column}
 use Rattle.bp_confirm.specs.declared.fields.NameState.TheVariants.{Start}
-use Rattle.bp_confirm.specs.Steps.{StepLineOf, after_byte, location, may_end, step_line, value}
-use Rattle.std.proofs.lemmas.List.{append-nil, take_at}
 use Rattle.std.specs.Prelude.{slice_get}
-use Rattle.bp_text.proofs.WholeTexts.{IsNext, next_value, no_next}
 use Rattle.bp_confirm.specs.declared.fields.NameState.{NameState}
 use Rattle.bp_confirm.proofs.Elements.{past_none}
-use Rattle.bp_confirm.specs.LineReading.{after_name, values_from, values_in, SaysValues}
 use Rattle.bp_confirm.specs.LineReading.Reading.{Name, Bit}
 
 -- Each line of a step has a byte.

@@ -1,22 +1,12 @@
 -- The statements of the program of a text begin in the order of its instructions, each at a byte of its own; so a place is that of one.
-use Rattle.std.proofs.Common.{◌≡◌, ◌+◌, ◌<◌, ◌≤◌, ℕ, zero, suc, List, [], ◌∷◌, ◌++◌, length, take, map, Option, None, Some, refl, ap, sym, subst, arith, slice_get, ◌∙◌, ◌||◌, inl, inr, Bool, true, false, option_map, rules}
-use Rattle.std.proofs.lemmas.List.{length-drop, map-append}
-use Rattle.bp_language.specs.Ast.{Name, Expression, Decision, Block, Done, Statement, Procedure, Program, Then}
-use Rattle.bp_language.specs.Tokens.{Token, kind_of, Lexeme, IsCut, ends, fit, open_brace, bad_byte, tokens_of, with_token}
+use Rattle.bp_confirm.proofs.Common.{◌≡◌, ◌+◌, ◌<◌, ◌≤◌, ℕ, zero, suc, List, [], ◌∷◌, ◌++◌, length, take, map, Option, None, Some, refl, ap, sym, subst, arith, slice_get, ◌∙◌, ◌||◌, inl, inr, Bool, true, false, option_map, rules, length-drop, map-append, Name, Expression, Decision, Block, Done, Statement, Procedure, Program, Then, Token, kind_of, Lexeme, IsCut, fit, open_brace, bad_byte, tokens_of, with_token, IsNames, one_name, more_names, IsAnyNames, IsExpr, of_or, implication, IsOr, of_xor, disjunction, IsXor, of_and, exclusion, IsAnd, of_eq, conjunction, IsEq, of_un, equality, difference, IsUn, negation, of_atom, IsAtom, constant_0, constant_1, variable, brackets, IsExprs, one_expr, more_exprs, IsAnyExprs, IsDecider, choice, by_value, IsForm, skip, jump, returning, assignment, branch, loop, assertion, assumption, printing, call, IsStmt, labelled, unlabelled, IsStmts, one_stmt, more_stmts, decl, IsDecls, no_decl, more_decls, IsProc, proc, IsProcs, no_proc, more_procs, Derives, program, first_word, first_name, IsTextOf, chain, Configuration, place, places, places_in, places_of, start_of_block, starts_of, Remains, cases_order, false≢true, slice_get-map, bytes_eq-Decides, IsLawfulText, starts, procedure_of, GoesOnAt}
+use Rattle.bp_language.specs.Tokens.{ends}
 use Rattle.bp_language.specs.declared.tokens.TokenKind.{TokenKind}
-use Rattle.bp_language.specs.Grammar.{IsNames, one_name, more_names, IsAnyNames, IsExpr, of_or, implication, IsOr, of_xor, disjunction, IsXor, of_and, exclusion, IsAnd, of_eq, conjunction, IsEq, of_un, equality, difference, IsUn, negation, of_atom, IsAtom, constant_0, constant_1, variable, brackets, IsExprs, one_expr, more_exprs, IsAnyExprs, IsDecider, choice, by_value, IsForm, skip, jump, returning, assignment, branch, loop, assertion, assumption, printing, call, IsStmt, labelled, unlabelled, IsStmts, one_stmt, more_stmts, decl, IsDecls, no_decl, more_decls, IsProc, proc, IsProcs, no_proc, more_procs, Derives, program, first_word, first_name}
-use Rattle.bp_language.specs.Texts.{IsTextOf}
-use Rattle.bp_flat.specs.Moves.{chain, Configuration}
-use Rattle.bp_flat.specs.StandsFor.{Place, place, places, places_in, places_of, start_of_block, starts_of, Remains}
+use Rattle.bp_flat.specs.StandsFor.{Place}
 use Rattle.std.specs.Str.{bytes_eq}
-use Rattle.std.proofs.lemmas.Bool.{cases_order, false≢true}
-use Rattle.std.proofs.lemmas.Option.{slice_get-map}
-use Rattle.std.proofs.lemmas.Slice.Eq.{bytes_eq-Decides}
 use Rattle.bp_language.specs.Faults.{has}
 use Rattle.bp_language.proofs.LawsOfLawfulPrograms.{distinct_names}
-use Rattle.bp_code.specs.LawfulTexts.{IsLawfulText}
-use Rattle.bp_flat.proofs.ProceduresOfPlaces.{ends as ends_among, starts, procedure_of}
-use Rattle.bp_confirm.specs.Confirms.{GoesOnAt}
+use Rattle.bp_flat.proofs.ProceduresOfPlaces.{ends as ends_among}
 
 abbrev first_at : List Token → ℕ
 first_at [] = 0

@@ -1,36 +1,12 @@
 -- One more step that is followed, and one that is refused.
-use Rattle.std.proofs.Common.{◌≡◌, ◌∙◌, ℕ, Bool, List, ◌∷◌, false, Option, Some, ap, sym, subst, Bor, ◌<◌, ◌+◌, [], ◌++◌, length, take, drop, get_or, ◌≤◌, zero, suc, true, arith, slice_get, rules}
-use Rattle.std.specs.Option.{option_copied}
-use Rattle.std.proofs.lemmas.List.{take_more, take-append-drop, append-nil, map_push, take_all}
-use Rattle.std.proofs.lemmas.Bool.{false≢true}
-use Rattle.std.proofs.Math.ListN.{length-take, drop_of_length-le}
-use Rattle.bp_text.proofs.PartsOfTexts.{regrouped}
-use Rattle.bp_language.specs.Ast.{Block, Procedure, Program}
-use Rattle.bp_flat.specs.Moves.{Configuration, Valuation}
-use Rattle.bp_flat.specs.Flat.{Flat, Instruction}
-use Rattle.bp_flat.specs.StandsFor.{StandsFor, Does, places_of}
-use Rattle.bp_machine.specs.declared.tops.Top.{Top}
-use Rattle.bp_machine.specs.Histories.{stack_of, configuration_after, is_finished, IsAllowed, is_granted}
-use Rattle.bp_machine.specs.Runs.{IsTop}
-use Rattle.bp_machine.specs.declared.calls.Call.{Call}
-use Rattle.bp_machine.specs.Sessions.{IsNextCall, given_bit}
-use Rattle.bp_machine.specs.Setups.{SetupOf}
+use Rattle.bp_confirm.proofs.Common.{◌≡◌, ◌∙◌, ℕ, Bool, List, ◌∷◌, false, Option, Some, ap, sym, subst, Bor, ◌<◌, ◌+◌, [], ◌++◌, length, take, drop, get_or, ◌≤◌, zero, suc, true, arith, slice_get, rules, option_copied, take_more, take-append-drop, append-nil, map_push, take_all, false≢true, length-take, drop_of_length-le, regrouped, Block, Procedure, Program, Configuration, Valuation, Flat, Instruction, StandsFor, Does, places_of, Top, stack_of, configuration_after, is_finished, IsAllowed, is_granted, IsTop, Call, IsNextCall, given_bit, SetupOf, TellsNext, is_fork, is_fork_on, IsInferred, IsInferredOn, IsRefusedHere, IsNotTaken, refusal_of, source_points_of, StepOf, next_place, StepLineOf, step_of, steps_of, value_seen, IsFirstUnseen, SeesValues, IsStepOf, TakeAfter, Takes, IsClearOnStack, LastBits, some_follow, IsFollowed, bit_of_stack, IsAmbiguousOnStack, Follows, FollowAfter, Difference, StepReason, Elsewhere, Ambiguous, Finished, Refused, Differs, StepRefusal, IsDifference, GoesOnAt, StandsAtPlace, IsStuck, IsReason, ForStuck, IsStepRefusal, IsNotFollowed, SourcePoint}
 use Rattle.bp_trace.specs.Replays.{IsPlayable}
 use Rattle.bp_trace.proofs.PlayableFronts.{front, own_is}
-use Rattle.bp_confirm.specs.FollowedSteps.{TellsNext, is_fork, is_fork_on, IsInferred, IsInferredOn, IsRefusedHere, IsNotTaken, refusal_of, source_points_of}
 use Rattle.bp_confirm.specs.Steps as point
-use Rattle.bp_confirm.specs.Steps.{StepOf, next_place, StepLineOf, step_of, steps_of, value_seen, IsFirstUnseen, SeesValues, IsStepOf, TakeAfter, Takes}
 use Rattle.bp_confirm.specs.declared.choices.Inferred.{Inferred}
 use Rattle.bp_confirm.specs.declared.following.Next.{Next}
-use Rattle.bp_confirm.specs.Inferred.{IsClearOnStack, LastBits, some_follow, IsFollowed, bit_of_stack, IsAmbiguousOnStack, Follows, FollowAfter}
-use Rattle.bp_confirm.specs.declared.confirming.Difference.{Difference}
 use Rattle.bp_confirm.specs.declared.confirming.StepFault.{StepFault}
-use Rattle.bp_confirm.specs.declared.confirming.StepReason.{StepReason}
-use Rattle.bp_confirm.specs.declared.confirming.StepReason.TheVariants.{Elsewhere, Ambiguous, Finished, Refused, Differs}
-use Rattle.bp_confirm.specs.declared.confirming.StepRefusal.{StepRefusal}
 use Rattle.bp_confirm.proofs.Elements.{parts_at, rest_at, take_got}
-use Rattle.bp_confirm.specs.Confirms.{IsDifference, GoesOnAt, StandsAtPlace, IsStuck, IsReason, ForStuck, IsStepRefusal, IsNotFollowed}
-use Rattle.bp_confirm.specs.declared.source_points.SourcePoint.{SourcePoint}
 use Rattle.bp_confirm.proofs.BitsOfEffects.{fork_is}
 use Rattle.bp_confirm.proofs.ValuesSeen.{stands_as}
 use Rattle.bp_confirm.proofs.StepMoves.{same_reply, refused_for_all, other_values}

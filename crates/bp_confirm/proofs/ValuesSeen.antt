@@ -1,27 +1,7 @@
 -- What the names of a thread's top have as values.
-use Rattle.std.proofs.Common.{◌≡◌, ◌∙◌, ◌+◌, ℕ, zero, suc, List, [], ◌∷◌, Option, None, Some, refl, ap, ◌<◌, length, get_or, ◌++◌, take, sym, arith, option_map, Bor, subst, ◌≢◌, Bool, true, false, cond, bytes_eq, slice_get, MatchOption, IfSome, is_some, nat_lt, rules}
-use Rattle.std.proofs.Math.Path.{fun_ext}
-use Rattle.std.proofs.lemmas.List.{take_more}
-use Rattle.std.proofs.lemmas.Option.{slice_get_past, slice_get-get_or, slice_get-map}
-use Rattle.std.specs.Option.{option_or}
-use Rattle.std.proofs.lemmas.Slice.Eq.{bytes_eq-Decides}
-use Rattle.bp_text.specs.Lines.{position_at}
-use Rattle.bp_language.specs.Ast.{Program, Procedure}
-use Rattle.bp_flat.specs.StandsFor.{starts_of, valuation_of, variables, start_of_block}
-use Rattle.bp_flat.specs.InstrEffects.{bits_of}
-use Rattle.bp_flat.specs.Moves.{Configuration, Valuation, lookup}
-use Rattle.bp_flat.proofs.ProceduresOfPlaces.{ends, procedure_of}
-use Rattle.bp_machine.specs.declared.tops.Top.{Top}
-use Rattle.bp_machine.specs.Histories.{stack_of}
-use Rattle.bp_machine.specs.Runs.{IsTop}
-use Rattle.bp_source.specs.Names.{qualified, declares}
+use Rattle.bp_confirm.proofs.Common.{◌≡◌, ◌∙◌, ◌+◌, ℕ, zero, suc, List, [], ◌∷◌, Option, None, Some, refl, ap, ◌<◌, length, get_or, ◌++◌, take, sym, arith, option_map, Bor, subst, ◌≢◌, Bool, true, false, cond, slice_get, MatchOption, IfSome, is_some, nat_lt, rules, fun_ext, take_more, slice_get_past, slice_get-get_or, slice_get-map, option_or, bytes_eq-Decides, position_at, Program, Procedure, starts_of, valuation_of, variables, start_of_block, bits_of, Configuration, Valuation, lookup, ends, procedure_of, Top, stack_of, IsTop, qualified, declares, SourcePoint, points_from, source_points_of, is_point_at, is_there, stand_at_point, stand_at_start, stand_in, stand_of, Location, place_of, stands_at, local_seen, own_value, qualified_values, AreKnown}
+use Rattle.std.proofs.Common.{bytes_eq}
 use Rattle.bp_source.proofs.DecidersOfPlaces.{same_qualified}
-use Rattle.bp_confirm.specs.declared.source_points.SourcePoint.{SourcePoint}
-use Rattle.bp_confirm.specs.FollowedSteps.{points_from, source_points_of, is_point_at, is_there}
-use Rattle.bp_confirm.specs.Confirms.{stand_at_point, stand_at_start, stand_in, stand_of}
-use Rattle.bp_confirm.specs.declared.step_lines.Location.{Location}
-use Rattle.bp_confirm.specs.Steps.{place_of, stands_at, local_seen, own_value, qualified_values}
-use Rattle.bp_confirm.specs.ConfirmedTexts.{AreKnown}
 use Rattle.bp_confirm.proofs.Elements.{all_got}
 use Rattle.bp_confirm.proofs.BitsOfEffects.{start_is_at, numbers_at}
 

@@ -1,12 +1,6 @@
 -- Nodes that are added, and what stays closed then.
-use Rattle.std.proofs.Common.{◌≡◌, ◌≢◌, ◌⊎◌, ℕ, zero, suc, ◌+◌, ◌<◌, ◌≤◌, true, false, List, [], ◌∷◌, ◌++◌, length, Option, Some, refl, ap, sym, ◌∙◌, subst, arith, inl, inr, slice_get, rules}
-use Rattle.std.proofs.lemmas.Bool.{cases_lt}
-use Rattle.std.proofs.lemmas.Option.{slice_get_within}
-use Rattle.bp_flat.specs.Flat.{Instruction}
-use Rattle.bp_machine.specs.Sessions.{contexts_opened}
-use Rattle.bp_explore.specs.Explorations.{ListedSteps}
-use Rattle.bp_explore.specs.States.{NodeOf as Node, StateOf}
-use Rattle.bp_explore.specs.Searches.{MayAdd, IsStep, Step, level_with, Holds, Has, IsSeen, IsExpanded, IsClosed, AreLayered, AreAtMost, IsGrown, IsExplored}
+use Rattle.bp_explore.proofs.Common.{◌≡◌, ◌≢◌, ◌⊎◌, ℕ, zero, suc, ◌+◌, ◌<◌, ◌≤◌, true, false, List, [], ◌∷◌, ◌++◌, length, Option, Some, refl, ap, sym, ◌∙◌, subst, arith, inl, inr, slice_get, rules, cases_lt, slice_get_within, Instruction, contexts_opened, ListedSteps, StateOf, MayAdd, IsStep, Step, level_with, Holds, Has, IsSeen, IsExpanded, IsClosed, AreLayered, AreAtMost, IsGrown, IsExplored}
+use Rattle.bp_explore.specs.States.{NodeOf as Node}
 
 pub item_at : {X : Type 0} (xs : List X) (k : ℕ) → k < length xs → (z : X) × (slice_get xs k ≡ Some z)
 item_at [] k below = absurd (omega (arith, below))

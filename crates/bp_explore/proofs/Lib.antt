@@ -1,3 +1,4 @@
+pub mod Common
 pub mod Growth
 pub mod MadeSteps
 pub mod ReachedNodes

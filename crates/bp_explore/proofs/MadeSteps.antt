@@ -1,31 +1,10 @@
 -- Runs that make listed steps, step by step.
-use Rattle.std.proofs.Common.{◌≡◌, ℕ, zero, suc, List, [], ◌∷◌, length, Some, ◌↔◌, IsTrue, ◌+◌, ◌<◌, Bool, true, false, cond, refl, ap, sym, ◌∙◌, subst, arith, ◌⊎◌, ◌++◌, slice_get, slice_index_or, slice_set, length-set, get_or-set_same, get_or-set_other, rules}
-use Rattle.bp_language.specs.Ast.{Program}
-use Rattle.bp_flat.specs.Moves.{Configuration, Frame, Moves, after_effect}
-use Rattle.bp_flat.specs.Flat.{Flat}
-use Rattle.bp_flat.specs.StandsFor.{ShowsStack, StepsAlike}
+use Rattle.bp_explore.proofs.Common.{◌≡◌, ℕ, zero, suc, List, [], ◌∷◌, length, Some, ◌↔◌, IsTrue, ◌+◌, ◌<◌, Bool, true, false, cond, refl, ap, sym, ◌∙◌, subst, arith, ◌⊎◌, ◌++◌, slice_get, slice_index_or, slice_set, length-set, get_or-set_same, get_or-set_other, rules, Program, Configuration, Frame, Moves, after_effect, Flat, ShowsStack, StepsAlike, ActivationRecord, stack_of, reply_on_stack, configuration_after_step, is_granted, IsRun, configuration_after, IsAllowed, top_of, activations, IsTop, HasRoom, reply_of_step, Stopped, Transition, IsTransitionOn, reply_of_transition, stack_after, Call, SetupOf, start, top_shown, step_is, thread_below, first_step, ended, IsAnswer, on_stack, goes, StateOf, Shows, state_after, ListedSteps, IsMade, MakesFrom, ends, passes, makes, HasNone, HasNoneBelow, CanMake, IsSafe, IsCountTo, IsLed, IsStep, Step, Stays, Fails, Leads, failures, IsCount, IsCountedStep, ShowsStep, HasNeither, HasNeitherBelow, IsPlayedTo, SeenStep}
 use Rattle.bp_flat.specs.declared.effects.Effect.{Effect}
-use Rattle.bp_machine.specs.declared.stacks.ActivationRecord.{ActivationRecord}
-use Rattle.bp_machine.specs.Histories.{stack_of, reply_on_stack, configuration_after_step, is_granted, IsRun, configuration_after, IsAllowed}
-use Rattle.bp_machine.specs.Sessions.{top_of, activations}
-use Rattle.bp_machine.specs.Runs.{IsTop, HasRoom, reply_of_step}
-use Rattle.bp_machine.specs.declared.calls.Reply.TheVariants.{Stopped}
-use Rattle.bp_machine.specs.declared.threads.Transition.{Transition}
 use Rattle.bp_machine.specs.declared.threads.Transition.TheVariants as transition
-use Rattle.bp_machine.specs.Transitions.{IsTransitionOn, reply_of_transition, stack_after}
-use Rattle.bp_machine.specs.declared.calls.Call.{Call}
 use Rattle.bp_machine.specs.Histories as reports
-use Rattle.bp_machine.specs.Setups.{SetupOf, start}
-use Rattle.bp_machine.proofs.Deadlocks.{top_shown}
 use Rattle.bp_machine.proofs.RunsAreHistories.{reply_told, reply_granted}
 use Rattle.bp_machine.proofs.HistoryWithCall.{same_or_not, set_same, set_other}
-use Rattle.bp_machine.proofs.RealFailures.{step_is, thread_below, first_step, ended}
-use Rattle.bp_machine.proofs.TransitionIsAnswer.{IsAnswer, on_stack}
-use Rattle.bp_machine.proofs.HistoriesAreRuns.{goes}
-use Rattle.bp_explore.specs.States.{StateOf, Shows, state_after}
-use Rattle.bp_explore.specs.Explorations.{ListedSteps, IsMade, MakesFrom, ends, passes, makes, HasNone, HasNoneBelow, CanMake, IsSafe}
-use Rattle.bp_explore.specs.Searches.{IsCountTo, IsLed, IsStep, Step, Stays, Fails, Leads, failures, IsCount, IsCountedStep, ShowsStep, HasNeither, HasNeitherBelow, IsPlayedTo}
-use Rattle.bp_explore.specs.declared.observers.SeenStep.{SeenStep}
 use Rattle.bp_explore.proofs.Growth.{item_at}
 
 -- The top of a thread's stack in a state.

@@ -1,11 +1,7 @@
 -- The nodes of records that lie one after the other.
-use Rattle.std.proofs.Common.{◌≡◌, ◌+◌, ◌++◌, ◌∷◌, [], ℕ, zero, suc, List, refl, ap, sym, ◌∙◌, append_assoc, arith, ◌*◌, ◌/◌, ◌%◌, ◌^◌, Some, drop, append-nil, ◌≤◌, ◌-◌, All, ◌<◌, length, get_or, take, slice_set, slice_get, rules}
-use Rattle.std.proofs.lemmas.List.{take_more, take_more_set, length-drop, take_all, take-append-le, drop-append-le}
+use Rattle.bp_explore.proofs.Common.{◌≡◌, ◌+◌, ◌++◌, ◌∷◌, [], ℕ, zero, suc, List, refl, ap, sym, ◌∙◌, append_assoc, arith, ◌*◌, ◌/◌, ◌%◌, ◌^◌, Some, drop, append-nil, ◌≤◌, ◌-◌, All, ◌<◌, length, get_or, take, slice_set, slice_get, rules, take_more, take_more_set, take-append-le, drop-append-le, slice_get_within, StackOf, frames_of, IsPacked, take_times, take_number, node_of, take_key, take_state, last_of, StateOf, NodeOf, nodes_from, start_from, end_of, record_at, HasKey, Holds}
+use Rattle.std.proofs.lemmas.List.{length-drop, take_all}
 use Rattle.std.proofs.Transfers.{drop-appended}
-use Rattle.std.proofs.lemmas.Option.{slice_get_within}
-use Rattle.bp_machine.specs.Sessions.{StackOf}
-use Rattle.bp_explore.specs.States.{frames_of, IsPacked, take_times, take_number, node_of, take_key, take_state, last_of, StateOf, NodeOf, nodes_from, start_from, end_of, record_at, HasKey}
-use Rattle.bp_explore.specs.Searches.{Holds}
 
 -- Values that are packed one after the other.
 

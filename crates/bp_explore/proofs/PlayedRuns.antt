@@ -1,15 +1,9 @@
 -- What is answered once a run was played.
-use Rattle.std.proofs.Common.{◌≡◌, ◌++◌, ◌∷◌, [], true, List, ℕ, Bool, Option, sym, subst, rules}
+use Rattle.bp_explore.proofs.Common.{◌≡◌, ◌++◌, ◌∷◌, [], true, List, ℕ, Bool, Option, sym, subst, rules, Program, Flat, Call, granted_calls, is_granted, SetupOf, IsFirst, IsExploration, IsPlayed, IsInBound}
 use Rattle.std.proofs.lemmas.List.Elements.{filter-append}
-use Rattle.bp_language.specs.Ast.{Program}
-use Rattle.bp_flat.specs.Flat.{Flat}
-use Rattle.bp_machine.specs.declared.calls.Call.{Call}
-use Rattle.bp_machine.specs.Histories.{granted_calls, is_granted}
-use Rattle.bp_machine.specs.Setups.{SetupOf}
 use Rattle.bp_explore.specs.declared.explorations.Ending.{Ending}
 use Rattle.bp_explore.specs.declared.explorations.Ending.TheVariants.{Nothing, NothingWithin, Found, Unplayed, Unfinished}
 use Rattle.bp_explore.specs.declared.explorations.Finding.{Finding}
-use Rattle.bp_explore.specs.Explorations.{IsFirst, IsExploration, IsPlayed, IsInBound}
 
 -- Histories of granted calls alone.
 

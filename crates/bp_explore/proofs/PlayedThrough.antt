@@ -1,18 +1,9 @@
 -- What is answered once a search for listed steps has ended.
-use Rattle.std.proofs.Common.{◌<◌, ◌+◌, ℕ, List, [], Option, refl, sym, subst, inl, inr, arith, map}
-use Rattle.bp_language.specs.Ast.{Program}
-use Rattle.bp_flat.specs.Flat.{Flat}
-use Rattle.bp_machine.specs.Runs.{EachHasRoom}
-use Rattle.bp_machine.specs.Histories.{IsWithin, configuration_after}
-use Rattle.bp_machine.specs.Setups.{SetupOf, start}
-use Rattle.bp_machine.proofs.HistoriesAreRuns.{history_is_run}
+use Rattle.bp_explore.proofs.Common.{◌<◌, ◌+◌, ℕ, List, [], Option, refl, sym, subst, inl, inr, arith, map, Program, Flat, EachHasRoom, IsWithin, configuration_after, SetupOf, start, history_is_run, ListedSteps, CanMake, MakesFrom, ends, IsInBound, NodeOf, HasMade, HaveFewer, IsMostMade}
 use Rattle.bp_explore.specs.declared.explorations.RunThrough.{RunThrough}
 use Rattle.bp_explore.specs.declared.explorations.ThroughEnding.{ThroughEnding}
 use Rattle.bp_explore.specs.declared.explorations.ThroughEnding.TheVariants.{Found, Unplayed, Missing, MissingWithin, Unfinished}
-use Rattle.bp_explore.specs.Explorations.{ListedSteps, CanMake, MakesFrom, ends, IsInBound}
-use Rattle.bp_explore.specs.States.{NodeOf}
 use Rattle.bp_explore.specs.ThroughExplorations.{IsPlayedThrough, IsRunThrough, CannotMakeBelow, IsThrough}
-use Rattle.bp_explore.specs.Searches.{HasMade, HaveFewer, IsMostMade}
 use Rattle.bp_explore.proofs.MadeSteps.{makes_one}
 use Rattle.bp_explore.proofs.ReachedNodes.{no_split}
 

@@ -1,36 +1,12 @@
 -- A node that a step from a reached node leads to is reached.
-use Rattle.std.proofs.Common.{◌≡◌, length, Option, None, Some, refl, ap, sym, ◌∙◌, subst, ◌<◌, ◌≤◌, ◌+◌, ◌&&◌, nat_le, ℕ, Bool, true, cond, List, [], ◌∷◌, ◌++◌, inl, inr, arith, slice_get, map, option_map, rules}
-use Rattle.std.proofs.lemmas.List.{length-map}
-use Rattle.std.proofs.lemmas.Option.{slice_get-map}
-use Rattle.std.proofs.lemmas.Bool.{cases_lt}
-use Rattle.bp_language.specs.Ast.{Program}
-use Rattle.bp_flat.specs.StandsFor.{ShowsStack, StandsFor, StepsAlike}
-use Rattle.bp_flat.specs.InstrEffects.{bits_of}
-use Rattle.bp_flat.specs.Flat.{Flat}
+use Rattle.bp_explore.proofs.Common.{◌≡◌, length, Option, None, Some, refl, ap, sym, ◌∙◌, subst, ◌<◌, ◌≤◌, ◌+◌, ◌&&◌, nat_le, ℕ, Bool, true, cond, List, [], ◌∷◌, ◌++◌, inl, inr, arith, slice_get, map, option_map, rules, length-map, slice_get-map, cases_lt, Program, ShowsStack, StandsFor, StepsAlike, bits_of, Flat, Configuration, effect, Moves, stack_of, reply_of, reply_on_stack, reply_to_effect, configuration_after_call, IsRun, first_thread, contexts_opened, count_with, IsCountOf, SetupOf, start, Fits, threads, Call, Reply, Stopped, Full, Stepped, ActivationRecord, Transition, EachHasRoom, HasRoom, IsTransitionOn, starts, counts_more, is_step, step_moves, first_step, ended, move_keeps, one_move, on_stack, StateOf, first_stack_of, Shows, ListedSteps, MakesFrom, IsReached, AreReached, StayReached, IsTaken, level_with, IsLed, IsStep, Step, Stays, Fails, Leads}
 use Rattle.bp_flat.specs.Steps.{bits_from}
-use Rattle.bp_flat.specs.Moves.{Configuration, effect, Moves}
 use Rattle.bp_machine.specs.declared.calls.Outcome.TheVariants.{Clean}
-use Rattle.bp_machine.specs.Histories.{stack_of, reply_of, reply_on_stack, reply_to_effect, configuration_after_call, IsRun}
-use Rattle.bp_machine.specs.Sessions.{first_thread, contexts_opened, count_with, IsCountOf}
-use Rattle.bp_machine.specs.Setups.{SetupOf, start, Fits, threads}
 use Rattle.bp_machine.specs.Sessions as states
-use Rattle.bp_machine.specs.declared.calls.Call.{Call}
-use Rattle.bp_machine.specs.declared.calls.Reply.{Reply}
-use Rattle.bp_machine.specs.declared.calls.Reply.TheVariants.{Stopped, Full, Stepped}
 use Rattle.bp_machine.specs.declared.limits.TheConstants.{MAX_FRAMES}
-use Rattle.bp_machine.specs.declared.stacks.ActivationRecord.{ActivationRecord}
-use Rattle.bp_machine.specs.declared.threads.Transition.{Transition}
 use Rattle.bp_machine.specs.declared.threads.Transition.TheVariants as transition
-use Rattle.bp_machine.specs.Runs.{EachHasRoom, HasRoom}
 use Rattle.bp_machine.specs.Histories as reports
-use Rattle.bp_machine.specs.Transitions.{IsTransitionOn}
-use Rattle.bp_machine.proofs.SessionsInOrder.{starts}
-use Rattle.bp_machine.proofs.ContextCounts.{counts_more}
-use Rattle.bp_machine.proofs.RealFailures.{is_step, step_moves, first_step, ended, move_keeps, one_move}
-use Rattle.bp_machine.proofs.TransitionIsAnswer.{on_stack}
-use Rattle.bp_explore.specs.States.{StateOf, first_stack_of, Shows, NodeOf as Node}
-use Rattle.bp_explore.specs.Explorations.{ListedSteps, MakesFrom}
-use Rattle.bp_explore.specs.Searches.{IsReached, AreReached, StayReached, IsTaken, level_with, IsLed, IsStep, Step, Stays, Fails, Leads}
+use Rattle.bp_explore.specs.States.{NodeOf as Node}
 use Rattle.bp_explore.proofs.Growth.{item_at, added_item, before_last}
 use Rattle.bp_explore.proofs.MadeSteps.{makes_one, makes_run, passes_one, IsCounted, step_matches}
 

@@ -1,17 +1,6 @@
 -- How a search goes from layer to layer, and what is known after each.
-use Rattle.std.proofs.Common.{◌≡◌, ◌<◌, ◌≤◌, ℕ, Bool, true, inl, inr, ◌+◌, List, [], ◌∷◌, length, Option, None, Some, refl, sym, ◌∙◌, subst, arith, slice_get, map}
-use Rattle.std.specs.Option.{unwrap_or}
-use Rattle.std.proofs.lemmas.Bool.{cases_lt}
-use Rattle.std.proofs.lemmas.Option.{slice_get_within}
-use Rattle.bp_language.specs.Ast.{Program}
-use Rattle.bp_flat.specs.StandsFor.{StepsAlike, StandsFor}
-use Rattle.bp_flat.specs.Flat.{Flat, Instruction}
-use Rattle.bp_machine.specs.Setups.{SetupOf, threads, start}
-use Rattle.bp_machine.proofs.ContextCounts.{count_of_none, within_more}
-use Rattle.bp_machine.proofs.RealFailures.{stacks_at_start}
-use Rattle.bp_explore.specs.States.{NodeOf as Node, AreLiveFrom, StateOf, Shows}
-use Rattle.bp_explore.specs.Explorations.{ListedSteps, CanMake, ends, IsInBound}
-use Rattle.bp_explore.specs.Searches.{BeginsAt, HasMade, HasNeither, HasNeitherBelow, IsExhausted, IsReached, AreReached, StayReached, AreAtMost, IsClosed, IsExplored, IsGrown}
+use Rattle.bp_explore.proofs.Common.{◌≡◌, ◌<◌, ◌≤◌, ℕ, Bool, true, inl, inr, ◌+◌, List, [], ◌∷◌, length, Option, None, Some, refl, sym, ◌∙◌, subst, arith, slice_get, map, unwrap_or, cases_lt, slice_get_within, Program, StepsAlike, StandsFor, Flat, Instruction, SetupOf, threads, start, count_of_none, within_more, stacks_at_start, AreLiveFrom, StateOf, Shows, ListedSteps, CanMake, ends, IsInBound, BeginsAt, HasMade, HasNeither, HasNeitherBelow, IsExhausted, IsReached, AreReached, StayReached, AreAtMost, IsClosed, IsExplored, IsGrown}
+use Rattle.bp_explore.specs.States.{NodeOf as Node}
 use Rattle.bp_explore.proofs.Growth.{at_most_layered, before, opened_small}
 use Rattle.bp_explore.proofs.ReachedNodes.{no_split}
 use Rattle.bp_explore.proofs.Soundness.{explored_makes_fewer, explored_is_live}

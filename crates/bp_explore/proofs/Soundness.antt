@@ -1,20 +1,7 @@
 -- Where all was explored, a run ends where a node is that has made as many of the listed steps.
-use Rattle.std.proofs.Common.{◌≡◌, ◌⊎◌, ℕ, ◌+◌, ◌<◌, ◌≤◌, Bool, true, false, List, [], ◌∷◌, length, Option, None, Some, refl, ap, sym, ◌∙◌, subst, inl, inr, arith, slice_get, map}
-use Rattle.std.proofs.lemmas.Option.{slice_get_within}
-use Rattle.bp_language.specs.Ast.{Program}
-use Rattle.bp_flat.specs.StandsFor.{StepsAlike, StandsFor}
-use Rattle.bp_flat.specs.Moves.{Configuration}
-use Rattle.bp_flat.specs.Flat.{Flat}
-use Rattle.bp_machine.specs.declared.calls.Call.{Call}
-use Rattle.bp_machine.specs.Runs.{EachHasRoom, IsDeadlocked}
-use Rattle.bp_machine.specs.Sessions.{contexts_opened}
+use Rattle.bp_explore.proofs.Common.{◌≡◌, ◌⊎◌, ℕ, ◌+◌, ◌<◌, ◌≤◌, Bool, true, false, List, [], ◌∷◌, length, Option, None, Some, refl, ap, sym, ◌∙◌, subst, inl, inr, arith, slice_get, map, slice_get_within, Program, StepsAlike, StandsFor, Configuration, Flat, Call, EachHasRoom, IsDeadlocked, contexts_opened, SetupOf, threads, start, opened, opened_more, least, move_keeps, thread_below, stacks_at_start, ListedSteps, MakesFrom, CanMake, IsReachable, AreLiveFrom, Shows, HaveFewer, IsStep, Step, level_with, IsSeen, IsClosed}
 use Rattle.bp_machine.specs.Histories as reports
-use Rattle.bp_machine.specs.Setups.{SetupOf, threads, start}
-use Rattle.bp_machine.proofs.ContextCounts.{opened, opened_more, least}
-use Rattle.bp_machine.proofs.RealFailures.{move_keeps, thread_below, stacks_at_start}
-use Rattle.bp_explore.specs.Explorations.{ListedSteps, MakesFrom, CanMake, IsReachable}
-use Rattle.bp_explore.specs.States.{AreLiveFrom, NodeOf as Node, Shows}
-use Rattle.bp_explore.specs.Searches.{HaveFewer, IsStep, Step, level_with, IsSeen, IsClosed}
+use Rattle.bp_explore.specs.States.{NodeOf as Node}
 use Rattle.bp_explore.proofs.MadeSteps.{FirstMade, no_more, first_made, run_passes, Matches, step_matches}
 
 abbrev thread_of : Call → ℕ

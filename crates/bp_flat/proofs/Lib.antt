@@ -1,3 +1,4 @@
+pub mod Common
 mod WordBits
 pub mod SlotsOfNames
 pub mod ProceduresOfPlaces

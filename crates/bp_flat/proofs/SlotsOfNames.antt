@@ -1,16 +1,9 @@
 -- The slot of a name has the value that its variable has.
-use Rattle.std.proofs.Common.{◌≡◌, ◌∙◌, ◌+◌, ℕ, suc, true, false, cond, List, [], ◌∷◌, ◌++◌, Option, None, Some, bytes_eq, length, ap, sym, refl, add-one, arith, zero, Bool, drop, slice_get, map, subst, if◌then◌else◌, option_map, MatchOption}
-use Rattle.std.specs.Option.{option_or}
-use Rattle.std.proofs.lemmas.Option.{slice_get-map}
-use Rattle.bp_language.specs.Ast.{Name, Procedure, Program}
+use Rattle.bp_flat.proofs.Common.{◌≡◌, ◌∙◌, ◌+◌, ℕ, suc, true, false, cond, List, [], ◌∷◌, ◌++◌, Option, None, Some, bytes_eq, length, ap, sym, refl, add-one, arith, zero, Bool, drop, slice_get, map, subst, if◌then◌else◌, option_map, MatchOption, option_or, slice_get-map, Name, Procedure, Program, valuation_of, StandsFor, Place, Heads, IsEntryOf, places_of, Bits, with_slot, with_slots, formula_value, formula_values, lookup, Store, procedure_named, formula_of, Flat, heading_named}
 use Rattle.bp_language.specs.Faults.{first_index, first_index_from}
-use Rattle.bp_flat.specs.StandsFor.{valuation_of, StandsFor, Place, Heads, IsEntryOf, places_of}
-use Rattle.bp_flat.specs.Steps.{Bits, with_slot, with_slots, formula_value, formula_values}
-use Rattle.bp_flat.specs.Moves.{lookup, Store, procedure_named}
 use Rattle.bp_flat.specs.declared.slots.Slot.{Slot}
 use Rattle.bp_flat.specs.declared.exprs.SlotExpr.{SlotExpr}
-use Rattle.bp_flat.specs.Views.{formula_of}
-use Rattle.bp_flat.specs.Flat.{Flat, Heading, heading_named}
+use Rattle.bp_flat.specs.Flat.{Heading}
 
 -- an index that is counted from one place later
 index_later : (n : ℕ) (ys : List Name) (x : List ℕ) → first_index_from (n + 1) ys x ≡ option_map suc (first_index_from n ys x)

@@ -1,11 +1,8 @@
 -- The bits of a word after one of them was set or cleared.
-use Rattle.std.proofs.Common.{◌≡◌, ◌≢◌, ◌⊎◌, inl, inr, refl, ap, ◌∙◌, ℕ, zero, suc, ◌*◌, ◌-◌, ◌%◌, ◌^◌, ◌<◌, Bool, true, false, nat_eq, bit_and, bit_or, arith, ◌+◌, sym, ◌/◌, ◌≤◌, List, [], ◌∷◌, Some, take, slice_get, add-one, div-add-mod'}
+use Rattle.bp_flat.proofs.Common.{◌≡◌, ◌≢◌, ◌⊎◌, inl, inr, refl, ap, ◌∙◌, ℕ, zero, suc, ◌*◌, ◌-◌, ◌%◌, ◌^◌, ◌<◌, Bool, true, false, nat_eq, bit_and, bit_or, arith, ◌+◌, sym, ◌/◌, ◌≤◌, List, [], ◌∷◌, Some, take, slice_get, add-one, div-add-mod', bit_at_set_same, bit_at_set_other, bit_at_clear_same, bit_at_clear_other, bit_at_above, bit_at_and, bit_at_cat_low, bit_at_cat_high, Bits, with_bit, bits_from, bits_of}
 use Rattle.std.proofs.Math.Path.{fun_ext}
 use Rattle.std.specs.Int.{w128, bit_at, bit_not}
-use Rattle.std.proofs.lemmas.Nat.Bits.{bit_at_set_same, bit_at_set_other, bit_at_clear_same, bit_at_clear_other, bit_at_above, bit_at_and, bit_at_cat_low, bit_at_cat_high}
 use Rattle.std.proofs.lemmas.Bool.{cases_lt}
-use Rattle.bp_flat.specs.Steps.{Bits, with_bit, bits_from}
-use Rattle.bp_flat.specs.InstrEffects.{bits_of}
 
 with_bit_same : (f : Bits) (k : ℕ) (b : Bool) → b ≡ with_bit f k b k
 with_bit_same f zero b = refl

@@ -1,17 +1,9 @@
 -- What each lawful program keeps.
-use Rattle.std.proofs.Common.{◌⊎◌, List, [], ◌∷◌, ◌++◌, inl, inr, ◌≡◌, ℕ, ◌<◌, length, Option, refl, subst, arith, ◌≢◌, ◌≤◌, Bool, true, false, get_or, map, None, Some, rules}
-use Rattle.std.proofs.Math.Logic.{∥∥₁_elim}
-use Rattle.std.specs.Coded.{le_prop}
+use Rattle.bp_language.proofs.Common.{◌⊎◌, List, [], ◌∷◌, ◌++◌, inl, inr, ◌≡◌, ℕ, ◌<◌, length, Option, refl, subst, arith, ◌≢◌, ◌≤◌, Bool, true, false, get_or, map, None, Some, rules, ∥∥₁_elim, le_prop, cases_lt, Name, Block, Statement, Assigns, Procedure, Program, Expression, Skips, GoesTo, Returns, Branches, Loops, Asserts, Assumes, Prints, Calls, variables, procedure_named, Token, IsNames, IsForm, skip, jump, returning, assignment, branch, loop, assertion, assumption, printing, call, IsStmt, labelled, unlabelled, IsStmts, one_stmt, more_stmts, proc, IsProcs, no_proc, more_procs, Derives, program, IsTextOf, HasText, MAX_PROCEDURES, MAX_GLOBALS, MAX_OWN_NAMES}
 use Rattle.std.proofs.lemmas.List.{length-map}
 use Rattle.std.proofs.lemmas.Option.{slice_get-get_or}
-use Rattle.std.proofs.lemmas.Bool.{cases_lt}
-use Rattle.bp_language.specs.Ast.{Name, Block, Statement, Assigns, Procedure, Program, Expression, Skips, GoesTo, Returns, Branches, Loops, Asserts, Assumes, Prints, Calls, variables, procedure_named}
 use Rattle.bp_language.specs.Faults.{Among, Labelled, statements, statements_inside, labels, IsTwice, IsPast, CallsNone, CallsWrongly, IsUneven, IsLawful, HasFewNames, AreDistinct, HasDistinctNames, IsSound, HasSoundStatements}
-use Rattle.bp_language.specs.Tokens.{Token}
-use Rattle.bp_language.specs.Grammar.{IsNames, IsForm, skip, jump, returning, assignment, branch, loop, assertion, assumption, printing, call, IsStmt, labelled, unlabelled, IsStmts, one_stmt, more_stmts, proc, IsProcs, no_proc, more_procs, Derives, program}
-use Rattle.bp_language.specs.Texts.{IsTextOf, HasText}
 use Rattle.bp_language.specs.declared.faults.CheckFault.TheVariants as fault
-use Rattle.bp_language.specs.declared.limits.TheConstants.{MAX_PROCEDURES, MAX_GLOBALS, MAX_OWN_NAMES}
 
 -- The values among lists.
 

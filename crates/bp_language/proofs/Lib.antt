@@ -1,3 +1,4 @@
+pub mod Common
 pub mod LawsOfLawfulPrograms
 pub mod SpelledNames
 pub mod NamesOfTokens

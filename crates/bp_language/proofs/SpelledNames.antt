@@ -1,18 +1,11 @@
 -- Each name in a program is spelled as a name, and what is spelled so holds no line feed.
-use Rattle.std.proofs.Common.{◌≡◌, Bool, true, false, ◌&&◌, refl, ℕ, List, take, Option, Some, ◌≢◌, not, cond, nat_eq, bytes_eq, [], ◌∷◌, is_some, All, inl, inr, sym, ap, subst, ◌∙◌, arith, rules}
-use Rattle.std.proofs.lemmas.Bool.{false≢true}
+use Rattle.bp_language.proofs.Common.{◌≡◌, Bool, true, false, ◌&&◌, refl, ℕ, List, take, Option, Some, ◌≢◌, not, cond, nat_eq, bytes_eq, [], ◌∷◌, is_some, All, inl, inr, sym, ap, subst, ◌∙◌, arith, rules, false≢true, ∥∥₁_elim, Name, Program, Token, fits, kind_of, AllReal, Lexeme, IsCut, ends, fit, open_brace, bad_byte, tokens_of, with_token, is_word_byte, is_braced_byte, is_braced_rest, constants, symbols, long_symbols, reserved_words, word_kind, IsSpelled, TokenKind, NamesInProgram, IsTextOf, HasText}
 use Rattle.std.proofs.Math.Bool.{Bool-set}
-use Rattle.std.proofs.Math.Logic.{∥∥₁_elim}
 use Rattle.std.proofs.lemmas.List.Elements.{All-nil, All-cons}
 use Rattle.std.specs.List.{list_all}
 use Rattle.std.specs.Map.{lookup}
 use Rattle.std.specs.Option.{unwrap_or}
-use Rattle.bp_language.specs.Ast.{Name, Program}
-use Rattle.bp_language.specs.Tokens.{Token, fits, kind_of, AllReal, Lexeme, IsCut, ends, fit, open_brace, bad_byte, tokens_of, with_token, is_word_byte, is_braced_byte, is_braced_rest, constants, symbols, long_symbols, reserved_words, word_kind, IsSpelled}
-use Rattle.bp_language.specs.declared.tokens.TokenKind.{TokenKind}
 use Rattle.bp_language.specs.declared.tokens.LexemeKind.{LexemeKind}
-use Rattle.bp_language.specs.NamesIn.{NamesInProgram}
-use Rattle.bp_language.specs.Texts.{IsTextOf, HasText}
 use Rattle.bp_language.specs.declared.tokens.TokenKind.TheVariants as kind
 use Rattle.bp_language.specs.declared.tokens.LexemeKind.TheVariants as lexeme
 use Rattle.bp_language.proofs.NamesOfTokens.{EachNamed, in_program, one_program}

@@ -1,10 +1,5 @@
 -- How many contexts a list of threads needs: one for each thread that differs from the one before it.
-use Rattle.std.proofs.Common.{◌≡◌, ◌↔◌, IsTrue, ℕ, ◌+◌, ◌≤◌, ◌==◌, Bool, true, false, cond, nat_le, List, [], ◌∷◌, ◌++◌, length, Option, None, Some, refl, ap, sym, ◌∙◌, subst, arith}
-use Rattle.std.specs.List.{concat}
-use Rattle.std.proofs.lemmas.Bool.Decides.{nat_tests}
-use Rattle.bp_machine.specs.declared.contexts.ContextCount.{ContextCount}
-use Rattle.bp_machine.specs.Histories.{EachIs, EachOfOne, IsWithin, IsLeastWithin}
-use Rattle.bp_machine.specs.Sessions.{last_thread, contexts_opened, used_with, count_with, IsCountOf}
+use Rattle.bp_machine.proofs.Common.{◌≡◌, ◌↔◌, IsTrue, ℕ, ◌+◌, ◌≤◌, ◌==◌, Bool, true, false, cond, nat_le, List, [], ◌∷◌, ◌++◌, length, Option, None, Some, refl, ap, sym, ◌∙◌, subst, arith, concat, nat_tests, ContextCount, EachIs, EachOfOne, IsWithin, IsLeastWithin, last_thread, contexts_opened, used_with, count_with, IsCountOf}
 
 -- where these threads follow the thread l
 pub opened : Option ℕ → List ℕ → ℕ

@@ -1,20 +1,5 @@
 -- Deadlocks grant nothing, and how the threads are looked through for one.
-use Rattle.std.proofs.Common.{◌≡◌, ◌&&◌, Bool, true, false, cond, List, [], ◌∷◌, Some, refl, ℕ, ◌+◌, ◌<◌, ◌≤◌, ◌++◌, None, ap, sym, ◌∙◌, subst, arith, inl, inr, zero, suc, drop, length, ◌⊎◌, get_or, unwrap_or, IsTrue, ◌↔◌, slice_get, rules}
-use Rattle.std.proofs.lemmas.Bool.{cases_lt}
-use Rattle.std.proofs.lemmas.List.{append-nil, get_or_past}
-use Rattle.std.proofs.lemmas.Option.{slice_get_cases}
-use Rattle.bp_language.specs.Ast.{Block, Program}
-use Rattle.bp_language.proofs.GrownLists.{regrouped}
-use Rattle.bp_flat.specs.Moves.{Valuation, Frame, is_call, effect, Configuration}
-use Rattle.bp_flat.specs.StandsFor.{ShowsFrame, ShowsStack}
-use Rattle.bp_machine.specs.declared.calls.Reply.TheVariants.{Full, Stopped}
-use Rattle.bp_machine.specs.Histories.{is_full, reply_to_effect, reply_on_stack, is_granted, stack_of, reply_of, configuration_after_step, configuration_after, granted_calls, IsLegalAfter, IsLegal}
-use Rattle.bp_machine.specs.Runs.{is_blocked, waits, is_left, has_frames, IsDeadlocked}
-use Rattle.bp_machine.specs.declared.calls.Call.{Call}
-use Rattle.bp_machine.specs.declared.calls.Reply.{Reply}
-use Rattle.bp_machine.specs.Setups.{SetupOf, threads}
-use Rattle.bp_machine.specs.Sessions.{State, StandsAfter, GuestThreadOf, top_of, activation_of, activations}
-use Rattle.bp_machine.specs.declared.stacks.ActivationRecord.{ActivationRecord}
+use Rattle.bp_machine.proofs.Common.{◌≡◌, ◌&&◌, Bool, true, false, cond, List, [], ◌∷◌, Some, refl, ℕ, ◌+◌, ◌<◌, ◌≤◌, ◌++◌, None, ap, sym, ◌∙◌, subst, arith, inl, inr, zero, suc, drop, length, ◌⊎◌, get_or, unwrap_or, IsTrue, ◌↔◌, slice_get, rules, cases_lt, append-nil, get_or_past, slice_get_cases, Block, Program, regrouped, Valuation, Frame, is_call, effect, Configuration, ShowsFrame, ShowsStack, Full, Stopped, is_full, reply_to_effect, reply_on_stack, is_granted, stack_of, reply_of, configuration_after_step, configuration_after, granted_calls, IsLegalAfter, IsLegal, is_blocked, waits, is_left, has_frames, IsDeadlocked, Call, Reply, SetupOf, threads, State, StandsAfter, GuestThreadOf, top_of, activation_of, activations, ActivationRecord}
 use Rattle.bp_machine.proofs.HistoryWithCall.{configuration_after-append}
 
 -- Where a thread is blocked with bit 1 it is blocked with bit 0 as well, so one look tells whether it waits.

@@ -1,9 +1,5 @@
 -- The verdict of a call is the machine's answer, and the state after it stands after the longer history.
-use Rattle.std.proofs.Common.{◌≡◌, suc, ◌+◌, ◌≤◌, Bool, true, false, List, [], ◌∷◌, length, refl, ap, arith}
-use Rattle.bp_language.specs.Ast.{Block, Procedure, Program}
-use Rattle.bp_flat.specs.Moves.{Valuation, Frame, is_call, StatementEffect, Leaves, Misses, effect}
-use Rattle.bp_flat.specs.Steps.{Bits, Activation}
-use Rattle.bp_flat.specs.StandsFor.{valuation_of, ShowsStack, SameEffect}
+use Rattle.bp_machine.proofs.Common.{◌≡◌, suc, ◌+◌, ◌≤◌, Bool, true, false, List, [], ◌∷◌, length, refl, ap, arith, Block, Procedure, Program, Valuation, Frame, is_call, StatementEffect, Leaves, Misses, effect, Bits, Activation, valuation_of, ShowsStack, SameEffect}
 
 module _ (t : Program) where
   pub shown_length : (below : List Activation) (fs : List Frame) → ShowsStack t below fs → length below ≡ length fs

@@ -1,15 +1,6 @@
 -- The granted calls of a legal history are a run within the bounds of its setup.
-use Rattle.std.proofs.Common.{◌≡◌, ◌≢◌, ℕ, zero, suc, ◌+◌, ◌*◌, ◌<◌, ◌≤◌, ◌==◌, Bool, true, false, cond, ◌||◌, List, [], ◌∷◌, ◌++◌, length, refl, ap, sym, ◌∙◌, subst, arith, add-one, inl, inr, append-nil, length-append, map, rules}
-use Rattle.std.proofs.Math.Nat.{suc-mul}
-use Rattle.std.proofs.lemmas.Bool.Decides.{nat_tests}
-use Rattle.bp_language.specs.Ast.{Program}
-use Rattle.bp_language.proofs.GrownLists.{regrouped}
-use Rattle.bp_flat.specs.Moves.{Configuration, Moves}
-use Rattle.bp_machine.specs.declared.calls.Call.{Call}
-use Rattle.bp_machine.specs.Setups.{SetupOf, threads}
-use Rattle.bp_machine.specs.Histories.{calls_of_thread, is_finished, IsAllowed, IsLegalAfter, IsLegal, configuration_after_call, IsWithin, configuration_after, granted_threads, granted_calls, is_granted, IsRun}
-use Rattle.bp_machine.specs.declared.calls.Reply.{Reply}
-use Rattle.bp_machine.specs.Runs.{HasRoom, EachHasRoom, reply_of_step, history_of_run, HasBoundedRun}
+use Rattle.bp_machine.proofs.Common.{◌≡◌, ◌≢◌, ℕ, zero, suc, ◌+◌, ◌*◌, ◌<◌, ◌≤◌, ◌==◌, Bool, true, false, cond, ◌||◌, List, [], ◌∷◌, ◌++◌, length, refl, ap, sym, ◌∙◌, subst, arith, add-one, inl, inr, length-append, map, rules, suc-mul, nat_tests, Program, regrouped, Configuration, Moves, Call, SetupOf, threads, calls_of_thread, is_finished, IsAllowed, IsLegalAfter, IsLegal, configuration_after_call, IsWithin, configuration_after, granted_threads, granted_calls, is_granted, IsRun, Reply, HasRoom, EachHasRoom, reply_of_step, history_of_run, HasBoundedRun}
+use Rattle.std.proofs.Common.{append-nil}
 use Rattle.bp_machine.proofs.HistoryWithCall.{calls_of_thread-same, calls_of_thread-other, same_or_not, configuration_after-append}
 use Rattle.bp_machine.proofs.RealFailures.{IsStep, is_step, step_moves, run_from, runs, within, first_step, ended, one_move}
 use Rattle.bp_machine.proofs.RunsAreHistories.{reply_before}

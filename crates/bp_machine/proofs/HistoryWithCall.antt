@@ -1,21 +1,7 @@
 -- A history with one more call.
-use Rattle.std.proofs.Common.{◌≡◌, ◌≢◌, ℕ, zero, suc, ◌+◌, ◌<◌, ◌==◌, Bool, true, false, cond, ◌||◌, nat_le, List, [], ◌∷◌, ◌++◌, length, refl, ap, ◌∙◌, subst, arith, take, get_or, sym, length-append, ◌⊎◌, Some, inl, inr, ◌≤◌, slice_get, slice_set, rules}
-use Rattle.std.proofs.lemmas.List.{append-nil, take_more, length-set}
-use Rattle.std.proofs.lemmas.Bool.Decides.{nat_tests}
-use Rattle.bp_language.specs.Ast.{Program}
-use Rattle.bp_language.proofs.GrownLists.{regrouped}
-use Rattle.bp_flat.specs.Moves.{Configuration}
-use Rattle.bp_flat.specs.InstrEffects.{bits_of}
-use Rattle.bp_flat.specs.StandsFor.{valuation_of, ShowsStack}
-use Rattle.bp_machine.specs.declared.calls.Call.{Call}
-use Rattle.bp_machine.specs.Setups.{SetupOf, start, threads}
-use Rattle.bp_machine.specs.Histories.{configuration_after_call, is_last, is_granted, configuration_after_calls, configuration_after, granted_threads, calls_of_thread, ends_with_last, is_finished, open_below, IsAllowed, IsLegalAfter, IsLegal, outcome_or, outcome_of, is_failure, stack_of, finished_by, open_lines}
-use Rattle.bp_machine.specs.declared.calls.Reply.{Reply}
-use Rattle.bp_machine.specs.declared.calls.Reply.TheVariants.{Stepped}
+use Rattle.bp_machine.proofs.Common.{◌≡◌, ◌≢◌, ℕ, zero, suc, ◌+◌, ◌<◌, ◌==◌, Bool, true, false, cond, ◌||◌, nat_le, List, [], ◌∷◌, ◌++◌, length, refl, ap, ◌∙◌, subst, arith, take, get_or, sym, length-append, ◌⊎◌, Some, inl, inr, ◌≤◌, slice_get, slice_set, rules, append-nil, take_more, length-set, nat_tests, Program, regrouped, Configuration, bits_of, valuation_of, ShowsStack, Call, SetupOf, start, threads, configuration_after_call, is_last, is_granted, configuration_after_calls, configuration_after, granted_threads, calls_of_thread, ends_with_last, is_finished, open_below, IsAllowed, IsLegalAfter, IsLegal, outcome_or, outcome_of, is_failure, stack_of, finished_by, open_lines, Reply, Stepped, Outcome, Clean, IsCountOf, State, activations, ShowsThread, StandsAfter, GuestThreadOf}
 use Rattle.bp_machine.specs.declared.calls.Reply.TheVariants as replies
-use Rattle.bp_machine.specs.declared.calls.Outcome.{Outcome}
-use Rattle.bp_machine.specs.declared.calls.Outcome.TheVariants.{Clean, Failed}
-use Rattle.bp_machine.specs.Sessions.{IsCountOf, State, activations, ShowsThread, StandsAfter, GuestThreadOf}
+use Rattle.bp_machine.specs.declared.calls.Outcome.TheVariants.{Failed}
 
 configuration_after_calls-append : (t : Program) (c : Configuration) (xs : List Call) (x : Call)
     → configuration_after_calls t c (xs ++ x ∷ []) ≡ configuration_after_call t (configuration_after_calls t c xs) x.thread x.bit x.reply

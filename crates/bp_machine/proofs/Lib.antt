@@ -1,3 +1,4 @@
+pub mod Common
 pub mod Deadlocks
 pub mod SessionAnswers
 pub mod HistoryWithCall

@@ -1,24 +1,10 @@
 -- Programs for which one code stands have the same legal histories and printed rows: each of them
 -- does what the code does.
-use Rattle.std.proofs.Common.{◌≡◌, ◌≢◌, ℕ, zero, suc, ◌+◌, ◌<◌, ◌==◌, ◌&&◌, nat_le, not, Bool, true, false, cond, List, [], ◌∷◌, ◌++◌, length, map, get_or, Option, None, Some, refl, ap, sym, ◌∙◌, subst, arith, inl, inr, slice_get, slice_set, option_map, unwrap_or, rules}
-use Rattle.std.specs.Option.{option_to_list}
-use Rattle.std.proofs.lemmas.List.{get_or-set_same, get_or-set_other, get_or_past}
-use Rattle.std.proofs.lemmas.Bool.{cases_lt}
-use Rattle.std.proofs.lemmas.Bool.Decides.{nat_tests}
-use Rattle.bp_language.specs.Ast.{Block, Procedure, Program}
-use Rattle.bp_flat.specs.Moves.{Frame, Configuration, is_call, first_stack, procedure_named, StatementEffect, Leaves, Fails, Blocks, Misses, effect, after_effect}
-use Rattle.bp_flat.specs.Flat.{Flat, Instruction, Call}
-use Rattle.bp_flat.specs.Steps.{Bits, Activation, InstructionEffect, bits_from, step}
-use Rattle.bp_flat.specs.StandsFor.{StandsFor, Does, valuation_of, places_of, ShowsStack, SameEffect}
+use Rattle.bp_machine.proofs.Common.{◌≡◌, ◌≢◌, ℕ, zero, suc, ◌+◌, ◌<◌, ◌==◌, ◌&&◌, nat_le, not, Bool, true, false, cond, List, [], ◌∷◌, ◌++◌, length, map, get_or, Option, None, Some, refl, ap, sym, ◌∙◌, subst, arith, inl, inr, slice_get, slice_set, option_map, unwrap_or, rules, option_to_list, get_or-set_same, get_or-set_other, get_or_past, cases_lt, nat_tests, Block, Procedure, Program, Frame, Configuration, is_call, first_stack, procedure_named, StatementEffect, Leaves, Blocks, Misses, effect, after_effect, Flat, Instruction, Bits, Activation, InstructionEffect, bits_from, step, StandsFor, Does, valuation_of, places_of, ShowsStack, SameEffect, Reply, Stopped, Ended, NoContexts, Full, Blocked, Failed, Stepped, MAX_FRAMES, is_granted, stack_of, reply_to_effect, reply_on_stack, reply_of, configuration_after_step, configuration_after_call, configuration_after, IsLegalAfter, IsLegal, first_thread, activations, SetupOf, start, entries_fault, entry_fault, Fits, FitsCode, rows_of_call, rows_after, printed_rows}
+use Rattle.bp_flat.specs.Moves.{Fails}
+use Rattle.bp_flat.specs.Flat.{Call}
 use Rattle.bp_flat.proofs.StandsForStepsAlike.{steps_alike}
 use Rattle.bp_machine.specs.declared.calls.Call as calls
-use Rattle.bp_machine.specs.declared.calls.Reply.{Reply}
-use Rattle.bp_machine.specs.declared.calls.Reply.TheVariants.{Stopped, Ended, NoContexts, Full, Blocked, Failed, Stepped}
-use Rattle.bp_machine.specs.declared.limits.TheConstants.{MAX_FRAMES}
-use Rattle.bp_machine.specs.Histories.{is_granted, stack_of, reply_to_effect, reply_on_stack, reply_of, configuration_after_step, configuration_after_call, configuration_after, IsLegalAfter, IsLegal}
-use Rattle.bp_machine.specs.Sessions.{first_thread, activations}
-use Rattle.bp_machine.specs.Setups.{SetupOf, start, entries_fault, entry_fault, Fits, FitsCode}
-use Rattle.bp_machine.specs.Runs.{rows_of_call, rows_after, printed_rows}
 use Rattle.bp_machine.proofs.EffectSizes.{shown_length}
 use Rattle.bp_machine.proofs.HistoryWithCall.{configuration_after-append}
 use Rattle.bp_machine.proofs.PrintsAlike.{printed_here, printed_alike}

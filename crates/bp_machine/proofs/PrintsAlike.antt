@@ -1,18 +1,7 @@
 -- Code and program print alike, and a session prints what its thread's code does.
-use Rattle.std.proofs.Common.{◌≡◌, ◌≢◌, ℕ, Bool, true, false, List, [], ◌∷◌, Option, None, Some, is_some, refl, ap, sym, ◌∙◌, slice_get, arith, rules}
-use Rattle.bp_language.specs.Ast.{Block, Done, Then, Skips, GoesTo, Returns, Assigns, Branches, Loops, Asserts, Assumes, Prints, Calls, Procedure, Program}
-use Rattle.bp_flat.specs.InstrEffects.{bits_of}
-use Rattle.bp_flat.specs.Moves.{Store, Valuation, Frame}
-use Rattle.bp_flat.specs.Flat.{Flat, Instruction, Print, instruction_kind}
+use Rattle.bp_machine.proofs.Common.{◌≡◌, ◌≢◌, ℕ, Bool, true, false, List, [], ◌∷◌, Option, None, Some, is_some, refl, ap, sym, ◌∙◌, slice_get, arith, rules, Block, Done, Then, Skips, GoesTo, Assigns, Branches, Loops, Asserts, Assumes, Prints, Calls, Procedure, Program, bits_of, Store, Valuation, Frame, Flat, Instruction, Print, instruction_kind, Bits, Activation, printed_values, StandsFor, Place, Does, places_of, named_store, valuation_of, ShowsStack, Call, ActivationRecord, GuestThreadOf, top_of, State, StandsAfter, activations, stack_of, configuration_after, values_at, values_printed, SetupOf}
+use Rattle.bp_language.specs.Ast.{Returns}
 use Rattle.bp_flat.specs.declared.instrs.Kind.TheVariants as kind
-use Rattle.bp_flat.specs.Steps.{Bits, Activation, printed_values}
-use Rattle.bp_flat.specs.StandsFor.{StandsFor, Place, Does, places_of, named_store, valuation_of, ShowsStack}
-use Rattle.bp_machine.specs.declared.calls.Call.{Call}
-use Rattle.bp_machine.specs.declared.stacks.ActivationRecord.{ActivationRecord}
-use Rattle.bp_machine.specs.Sessions.{GuestThreadOf, top_of, State, StandsAfter, activations}
-use Rattle.bp_machine.specs.Histories.{stack_of, configuration_after}
-use Rattle.bp_machine.specs.Runs.{values_at, values_printed}
-use Rattle.bp_machine.specs.Setups.{SetupOf}
 
 -- what the instruction of a number prints
 abbrev pub printed_at : Option Instruction → Store Bits → Option (List Bool)

@@ -1,16 +1,6 @@
 -- A run within the bounds of a setup is a legal history.
-use Rattle.std.proofs.Common.{◌≡◌, ◌<◌, ℕ, Bool, true, false, cond, ◌&&◌, nat_le, List, [], ◌∷◌, length, Some, refl, ap, ◌∙◌, arith, ◌≢◌, ◌+◌, ◌≤◌, ◌++◌, sym, subst, length-append, inl, inr, unwrap_or, map, rules}
-use Rattle.bp_language.specs.Ast.{Program}
-use Rattle.bp_language.proofs.GrownLists.{regrouped}
-use Rattle.bp_flat.specs.Moves.{Configuration, is_call, StatementEffect, effect, after_effect, Moves}
-use Rattle.bp_machine.specs.declared.calls.Reply.{Reply}
-use Rattle.bp_machine.specs.declared.calls.Reply.TheVariants.{Stopped, Full}
-use Rattle.bp_machine.specs.declared.calls.Call.{Call}
-use Rattle.bp_machine.specs.declared.limits.TheConstants.{MAX_FRAMES}
-use Rattle.bp_machine.specs.Histories.{stack_of, reply_to_effect, reply_on_stack, reply_of, configuration_after_step, configuration_after_call, is_granted, IsRun, IsWithin, configuration_after_calls, configuration_after, granted_threads, granted_calls, calls_of_thread, ends_with_last, is_finished, IsAllowed, IsLegalAfter, is_last}
-use Rattle.bp_machine.specs.Runs.{HasRoom, reply_of_step, EachHasRoom, IsBoundedRun, history_of_run, IsHistoryOfSteps}
+use Rattle.bp_machine.proofs.Common.{◌≡◌, ◌<◌, ℕ, Bool, true, false, cond, ◌&&◌, nat_le, List, [], ◌∷◌, length, Some, refl, ap, ◌∙◌, arith, ◌≢◌, ◌+◌, ◌≤◌, ◌++◌, sym, subst, length-append, inl, inr, unwrap_or, map, rules, Program, regrouped, Configuration, is_call, StatementEffect, effect, after_effect, Moves, Reply, Stopped, Full, Call, MAX_FRAMES, stack_of, reply_to_effect, reply_on_stack, reply_of, configuration_after_step, configuration_after_call, is_granted, IsRun, IsWithin, configuration_after_calls, configuration_after, granted_threads, granted_calls, calls_of_thread, ends_with_last, is_finished, IsAllowed, IsLegalAfter, is_last, HasRoom, reply_of_step, EachHasRoom, IsBoundedRun, history_of_run, IsHistoryOfSteps, SetupOf, threads, start}
 use Rattle.bp_machine.specs.Histories as reports
-use Rattle.bp_machine.specs.Setups.{SetupOf, threads, start}
 use Rattle.bp_machine.proofs.RealFailures.{stack_is, step_is, ended, first_step, FirstStep, move_keeps, thread_below, stacks_at_start}
 use Rattle.bp_machine.proofs.ContextCounts.{within_front}
 use Rattle.bp_machine.proofs.HistoryWithCall.{configuration_after-append, granted_threads-append, calls_of_thread-same, calls_of_thread-other, ends_with_last-append, same_or_not}

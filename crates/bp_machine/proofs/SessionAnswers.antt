@@ -1,22 +1,9 @@
 -- What a session that stands after a history answers: a call, a refusal, and its accessors.
-use Rattle.std.proofs.Common.{◌≡◌, ℕ, ◌+◌, ◌<◌, ◌||◌, nat_le, Bool, true, false, List, [], ◌∷◌, ◌++◌, length, Option, Some, is_some, refl, ap, sym, ◌∙◌, subst, arith, cond, add-one, zero, suc, ◌≤◌, None, get_or, ◌⊎◌, inl, inr, ◌^◌, length-set, slice_get, rules}
+use Rattle.bp_machine.proofs.Common.{◌≡◌, ℕ, ◌+◌, ◌<◌, ◌||◌, nat_le, Bool, true, false, List, [], ◌∷◌, ◌++◌, length, Option, Some, is_some, refl, ap, sym, ◌∙◌, subst, arith, cond, add-one, zero, suc, ◌≤◌, None, get_or, ◌⊎◌, inl, inr, ◌^◌, slice_get, rules, ∥∥₁_map, slice_get_within, slice_get_cases, Name, Program, bits_of, Bits, Flat, StandsFor, valuation_of, StepsAlike, Call, Transition, Judged, ChoicesOf, choice_bit, IsBitOfCall, configuration_after, is_finished, ends_with_last, calls_of_thread, open_below, SetupOf, threads, IsInRange, State, MachineOf, StandsAfter, GuestThreadOf, SessionOf, Stands, IsInOrder, HasOpenLine, IsNextCall, IsAskRefusal, choices_of, state_after, is_over, IsCallTransition, AreDrawn, IsKeptBit, IsJudged, IsKeptRefusal, session_of}
+use Rattle.std.proofs.Common.{length-set}
 use Rattle.std.specs.Option.{option_map}
-use Rattle.std.proofs.Math.Logic.{∥∥₁_map}
-use Rattle.std.proofs.lemmas.Option.{slice_get_within, slice_get_cases}
-use Rattle.bp_language.specs.Ast.{Name, Program}
-use Rattle.bp_flat.specs.InstrEffects.{bits_of}
-use Rattle.bp_flat.specs.Steps.{Bits}
-use Rattle.bp_flat.specs.Flat.{Flat}
-use Rattle.bp_flat.specs.StandsFor.{StandsFor, valuation_of, StepsAlike}
-use Rattle.bp_machine.specs.declared.calls.Call.{Call}
-use Rattle.bp_machine.specs.declared.threads.Transition.{Transition}
 use Rattle.bp_machine.specs.declared.calls.AskFault.{AskFault}
 use Rattle.bp_machine.specs.declared.calls.AskFault.TheVariants.{NoThread, Finished, Seeded, Unseeded, Memory, Busy}
-use Rattle.bp_machine.specs.declared.sessions.Judged.{Judged}
-use Rattle.bp_machine.specs.Histories.{ChoicesOf, choice_bit, IsBitOfCall, configuration_after, is_finished, ends_with_last, calls_of_thread, open_below}
-use Rattle.bp_machine.specs.Setups.{SetupOf, threads, IsInRange}
-use Rattle.bp_machine.specs.Sessions.{State, MachineOf, StandsAfter, GuestThreadOf, SessionOf, Stands, IsInOrder, HasOpenLine, IsNextCall, IsAskRefusal, choices_of}
-use Rattle.bp_machine.specs.Transitions.{state_after, is_over, IsCallTransition, AreDrawn, IsKeptBit, IsJudged, IsKeptRefusal, session_of}
 use Rattle.bp_machine.proofs.StandsAfterTransition.{seeded-append, choices_after, allowed, stands_after, call_step}
 use Rattle.bp_machine.proofs.SessionsInOrder.{still_stands, stays_in_order, still_judged, few_calls}
 

@@ -1,29 +1,8 @@
 -- A session that is new is in order, and one that makes room for a call stays so; a call that was judged may be made.
-use Rattle.std.proofs.Common.{◌≡◌, ℕ, zero, suc, ◌+◌, ◌==◌, Bool, false, List, [], ◌∷◌, ◌++◌, length, map, Option, None, Some, refl, ap, sym, ◌∙◌, subst, ◌<◌, ◌^◌, nat_le, true, arith, ◌⊎◌, ◌-◌, drop, reverse, inl, inr, slice_get, option_map, slice_set, rules}
-use Rattle.std.specs.Option.{option_or}
+use Rattle.bp_machine.proofs.Common.{◌≡◌, ℕ, zero, suc, ◌+◌, ◌==◌, Bool, false, List, [], ◌∷◌, ◌++◌, length, map, Option, None, Some, refl, ap, sym, ◌∙◌, subst, ◌<◌, ◌^◌, nat_le, true, arith, ◌⊎◌, ◌-◌, drop, reverse, inl, inr, slice_get, option_map, slice_set, rules, option_or, length-map, reverse-append, slice_get-map, get_or_from_slice_get, ∥∥₁_map, set-append_seam, Name, Procedure, Program, regrouped, bits_of, binding, procedure_named, first_stack, Flat, Heading, heading_named, Instruction, bits_from, StandsFor, valuation_of, places_of, ShowsStack, IsOfProgram, SameHeading, heading_of_procedure, SetupFault, IsCountOf, State, activations, ShowsThread, StandsAfter, GuestThreadOf, first_thread, used_with, MachineOf, SessionOf, Stands, IsInOrder, top_of, with_top, entered_top, SetupOf, start, entry_fault, entries_fault, Fits, IsInRange, FitsCode, Clean, is_failure, ChoicesOf, Call, Judged, ActivationRecord, is_over, session_of, AreFirstChoices, IsJudged}
 use Rattle.std.proofs.Math.Path.{fun_ext}
-use Rattle.std.proofs.lemmas.List.{length-map, reverse-append, length-append}
-use Rattle.std.proofs.lemmas.Option.{slice_get-map, get_or_from_slice_get}
+use Rattle.std.proofs.lemmas.List.{length-append}
 use Rattle.std.proofs.lemmas.Nat.Bits.{bit_at-zero}
-use Rattle.std.proofs.Math.Logic.{∥∥₁_map}
-use Rattle.std.proofs.Math.Seq.{set-append_seam}
-use Rattle.bp_language.specs.Ast.{Name, Procedure, Program}
-use Rattle.bp_language.proofs.GrownLists.{regrouped}
-use Rattle.bp_flat.specs.InstrEffects.{bits_of}
-use Rattle.bp_flat.specs.Moves.{binding, procedure_named, first_stack}
-use Rattle.bp_flat.specs.Flat.{Flat, Heading, heading_named, Instruction}
-use Rattle.bp_flat.specs.Steps.{bits_from}
-use Rattle.bp_flat.specs.StandsFor.{StandsFor, valuation_of, places_of, ShowsStack, IsOfProgram}
-use Rattle.bp_flat.proofs.SlotsOfNames.{SameHeading, heading_of_procedure}
-use Rattle.bp_machine.specs.declared.setup_faults.SetupFault.{SetupFault}
-use Rattle.bp_machine.specs.Sessions.{IsCountOf, State, activations, ShowsThread, StandsAfter, GuestThreadOf, first_thread, used_with, MachineOf, SessionOf, Stands, IsInOrder, top_of, with_top, entered_top}
-use Rattle.bp_machine.specs.Setups.{SetupOf, start, entry_fault, entries_fault, Fits, IsInRange, FitsCode}
-use Rattle.bp_machine.specs.declared.calls.Outcome.TheVariants.{Clean}
-use Rattle.bp_machine.specs.Histories.{is_failure, ChoicesOf}
-use Rattle.bp_machine.specs.declared.calls.Call.{Call}
-use Rattle.bp_machine.specs.declared.sessions.Judged.{Judged}
-use Rattle.bp_machine.specs.declared.stacks.ActivationRecord.{ActivationRecord}
-use Rattle.bp_machine.specs.Transitions.{is_over, session_of, AreFirstChoices, IsJudged}
 use Rattle.bp_machine.proofs.ContextCounts.{count_of_none}
 
 -- A new session stands after the empty history.

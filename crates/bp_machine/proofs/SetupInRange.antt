@@ -1,17 +1,8 @@
 -- A setup without a fault fits its program, and its numbers are within their limits, since a program has few globals.
-use Rattle.std.proofs.Common.{◌≡◌, ℕ, Bool, true, false, List, refl, sym, ◌<◌, ◌≤◌, ◌==◌, ◌||◌, nat_lt, not, length, [], ◌∷◌, Option, None, Some, arith, ◌≢◌, ◌+◌, cond, All, ◌∙◌, subst, bytes_eq, zero, suc, ap, option_map, map, get_or, take, ◌++◌, Bor, String, Global, string_bytes, if◌then◌else◌, drop, add-one, replicate, slice_get, is_some, rules}
-use Rattle.std.proofs.lemmas.Bool.{false≢true}
-use Rattle.std.proofs.Math.Logic.{∥∥₁_map, ∥∥₁_elim}
-use Rattle.std.proofs.Math.Nat.{ℕ_set}
-use Rattle.std.specs.Option.{option_or, option_copied}
-use Rattle.std.proofs.lemmas.Bool.Decides.{nat_tests}
+use Rattle.bp_machine.proofs.Common.{◌≡◌, ℕ, Bool, true, false, List, refl, sym, ◌<◌, ◌≤◌, ◌==◌, ◌||◌, nat_lt, not, length, [], ◌∷◌, Option, None, Some, arith, ◌≢◌, ◌+◌, cond, All, ◌∙◌, subst, bytes_eq, zero, suc, ap, option_map, map, get_or, take, ◌++◌, Bor, String, Global, string_bytes, if◌then◌else◌, drop, add-one, replicate, slice_get, is_some, rules, false≢true, ∥∥₁_map, ∥∥₁_elim, ℕ_set, option_or, option_copied, nat_tests, AllByRecursion, map-append, take_more, take-replicate, slice_get-map, slice_get-get_or, Program, Procedure, Flat, Heading, heading_named, StandsFor, IsOfProgram, procedure_named, formals_of_procedure, Call, open_lines, SessionOf, Stands, StandsForAll, SetupFault, MAX_THREADS, MAX_CALLS, SetupOf, threads, entries_fault, fault_if, first_of, has_bad_threads, is_out_of_range, setup_fault, Fits, IsInRange, entry_fault, IsSetupRefusal, initial_bits}
 use Rattle.std.specs.Coded.{le_prop}
-use Rattle.std.specs.List.{AllByRecursion}
 use Rattle.std.proofs.lemmas.List.Elements.{All-nil, All-cons}
 use Rattle.std.proofs.lemmas.Slice.Eq.{bytes_eq-Decides}
-use Rattle.std.proofs.lemmas.List.{map-append, take_more, take-replicate}
-use Rattle.std.proofs.lemmas.Option.{slice_get-map, slice_get-get_or}
-use Rattle.bp_language.specs.Ast.{Program, Procedure}
 use Rattle.bp_language.specs.Texts.{HasText}
 use Rattle.bp_language.specs.Faults.{IsLawful}
 use Rattle.bp_language.specs.declared.limits.TheConstants.{MAX_GLOBALS}
@@ -19,18 +10,8 @@ use Rattle.bp_language.specs.NamesIn.{NamesInProcedures}
 use Rattle.bp_language.specs.Tokens.{IsSpelled}
 use Rattle.bp_language.proofs.LawsOfLawfulPrograms.{few_names}
 use Rattle.bp_language.proofs.SpelledNames.{on_one_line, spelled_names}
-use Rattle.bp_flat.specs.Flat.{Flat, Heading, heading_named}
-use Rattle.bp_flat.specs.StandsFor.{StandsFor, IsOfProgram}
-use Rattle.bp_flat.specs.Moves.{procedure_named}
 use Rattle.bp_flat.specs.declared.headings.Heading as kept
-use Rattle.bp_flat.proofs.SlotsOfNames.{formals_of_procedure}
-use Rattle.bp_machine.specs.declared.calls.Call.{Call}
-use Rattle.bp_machine.specs.Histories.{open_lines}
-use Rattle.bp_machine.specs.Sessions.{SessionOf, Stands, StandsForAll}
-use Rattle.bp_machine.specs.declared.setup_faults.SetupFault.{SetupFault}
 use Rattle.bp_machine.specs.declared.setup_faults.SetupFault.TheVariants.{Threads, InitLength, OutOfRange, EntryHasFormals, Memory}
-use Rattle.bp_machine.specs.declared.limits.TheConstants.{MAX_THREADS, MAX_CALLS}
-use Rattle.bp_machine.specs.Setups.{SetupOf, threads, entries_fault, fault_if, first_of, has_bad_threads, is_out_of_range, setup_fault, Fits, IsInRange, entry_fault, IsSetupRefusal, initial_bits}
 
 -- What holds for every program that a code stands for, where it stands for one.
 

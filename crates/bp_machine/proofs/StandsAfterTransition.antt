@@ -1,25 +1,8 @@
 -- A session that stands after a history stands after it with the call that it answers.
-use Rattle.std.proofs.Common.{◌≡◌, ℕ, ◌+◌, ◌<◌, Bool, true, false, cond, nat_le, List, [], ◌∷◌, ◌++◌, length, Some, refl, ap, sym, ◌∙◌, subst, arith, suc, ◌/◌, add-one, ◌⊎◌, zero, inl, inr, slice_get, slice_set, unwrap_or, length-set, append-nil, get_or-set_same, get_or-set_other, length-append, rules}
-use Rattle.rand_pcg.specs.Lcg.{Lcg, started, increment_of}
-use Rattle.rand_pcg.specs.Pcg.{multiplier_64, pcg32}
-use Rattle.std.proofs.lemmas.Option.{slice_get_within, slice_get_cases}
-use Rattle.bp_language.specs.Ast.{Program}
-use Rattle.bp_flat.specs.Moves.{Frame, Configuration, after_effect}
-use Rattle.bp_flat.specs.Flat.{Flat}
-use Rattle.bp_flat.specs.StandsFor.{ShowsStack, StepsAlike}
-use Rattle.bp_flat.specs.declared.effects.Effect.{Effect}
-use Rattle.bp_flat.specs.declared.effects.Effect.TheVariants.{Continues, Enters, Returns}
+use Rattle.bp_machine.proofs.Common.{◌≡◌, ℕ, ◌+◌, ◌<◌, Bool, true, false, cond, nat_le, List, [], ◌∷◌, ◌++◌, length, Some, refl, ap, sym, ◌∙◌, subst, arith, suc, ◌/◌, add-one, ◌⊎◌, zero, inl, inr, slice_get, slice_set, unwrap_or, length-append, rules, Lcg, started, increment_of, multiplier_64, pcg32, slice_get_within, slice_get_cases, Program, Frame, Configuration, after_effect, Flat, ShowsStack, StepsAlike, Effect, Continues, Enters, Returns, Reply, Stopped, Failed, Stepped, Call, Transition, Stays, Fails, Steps, used_with, count_with, IsCountOf, State, activations, StandsAfter, GuestThreadOf, IsCallStep, SetupOf, threads, is_granted, stack_of, reply_on_stack, configuration_after_step, configuration_after, granted_threads, is_finished, IsAllowed, is_failure, ChoicesOf, IsAt, choice_word, choice_bit, calls_of_thread, IsSeeded, IsTransition, reply_of_transition, thread_after, state_after, stack_after, IsEntering, IsCallTransition, AreDrawn, ActivationRecord}
+use Rattle.std.proofs.Common.{length-set, append-nil, get_or-set_same, get_or-set_other}
 use Rattle.bp_flat.specs.declared.effects.Effect.TheVariants as instr
-use Rattle.bp_machine.specs.declared.calls.Reply.{Reply}
-use Rattle.bp_machine.specs.declared.calls.Reply.TheVariants.{Stopped, Failed, Stepped}
-use Rattle.bp_machine.specs.declared.calls.Call.{Call}
-use Rattle.bp_machine.specs.declared.threads.Transition.{Transition}
-use Rattle.bp_machine.specs.declared.threads.Transition.TheVariants.{Stays, Fails, Steps}
-use Rattle.bp_machine.specs.Sessions.{used_with, count_with, IsCountOf, State, activations, StandsAfter, GuestThreadOf, IsCallStep}
-use Rattle.bp_machine.specs.Setups.{SetupOf, threads}
-use Rattle.bp_machine.specs.Histories.{is_granted, stack_of, reply_on_stack, configuration_after_step, configuration_after, granted_threads, is_finished, IsAllowed, is_failure, ChoicesOf, IsAt, generator_after, choice_word, choice_bit, calls_of_thread, IsSeeded}
-use Rattle.bp_machine.specs.Transitions.{IsTransition, reply_of_transition, thread_after, state_after, stack_after, IsEntering, IsCallTransition, AreDrawn}
-use Rattle.bp_machine.specs.declared.stacks.ActivationRecord.{ActivationRecord}
+use Rattle.bp_machine.specs.Histories.{generator_after}
 use Rattle.bp_machine.proofs.HistoryWithCall.{same_outcome, stepped_outcome, failed_outcome, configuration_after-append, granted_threads-append, advance, calls_of_thread-same, calls_of_thread-other, same_or_not}
 use Rattle.bp_machine.proofs.ContextCounts.{counts_more, fits_with}
 use Rattle.bp_machine.proofs.TransitionIsAnswer.{IsAnswer, answer_of}

@@ -1,30 +1,9 @@
 -- The verdict of a call is the machine's answer.
-use Rattle.std.proofs.Common.{◌≡◌, ℕ, ◌&&◌, Bool, true, false, cond, nat_le, List, [], ◌∷◌, length, Option, None, Some, refl, ap, sym, ◌∙◌, subst, arith, ◌<◌, get_or, slice_get, slice_set, option_map, rules}
-use Rattle.std.proofs.lemmas.List.{length-map, map-set}
-use Rattle.std.proofs.Math.Seq.{map-set_same}
-use Rattle.std.proofs.lemmas.Option.{slice_get_read, slice_get-map}
-use Rattle.bp_language.specs.Ast.{Program}
-use Rattle.bp_flat.specs.InstrEffects.{bits_of, store_of, effect_of}
-use Rattle.bp_flat.specs.declared.effects.Effect.{Effect}
-use Rattle.bp_flat.specs.declared.effects.Effect.TheVariants.{Continues, Enters, Returns}
+use Rattle.bp_machine.proofs.Common.{◌≡◌, ℕ, ◌&&◌, Bool, true, false, cond, nat_le, List, [], ◌∷◌, length, Option, None, Some, refl, ap, sym, ◌∙◌, subst, arith, ◌<◌, get_or, slice_get, slice_set, option_map, rules, length-map, map-set, map-set_same, slice_get_read, slice_get-map, Program, bits_of, store_of, effect_of, Effect, Continues, Enters, Returns, Valuation, Frame, is_call, StatementEffect, Leaves, effect, Flat, Instruction, Activation, effect_at, valuation_of, ShowsStack, SameEffect, StepsAlike, Reply, Stopped, Full, ActivationRecord, Transition, Stays, Fails, Steps, MAX_FRAMES, is_granted, reply_to_effect, reply_on_stack, activation_of, activations, count_with, GuestThreadOf, KeptThread, guests, rooms, State, MachineOf, transition_of, IsTransitionAt, IsTransitionOn, IsTransitionUnless, reply_of_transition, stack_after, globals_after, thread_after, state_after, TransitionFitsIn, Outcome, ContextCount}
 use Rattle.bp_flat.specs.declared.effects.Effect.TheVariants as instr
-use Rattle.bp_flat.specs.Moves.{Valuation, Frame, is_call, StatementEffect, Leaves, effect}
 use Rattle.bp_flat.specs.Moves as moves
-use Rattle.bp_flat.specs.Flat.{Flat, Instruction}
-use Rattle.bp_flat.specs.Steps.{Activation, effect_at}
-use Rattle.bp_flat.specs.StandsFor.{valuation_of, ShowsStack, SameEffect, StepsAlike}
-use Rattle.bp_machine.specs.declared.calls.Reply.{Reply}
-use Rattle.bp_machine.specs.declared.calls.Reply.TheVariants.{Stopped, Full}
-use Rattle.bp_machine.specs.declared.stacks.ActivationRecord.{ActivationRecord}
-use Rattle.bp_machine.specs.declared.threads.Transition.{Transition}
-use Rattle.bp_machine.specs.declared.threads.Transition.TheVariants.{Stays, Fails, Steps}
-use Rattle.bp_machine.specs.declared.limits.TheConstants.{MAX_FRAMES}
-use Rattle.bp_machine.specs.Histories.{is_granted, reply_to_effect, reply_on_stack}
-use Rattle.bp_machine.specs.Sessions.{activation_of, activations, count_with, GuestThreadOf, KeptThread, guests, rooms, State, MachineOf}
-use Rattle.bp_machine.specs.Transitions.{transition_of, IsTransitionAt, IsTransitionOn, IsTransitionUnless, reply_of_transition, stack_after, globals_after, thread_after, state_after, TransitionFitsIn, HasRoom}
-use Rattle.bp_machine.specs.declared.calls.Outcome.{Outcome}
+use Rattle.bp_machine.specs.Transitions.{HasRoom}
 use Rattle.bp_machine.specs.declared.calls.Outcome.TheVariants.{Failed}
-use Rattle.bp_machine.specs.declared.contexts.ContextCount.{ContextCount}
 use Rattle.bp_machine.proofs.EffectSizes.{shown_length, same_leaves, same_lost, not_call, is_a_call}
 use Rattle.bp_machine.proofs.HistoryWithCall.{set_same}
 

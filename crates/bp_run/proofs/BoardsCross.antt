@@ -1,6 +1,6 @@
 -- That boards may be shared among threads.
 use denote.Param.Send.{IsSend, sendable, IsSync, recorded_send, struct_send, view_send}
-use Rattle.std.proofs.Crossing.{crosses}
+use Rattle.bp_run.proofs.Common.{crosses}
 use denote.RattleType.{RattleType}
 use denote.Struct.Declared as structs
 use Rattle.std.proofs.sync.ledger.Book.TheSendSync as Book

@@ -1,22 +1,11 @@
 -- What a desk's books come to once its seats and its tap are joined with it.
-use Rattle.std.proofs.Common.{◌≡◌, Bool, true, false, sym, ◌∙◌, ap, ℕ, ◌+◌, ◌*◌, ◌<◌, ◌≤◌, ◌^◌, cond, List, [], ◌∷◌, ◌++◌, None, is_some, subst, arith, length-append, ◌↔◌, IsTrue, length, Option, Some, rules}
+use Rattle.bp_run.proofs.Common.{◌≡◌, Bool, true, false, sym, ◌∙◌, ap, ℕ, ◌+◌, ◌*◌, ◌<◌, ◌≤◌, ◌^◌, cond, List, [], ◌∷◌, ◌++◌, None, is_some, subst, arith, length-append, ◌↔◌, IsTrue, length, Option, Some, rules, Program, IsOfProgram, StandsFor, Call, is_finished, finished_by, open_lines, IsLegal, IsReport, HasSeededBits, SessionOf, Stands, StandsForAll, IsNextCall, threads, FitsCode, IsInRange, SetupOf, Report, same_number, for_one, open_at_start, open_lines-append, IsInBooks, SeatOf, TapOf, calls_of_seats, open_seats, AreOnePerThread, AreSeatsOf, IsGathered, TellsEarly}
 use Rattle.std.specs.Coded.{le_prop}
 use Rattle.std.proofs.Math.Logic.{∥∥₁_elim}
 use Rattle.std.proofs.Math.Nat.{mul-le-mul_left, mul-le-mul_right}
-use Rattle.bp_language.specs.Ast.{Program}
 use Rattle.bp_flat.specs.Flat.{Flat}
-use Rattle.bp_flat.specs.StandsFor.{IsOfProgram, StandsFor}
-use Rattle.bp_machine.specs.declared.calls.Call.{Call}
 use Rattle.bp_machine.specs.declared.limits.TheConstants.{MAX_THREADS, MAX_CALLS}
-use Rattle.bp_machine.specs.Histories.{is_finished, finished_by, open_lines, IsLegal, IsReport, HasSeededBits}
-use Rattle.bp_machine.specs.Sessions.{SessionOf, Stands, StandsForAll, IsNextCall}
-use Rattle.bp_machine.specs.Setups.{threads, FitsCode, IsInRange, SetupOf}
-use Rattle.bp_machine.specs.declared.calls.Report.{Report}
-use Rattle.bp_machine.proofs.SetupInRange.{same_number, for_one}
-use Rattle.bp_machine.proofs.HistoryWithCall.{open_at_start, open_lines-append}
 use Rattle.bp_machine.proofs.HistoriesAreRuns.{legal_length}
-use Rattle.bp_run.specs.Desks.{IsInBooks, SeatOf, TapOf}
-use Rattle.bp_run.specs.Gatherings.{calls_of_seats, open_seats, AreOnePerThread, AreSeatsOf, IsGathered, TellsEarly}
 
 -- The books of a desk at the start, and after one more call.
 

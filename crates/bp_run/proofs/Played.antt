@@ -1,28 +1,11 @@
 -- What playing a setup comes to, from what the stage, the gathering and the rest promise.
-use Rattle.std.proofs.Common.{◌≡◌, ℕ, Bool, true, List, [], ◌∷◌, ◌++◌, Option, Some, None, is_some, refl, sym, ◌∙◌, ap, subst, ◌<◌, ◌≤◌, ◌==◌, zero, suc, ◌+◌, false, cond, length, map, arith, length-append, rules}
+use Rattle.bp_run.proofs.Common.{◌≡◌, ℕ, Bool, true, List, [], ◌∷◌, ◌++◌, Option, Some, None, is_some, refl, sym, ◌∙◌, ap, subst, ◌<◌, ◌≤◌, ◌==◌, zero, suc, ◌+◌, false, cond, length, map, arith, length-append, rules, false≢true, flat_map-append, count_by, range_with_len, sum_by-cons, length-map-range_with_len, Given, HasTaken, AppendsAll, AppendsPart, Program, Call, SetupOf, Report, open_lines, IsTakenOf, SeatOf, AreNewSeats, new_seat, TapOf, AreOnePerThread, IsGathered, TellsEarly, One, head_text, call_line, end_line, trace_text, lines_of, IsRestScribed, IsPlayedFrom, IsEarly, IsCutTrace}
 use Rattle.std.proofs.lemmas.List.{append-nil, length-map}
-use Rattle.std.proofs.lemmas.Bool.{false≢true}
-use Rattle.std.proofs.lemmas.Grind.{flat_map-append}
-use Rattle.std.specs.List.{count_by, range_with_len}
-use Rattle.std.proofs.lemmas.List.Sums.{sum_by-cons}
-use Rattle.std.proofs.lemmas.List.FromFn.{length-map-range_with_len}
 use Rattle.std.proofs.lemmas.Option.{same_Some}
 use Rattle.bp_text.specs.declared.sinks.Sink.{Sink}
-use Rattle.bp_text.specs.Writing.{Given, HasTaken, AppendsAll, AppendsPart}
 use Rattle.bp_text.proofs.Givings.{and_then, given_none, part_first, part_then, taken_since}
 use Rattle.bp_text.proofs.PartsOfTexts.{regrouped}
-use Rattle.bp_language.specs.Ast.{Program}
-use Rattle.bp_machine.specs.declared.calls.Call.{Call}
-use Rattle.bp_machine.specs.Setups.{SetupOf}
-use Rattle.bp_machine.specs.declared.calls.Report.{Report}
-use Rattle.bp_machine.specs.Histories.{open_lines}
 use Rattle.bp_machine.specs.Laws.{StepsAreARun, StepsAreWithin, FailuresAreReal}
-use Rattle.bp_run.specs.Desks.{IsTakenOf, SeatOf, AreNewSeats, new_seat, TapOf}
-use Rattle.bp_run.specs.Gatherings.{AreOnePerThread, IsGathered, TellsEarly}
-use Rattle.bp_trace.specs.declared.traces.Version.TheVariants.{One}
-use Rattle.bp_trace.specs.TraceText.{head_text, call_line, end_line, trace_text}
-use Rattle.bp_run.specs.Works.{lines_of, IsRestScribed}
-use Rattle.bp_run.specs.Runs.{IsPlayedFrom, IsEarly, IsCutTrace}
 
 -- How the lines of calls add up.
 

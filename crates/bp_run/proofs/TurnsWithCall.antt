@@ -1,23 +1,11 @@
 -- Turns grow by one call, and are cut short before one.
-use Rattle.std.proofs.Common.{◌≡◌, ◌≢◌, ℕ, ◌+◌, true, ◌++◌, Result, Ok, Err, MatchResult, refl, sym, ◌∙◌, ap, subst, arith, inl, inr, ◌⊎◌, ◌<◌, ◌≤◌, Bool, false, List, None, is_some, IfErr, rules}
-use Rattle.std.proofs.lemmas.Bool.{false≢true}
-use Rattle.bp_language.specs.Ast.{Program}
+use Rattle.bp_run.proofs.Common.{◌≡◌, ◌≢◌, ℕ, ◌+◌, true, ◌++◌, Result, Ok, Err, MatchResult, refl, sym, ◌∙◌, ap, subst, arith, inl, inr, ◌⊎◌, ◌<◌, ◌≤◌, Bool, false, List, None, is_some, IfErr, rules, false≢true, Program, IsOfProgram, StandsFor, is_finished, is_last, Call, SessionOf, IsNextCall, SetupOf, threads, last_finishes, is_true, is_untrue, is_false, DeskOf, SeatOf, desk_of, seat_of, IsLegalDesk, IsDeskRefusal, IsTurn, IsCutTurn, IsSeatTurn, IsCutSeatTurn, IsDeskFault, IsSendRefusal, TellsOfRefusal}
 use Rattle.bp_language.proofs.GrownLists.{regrouped}
-use Rattle.bp_flat.specs.StandsFor.{IsOfProgram, StandsFor}
 use Rattle.bp_machine.specs.declared.calls.Reply.{Reply}
 use Rattle.bp_machine.specs.declared.calls.Reply.TheVariants.{Stepped}
 use Rattle.bp_machine.specs.declared.calls.AskFault.{AskFault}
 use Rattle.bp_machine.specs.declared.calls.AskFault.TheVariants.{Finished, NoThread, Seeded, Unseeded, Memory, Busy}
 use Rattle.bp_machine.specs.declared.calls.AskFault.TheVariants as fault
-use Rattle.bp_machine.specs.Histories.{is_finished, is_last}
-use Rattle.bp_machine.specs.declared.calls.Call.{Call}
-use Rattle.bp_machine.specs.Sessions.{SessionOf, IsNextCall}
-use Rattle.bp_machine.specs.Setups.{SetupOf, threads}
-use Rattle.bp_machine.proofs.HistoryWithCall.{last_finishes}
-use Rattle.bp_machine.proofs.SetupInRange.{is_true, is_untrue, is_false}
-use Rattle.bp_run.specs.Desks.{DeskOf, SeatOf, desk_of, seat_of, IsLegalDesk}
-use Rattle.bp_run.specs.Turns.{IsDeskRefusal, IsTurn, IsCutTurn, IsSeatTurn, IsCutSeatTurn, IsDeskFault, IsSendRefusal}
-use Rattle.bp_run.specs.Gatherings.{TellsOfRefusal}
 
 -- What the seat says of a turn, from what the turn did at the desk.
 

@@ -1,3 +1,4 @@
+pub mod Common
 pub mod DecidersOfPlaces
 pub mod SourceStatementLists
 pub mod OneStatement

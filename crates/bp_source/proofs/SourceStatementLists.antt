@@ -1,17 +1,7 @@
 -- One source statement more.
-use Rattle.std.proofs.Common.{◌≡◌, ◌∙◌, ◌<◌, ◌≤◌, ℕ, List, Option, None, Some, Bor, length, nat_lt, is_some, slice_get, get_or, ap, sym, arith, [], ◌∷◌, ◌++◌, zero, suc, unwrap_or, ◌+◌, take, refl, subst, map, drop, ap₂, append-nil, option_map, IfSome, rules}
-use Rattle.std.proofs.lemmas.Option.{slice_get_past, slice_get-get_or, slice_get_within, get_or_from_slice_get}
-use Rattle.std.proofs.lemmas.Bool.{false≢true}
-use Rattle.std.proofs.lemmas.List.{take_more, length-append}
-use Rattle.bp_language.specs.Ast.{Procedure, Name, Block, Done, Then, Statement, Skips, GoesTo, Returns, Assigns, Branches, Loops, Asserts, Assumes, Prints, Calls, block_size, size, procedures_size}
-use Rattle.bp_flat.specs.StandsFor.{Place, start_of_block, places, places_in, places_of}
-use Rattle.bp_flat.specs.Moves.{chain}
+use Rattle.bp_source.proofs.Common.{◌≡◌, ◌∙◌, ◌<◌, ◌≤◌, ℕ, List, Option, None, Some, length, nat_lt, is_some, slice_get, get_or, ap, sym, arith, [], ◌∷◌, ◌++◌, zero, suc, unwrap_or, ◌+◌, take, refl, subst, map, drop, ap₂, append-nil, option_map, IfSome, rules, slice_get_past, slice_get-get_or, slice_get_within, get_or_from_slice_get, false≢true, take_more, length-append, Procedure, Name, Block, Done, Then, Statement, Skips, GoesTo, Returns, Assigns, Branches, Loops, Asserts, Assumes, Prints, Calls, block_size, size, procedures_size, Place, start_of_block, places, places_in, places_of, chain, starts, SourceStatement, AreSourceStatementsAt, IsSourceStatement, AreStatements, position_of, instruction_object, instruction_objects}
+use Rattle.std.proofs.Common.{Bor}
 use Rattle.bp_flat.specs.Flat.{Instruction}
-use Rattle.bp_flat.proofs.ProceduresOfPlaces.{starts}
-use Rattle.bp_source.specs.declared.source_statements.SourceStatement.{SourceStatement}
-use Rattle.bp_source.specs.SourceStatements.{AreSourceStatementsAt, IsSourceStatement, AreStatements}
-use Rattle.bp_source.specs.StatementLines.{position_of}
-use Rattle.bp_source.specs.Listings.{instruction_object, instruction_objects}
 
 -- What is got from a list by a place.
 

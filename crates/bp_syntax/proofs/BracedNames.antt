@@ -1,12 +1,5 @@
 -- Where a brace begins a name, and where it begins none.
-use Rattle.std.proofs.Common.{◌≡◌, ℕ, zero, suc, ◌+◌, ◌-◌, ◌<◌, ◌≤◌, ◌≢◌, Bool, true, false, cond, List, [], ◌∷◌, length, take, drop, Option, Some, refl, subst, arith, drop-drop, slice_get, get_or, nat_eq, nat_lt, Bor, is_some, IfSome, rules}
-use Rattle.std.specs.Option.{option_copied, option_eq}
-use Rattle.std.proofs.lemmas.Option.{slice_get_past, slice_get_read}
-use Rattle.std.specs.List.{list_all}
-use Rattle.std.proofs.lemmas.Bool.{false≢true, ltb-true, ltb-false}
-use Rattle.bp_language.proofs.SpelledNames.{both_right}
-use Rattle.bp_language.specs.Tokens.{is_braced_byte, is_braced_rest, fits}
-use Rattle.bp_syntax.specs.Lexer.{run, IsNameless}
+use Rattle.bp_syntax.proofs.Common.{◌≡◌, ℕ, zero, suc, ◌+◌, ◌-◌, ◌<◌, ◌≤◌, ◌≢◌, Bool, true, false, cond, List, [], ◌∷◌, length, take, drop, Option, Some, refl, subst, arith, drop-drop, slice_get, get_or, nat_eq, nat_lt, Bor, is_some, IfSome, rules, option_copied, option_eq, slice_get_past, slice_get_read, list_all, false≢true, ltb-true, ltb-false, both_right, is_braced_byte, is_braced_rest, fits, run, IsNameless}
 use Rattle.bp_language.specs.declared.tokens.LexemeKind.TheVariants as lexeme
 
 module _ (test : ℕ → Bool) (b : ℕ) (bs : List ℕ) where

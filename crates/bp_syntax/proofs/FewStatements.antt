@@ -1,13 +1,7 @@
 -- A program has no more statements than its text has bytes.
-use Rattle.std.proofs.Common.{ℕ, suc, ◌+◌, ◌<◌, ◌≤◌, List, length, Option, arith, take, length-drop, rules}
+use Rattle.bp_syntax.proofs.Common.{ℕ, suc, ◌+◌, ◌<◌, ◌≤◌, List, length, Option, arith, take, length-drop, rules, Name, Expression, Decision, Block, Statement, Procedure, Program, block_size, size, procedures_size, Token, kind_of, Lexeme, IsCut, ends, fit, open_brace, bad_byte, tokens_of, with_token, TokenKind, IsNames, one_name, more_names, IsAnyNames, IsExpr, of_or, implication, IsOr, of_xor, disjunction, IsXor, of_and, exclusion, IsAnd, of_eq, conjunction, IsEq, of_un, equality, difference, IsUn, negation, of_atom, IsAtom, constant_0, constant_1, variable, brackets, IsExprs, one_expr, more_exprs, IsAnyExprs, IsDecider, IsForm, skip, jump, returning, assignment, branch, loop, assertion, assumption, printing, call, IsStmt, labelled, unlabelled, IsStmts, one_stmt, more_stmts, IsDecl, decl, IsDecls, no_decl, more_decls, IsProc, proc, IsProcs, no_proc, more_procs, Derives, program, first_word, first_name, IsTextOf, HasText, TEXT_LIMIT}
 use Rattle.std.proofs.Math.Logic.{∥∥₁_elim}
 use Rattle.std.specs.Coded.{le_prop}
-use Rattle.bp_language.specs.Ast.{Name, Expression, Decision, Block, Statement, Procedure, Program, block_size, size, procedures_size}
-use Rattle.bp_language.specs.Tokens.{Token, kind_of, Lexeme, IsCut, ends, fit, open_brace, bad_byte, tokens_of, with_token}
-use Rattle.bp_language.specs.declared.tokens.TokenKind.{TokenKind}
-use Rattle.bp_language.specs.Grammar.{IsNames, one_name, more_names, IsAnyNames, IsExpr, of_or, implication, IsOr, of_xor, disjunction, IsXor, of_and, exclusion, IsAnd, of_eq, conjunction, IsEq, of_un, equality, difference, IsUn, negation, of_atom, IsAtom, constant_0, constant_1, variable, brackets, IsExprs, one_expr, more_exprs, IsAnyExprs, IsDecider, IsForm, skip, jump, returning, assignment, branch, loop, assertion, assumption, printing, call, IsStmt, labelled, unlabelled, IsStmts, one_stmt, more_stmts, IsDecl, decl, IsDecls, no_decl, more_decls, IsProc, proc, IsProcs, no_proc, more_procs, Derives, program, first_word, first_name}
-use Rattle.bp_language.specs.Texts.{IsTextOf, HasText}
-use Rattle.bp_language.specs.declared.limits.TheConstants.{TEXT_LIMIT}
 
 names_some : {ts : List Token} {ns : List Name} {r : List Token} → IsNames ts ns r → length r < length ts
 names_some (one_name (first_name h)) = omega arith

@@ -1,3 +1,4 @@
+pub mod Common
 pub mod BracedNames
 pub mod LongestLexeme
 pub mod OneCut

@@ -1,17 +1,7 @@
 -- The longest lexeme that a text begins with.
-use Rattle.std.proofs.Common.{◌≡◌, ℕ, zero, suc, ◌+◌, ◌<◌, ◌≤◌, ◌≢◌, ◌==◌, ⊎_elim, Bool, true, false, cond, ◌&&◌, ◌||◌, List, [], ◌∷◌, length, take, drop, Option, Some, None, refl, sym, ap, subst, ◌∙◌, arith, take_all, nat_eq, slice_get, get_or, ◌-◌, is_some, MatchOption, rules}
-use Rattle.std.specs.List.{list_any, list_all}
-use Rattle.std.specs.Map.{lookup}
-use Rattle.std.proofs.lemmas.Bool.{false≢true, cases_eq, eqb-true, ne_eqb}
-use Rattle.std.proofs.lemmas.Option.{slice_get_within, slice_get-get_or}
-use Rattle.bp_language.specs.Tokens.{is_white, is_letter, is_word_byte, is_comment_byte, constant, symbol, long_symbol, fits, whites, constants, IsLongest, NoneFits}
-use Rattle.bp_syntax.specs.Lexer.{run, comment, first_symbol, unbraced_lexeme, IsNameless, IsFirstLexeme}
-use Rattle.bp_syntax.specs.declared.lexemes.FirstLexeme.{FirstLexeme}
+use Rattle.bp_syntax.proofs.Common.{◌≡◌, ℕ, zero, suc, ◌+◌, ◌<◌, ◌≤◌, ◌≢◌, ◌==◌, ⊎_elim, Bool, true, false, cond, ◌&&◌, ◌||◌, List, [], ◌∷◌, length, take, drop, Option, Some, None, refl, sym, ap, subst, ◌∙◌, arith, take_all, nat_eq, slice_get, get_or, ◌-◌, is_some, MatchOption, rules, list_any, list_all, lookup, false≢true, cases_eq, eqb-true, ne_eqb, slice_get_within, slice_get-get_or, is_white, is_letter, is_word_byte, is_comment_byte, constant, symbol, long_symbol, fits, whites, constants, IsLongest, NoneFits, run, comment, first_symbol, unbraced_lexeme, IsNameless, IsFirstLexeme, FirstLexeme, TokenKind, LexemeKind, both_left, both_right}
 use Rattle.bp_syntax.specs.declared.lexemes.FirstLexeme.TheVariants as first
-use Rattle.bp_language.specs.declared.tokens.TokenKind.{TokenKind}
-use Rattle.bp_language.specs.declared.tokens.LexemeKind.{LexemeKind}
 use Rattle.bp_language.specs.declared.tokens.LexemeKind.TheVariants as lexeme
-use Rattle.bp_language.proofs.SpelledNames.{both_left, both_right}
 use Rattle.bp_syntax.proofs.BracedNames.{inside, run_fits, run_stops, run_within, closes_at, closes_no_longer, unclosed}
 
 -- P of each key of a table

@@ -1,17 +1,5 @@
 -- A text has one answer: its tree, or its first fault.
-use Rattle.std.proofs.Common.{◌≡◌, ℕ, ◌≤◌, List, [], ◌∷◌, ◌++◌, length, Some, None, Result, Ok, Err, refl, sym, ap, subst, ◌∙◌, ⊎_elim, arith, ◌≢◌, ◌⊎◌, ◌<◌, inl, inr, MatchResult, IsErrAnd, rules}
-use Rattle.std.proofs.lemmas.Bool.{cases_lt}
-use Rattle.bp_language.specs.Ast.{Program}
-use Rattle.bp_language.proofs.GrownLists.{regrouped}
-use Rattle.bp_language.specs.declared.limits.TheConstants.{TEXT_LIMIT}
-use Rattle.bp_language.specs.Tokens.{Token, tokens_of, HasTokens, HasBadByte, HasOpenName, AllReal}
-use Rattle.bp_language.specs.Grammar.{Derives}
-use Rattle.bp_language.specs.Texts.{IsShallow, IsSparse, IsTextOf}
-use Rattle.bp_language.proofs.SpelledNames.{all_real}
-use Rattle.bp_syntax.specs.Lexer.{IsScanFault, first_too_deep, first_too_many}
-use Rattle.bp_syntax.specs.Refusals.{Opens, BreaksAt, HasSyntaxFault, IsRefusal, read_fault_number}
-use Rattle.bp_syntax.specs.ParserState.{whole_program, parse_result, Got, place_or, IsParseFault}
-use Rattle.bp_syntax.specs.declared.faults.ReadFault.{ReadFault}
+use Rattle.bp_syntax.proofs.Common.{◌≡◌, ℕ, ◌≤◌, List, [], ◌∷◌, ◌++◌, length, Some, None, Result, Ok, Err, refl, sym, ap, subst, ◌∙◌, ⊎_elim, arith, ◌≢◌, ◌⊎◌, ◌<◌, inl, inr, MatchResult, IsErrAnd, rules, cases_lt, Program, regrouped, TEXT_LIMIT, Token, tokens_of, HasTokens, HasBadByte, HasOpenName, AllReal, Derives, IsShallow, IsSparse, IsTextOf, all_real, IsScanFault, first_too_deep, first_too_many, Opens, BreaksAt, HasSyntaxFault, IsRefusal, read_fault_number, whole_program, parse_result, Got, place_or, IsParseFault, ReadFault}
 use Rattle.bp_syntax.specs.declared.faults.ReadFault.TheVariants as fault
 use Rattle.bp_syntax.proofs.OneCut.{one_cut}
 use Rattle.bp_syntax.proofs.FirstTooMany.{none_is_sparse, some_is_crowded, none_is_shallow, some_is_deep, shallow_front}

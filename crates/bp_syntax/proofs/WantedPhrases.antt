@@ -1,19 +1,8 @@
 -- What the parser wants, as phrases of the grammar.
-use Rattle.std.proofs.Common.{◌≡◌, ℕ, List, refl, subst, ◌<◌, ◌+◌, false, Option, Some, bytes_eq, drop, get_or, length, map, [], ◌∷◌, ◌++◌, None, arith, rules}
+use Rattle.bp_syntax.proofs.Common.{◌≡◌, ℕ, List, refl, subst, ◌<◌, ◌+◌, false, Option, Some, bytes_eq, drop, get_or, length, map, [], ◌∷◌, ◌++◌, None, arith, rules, lookup, Name, Expression, Operation, Decision, Block, Done, Then, Statement, Procedure, Program, Op, regrouped, Token, IsReal, TokenKind, name_of, IsNames, one_name, more_names, IsAnyNames, IsExpr, of_or, implication, IsOr, of_xor, disjunction, IsXor, of_and, exclusion, IsAnd, of_eq, conjunction, IsEq, of_un, equality, difference, IsUn, IsExprs, one_expr, more_exprs, IsAnyExprs, IsDecider, IsForm, IsStmt, IsStmts, one_stmt, more_stmts, IsDecls, IsProcs, first_word, first_name, spelling, some_token, Wanted, Complete, WordThen, NameThen, MoreNames, AnyNamesThen, UnThen, MoreOperands, MoreImplied, MoreExprs, AnyExprsThen, DeciderThen, FormThen, FormAfter, StmtThen, StmtAfter, MoreStmts, MoreDecls, MoreProcs, NamesThen, ExprThen, ExprsThen, OperandThen, operator, Precedence, Equality, Conjunction, Exclusion, Disjunction}
 use Rattle.std.proofs.lemmas.List.{drop_more}
-use Rattle.std.specs.Map.{lookup}
-use Rattle.bp_language.specs.Ast.{Name, Expression, Operation, Decision, Block, Done, Then, Statement, Procedure, Program}
-use Rattle.bp_language.specs.declared.exprs.Op.{Op}
 use Rattle.bp_language.specs.declared.exprs.Op.TheVariants as op
-use Rattle.bp_language.proofs.GrownLists.{regrouped}
-use Rattle.bp_language.specs.Tokens.{Token, IsReal}
-use Rattle.bp_language.specs.declared.tokens.TokenKind.{TokenKind}
 use Rattle.bp_language.specs.declared.tokens.TokenKind.TheVariants as kind
-use Rattle.bp_language.specs.Grammar.{name_of, IsNames, one_name, more_names, IsAnyNames, IsExpr, of_or, implication, IsOr, of_xor, disjunction, IsXor, of_and, exclusion, IsAnd, of_eq, conjunction, IsEq, of_un, equality, difference, IsUn, IsExprs, one_expr, more_exprs, IsAnyExprs, IsDecider, IsForm, IsStmt, IsStmts, one_stmt, more_stmts, IsDecls, IsProcs, first_word, first_name}
-use Rattle.bp_syntax.specs.Spellings.{spelling, some_token}
-use Rattle.bp_syntax.specs.ParserState.{Wanted, Complete, WordThen, NameThen, MoreNames, AnyNamesThen, UnThen, MoreOperands, MoreImplied, MoreExprs, AnyExprsThen, DeciderThen, FormThen, FormAfter, StmtThen, StmtAfter, MoreStmts, MoreDecls, MoreProcs, NamesThen, ExprThen, ExprsThen, OperandThen, operator}
-use Rattle.bp_syntax.specs.declared.parser.operators.Precedence.{Precedence}
-use Rattle.bp_syntax.specs.declared.parser.operators.Precedence.TheVariants.{Equality, Conjunction, Exclusion, Disjunction}
 
 -- Each kind of token has a spelling.
 

@@ -1,8 +1,7 @@
 -- What a walk over named bits says of their values.
-use Rattle.std.proofs.Common.{◌≡◌, ◌||◌, Bool, List, [], ◌∷◌, ap, map, refl, ◌∙◌, ◌++◌, ℕ, suc, length, sym, Bor, Option, Some, None}
+use Rattle.bp_tasks.proofs.Common.{◌≡◌, ◌||◌, Bool, List, [], ◌∷◌, ap, map, refl, ◌∙◌, ◌++◌, ℕ, suc, length, sym, Bor, Option, Some, None, NamedBitOf, named_bit_in}
 use Rattle.std.specs.List.{list_any}
 use Rattle.bp_text.proofs.PartsOfTexts.{rest_left}
-use Rattle.bp_tasks.specs.NamedBits.{NamedBitOf, named_bit_in}
 
 pub list_any-map : {X Y : Type 0} (p : X → Bool) (h : Y → X) (ys : List Y) → list_any p (map h ys) ≡ list_any (λ y. p (h y)) ys
 list_any-map p h [] = refl
@@ -16,7 +15,6 @@ size_left None = 0
 size_left (Some text) = suc (length text.now)
 
 module _ (parts others : List (List ℕ)) (piece : List ℕ) (is : parts ≡ piece ∷ others) where
-
   -- a piece is taken over
   pub taken : (values more : List NamedBitOf) → more ≡ values ++ named_bit_in piece ∷ [] → values ++ map named_bit_in parts ≡ more ++ map named_bit_in others
   taken values more added =

@@ -1,6 +1,6 @@
 -- That setups and plans may be shared among threads, in steps that `search` can take.
 use denote.Param.Send.{IsSync, sendable}
-use Rattle.std.proofs.Crossing.{crosses}
+use Rattle.bp_test.proofs.Common.{crosses}
 use Rattle.bp_machine.specs.contracts.setups.Setup as Setup
 use Rattle.bp_test.specs.contracts.plans.Plan as Plan
 

@@ -1,14 +1,7 @@
 -- How many runs used few contexts, and the least numbers of them that this many runs did not exceed.
-use Rattle.std.proofs.Common.{◌≡◌, ◌<◌, ◌≤◌, ◌+◌, ◌/◌, ◌^◌, ◌-◌, ℕ, min, Bool, true, false, cond, List, [], ◌∷◌, length, refl, ap, sym, ◌∙◌, subst, arith, inl, inr, if◌then◌else◌, ◌==◌, nat_lt, count_by, slice_index_or, rules}
+use Rattle.bp_test.proofs.Common.{◌≡◌, ◌<◌, ◌≤◌, ◌+◌, ◌/◌, ◌^◌, ◌-◌, ℕ, min, Bool, true, false, cond, List, [], ◌∷◌, length, refl, ap, sym, ◌∙◌, subst, arith, inl, inr, if◌then◌else◌, ◌==◌, nat_lt, count_by, slice_index_or, rules, cases_lt, nat_tests, get_or_past, sum_by-cons, count_by-le-length, SetupOf, Tally, within_contexts, contexts_with, IsLeastFor, AreContextsUsed, MadeRun, using_contexts, IsCounted}
 use Rattle.std.specs.Int.{div_ceil}
-use Rattle.std.proofs.lemmas.Bool.{cases_lt}
-use Rattle.std.proofs.lemmas.Bool.Decides.{nat_tests}
-use Rattle.std.proofs.lemmas.List.{get_or_past}
-use Rattle.std.proofs.lemmas.List.Sums.{sum_by-cons, count_by-le-length}
-use Rattle.bp_machine.specs.Setups.{SetupOf}
 use Rattle.bp_test.specs.declared.tallies.ContextsUsed.{ContextsUsed}
-use Rattle.bp_test.specs.declared.tallies.Tally.{Tally}
-use Rattle.bp_test.specs.Tallies.{within_contexts, contexts_with, IsLeastFor, AreContextsUsed, MadeRun, using_contexts, IsCounted}
 
 -- how many runs used fewer than i contexts
 abbrev pub below_contexts : ℕ → List MadeRun → ℕ

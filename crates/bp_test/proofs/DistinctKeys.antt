@@ -1,18 +1,12 @@
 -- How many keys of a list differ, and how many are there once, by the same keys in order.
-use Rattle.std.proofs.Common.{◌≡◌, ◌≢◌, ◌⊎◌, ◌<◌, ◌≤◌, ◌+◌, ◌-◌, ℕ, zero, suc, cond, Bool, true, false, not, ◌||◌, ◌&&◌, List, length, take, drop, refl, ap, sym, ◌∙◌, subst, arith, ◌==◌, count_by, slice_index_or, nat_eq, eqb-true, rules}
+use Rattle.bp_test.proofs.Common.{◌≡◌, ◌≢◌, ◌⊎◌, ◌<◌, ◌≤◌, ◌+◌, ◌-◌, ℕ, zero, suc, cond, Bool, true, false, not, ◌||◌, ◌&&◌, List, length, take, drop, refl, ap, sym, ◌∙◌, subst, arith, ◌==◌, count_by, slice_index_or, nat_eq, eqb-true, rules, Contains-permutation, IsPermutation-sym, sum_by-IsPermutation, IsDistinct-from_apart, nat_tests, get_or-take, get_or-drop, length-take, length-drop, take_all, drop_all, get_or_default, sum_by-take-drop, sum_by-drop_more, sum_by-le, sum_by_more, get_or-le-sum_by, alone_before, count_of, is_alone}
 use Rattle.std.specs.List.{All, Contains, dedup}
 use Rattle.std.specs.List.Sorted.{IsNonDecreasing, IsPermutation, IsStrictlyIncreasing}
 use Rattle.std.specs.Set.{distinct_count, is_member}
 use Rattle.std.proofs.lemmas.Cmp.{nat_eq_equiv}
 use Rattle.std.proofs.lemmas.List.Folds.{Any-from_list_any, list_any_at}
 use Rattle.std.proofs.lemmas.List.Kept.{AllPairs-from_increasing, Contains-dedup_nat, Contains-from_dedup}
-use Rattle.std.proofs.lemmas.List.Sorted.{Contains-permutation, IsPermutation-sym, sum_by-IsPermutation}
-use Rattle.std.proofs.lemmas.Map.Keys.{IsDistinct-from_apart}
 use Rattle.std.proofs.lemmas.Map.Made.{length-from_keys}
-use Rattle.std.proofs.lemmas.Bool.Decides.{nat_tests}
-use Rattle.std.proofs.lemmas.List.{get_or-take, get_or-drop, length-take, length-drop, take_all, drop_all, get_or_default}
-use Rattle.std.proofs.lemmas.List.Sums.{sum_by-take-drop, sum_by-drop_more, sum_by-le, sum_by_more, get_or-le-sum_by}
-use Rattle.bp_test.specs.Tallies.{alone_before, count_of, is_alone}
 
 abbrev as_one : Bool → ℕ
 as_one b = cond b 1 0

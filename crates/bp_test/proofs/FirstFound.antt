@@ -1,25 +1,14 @@
 -- What the first found run of some runs says of more of them, and of a test.
-use Rattle.std.proofs.Common.{◌≡◌, ℕ, suc, ◌+◌, ◌<◌, ◌≤◌, ◌^◌, Bool, true, List, [], ◌∷◌, ◌++◌, length, length-append, Option, None, Some, refl, ap, sym, ◌∙◌, subst, arith, ◌-◌, false, append-nil, Result, Ok, MatchOption, max, slice_index_or, is_some, IfSome, rules}
-use Rattle.std.proofs.lemmas.List.{length_push}
+use Rattle.bp_test.proofs.Common.{◌≡◌, ℕ, suc, ◌+◌, ◌<◌, ◌≤◌, ◌^◌, Bool, true, List, [], ◌∷◌, ◌++◌, length, Option, None, Some, refl, ap, sym, ◌∙◌, subst, arith, ◌-◌, false, append-nil, Result, Ok, MatchOption, max, slice_index_or, is_some, IfSome, rules, length_push, Program, Flat, StandsFor, Call, Outcome, Clean, SetupOf, outcome_of, is_failure, FailsAt, setup_of_run, found_by, found_in, IsCleanRun, AreCleanRuns, IsFirstFound, IsFoundRun, IsWrittenRun, IsFound, IsCutRun, HasFailed, start_of_block, IsBlock, AreBlocks, IsTalliedAfter, IsTallied, MadeRun, IsTally, Plan, Tally}
+use Rattle.std.proofs.Common.{length-append}
 use Rattle.std.proofs.Math.Nat.{mul-le-mul_right}
 use Rattle.bp_text.specs.Writing.{AppendsAll, AppendsPart}
 use Rattle.bp_text.proofs.PartsOfTexts.{regrouped}
-use Rattle.bp_language.specs.Ast.{Program}
-use Rattle.bp_flat.specs.Flat.{Flat}
-use Rattle.bp_flat.specs.StandsFor.{StandsFor}
-use Rattle.bp_machine.specs.declared.calls.Call.{Call}
-use Rattle.bp_machine.specs.declared.calls.Outcome.{Outcome}
-use Rattle.bp_machine.specs.declared.calls.Outcome.TheVariants.{Clean}
-use Rattle.bp_machine.specs.Setups.{SetupOf}
-use Rattle.bp_machine.specs.Histories.{outcome_of, is_failure}
 use Rattle.bp_trace.specs.TraceText.{trace_text}
 use Rattle.bp_tasks.specs.declared.options.TestOptions.{TestOptions}
 use Rattle.bp_test.specs.declared.waves.FoundRun.{FoundRun}
-use Rattle.bp_test.specs.Tests.{FailsAt, setup_of_run, found_by, found_in, IsCleanRun, AreCleanRuns, IsFirstFound, IsFoundRun, IsWrittenRun, IsFound, IsCutRun, HasFailed, start_of_block, IsBlock, IsEnd, AreBlocks, IsTalliedAfter, IsTallied}
-use Rattle.bp_test.specs.Tallies.{MadeRun, IsTally}
+use Rattle.bp_test.specs.Tests.{IsEnd}
 use Rattle.bp_test.specs.declared.waves.Block.{Block}
-use Rattle.bp_test.specs.declared.plans.Plan.{Plan}
-use Rattle.bp_test.specs.declared.tallies.Tally.{Tally}
 
 module _ (t : Program) (s : SetupOf) (with_deadlock : Bool) (seed : ℕ) where
   -- runs and those after them

@@ -1,3 +1,4 @@
+pub mod Common
 pub mod FirstFound
 pub mod CodesShared
 pub mod ContextLemmas

@@ -1,12 +1,5 @@
 -- Marks that are set one after the other.
-use Rattle.std.proofs.Common.{◌≡◌, ◌⊎◌, ◌<◌, ◌+◌, ◌-◌, ℕ, zero, suc, Bool, true, false, List, [], ◌∷◌, ◌++◌, Option, Some, length, take, get_or, refl, arith, ap, sym, ◌∙◌, subst, inl, inr, slice_get, slice_set, Any, slice_index_or, rules}
-use Rattle.std.proofs.lemmas.Bool.{cases_lt}
-use Rattle.std.proofs.lemmas.List.{length-set, get_or-set_same, get_or-set_other, get_or_append_left, get_or-append-add, get_or_past, length-append, take_more}
-use Rattle.bp_machine.specs.declared.calls.Call.{Call}
-use Rattle.bp_machine.specs.Histories.{is_granted}
-use Rattle.bp_machine.proofs.StandsAfterTransition.{at_end}
-use Rattle.bp_machine.proofs.HistoryWithCall.{same_or_not}
-use Rattle.bp_test.specs.Reached.{is_marked, AreMarks, HasStep, MarksGrow}
+use Rattle.bp_test.proofs.Common.{◌≡◌, ◌⊎◌, ◌<◌, ◌+◌, ◌-◌, ℕ, zero, suc, Bool, true, false, List, [], ◌∷◌, ◌++◌, Option, Some, length, take, get_or, refl, arith, ap, sym, ◌∙◌, subst, inl, inr, slice_get, slice_set, Any, slice_index_or, rules, cases_lt, length-set, get_or-set_same, get_or-set_other, get_or_append_left, get_or-append-add, get_or_past, length-append, take_more, Call, is_granted, at_end, same_or_not, is_marked, AreMarks, HasStep, MarksGrow}
 
 -- the elements of a front, and the last one
 pub in_front : {X : Type 0} (xs ys : List X) (n : ℕ) (x : X) → slice_get xs n ≡ Some x → slice_get (xs ++ ys) n ≡ Some x

@@ -1,27 +1,11 @@
 -- What holds of a history with one more call: a failed one is its outcome, and it is short.
-use Rattle.std.proofs.Common.{◌≡◌, ◌+◌, ◌*◌, ◌-◌, ◌<◌, ◌≤◌, true, nat_le, List, [], ◌∷◌, ◌++◌, length, refl, ap, arith, ℕ, ◌||◌, Bool, false, cond, sym, ◌∙◌, add-one, count_by, unwrap_or, rules}
-use Rattle.std.proofs.lemmas.Bool.Decides.{nat_tests}
-use Rattle.std.proofs.lemmas.List.Sums.{sum_by-append}
-use Rattle.std.proofs.lemmas.List.{map-append}
+use Rattle.bp_test.proofs.Common.{◌≡◌, ◌+◌, ◌*◌, ◌-◌, ◌<◌, ◌≤◌, true, nat_le, List, [], ◌∷◌, ◌++◌, length, refl, ap, arith, ℕ, ◌||◌, Bool, false, cond, sym, ◌∙◌, add-one, count_by, unwrap_or, rules, nat_tests, sum_by-append, map-append, Program, IsOfProgram, Call, Reply, Outcome, outcome_or, outcome_of, is_failure, stack_of, configuration_after_step, configuration_after_call, configuration_after_calls, configuration_after, granted_threads, IsLegal, is_granted, IsAtFalseAssertion, IsRealFailure, threads, SetupOf, SessionOf, StandsForAll, waits, FailuresAreReal, is_true, has_refusal, refuses_context, waiting_below, IsNext, AreWaiting, IsWait, Waiting}
 use Rattle.std.proofs.lemmas.List.Elements.{All-push}
-use Rattle.bp_language.specs.Ast.{Program}
-use Rattle.bp_flat.specs.StandsFor.{IsOfProgram}
 use Rattle.bp_flat.specs.Moves.{Configuration}
-use Rattle.bp_machine.specs.declared.calls.Call.{Call}
-use Rattle.bp_machine.specs.declared.calls.Reply.{Reply}
 use Rattle.bp_machine.specs.declared.calls.Reply.TheVariants as reply
-use Rattle.bp_machine.specs.declared.calls.Outcome.{Outcome}
 use Rattle.bp_machine.specs.declared.calls.Outcome.TheVariants as outcome
-use Rattle.bp_machine.specs.Histories.{outcome_or, outcome_of, is_failure, stack_of, configuration_after_step, configuration_after_call, configuration_after_calls, configuration_after, granted_threads, IsLegal, is_granted, IsAtFalseAssertion, IsRealFailure}
-use Rattle.bp_machine.specs.Setups.{threads, SetupOf}
-use Rattle.bp_machine.specs.Sessions.{SessionOf, StandsForAll}
-use Rattle.bp_machine.specs.Runs.{waits}
 use Rattle.bp_machine.specs.declared.calls.Reply.TheVariants.{Failed}
-use Rattle.bp_machine.specs.Laws.{FailuresAreReal}
-use Rattle.bp_machine.proofs.SetupInRange.{is_true}
 use Rattle.bp_machine.proofs.HistoriesAreRuns.{legal_length}
-use Rattle.bp_test.specs.Reached.{has_refusal, refuses_context, waiting_below, IsNext, AreWaiting, IsWait}
-use Rattle.bp_test.specs.declared.waiting.Waiting.{Waiting}
 
 -- a failure is the outcome
 fails_after : (y : Call) (r : Reply) (o : Outcome) → is_failure o ≡ true → is_failure (outcome_or y r o) ≡ true

@@ -1,17 +1,7 @@
 -- The places that a history reaches, with one more call, and with one more thread that waits.
-use Rattle.std.proofs.Common.{◌≡◌, ◌⊎◌, ◌<◌, ◌≤◌, ◌+◌, ℕ, suc, Bool, true, false, List, [], ◌∷◌, ◌++◌, take, length, Option, None, Some, refl, ap, sym, ◌∙◌, subst, arith, inl, inr, if◌then◌else◌, slice_set, rules}
+use Rattle.bp_test.proofs.Common.{◌≡◌, ◌⊎◌, ◌<◌, ◌≤◌, ◌+◌, ℕ, suc, Bool, true, false, List, [], ◌∷◌, ◌++◌, take, length, Option, None, Some, refl, ap, sym, ◌∙◌, subst, arith, inl, inr, if◌then◌else◌, slice_set, rules, length-append, take-append-le, take_all, Program, Place, Call, Reply, configuration_after, SetupOf, at_end, same_or_not, refuses_context, next_place, place_of, marks_after, IsNumberOf, IsReachedByCall, IsTried, IsWaitedAt, IsWaiting, Reaches, MarksGrow}
 use Rattle.std.proofs.Math.Seq.{take-append_seam}
-use Rattle.std.proofs.lemmas.List.{length-append, take-append-le, take_all}
 use Rattle.std.proofs.lemmas.Option.{slice_get_within}
-use Rattle.bp_language.specs.Ast.{Program}
-use Rattle.bp_flat.specs.StandsFor.{Place}
-use Rattle.bp_machine.specs.declared.calls.Call.{Call}
-use Rattle.bp_machine.specs.declared.calls.Reply.{Reply}
-use Rattle.bp_machine.specs.Histories.{configuration_after}
-use Rattle.bp_machine.specs.Setups.{SetupOf}
-use Rattle.bp_machine.proofs.StandsAfterTransition.{at_end}
-use Rattle.bp_machine.proofs.HistoryWithCall.{same_or_not}
-use Rattle.bp_test.specs.Reached.{refuses_context, next_place, place_of, marks_after, IsNumberOf, IsReachedByCall, IsTried, IsWaitedAt, IsWaiting, Reaches, MarksGrow}
 use Rattle.bp_test.proofs.MarkLemmas.{in_front, last_at, more_marks, no_marks, same_marks, one_mark}
 
 -- one place is marked

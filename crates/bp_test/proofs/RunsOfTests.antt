@@ -1,20 +1,6 @@
 -- What a run adds to a test.
-use Rattle.std.proofs.Common.{◌≡◌, ℕ, ◌+◌, ◌%◌, ◌^◌, Bool, true, false, ◌||◌, ◌&&◌, List, Option, Some, IfSome, refl, ap, sym, ◌∙◌, subst, IfNone, IsTrue, MatchOption, ◌↔◌, arith, rules}
-use Rattle.bp_language.specs.Ast.{Program}
-use Rattle.bp_flat.specs.Flat.{Flat}
-use Rattle.bp_flat.specs.StandsFor.{StandsFor}
-use Rattle.bp_machine.specs.declared.calls.Call.{Call}
-use Rattle.bp_machine.specs.declared.calls.Outcome.TheVariants.{Clean}
-use Rattle.bp_machine.specs.declared.calls.Report.{Report}
-use Rattle.bp_machine.specs.Runs.{IsDeadlocked}
-use Rattle.bp_machine.specs.Histories.{configuration_after, outcome_of, is_failure, IsReport}
-use Rattle.bp_machine.specs.Setups.{SetupOf, threads, FitsCode}
-use Rattle.bp_machine.specs.Sessions.{SessionOf, Stands, StandsForAll}
+use Rattle.bp_test.proofs.Common.{◌≡◌, ℕ, ◌+◌, ◌%◌, ◌^◌, Bool, true, false, ◌||◌, ◌&&◌, List, Option, Some, IfSome, refl, ap, sym, ◌∙◌, subst, IfNone, IsTrue, MatchOption, ◌↔◌, arith, rules, Program, Flat, StandsFor, Call, Clean, Report, IsDeadlocked, configuration_after, outcome_of, is_failure, IsReport, SetupOf, threads, FitsCode, SessionOf, Stands, StandsForAll, FailsAt, HaveReturned, IsOver, is_sought, setup_of_run, IsSought, IsMadeRun, IsCleanRun, IsSoughtRun, Wait, IsRunKey, place_of, MarksGrow, Reaches, AreWaiting, made, Waiting}
 use Rattle.bp_machine.proofs.RealFailures.{within as within_contexts}
-use Rattle.bp_test.specs.Tests.{FailsAt, HaveReturned, IsOver, is_sought, setup_of_run, IsSought, IsMadeRun, IsCleanRun, IsSoughtRun, Wait}
-use Rattle.bp_test.specs.Reached.{IsRunKey, place_of, MarksGrow, Reaches, AreWaiting}
-use Rattle.bp_test.specs.Tallies.{made}
-use Rattle.bp_test.specs.declared.waiting.Waiting.{Waiting}
 use Rattle.bp_test.proofs.TallyLemmas.{run_key_without}
 use Rattle.bp_test.proofs.MarkLemmas.{same_marks}
 use Rattle.bp_test.proofs.ReachedPlaces.{reaches_with, reaches_without}

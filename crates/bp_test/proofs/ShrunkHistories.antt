@@ -1,20 +1,7 @@
 -- What a search for a smaller history ends with.
-use Rattle.std.proofs.Common.{◌≡◌, ◌≤◌, ◌==◌, ℕ, false, length, refl, arith, Bool, true, cond, List, [], ◌∷◌, ap, sym, ◌∙◌, subst, ◌&&◌, zero, suc, ◌+◌, ◌++◌, None, map, rules}
+use Rattle.bp_test.proofs.Common.{◌≡◌, ◌≤◌, ◌==◌, ℕ, false, length, refl, arith, Bool, true, cond, List, [], ◌∷◌, ap, sym, ◌∙◌, subst, ◌&&◌, zero, suc, ◌+◌, ◌++◌, None, map, rules, Program, Flat, StandsFor, SetupOf, setup_fault, Fits, IsInRange, FitsCode, Call, Reply, IsBoundedRun, IsHistoryOfSteps, HasBoundedRun, IsWithin, configuration_after, granted_threads, granted_calls, IsLegal, is_granted, outcome_or, outcome_of, IsReport, is_finished, open_below, IsLegalAfter, RunsAreHistories, HistoriesAreRuns, Report, Waiting, Wait, IsEnd, budgeted, DeadlocksAt, unseeded, IsDriven, IsNoMore, IsShrunk, IsShrunkOf, IsSearch, GoesOn}
 use Rattle.std.specs.Bool.{Decides}
-use Rattle.bp_language.specs.Ast.{Program}
-use Rattle.bp_flat.specs.Flat.{Flat}
-use Rattle.bp_flat.specs.StandsFor.{StandsFor}
-use Rattle.bp_machine.specs.Setups.{SetupOf, setup_fault, Fits, IsInRange, FitsCode}
-use Rattle.bp_machine.specs.declared.calls.Call.{Call}
-use Rattle.bp_machine.specs.declared.calls.Reply.{Reply}
-use Rattle.bp_machine.specs.Runs.{IsBoundedRun, IsHistoryOfSteps, HasBoundedRun}
-use Rattle.bp_machine.specs.Histories.{IsWithin, configuration_after, granted_threads, granted_calls, IsLegal, is_granted, outcome_or, outcome_of, IsReport, is_finished, open_below, IsLegalAfter}
-use Rattle.bp_machine.specs.Laws.{RunsAreHistories, HistoriesAreRuns}
-use Rattle.bp_machine.specs.declared.calls.Report.{Report}
-use Rattle.bp_test.specs.declared.waiting.Waiting.{Waiting}
-use Rattle.bp_test.specs.Tests.{Wait}
 use Rattle.bp_test.specs.declared.shrinking.HistoryEnd.{HistoryEnd}
-use Rattle.bp_test.specs.Shrinks.{IsEnd, budgeted, DeadlocksAt, unseeded, IsDriven, IsNoMore, IsShrunk, IsShrunkOf, IsSearch, GoesOn}
 use Rattle.bp_test.specs.declared.searches.Search.{Search}
 use Rattle.bp_test.specs.declared.shrinking.Shrunk.{Shrunk}
 

@@ -1,18 +1,6 @@
 -- Counts of runs, and of more of them.
-use Rattle.std.proofs.Common.{◌≡◌, ◌≤◌, ℕ, zero, suc, List, [], ◌∷◌, ◌++◌, take, Option, sym, subst, arith, ◌⊎◌, ◌<◌, ◌+◌, ◌^◌, ◌-◌, min, max, Bool, true, cond, length, Some, ap, ◌∙◌, inl, inr, length-append, if◌then◌else◌, ◌==◌, fold, count_by, sum_by, slice_index_or, Any, rules}
-use Rattle.std.proofs.lemmas.Bool.{cases_lt}
-use Rattle.std.proofs.lemmas.List.{get_or_past}
-use Rattle.std.proofs.lemmas.List.Sums.{sum_by-append, fold-append}
-use Rattle.bp_language.specs.Ast.{Program}
-use Rattle.bp_flat.specs.StandsFor.{Place, places_of}
-use Rattle.bp_machine.specs.declared.calls.Call.{Call}
-use Rattle.bp_machine.specs.declared.calls.Reply.{Reply}
-use Rattle.bp_machine.specs.Histories.{configuration_after}
-use Rattle.bp_machine.specs.Setups.{SetupOf, threads}
-use Rattle.bp_test.specs.declared.limits.TheConstants.{MAX_KEYS}
-use Rattle.bp_test.specs.Reached.{key_after, no_call, one_call, IsKey, IsRunKey, next_place, IsNumberOf, is_marked, place_of, AreMarks, HasStep, MarksGrow, Reaches}
-use Rattle.bp_test.specs.Tallies.{MadeRun, AreKeys, capped, calls_of, longest_of, ends_of, ends_sum, using_contexts, count_with, IsCounted, IsTally}
-use Rattle.bp_test.specs.declared.tallies.Tally.{Tally}
+use Rattle.bp_test.proofs.Common.{◌≡◌, ◌≤◌, ℕ, zero, suc, List, [], ◌∷◌, ◌++◌, take, Option, sym, subst, arith, ◌⊎◌, ◌<◌, ◌+◌, ◌^◌, ◌-◌, min, max, Bool, true, cond, length, Some, ap, ◌∙◌, inl, inr, if◌then◌else◌, ◌==◌, fold, count_by, sum_by, slice_index_or, Any, rules, cases_lt, get_or_past, sum_by-append, fold-append, Program, Place, places_of, Call, Reply, configuration_after, SetupOf, threads, MAX_KEYS, key_after, no_call, one_call, IsKey, IsRunKey, next_place, IsNumberOf, is_marked, place_of, AreMarks, HasStep, MarksGrow, Reaches, MadeRun, AreKeys, capped, calls_of, longest_of, ends_of, ends_sum, using_contexts, count_with, IsCounted, IsTally, Tally}
+use Rattle.std.proofs.Common.{length-append}
 use Rattle.bp_test.proofs.MarkLemmas.{other_marks, grown_marks, both_marks, any_first, any_later, any_of_both, any_one, one_of_any}
 
 -- The key of a run with one more call, the keys of more runs, and that no seed changes them.

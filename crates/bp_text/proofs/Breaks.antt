@@ -1,8 +1,5 @@
 -- A text breaks at one line, and has no value then.
-use Rattle.std.proofs.Common.{[], ◌∷◌, length, refl, arith, ◌≡◌, inl, inr, ℕ, ◌+◌, List, sym, ◌∙◌, subst}
-use Rattle.bp_text.specs.Formats.{Format, HasNone, IsAt}
-use Rattle.bp_text.specs.Formats.Format.{After, As, Before, Chain, Either, Letter, Line, Many, Number, Span, Then, Word}
-use Rattle.bp_text.specs.Formats.{lines_of, BreaksAt}
+use Rattle.bp_text.proofs.Common.{[], ◌∷◌, length, refl, arith, ◌≡◌, inl, inr, ℕ, ◌+◌, List, sym, ◌∙◌, subst, Format, HasNone, IsAt, After, As, Before, Chain, Either, Letter, Line, Many, Number, Span, Then, Word, lines_of, BreaksAt}
 use Rattle.bp_text.proofs.Readings.{no_first, no_first_of_chain, no_second, no_second_of_chain, none_as, one_at}
 
 pub has_none : {A : Type 0} (F : Format A) (text : List ℕ) (k : ℕ) → BreaksAt F text k → HasNone F text

@@ -1,8 +1,5 @@
 -- A text as it is displayed, byte by byte.
-use Rattle.std.proofs.Common.{if◌then◌else◌, ◌≡◌, ◌==◌, ◌∙◌, ◌⊎◌, inl, inr, refl, sym, ap, ℕ, zero, suc, ◌+◌, ◌-◌, ◌<◌, ◌≤◌, Bool, true, false, List, [], ◌∷◌, ◌++◌, length, take, drop, get_or, add-one, drop-cons, arith, ◌/◌, ◌%◌, take_all, codes, flat_map}
-use Rattle.std.specs.List.{slice_index}
-use Rattle.std.proofs.Math.Seq.{take-suc}
-use Rattle.bp_text.specs.Pieces.{control_bytes, control_size, displayed, displayed_after, displayed_byte, HasNoControl, hex_digit, is_control, is_marked, string_byte, IsReadAs, ends, plain, marked, numbered}
+use Rattle.bp_text.proofs.Common.{if◌then◌else◌, ◌≡◌, ◌==◌, ◌∙◌, ◌⊎◌, inl, inr, refl, sym, ap, ℕ, zero, suc, ◌+◌, ◌-◌, ◌<◌, ◌≤◌, Bool, true, false, List, [], ◌∷◌, ◌++◌, length, take, drop, get_or, add-one, drop-cons, arith, ◌/◌, ◌%◌, take_all, codes, flat_map, slice_index, take-suc, control_bytes, control_size, displayed, displayed_after, displayed_byte, HasNoControl, hex_digit, is_control, is_marked, string_byte, IsReadAs, ends, plain, marked, numbered}
 
 same_length : (left : ℕ) (text : List ℕ) → length (displayed_after left text) ≡ length text
 same_length left [] = refl

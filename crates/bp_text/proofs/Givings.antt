@@ -1,16 +1,12 @@
 -- How the texts that a sink is given add up.
-use Rattle.std.proofs.Common.{◌≡◌, refl, ℕ, ◌+◌, ◌-◌, ◌<◌, ◌≤◌, List, ◌++◌, Option, length, take, drop, get_or, flat_map, sym, subst, arith, add-one, drop-cons, take-append-drop, length-append, length-drop, [], Bool, false, Result, ◌∙◌, suc, rules}
-use Rattle.std.proofs.lemmas.List.{take-append-le, append-nil, append_assoc}
-use Rattle.std.proofs.Math.Seq.{take-add, take-length, take-append-add}
-use Rattle.std.proofs.lemmas.Grind.{flat_map-append}
+use Rattle.bp_text.proofs.Common.{◌≡◌, refl, ℕ, ◌+◌, ◌-◌, ◌<◌, ◌≤◌, List, ◌++◌, Option, length, take, drop, get_or, flat_map, sym, subst, arith, add-one, drop-cons, length-append, length-drop, [], Bool, false, Result, ◌∙◌, suc, rules, take-append-le, take-add, take-length, take-append-add, flat_map-append, Appends, Keeps, AppendsPart, AppendsAll, Writes, HasTaken, Given, IsFresh, result_of, IsBegun, IsCutShort, IsWritten, IsInParts}
+use Rattle.std.proofs.Common.{take-append-drop}
+use Rattle.std.proofs.lemmas.List.{append-nil, append_assoc}
 use Rattle.std.proofs.KnownBytes.{Appends-trans, Appends-nil, Keeps-refl}
-use Rattle.std.specs.Io.KnownBytes.{Appends, Keeps}
 use Rattle.std.specs.Borrow.{MutBor}
 use Rattle.std.specs.Result.{is_err}
-use Rattle.bp_text.specs.Writing.{AppendsPart, AppendsAll, Writes, HasTaken, Given, IsFresh, result_of, IsBegun, IsCutShort, IsWritten}
 use Rattle.bp_text.specs.declared.sinks.WriteFault.{WriteFault}
 use Rattle.bp_text.specs.declared.sinks.Sink.{Sink}
-use Rattle.bp_text.specs.Lines.{IsInParts}
 use Rattle.bp_text.proofs.PartsOfTexts.{regrouped, no_parts, parts_go_on, parts_then}
 
 -- How pieces that were written one after the other add up.

@@ -1,3 +1,4 @@
+pub mod Common
 pub mod Givings
 mod DisplayedTexts
 pub mod LinesOfTexts

@@ -1,9 +1,5 @@
 -- Texts on one line, one after the other.
-use Rattle.std.proofs.Common.{◌≡◌, ◌==◌, ◌+◌, ℕ, suc, Bool, true, false, not, cond, List, [], ◌∷◌, take, refl, subst, arith, ◌≤◌, ◌++◌, length, reverse, drop, ap, sym, ◌∙◌, if◌then◌else◌, map}
-use Rattle.std.specs.List.{position_or_len, take_while, prefix_len}
-use Rattle.std.proofs.lemmas.List.{length-reverse, length-take, take-take, drop-take, take-append-drop}
-use Rattle.std.proofs.lemmas.List.Sums.{length-filter, count_by-le-length}
-use Rattle.bp_text.specs.Lines.{first_line, IsOneLine, position_after, AddsOneLine, on_one_line}
+use Rattle.bp_text.proofs.Common.{◌≡◌, ◌==◌, ◌+◌, ℕ, suc, Bool, true, false, not, cond, List, [], ◌∷◌, take, refl, subst, arith, ◌≤◌, ◌++◌, length, reverse, drop, ap, sym, ◌∙◌, if◌then◌else◌, map, position_or_len, take_while, prefix_len, length-reverse, length-take, take-take, drop-take, take-append-drop, length-filter, count_by-le-length, first_line, IsOneLine, position_after, AddsOneLine, on_one_line}
 
 -- The first line of a text is on one line.
 

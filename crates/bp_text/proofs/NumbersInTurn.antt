@@ -1,14 +1,10 @@
 -- A text begins with at most one number; and the first bytes of a text that are digits.
-use Rattle.std.proofs.Common.{append-nil, ◌≡◌, ◌≢◌, ◌⊎◌, inl, inr, ℕ, ◌+◌, ◌-◌, ◌*◌, ◌<◌, ◌≤◌, ◌^◌, List, [], ◌∷◌, ◌++◌, length, length-append, take, get_or, refl, sym, ap, ◌∙◌, arith, decimal, rules}
+use Rattle.bp_text.proofs.Common.{append-nil, ◌≡◌, ◌≢◌, ◌⊎◌, inl, inr, ℕ, ◌+◌, ◌-◌, ◌*◌, ◌<◌, ◌≤◌, ◌^◌, List, [], ◌∷◌, ◌++◌, length, length-append, take, get_or, refl, sym, ap, ◌∙◌, arith, decimal, rules, cases_lt, IsNoNumber, IsAt, HasNone, EndsNumber, Number}
 use Rattle.std.specs.Str.Parse.{AllDigits, digits_value}
-use Rattle.std.proofs.lemmas.Bool.{cases_lt}
 use Rattle.std.proofs.lemmas.Int.Digits.{digits_push, digits_value_push}
 use Rattle.std.proofs.lemmas.Str.{digit_value_digit}
 use Rattle.std.proofs.lemmas.Str.Parse.{IsNumeralModel, numerals_by_value, tells_digits, digit_from_value, digits_value-take-le}
 use Rattle.std.proofs.lemmas.Fmt.{decimal_digit, decimal_injective, decimal_nonempty, decimal-digits_value, digits_decimal, digits_value-decimal, first_decimal}
-use Rattle.bp_text.specs.Pieces.{IsNoNumber}
-use Rattle.bp_text.specs.Formats.{IsAt, HasNone, EndsNumber}
-use Rattle.bp_text.specs.Formats.Format.{Number}
 use Rattle.bp_text.proofs.PartsOfTexts.{regrouped}
 
 -- Decimal digits are numerals of their values.

@@ -1,8 +1,5 @@
 -- Each text is read in one way.
-use Rattle.std.proofs.Common.{Option, Some, subst, ◌≡◌, ℕ, Bool, List, [], ◌∷◌, ◌++◌, flat_map, refl, sym, ap, ◌∙◌, arith, rules}
-use Rattle.std.proofs.lemmas.List.{append_cancel_left}
-use Rattle.bp_text.specs.Formats.{SpanFits, Stops, Format, IsReadInOneWay, EachFits, EitherFits, Fits, text_of, text_of_either}
-use Rattle.bp_text.specs.Formats.Format.{After, As, Before, Chain, Either, Letter, Line, Many, Number, Span, Then, Word}
+use Rattle.bp_text.proofs.Common.{Option, Some, subst, ◌≡◌, ℕ, Bool, List, [], ◌∷◌, ◌++◌, flat_map, refl, sym, ap, ◌∙◌, arith, rules, append_cancel_left, SpanFits, Stops, Format, IsReadInOneWay, EachFits, EitherFits, Fits, text_of, text_of_either, After, As, Before, Chain, Either, Letter, Line, Many, Number, Span, Then, Word}
 use Rattle.bp_text.proofs.NumbersInTurn.{one_number}
 use Rattle.bp_text.proofs.PartsOfTexts.{regrouped}
 

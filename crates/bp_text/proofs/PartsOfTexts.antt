@@ -1,13 +1,8 @@
 -- Texts of parts: with one more part, and going on to all of them.
-use Rattle.std.proofs.Common.{◌≡◌, ◌∙◌, ◌++◌, List, ap, append_assoc, append-nil, ◌+◌, ◌<◌, ℕ, zero, suc, [], ◌∷◌, Some, length, get_or, slice_get, refl, sym, arith, ◌≢◌, ◌==◌, true, false, take, flat_map, fold, ◌⊎◌, inl, inr, ◌≤◌, subst, rules}
+use Rattle.bp_text.proofs.Common.{◌≡◌, ◌∙◌, ◌++◌, List, ap, append_assoc, append-nil, ◌+◌, ◌<◌, ℕ, zero, suc, [], ◌∷◌, Some, length, get_or, refl, sym, arith, ◌≢◌, ◌==◌, true, false, take, flat_map, fold, ◌⊎◌, inl, inr, ◌≤◌, subst, rules, get_or-append_seam, get_or_append_left, nil_from_length, flat_map_more, take_more, ext_get_or, slice_get_within, slice_get-get_or, get_or_from_slice_get, false≢true, cases_lt, Decides-eqb, concat, Adds, IsInParts}
+use Rattle.std.proofs.Common.{slice_get}
 use Rattle.std.proofs.lemmas.List.Folds.{concat-append}
-use Rattle.std.proofs.Math.Seq.{get_or-append_seam}
-use Rattle.std.proofs.lemmas.List.{length-append, get_or_append_left, nil_from_length, flat_map_more, take_more, ext_get_or}
-use Rattle.std.proofs.lemmas.Option.{slice_get_within, slice_get-get_or, get_or_from_slice_get}
-use Rattle.std.proofs.lemmas.Bool.{false≢true, cases_lt}
-use Rattle.std.proofs.lemmas.Bool.Decides.{Decides-eqb}
-use Rattle.std.specs.List.{concat}
-use Rattle.bp_text.specs.Lines.{Adds, IsInParts}
+use Rattle.std.proofs.lemmas.List.{length-append}
 
 -- Lists one after the other: with a part more, without their first part, and in other groups.
 

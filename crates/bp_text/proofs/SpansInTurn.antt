@@ -1,8 +1,6 @@
 -- How a span is read, byte by byte.
-use Rattle.std.proofs.Common.{◌-◌, length, length-append, take, ◌≡◌, ℕ, Bool, true, Option, None, Some, List, [], ◌∷◌, ◌++◌, refl, sym, ap, ◌∙◌, subst, arith}
-use Rattle.std.proofs.lemmas.List.{append-nil, nil_from_length, take_at}
-use Rattle.bp_text.specs.Formats.{SpanFits, Fits, HasNone, IsAt, Lacks, Stops, text_of}
-use Rattle.bp_text.specs.Formats.Format.{Span}
+use Rattle.bp_text.proofs.Common.{◌-◌, length, length-append, take, ◌≡◌, ℕ, Bool, true, Option, None, Some, List, [], ◌∷◌, ◌++◌, refl, sym, ap, ◌∙◌, subst, arith, nil_from_length, take_at, SpanFits, Fits, HasNone, IsAt, Lacks, Stops, text_of, Span}
+use Rattle.std.proofs.lemmas.List.{append-nil}
 use Rattle.bp_text.proofs.PartsOfTexts.{regrouped}
 
 -- The machine has come to this state, and this is the rest: what it takes from there on comes after

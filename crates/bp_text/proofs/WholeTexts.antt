@@ -1,10 +1,7 @@
 -- Texts of many values: each has at most one list of them, and at most one first malformed value.
-use Rattle.std.proofs.Common.{◌≡◌, ◌≢◌, ◌<◌, ◌≤◌, ◌+◌, arith, flat_map, length-append, ℕ, List, [], ◌∷◌, ◌++◌, length, sym, ap, ◌∙◌, subst, append_assoc, append-nil, zero, suc, None, Some, drop}
-use Rattle.bp_text.specs.Formats.{AreAll, Format, HasNone, IsAt, IsBad, text_of}
-use Rattle.bp_text.specs.Formats.Format.{Many}
+use Rattle.bp_text.proofs.Common.{◌≡◌, ◌≢◌, ◌<◌, ◌≤◌, ◌+◌, arith, flat_map, length-append, ℕ, List, [], ◌∷◌, ◌++◌, length, sym, ap, ◌∙◌, subst, append_assoc, append-nil, zero, suc, None, Some, drop, AreAll, Format, HasNone, IsAt, IsBad, text_of, Many, slice_get_past}
 use Rattle.bp_text.proofs.Readings.{no_more, one_at, one_more, first_of_many, none_of_many}
 use Rattle.std.specs.Prelude.{slice_get}
-use Rattle.std.proofs.lemmas.Option.{slice_get_past}
 
 module _ {A : Type 0} {F : Format A} {text : List ℕ} where
   pub one_reading : {xs ys : List A} → AreAll F text xs → AreAll F text ys → xs ≡ ys
@@ -21,7 +18,6 @@ pub record AreReadTo {A : Type 0} (F : Format A) (text : List ℕ) (xs : List A)
   pub go : (ys : List A) (end : List ℕ) → IsAt (Many F) rest ys end → IsAt (Many F) text (xs ++ ys) end
 
 module _ {A : Type 0} {F : Format A} {text : List ℕ} where
-
   module _ {xs : List A} {rest : List ℕ} (read : AreReadTo F text xs rest) where
     pub one_more_read : {x : A} {more : List ℕ} → IsAt F rest x more → AreReadTo F text (xs ++ x ∷ []) more
     one_more_read {x} at = record {

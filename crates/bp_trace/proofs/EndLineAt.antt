@@ -1,28 +1,10 @@
 -- The decimals of any length, and the end line, that begin a text.
-use Rattle.std.proofs.Common.{None, true, false, cond, ◌==◌, ◌≡◌, ◌≢◌, ℕ, ◌+◌, ◌-◌, ◌<◌, ◌≤◌, Bool, List, [], ◌∷◌, ◌++◌, length, drop, Some, ap, sym, ◌∙◌, arith, length-append, decimal, take, get_or, refl, subst, codes, map, flat_map, Option, slice_get, rules}
-use Rattle.std.proofs.lemmas.List.{drop_at, map-append, take_more}
-use Rattle.std.specs.Str.Parse.{AllDigits}
+use Rattle.bp_trace.proofs.Common.{None, true, false, cond, ◌==◌, ◌≡◌, ◌≢◌, ℕ, ◌+◌, ◌-◌, ◌<◌, ◌≤◌, Bool, List, [], ◌∷◌, ◌++◌, length, drop, Some, ap, sym, ◌∙◌, arith, length-append, decimal, take, get_or, refl, subst, codes, map, flat_map, Option, slice_get, rules, drop_at, map-append, take_more, AllDigits, digit_from_value, flat_map-append, regrouped, both_added, flat_map_at, Reply, MAX_THREADS, Call, HasNone, IsAt, SpanFits, one_at, after_digit, end_numbers, is_whole, more_digits, thread_field, HasNoTail, HasNoCall, IsEndAt, HasNoEnd, IsSymbolAt, HasSymbols, IsBodyLineAt, HasNoBodyLine, nat_tests, false≢true, IsDecimal, IsEndLine, IsBodyLine, Two, Symbol, Piece, call_of, symbol_text, piece_line, Version}
 use Rattle.std.proofs.lemmas.Option.{same_Some}
-use Rattle.std.proofs.lemmas.Str.Parse.{digit_from_value}
-use Rattle.std.proofs.lemmas.List.Concat.{flat_map-append}
-use Rattle.bp_text.proofs.PartsOfTexts.{regrouped, both_added}
-use Rattle.bp_text.proofs.Givings.{flat_map_at}
-use Rattle.bp_machine.specs.declared.calls.Reply.{Reply}
-use Rattle.bp_machine.specs.declared.limits.TheConstants.{MAX_THREADS}
-use Rattle.bp_machine.specs.declared.calls.Call.{Call}
-use Rattle.bp_text.specs.Formats.{HasNone, IsAt, SpanFits}
-use Rattle.bp_text.proofs.Readings.{one_at}
-use Rattle.bp_trace.specs.Reading.{after_digit, end_numbers, is_whole, more_digits, thread_field, HasNoTail, HasNoCall, IsEndAt, HasNoEnd, IsSymbolAt, HasSymbols, IsBodyLineAt, HasNoBodyLine}
 use Rattle.bp_trace.specs.declared.end_lines.DecimalState.{DecimalState}
 use Rattle.bp_trace.specs.declared.end_lines.DecimalState.TheVariants.{Start, Zero, Digits}
 use Rattle.std.specs.Char.{digit_value, is_ascii_digit}
 use Rattle.std.proofs.lemmas.Str.{digit_value_digit}
-use Rattle.std.proofs.lemmas.Bool.Decides.{nat_tests}
-use Rattle.std.proofs.lemmas.Bool.{false≢true}
-use Rattle.bp_trace.specs.Replays.{IsDecimal, IsEndLine, IsBodyLine}
-use Rattle.bp_trace.specs.declared.traces.Version.TheVariants.{Two}
-use Rattle.bp_trace.specs.TraceText.{Symbol, Piece, call_of, symbol_text, piece_line}
-use Rattle.bp_trace.specs.declared.traces.Version.{Version}
 use Rattle.bp_trace.proofs.OneText.{call_then, front_cut, piece_then, symbols_alike, no_symbol_at_end, number_begins, one_call_line, one_piece_line}
 use Rattle.bp_trace.proofs.ScheduleLines.{thread_parts, thread_there}
 

@@ -1,25 +1,10 @@
 -- A text has one head, or stops being one at one line.
-use Rattle.std.proofs.Common.{append_assoc, append-nil, ◌≡◌, ◌≢◌, ◌<◌, ◌≤◌, ◌+◌, ◌-◌, ◌^◌, ◌∙◌, inl, inr, ℕ, Bool, true, false, cond, Option, None, Some, List, [], ◌∷◌, ◌++◌, flat_map, map, length, get_or, refl, ap, sym, arith, codes, decimal, rules}
-use Rattle.std.specs.List.{AllByRecursion, concat}
-use Rattle.std.proofs.lemmas.Bool.{false≢true, ne_eqb}
-use Rattle.std.proofs.lemmas.List.{length-append, length-map}
-use Rattle.bp_text.specs.Formats.{bit, bit_digit, BreaksAt, EachFits, Fits, Format, IsAt, lines_of, SpanFits, text_of}
-use Rattle.bp_text.specs.Formats.Format.{After, As, Line, Many, Span, Then}
+use Rattle.bp_trace.proofs.Common.{append_assoc, append-nil, ◌≡◌, ◌≢◌, ◌<◌, ◌≤◌, ◌+◌, ◌-◌, ◌^◌, ◌∙◌, inl, inr, ℕ, Bool, true, false, cond, Option, None, Some, List, [], ◌∷◌, ◌++◌, flat_map, map, length, get_or, refl, ap, sym, arith, codes, decimal, rules, AllByRecursion, concat, false≢true, ne_eqb, length-map, bit, BreaksAt, EachFits, Fits, Format, IsAt, lines_of, SpanFits, After, As, Line, Many, Span, Then, breaks_after, has_none, lines_each, ends_at, no_digit_first, regrouped, one_at, within, few_values, SetupOf, setup_of, Call, Head, Version, after_byte, bits, entry, head, may_end, seed, seed_value, settings, version_word, IsHeadOf, setup_of_head, IsEntryName, entry_line, field_line, init_digits, init_line, limit_lines, seed_word, Without, IsWritable, HasHead, version_line, setting_lines, head_lines, head_text}
+use Rattle.std.proofs.lemmas.List.{length-append}
+use Rattle.bp_text.specs.Formats.{bit_digit, text_of}
 use Rattle.bp_text.specs.Pieces.{bit_text}
-use Rattle.bp_text.proofs.Breaks.{breaks_after, has_none, lines_each}
-use Rattle.bp_text.proofs.NumbersInTurn.{ends_at, no_digit_first}
-use Rattle.bp_text.proofs.PartsOfTexts.{regrouped}
-use Rattle.bp_text.proofs.Readings.{one_at, within}
-use Rattle.bp_text.proofs.WholeTexts.{few_values}
-use Rattle.bp_machine.specs.Setups.{SetupOf, setup_of}
-use Rattle.bp_machine.specs.declared.calls.Call.{Call}
 use Rattle.bp_trace.specs.declared.heads.EntryState.{EntryState}
 use Rattle.bp_trace.specs.declared.heads.EntryState.TheVariants.{Start, Within}
-use Rattle.bp_trace.specs.declared.heads.Head.{Head}
-use Rattle.bp_trace.specs.declared.traces.Version.{Version}
-use Rattle.bp_trace.specs.HeadFormat.{after_byte, bits, entry, head, may_end, seed, seed_value, settings, version_word}
-use Rattle.bp_trace.specs.Reading.{IsHeadOf, setup_of_head}
-use Rattle.bp_trace.specs.TraceText.{IsEntryName, entry_line, field_line, init_digits, init_line, limit_lines, seed_word, Without, IsWritable, HasHead, version_line, setting_lines, head_lines, head_text}
 
 -- What holds of each element of two lists holds of each of both, and what of both of each.
 

@@ -1,3 +1,4 @@
+pub mod Common
 pub mod HeadsRead
 mod EndLineAt
 mod OneText

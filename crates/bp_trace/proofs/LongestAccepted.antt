@@ -1,24 +1,7 @@
 -- The calls before the first line that is refused, and those before the refused call on it, are the longest beginning that is accepted.
-use Rattle.std.proofs.Common.{◌≡◌, ℕ, zero, suc, ◌+◌, ◌-◌, ◌<◌, ◌≤◌, List, [], ◌∷◌, ◌++◌, length, take, drop, map, get_or, Some, ap, sym, ◌∙◌, subst, arith, inl, inr, length-append, length-drop, None, refl, ◌⊎◌, slice_get}
-use Rattle.std.proofs.lemmas.List.{append-nil, take_more, take-append-drop, drop-drop, drop_at}
+use Rattle.bp_trace.proofs.Common.{◌≡◌, ℕ, zero, suc, ◌+◌, ◌-◌, ◌<◌, ◌≤◌, List, [], ◌∷◌, ◌++◌, length, take, drop, map, get_or, Some, ap, sym, ◌∙◌, subst, arith, inl, inr, length-append, length-drop, None, refl, ◌⊎◌, slice_get, take_more, take-append-drop, drop-drop, drop_at, AllByRecursion, both_added, regrouped, Program, Configuration, Call, configuration_after_call, configuration_after, configuration_after_calls, last_thread, SessionOf, Stands, PrintedRow, rows_of_call, rows_after, printed_rows, SetupOf, threads, start, setup_fault, MAX_THREADS, few_threads, ReplayFault, Version, IsBodyLineAt, HasNoBodyLine, IsRefusedAfter, IsCallRefusal, IsLineRefused, IsBodyRefusal, calls_text, HasHead, head_text, IsPlayable, IsBodyLine, IsCallFault, line_count, IsAccepted, IsLongestAccepted, HasRefusedCall}
+use Rattle.std.proofs.lemmas.List.{append-nil}
 use Rattle.std.proofs.Math.Seq.{drop-cons}
-use Rattle.std.specs.List.{AllByRecursion}
-use Rattle.bp_text.proofs.PartsOfTexts.{both_added, regrouped}
-use Rattle.bp_language.specs.Ast.{Program}
-use Rattle.bp_flat.specs.Moves.{Configuration}
-use Rattle.bp_machine.specs.declared.calls.Call.{Call}
-use Rattle.bp_machine.specs.Histories.{configuration_after_call, configuration_after, configuration_after_calls}
-use Rattle.bp_machine.specs.Sessions.{last_thread, SessionOf, Stands}
-use Rattle.bp_machine.specs.Runs.{PrintedRow, rows_of_call, rows_after, printed_rows}
-use Rattle.bp_machine.specs.Setups.{SetupOf, threads, start, setup_fault}
-use Rattle.bp_machine.specs.declared.limits.TheConstants.{MAX_THREADS}
-use Rattle.bp_machine.proofs.SetupInRange.{few_threads}
-use Rattle.bp_trace.specs.declared.faults.ReplayFault.{ReplayFault}
-use Rattle.bp_trace.specs.declared.traces.Version.{Version}
-use Rattle.bp_trace.specs.Reading.{IsBodyLineAt, HasNoBodyLine}
-use Rattle.bp_trace.specs.Judging.{IsRefusedAfter, IsCallRefusal, IsLineRefused, IsBodyRefusal}
-use Rattle.bp_trace.specs.TraceText.{calls_text, HasHead, head_text}
-use Rattle.bp_trace.specs.Replays.{IsPlayable, IsBodyLine, IsCallFault, line_count, IsAccepted, IsLongestAccepted, HasRefusedCall}
 use Rattle.bp_trace.proofs.PiecesAreFewest.{text_grows, count_grows, some_line, line_below, thread_of}
 use Rattle.bp_trace.proofs.HeadsRead.{all_of_both, all_of_second, one_head}
 use Rattle.bp_trace.proofs.OneRefusal.{State, IsNextLine, single, grown, walk_of, below}

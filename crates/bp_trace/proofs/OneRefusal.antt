@@ -1,33 +1,13 @@
 -- Two histories that may be played, each with something after it that no line of calls goes on with, have two texts; so a text has at most one refusal.
-use Rattle.std.proofs.Common.{◌≡◌, ℕ, ◌<◌, List, [], ◌∷◌, ◌++◌, map, flat_map, refl, ap, sym, ◌∙◌, subst, ◌≢◌, ◌≤◌, ◌+◌, length, ◌⊎◌, inl, inr, length-append, arith, append-nil, None, Some, rules}
-use Rattle.std.specs.List.{AllByRecursion}
-use Rattle.bp_text.proofs.PartsOfTexts.{regrouped}
-use Rattle.bp_language.specs.Ast.{Program}
-use Rattle.bp_machine.specs.declared.calls.Call.{Call}
-use Rattle.bp_machine.specs.Sessions.{last_thread}
-use Rattle.bp_machine.specs.declared.limits.TheConstants.{MAX_THREADS}
-use Rattle.bp_machine.specs.Histories.{IsLegalAfter, open_lines}
-use Rattle.bp_machine.specs.Setups.{SetupOf, threads, setup_fault}
-use Rattle.bp_trace.specs.declared.traces.Version.{Version}
-use Rattle.bp_trace.specs.declared.traces.Version.TheVariants.{One, Two}
-use Rattle.bp_trace.specs.TraceText.{Piece, calls_of_piece, calls_of_pieces, pieces_of, call_line, piece_line, calls_text, end_line, HasHead, head_lines, head_text}
-use Rattle.bp_trace.specs.Replays.{IsBodyLine, IsPlayable, counts_of, IsEndLine, HasOtherEnd, HasMoreAfter, IsRefusedAmong, HasNoNextLine, HasRefusedCall, IsRestRefused, IsTrace, line_count, Reaches, HasRefusedSetup, HasRefusedRest, IsReplayRefusal}
-use Rattle.bp_trace.specs.declared.faults.ReplayFault.{ReplayFault}
+use Rattle.bp_trace.proofs.Common.{◌≡◌, ℕ, ◌<◌, List, [], ◌∷◌, ◌++◌, map, flat_map, refl, ap, sym, ◌∙◌, subst, ◌≢◌, ◌≤◌, ◌+◌, length, ◌⊎◌, inl, inr, length-append, arith, append-nil, None, Some, rules, AllByRecursion, regrouped, Program, Call, last_thread, MAX_THREADS, IsLegalAfter, open_lines, SetupOf, threads, setup_fault, Version, One, Two, Piece, calls_of_piece, calls_of_pieces, pieces_of, call_line, piece_line, calls_text, end_line, HasHead, head_lines, head_text, IsBodyLine, IsPlayable, counts_of, IsEndLine, HasOtherEnd, HasMoreAfter, IsRefusedAmong, HasNoNextLine, HasRefusedCall, IsRestRefused, IsTrace, line_count, Reaches, HasRefusedSetup, HasRefusedRest, IsReplayRefusal, ReplayFault, TEXT_LIMIT, entries_are_names, fits, few_threads, few_calls, range_of, MAX_TRACE, OneRefusal, RefusedIsNoTrace, BreaksAt, one_break, head}
 use Rattle.bp_trace.proofs.PiecesAreFewest.{piece_thread, last_is_thread, Alternate, pieces_alternate, pieces_threads, thread_of, pieces_whole, some_line}
 use Rattle.bp_trace.proofs.EndLineAt.{one_body_line, one_end_line, not_both}
 use Rattle.bp_trace.proofs.PlayableFronts.{front, one_among, not_refused}
 use Rattle.bp_trace.proofs.Walks.{Walk, Stays, Goes, IsSingle, compared}
 use Rattle.bp_language.specs.Texts.{HasText}
-use Rattle.bp_language.specs.declared.limits.TheConstants.{TEXT_LIMIT}
 use Rattle.bp_language.proofs.NamesOfTokens.{short_names}
 use Rattle.bp_language.specs.Faults.{IsLawful}
 use Rattle.bp_machine.specs.declared.setup_faults.SetupFault.{SetupFault}
-use Rattle.bp_machine.proofs.SetupInRange.{entries_are_names, fits, few_threads, few_calls, range_of}
-use Rattle.bp_trace.specs.declared.limits.TheConstants.{MAX_TRACE}
-use Rattle.bp_trace.specs.Laws.{OneRefusal, RefusedIsNoTrace}
-use Rattle.bp_text.specs.Formats.{BreaksAt}
-use Rattle.bp_text.proofs.Breaks.{one_break}
-use Rattle.bp_trace.specs.HeadFormat.{head}
 use Rattle.bp_trace.proofs.HeadsRead.{no_break, one_head}
 use Rattle.bp_trace.proofs.OneText.{front_cut}
 use Rattle.bp_trace.proofs.TraceLength.{own_end, trace_short}

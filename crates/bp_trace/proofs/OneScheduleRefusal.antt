@@ -1,21 +1,7 @@
 -- A schedule drives its program to one history or has one refusal, and the lines of a legal history drive its program to it.
-use Rattle.std.proofs.Common.{◌≡◌, ◌≢◌, ℕ, ◌+◌, ◌<◌, ◌≤◌, List, [], ◌∷◌, ◌++◌, length, Bool, true, Option, None, Some, ◌⊎◌, inl, inr, refl, ap, sym, ◌∙◌, subst, arith, append-nil}
-use Rattle.std.proofs.lemmas.Bool.{false≢true}
-use Rattle.bp_text.proofs.PartsOfTexts.{regrouped}
-use Rattle.bp_language.specs.Ast.{Program}
-use Rattle.bp_machine.specs.declared.calls.Call.{Call}
-use Rattle.bp_machine.specs.declared.limits.TheConstants.{MAX_THREADS}
-use Rattle.bp_machine.specs.Setups.{SetupOf, threads}
-use Rattle.bp_machine.specs.Histories.{is_finished, IsAllowed, IsLegalAfter}
-use Rattle.bp_machine.specs.Runs.{history_of_run}
+use Rattle.bp_trace.proofs.Common.{◌≡◌, ◌≢◌, ℕ, ◌+◌, ◌<◌, ◌≤◌, List, [], ◌∷◌, ◌++◌, length, Bool, true, Option, None, Some, ◌⊎◌, inl, inr, refl, ap, sym, ◌∙◌, subst, arith, append-nil, false≢true, regrouped, Program, Call, MAX_THREADS, SetupOf, threads, is_finished, IsAllowed, IsLegalAfter, history_of_run, DriveFault, MAX_SCHEDULE, ScheduleLine, line_text, line_of_call, lines_of_history, schedule_text, IsLineAt, HasNoLine, DrivesUpTo, IsDriven, IsScheduleRefusal, DrivesTo, LinesDriveAgain, OneScheduleRefusal, RefusedDrivesNowhere, RunsDriveToHistories}
 use Rattle.bp_machine.proofs.RunsAreHistories.{run_is_history}
-use Rattle.bp_trace.specs.declared.faults.DriveFault.{DriveFault}
 use Rattle.bp_trace.specs.declared.faults.DriveFault.TheVariants as drive
-use Rattle.bp_trace.specs.declared.limits.TheConstants.{MAX_SCHEDULE}
-use Rattle.bp_trace.specs.declared.driving.ScheduleLine.{ScheduleLine}
-use Rattle.bp_trace.specs.TraceText.{line_text, line_of_call, lines_of_history, schedule_text, IsLineAt, HasNoLine}
-use Rattle.bp_trace.specs.Drives.{DrivesUpTo, IsDriven, IsScheduleRefusal}
-use Rattle.bp_trace.specs.Laws.{DrivesTo, LinesDriveAgain, OneScheduleRefusal, RefusedDrivesNowhere, RunsDriveToHistories}
 use Rattle.bp_trace.proofs.ScheduleLines.{same_call, not_empty, schedule_short, one_line}
 use Rattle.bp_trace.proofs.Walks.{Walk, Stays, Goes, IsSingle, Stops, one_end}
 

@@ -1,21 +1,7 @@
 -- No two triples of version, setup and history have one text.
-use Rattle.std.proofs.Common.{inl, ◌≡◌, ℕ, ◌<◌, ◌^◌, List, [], ◌∷◌, ◌++◌, length, refl, sym, arith, decimal, Bool, flat_map, ap, ◌≤◌, ◌==◌, ◌∙◌, if◌then◌else◌, rules}
-use Rattle.std.specs.Str.Parse.{AllDigits}
-use Rattle.std.proofs.lemmas.Str.Parse.{digit_from_value}
-use Rattle.std.proofs.lemmas.Fmt.{digits_decimal, decimal_nonempty}
-use Rattle.std.specs.List.{AllByRecursion}
-use Rattle.bp_text.proofs.NumbersInTurn.{ends_at, numerals}
+use Rattle.bp_trace.proofs.Common.{inl, ◌≡◌, ℕ, ◌<◌, ◌^◌, List, [], ◌∷◌, ◌++◌, length, refl, sym, arith, decimal, Bool, flat_map, ap, ◌≤◌, ◌==◌, ◌∙◌, if◌then◌else◌, rules, AllDigits, digit_from_value, digits_decimal, decimal_nonempty, AllByRecursion, ends_at, numerals, regrouped, SetupOf, Call, Reply, letter_of, open_lines, bit_digit, Symbol, Piece, pieces_of, calls_of_pieces, call_line, symbol_text, piece_line, calls_text, end_line, text_of, IsWritable, Version, One, Two, HasNoSymbol}
 use Rattle.bp_text.proofs.NumbersInTurn as numbers
-use Rattle.bp_text.proofs.PartsOfTexts.{regrouped}
-use Rattle.bp_machine.specs.Setups.{SetupOf}
-use Rattle.bp_machine.specs.declared.calls.Call.{Call}
-use Rattle.bp_machine.specs.declared.calls.Reply.{Reply}
 use Rattle.bp_machine.specs.declared.calls.Reply.TheVariants.{Stopped, Ended, NoContexts, Full, Blocked, Failed, Stepped}
-use Rattle.bp_machine.specs.Histories.{letter_of, open_lines}
-use Rattle.bp_trace.specs.TraceText.{bit_digit, Symbol, Piece, pieces_of, calls_of_pieces, call_line, symbol_text, piece_line, calls_text, end_line, text_of, IsWritable}
-use Rattle.bp_trace.specs.declared.traces.Version.{Version}
-use Rattle.bp_trace.specs.declared.traces.Version.TheVariants.{One, Two}
-use Rattle.bp_trace.specs.Reading.{HasNoSymbol}
 use Rattle.bp_trace.proofs.PiecesAreFewest.{pieces_threads, pieces_whole}
 use Rattle.bp_trace.proofs.HeadsRead.{heads_alike}
 

@@ -1,18 +1,6 @@
 -- The pieces of a history are its calls, cut into the fewest lists of one thread each.
-use Rattle.std.proofs.Common.{◌≡◌, ℕ, ◌<◌, ◌==◌, Bool, true, false, cond, List, [], ◌∷◌, ◌++◌, length, flat_map, None, Some, refl, ap, sym, ◌∙◌, arith, codes, decimal, ◌≢◌, Option, subst, map, ◌+◌, length-append, append-nil, rules}
-use Rattle.std.proofs.lemmas.Bool.Decides.{nat_tests}
-use Rattle.std.specs.List.{AllByRecursion}
-use Rattle.std.proofs.lemmas.List.Concat.{flat_map-append}
-use Rattle.bp_text.proofs.PartsOfTexts.{regrouped}
-use Rattle.bp_machine.specs.declared.calls.Call.{Call}
-use Rattle.bp_machine.specs.Histories.{IsLeastWithin, letter_of}
-use Rattle.bp_machine.specs.Sessions.{contexts_opened, last_thread}
+use Rattle.bp_trace.proofs.Common.{◌≡◌, ℕ, ◌<◌, ◌==◌, Bool, true, false, cond, List, [], ◌∷◌, ◌++◌, length, flat_map, None, Some, refl, ap, sym, ◌∙◌, arith, codes, decimal, ◌≢◌, Option, subst, map, ◌+◌, length-append, append-nil, rules, nat_tests, AllByRecursion, flat_map-append, regrouped, Call, IsLeastWithin, letter_of, contexts_opened, last_thread, Piece, symbol_of, piece_of, with_call, pieces_of, symbol_text, piece_line, call_of, calls_of_piece, calls_of_pieces, Symbol, bit_digit, call_line, calls_text, symbols_after, Version, One, Two, IsBodyLine, line_count}
 use Rattle.bp_machine.proofs.ContextCounts.{opened, opened_none, opened_more, opened_least}
-use Rattle.bp_trace.specs.TraceText.{Piece, symbol_of, piece_of, with_call, pieces_of, symbol_text, piece_line, call_of, calls_of_piece, calls_of_pieces, Symbol, bit_digit, call_line, calls_text}
-use Rattle.bp_trace.specs.Reading.{symbols_after}
-use Rattle.bp_trace.specs.declared.traces.Version.{Version}
-use Rattle.bp_trace.specs.declared.traces.Version.TheVariants.{One, Two}
-use Rattle.bp_trace.specs.Replays.{IsBodyLine, line_count}
 
 -- The pieces of a history have the text that its calls have one by one.
 

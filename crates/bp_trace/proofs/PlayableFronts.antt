@@ -1,17 +1,7 @@
 -- A history that may be played is played call by call: its fronts may be, and the call after a front is refused by nothing.
-use Rattle.std.proofs.Common.{◌≡◌, ℕ, ◌==◌, zero, suc, Bool, true, false, cond, List, [], ◌∷◌, ◌++◌, length, Option, None, Some, is_some, refl, ap, sym, ◌∙◌, ◌⊎◌, inl, inr, subst, arith, slice_get, append-nil}
-use Rattle.std.proofs.lemmas.Bool.{false≢true}
-use Rattle.std.proofs.lemmas.Bool.Decides.{nat_tests}
-use Rattle.bp_text.proofs.PartsOfTexts.{regrouped}
-use Rattle.bp_language.specs.Ast.{Program}
-use Rattle.bp_machine.specs.declared.calls.Call.{Call}
-use Rattle.bp_machine.specs.Histories.{Answers, choice_bit, calls_of_thread, is_finished, configuration_after, granted_threads, IsAllowed, IsLegalAfter, IsBitOfCall}
-use Rattle.bp_machine.specs.Sessions.{IsNextCall, given_bit}
-use Rattle.bp_machine.specs.Setups.{SetupOf}
+use Rattle.bp_trace.proofs.Common.{◌≡◌, ℕ, ◌==◌, zero, suc, Bool, true, false, cond, List, [], ◌∷◌, ◌++◌, length, Option, None, Some, is_some, refl, ap, sym, ◌∙◌, ◌⊎◌, inl, inr, subst, arith, slice_get, append-nil, false≢true, nat_tests, regrouped, Program, Call, Answers, choice_bit, calls_of_thread, is_finished, configuration_after, granted_threads, IsAllowed, IsLegalAfter, IsBitOfCall, IsNextCall, given_bit, SetupOf, ReplayFault, IsPlayable, IsDue, IsCallFault, IsRefusedAmong}
 use Rattle.bp_trace.specs.declared.faults.Due.{Due}
-use Rattle.bp_trace.specs.declared.faults.ReplayFault.{ReplayFault}
 use Rattle.bp_trace.specs.declared.faults.ReplayFault.TheVariants as fault
-use Rattle.bp_trace.specs.Replays.{IsPlayable, IsDue, IsCallFault, IsRefusedAmong}
 use Rattle.bp_trace.proofs.ScheduleLines.{same_answer}
 
 calls_after : (i : ℕ) (h g : List Call) → calls_of_thread i (h ++ g) ≡ calls_of_thread i h ++ calls_of_thread i g

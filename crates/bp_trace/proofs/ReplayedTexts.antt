@@ -1,21 +1,10 @@
 -- A text whose head and lines of calls were read is a trace, or is refused.
-use Rattle.std.proofs.Common.{◌≡◌, ◌⊎◌, ℕ, ◌+◌, ◌≤◌, List, [], ◌∷◌, ◌++◌, length, flat_map, drop, None, ap, sym, ◌∙◌, subst, arith, inl, inr, length-append, drop_at, rules}
-use Rattle.bp_language.specs.Ast.{Program}
-use Rattle.bp_machine.specs.declared.calls.Call.{Call}
+use Rattle.bp_trace.proofs.Common.{◌≡◌, ◌⊎◌, ℕ, ◌+◌, ◌≤◌, List, [], ◌∷◌, ◌++◌, length, flat_map, drop, None, ap, sym, ◌∙◌, subst, arith, inl, inr, length-append, rules, Program, Call, IsReport, SetupOf, setup_fault, MAX_TRACE, ReplayFault, Version, IsEndRefusal, setup_of_head, IsHeadOf, Head, HasHead, version_line, entry_line, init_line, head_lines, head_text, calls_text, IsLongestAccepted, IsPlayable, line_count, Reaches, IsRestRefused, HasRefusedRest, IsReplayRefusal, IsBody, IsBodyRefusal, HasRefusedBody, FitsText, IsOpened}
+use Rattle.std.proofs.Common.{drop_at}
 use Rattle.bp_machine.specs.declared.calls.Report.{Report}
-use Rattle.bp_machine.specs.Histories.{IsReport}
-use Rattle.bp_machine.specs.Setups.{SetupOf, setup_fault}
-use Rattle.bp_trace.specs.declared.limits.TheConstants.{MAX_TRACE}
 use Rattle.bp_trace.specs.declared.playing.Body.{Body}
-use Rattle.bp_trace.specs.declared.faults.ReplayFault.{ReplayFault}
 use Rattle.bp_trace.specs.declared.faults.ReplayFault.TheVariants as fault
-use Rattle.bp_trace.specs.declared.traces.Version.{Version}
-use Rattle.bp_trace.specs.Reading.{IsEndRefusal, setup_of_head, IsHeadOf}
-use Rattle.bp_trace.specs.declared.heads.Head.{Head}
-use Rattle.bp_trace.specs.TraceText.{HasHead, version_line, entry_line, init_line, head_lines, head_text, calls_text}
 use Rattle.bp_trace.specs.declared.replaying.Opened.{Opened}
-use Rattle.bp_trace.specs.Replays.{IsLongestAccepted, IsPlayable, line_count, Reaches, IsRestRefused, HasRefusedRest, IsReplayRefusal}
-use Rattle.bp_trace.specs.Judging.{IsBody, IsBodyRefusal, HasRefusedBody, FitsText, IsOpened}
 use Rattle.bp_trace.proofs.HeadsRead.{limits_text, setup_text, head_joined}
 use Rattle.bp_trace.proofs.LongestAccepted.{longest_before_no_line, longest_before_refused}
 use Rattle.bp_trace.proofs.HeadsRead.{line_total}

@@ -1,31 +1,7 @@
 -- Lines of schedules: what begins them, how long they are, which call they are of, and what a session that stands after them says.
-use Rattle.std.proofs.Common.{◌≡◌, ℕ, ◌+◌, ◌/◌, ◌%◌, ◌<◌, ◌≤◌, ◌^◌, List, [], ◌∷◌, ◌++◌, length, refl, ap, sym, ◌∙◌, arith, decimal, append_assoc, ◌*◌, length-append, ◌≢◌, ◌↔◌, IsTrue, Bool, true, Some, subst, Option, None, rules}
-use Rattle.std.proofs.lemmas.Fmt.{decimal_digit, decimal_step}
-use Rattle.bp_text.specs.Formats.{HasNone, IsAt}
-use Rattle.bp_text.proofs.NumbersInTurn.{ends_at}
-use Rattle.bp_text.proofs.PartsOfTexts.{regrouped}
-use Rattle.bp_text.proofs.Readings.{one_at}
-use Rattle.bp_trace.specs.declared.driving.ScheduleLine.{ScheduleLine}
-use Rattle.bp_trace.specs.Reading.{schedule_line, thread_field}
-use Rattle.bp_trace.specs.TraceText.{line_text, bit_digit, IsLineAt, HasNoLine, schedule_text, line_of_call, lines_of_history}
-use Rattle.std.proofs.Math.Nat.{mul-le-mul_left, mul-le-mul_right}
-use Rattle.std.proofs.lemmas.Bool.{cases_lt}
-use Rattle.bp_language.specs.Ast.{Program}
-use Rattle.bp_flat.specs.Moves.{Configuration}
-use Rattle.bp_flat.specs.StandsFor.{StandsFor, IsOfProgram}
-use Rattle.bp_machine.specs.declared.limits.TheConstants.{MAX_THREADS}
-use Rattle.bp_machine.specs.declared.calls.Call.{Call}
-use Rattle.bp_machine.specs.Setups.{SetupOf, threads, IsInRange}
-use Rattle.bp_machine.specs.Histories.{IsLegal, Answers, reply_of, configuration_after, granted_threads, is_finished, IsAllowed}
-use Rattle.bp_machine.specs.declared.calls.Reply.{Reply}
-use Rattle.bp_machine.specs.Sessions.{SessionOf, Stands, StandsForAll, IsAskRefusal}
+use Rattle.bp_trace.proofs.Common.{◌≡◌, ℕ, ◌+◌, ◌/◌, ◌%◌, ◌<◌, ◌≤◌, ◌^◌, List, [], ◌∷◌, ◌++◌, length, refl, ap, sym, ◌∙◌, arith, decimal, append_assoc, ◌*◌, length-append, ◌≢◌, ◌↔◌, IsTrue, Bool, true, Some, subst, Option, None, rules, decimal_digit, decimal_step, HasNone, IsAt, ends_at, regrouped, one_at, ScheduleLine, schedule_line, thread_field, line_text, bit_digit, IsLineAt, HasNoLine, schedule_text, line_of_call, lines_of_history, mul-le-mul_left, mul-le-mul_right, cases_lt, Program, Configuration, StandsFor, IsOfProgram, MAX_THREADS, Call, SetupOf, threads, IsInRange, IsLegal, Answers, reply_of, configuration_after, granted_threads, is_finished, IsAllowed, Reply, SessionOf, Stands, StandsForAll, IsAskRefusal, AllBelow, all_below, legal_length, is_true, MAX_SCHEDULE, IsAfterFinish, IsRefusal, drive_fault_of, IsLineRefusal, DriveFault}
 use Rattle.bp_machine.specs.declared.calls.AskFault.{AskFault}
 use Rattle.bp_machine.specs.declared.calls.AskFault.TheVariants.{Memory}
-use Rattle.bp_machine.proofs.HistoriesAreRuns.{AllBelow, all_below, legal_length}
-use Rattle.bp_machine.proofs.SetupInRange.{is_true}
-use Rattle.bp_trace.specs.declared.limits.TheConstants.{MAX_SCHEDULE}
-use Rattle.bp_trace.specs.Drives.{IsAfterFinish, IsRefusal, drive_fault_of, IsLineRefusal}
-use Rattle.bp_trace.specs.declared.faults.DriveFault.{DriveFault}
 use Rattle.bp_trace.specs.declared.faults.DriveFault.TheVariants as fault
 
 pub two_text : (t : ℕ) → 10 ≤ t → t < 100 → decimal t ≡ (48 + t / 10) ∷ (48 + t % 10) ∷ []

@@ -1,23 +1,5 @@
 -- The trace of a legal history is short enough to be replayed.
-use Rattle.std.proofs.Common.{◌≡◌, ◌∙◌, ℕ, zero, suc, ◌+◌, ◌*◌, ◌<◌, ◌≤◌, ◌^◌, Bool, true, false, cond, List, [], ◌∷◌, ◌++◌, length, flat_map, Option, Some, refl, ap, arith, length-append, codes, decimal, rules}
-use Rattle.std.specs.List.{AllByRecursion}
-use Rattle.std.proofs.Math.Nat.{mul-le-mul_left, mul-le-mul_right}
-use Rattle.std.proofs.lemmas.List.{length-map}
-use Rattle.std.proofs.lemmas.Fmt.{length-decimal-le, digits_decimal, decimal_nonempty, first_decimal, decimal_digit}
-use Rattle.std.proofs.lemmas.Bool.{cases_lt}
-use Rattle.bp_text.proofs.NumbersInTurn.{numerals}
-use Rattle.bp_language.specs.Ast.{Program}
-use Rattle.bp_language.specs.declared.limits.TheConstants.{TEXT_LIMIT}
-use Rattle.bp_machine.specs.declared.limits.TheConstants.{MAX_THREADS, MAX_CALLS}
-use Rattle.bp_machine.specs.declared.calls.Call.{Call}
-use Rattle.bp_machine.specs.Setups.{SetupOf, threads, IsInRange}
-use Rattle.bp_machine.specs.Histories.{is_finished, open_below, open_lines, IsLegal}
-use Rattle.bp_machine.proofs.HistoriesAreRuns.{AllBelow, all_below, legal_length}
-use Rattle.bp_trace.specs.declared.limits.TheConstants.{MAX_TRACE}
-use Rattle.bp_trace.specs.declared.traces.Version.{Version}
-use Rattle.bp_trace.specs.declared.traces.Version.TheVariants.{One, Two}
-use Rattle.bp_trace.specs.TraceText.{Symbol, Piece, calls_of_pieces, pieces_of, version_line, entry_line, init_digits, seed_word, head_text, call_line, symbol_text, piece_line, calls_text, end_line, text_of}
-use Rattle.bp_trace.specs.Replays.{IsDecimal, IsEndLine}
+use Rattle.bp_trace.proofs.Common.{◌≡◌, ◌∙◌, ℕ, zero, suc, ◌+◌, ◌*◌, ◌<◌, ◌≤◌, ◌^◌, Bool, true, false, cond, List, [], ◌∷◌, ◌++◌, length, flat_map, Option, Some, refl, ap, arith, length-append, codes, decimal, rules, AllByRecursion, mul-le-mul_left, mul-le-mul_right, length-map, length-decimal-le, digits_decimal, decimal_nonempty, first_decimal, decimal_digit, cases_lt, numerals, Program, TEXT_LIMIT, MAX_THREADS, MAX_CALLS, Call, SetupOf, threads, IsInRange, is_finished, open_below, open_lines, IsLegal, AllBelow, all_below, legal_length, MAX_TRACE, Version, One, Two, Symbol, Piece, calls_of_pieces, pieces_of, version_line, entry_line, init_digits, seed_word, head_text, call_line, symbol_text, piece_line, calls_text, end_line, text_of, IsDecimal, IsEndLine}
 use Rattle.bp_trace.proofs.HeadsRead.{limits_text, setup_text, head_joined}
 use Rattle.bp_trace.proofs.PiecesAreFewest.{pieces_threads, pieces_whole}
 use Rattle.bp_trace.proofs.ScheduleLines.{few_digits}

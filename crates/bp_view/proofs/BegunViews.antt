@@ -1,42 +1,10 @@
 -- What was written of a view, call by call, is the beginning of a whole one.
-use Rattle.std.proofs.Common.{◌≡◌, ◌∙◌, ◌<◌, ◌≤◌, ◌++◌, ◌-◌, ℕ, zero, suc, Bool, true, false, cond, List, [], ◌∷◌, codes, take, length, length-append, length-take, get_or, map, max, min, ap, refl, arith, slice_get, Some, ◌+◌, Option, drop, add-one, sym, subst, drop-cons, take-append-drop, ◌&&◌, ◌⊎◌, inl, inr, None, nat_le, unwrap_or, append-nil, add-zero, Bor, nat_lt, option_map, rules}
-use Rattle.std.proofs.lemmas.Bool.Decides.{nat_tests}
-use Rattle.std.proofs.lemmas.List.{take_all, take_more, length-take-le}
-use Rattle.std.proofs.lemmas.Option.{slice_get-get_or}
+use Rattle.bp_view.proofs.Common.{◌≡◌, ◌∙◌, ◌<◌, ◌≤◌, ◌++◌, ◌-◌, ℕ, zero, suc, Bool, true, false, cond, List, [], ◌∷◌, codes, take, length, length-append, length-take, get_or, map, max, min, ap, refl, arith, slice_get, Some, ◌+◌, Option, drop, add-one, sym, subst, drop-cons, take-append-drop, ◌&&◌, ◌⊎◌, inl, inr, None, nat_le, unwrap_or, append-nil, add-zero, Bor, nat_lt, option_map, rules, nat_tests, take_all, take_more, length-take-le, slice_get-get_or, AppendsAll, part_of_each, both_added, HasParts, IsKind, part_written, Procedure, Program, Name, Place, StandsFor, places_of, Flat, binding, Call, Report, configuration_after, IsLegal, outcome_of, SetupOf, Stands, IsPlayable, front, SourceStatement, place_text, AreSourceStatementsAt, AreSourceStatements, shown_texts, texts_are, ViewFormat, ViewOptions, Columns, printed_by, calls_of, before_last, is_asked, is_between, is_late, is_of_thread, skipped, CallFilter, shortened, longest, variables_text, Widths, filter_of, foot_text, IsFoot, has_line, line_in, IsShownLine, IsViewLine, IsViewLineIf, after_foot, IsEnd, IsStateIf, IsViewContextOf, HasMade, IsView, IsViewable, state_text, IsStateText, ViewContext, view_head, globals_line, thread_line, thread_lines}
 use Rattle.std.proofs.KnownBytes.{Appends-nil}
 use Rattle.std.specs.Option.{option_copied}
-use Rattle.bp_text.specs.Writing.{AppendsAll}
-use Rattle.bp_text.proofs.PartsOfTexts.{part_of_each, both_added}
-use Rattle.bp_text.proofs.Givings.{HasParts, IsKind, part_written}
-use Rattle.bp_language.specs.Ast.{Procedure, Program, Name}
-use Rattle.bp_flat.specs.StandsFor.{Place, StandsFor, places_of}
-use Rattle.bp_flat.specs.Flat.{Flat}
-use Rattle.bp_flat.specs.Moves.{binding}
 use Rattle.bp_flat.proofs.ProceduresOfPlaces.{starts}
-use Rattle.bp_machine.specs.declared.calls.Call.{Call}
-use Rattle.bp_machine.specs.declared.calls.Report.{Report}
-use Rattle.bp_machine.specs.Histories.{configuration_after, IsLegal, outcome_of}
-use Rattle.bp_machine.specs.Setups.{SetupOf}
-use Rattle.bp_machine.specs.Sessions.{Stands}
-use Rattle.bp_trace.specs.Replays.{IsPlayable}
-use Rattle.bp_trace.proofs.PlayableFronts.{front}
-use Rattle.bp_source.specs.declared.source_statements.SourceStatement.{SourceStatement}
-use Rattle.bp_source.specs.SourceStatements.{place_text, AreSourceStatementsAt, AreSourceStatements}
-use Rattle.bp_source.proofs.SourceStatementLists.{shown_texts, texts_are}
-use Rattle.bp_tasks.specs.declared.options.ViewFormat.{ViewFormat}
-use Rattle.bp_tasks.specs.declared.options.ViewOptions.{ViewOptions}
-use Rattle.bp_tasks.specs.declared.options.ViewFormat.TheVariants.{Columns}
-use Rattle.bp_view.specs.CallFacts.{printed_by}
-use Rattle.bp_view.specs.Filters.{calls_of, before_last, is_asked, is_between, is_late, is_of_thread, skipped}
-use Rattle.bp_view.specs.declared.filters.CallFilter.{CallFilter}
 use Rattle.bp_view.proofs.WholeFacts as facts
-use Rattle.bp_view.specs.Lines.{shortened, longest, variables_text}
-use Rattle.bp_view.specs.declared.view_contexts.Widths.{Widths}
-use Rattle.bp_view.specs.Views.{filter_of, foot_text, IsFoot, has_line, line_in, IsShownLine, IsViewLine, IsViewLineIf, after_foot, IsEnd, IsStateIf, IsViewContextOf, HasMade, IsView, IsViewable}
-use Rattle.bp_view.specs.States.{state_text, IsStateText}
-use Rattle.bp_view.specs.declared.view_contexts.ViewContext.{ViewContext}
 use Rattle.bp_view.specs.declared.writers.ViewWriter.{ViewWriter}
-use Rattle.bp_view.specs.SetupLines.{view_head, globals_line, thread_line, thread_lines}
 
 -- The longest place of the source statements of a program.
 

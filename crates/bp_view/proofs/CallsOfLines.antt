@@ -1,12 +1,7 @@
 -- The lines of the calls that are asked for stand for these calls, each once.
-use Rattle.std.proofs.Common.{◌≡◌, ◌≤◌, suc, Bool, true, false, List, [], ◌∷◌, length, refl, arith, ◌∙◌, ◌+◌, ◌-◌, ◌==◌, if◌then◌else◌, nat_le, nat_lt, ℕ, zero, ◌++◌, append-nil, drop, length-append, replicate, reverse, take, ap, ap₂, sym, subst, rules}
-use Rattle.std.proofs.Math.Seq.{drop-append-add, drop-append_seam, take-append_seam, take-nil}
-use Rattle.std.proofs.lemmas.List.{append_assoc, drop_all, length-take-le, reverse-append, take-append-drop}
-use Rattle.std.proofs.lemmas.Bool.Decides.{nat_tests}
-use Rattle.bp_machine.specs.declared.calls.Call.{Call}
-use Rattle.bp_view.specs.Filters.{is_same_wait, waits_like, asked_calls, calls_at, calls_of_lines, last_number, skipped, StandForEachOnce, calls_in_line}
+use Rattle.bp_view.proofs.Common.{◌≡◌, ◌≤◌, suc, Bool, true, false, List, [], ◌∷◌, length, refl, arith, ◌∙◌, ◌+◌, ◌-◌, ◌==◌, if◌then◌else◌, nat_le, nat_lt, ℕ, zero, ◌++◌, append-nil, drop, length-append, replicate, reverse, take, ap, ap₂, sym, subst, rules, drop-append-add, drop-append_seam, take-append_seam, take-nil, drop_all, length-take-le, reverse-append, nat_tests, Call, is_same_wait, waits_like, asked_calls, calls_at, calls_of_lines, last_number, skipped, StandForEachOnce, calls_in_line, CallFilter}
+use Rattle.std.proofs.lemmas.List.{append_assoc, take-append-drop}
 use Rattle.bp_view.specs.declared.filters.TheConstants.{MAX_WAITS}
-use Rattle.bp_view.specs.declared.filters.CallFilter.{CallFilter}
 
 -- How many equal waits a list begins with, by its first call.
 

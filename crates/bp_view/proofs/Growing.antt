@@ -1,11 +1,6 @@
 -- How the texts that a buffer is given add up.
-use Rattle.std.proofs.Common.{◌≡◌, ◌∙◌, ◌++◌, ℕ, List, [], ◌∷◌, false, length, append-nil, append_assoc, flat_map, refl, subst, sym, ap, arith, rules}
-use Rattle.bp_text.proofs.PartsOfTexts.{both_added}
-use Rattle.bp_text.specs.Pieces.{list_text, piece_text}
+use Rattle.bp_view.proofs.Common.{◌≡◌, ◌∙◌, ◌++◌, ℕ, List, [], ◌∷◌, false, length, append-nil, append_assoc, flat_map, refl, subst, sym, ap, arith, rules, both_added, list_text, piece_text, Buffer, Gains, Grown, HasTaken, IsEmpty, IsListed, IsLed, then, led}
 use Rattle.bp_text.specs.declared.pieces.Piece.{Piece}
-use Rattle.bp_view.specs.declared.buffers.Buffer.{Buffer}
-use Rattle.bp_view.specs.Buffers.{Gains, Grown, HasTaken, IsEmpty, IsListed, IsLed, then}
-use Rattle.bp_view.specs.Lines.{led}
 
 pub and_then : {a b c : Buffer} {t u : List ℕ} → Grown a b t → Grown b c u → Grown a c (t ++ u)
 and_then given1 given2 = search (rules, both_added)

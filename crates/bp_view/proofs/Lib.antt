@@ -1,3 +1,4 @@
+pub mod Common
 pub mod ViewableContexts
 pub mod BegunViews
 pub mod ShownLines

@@ -1,13 +1,5 @@
 -- What a call leaves of a thread's stack, and of the globals.
-use Rattle.std.proofs.Common.{◌≡◌, ◌<◌, ℕ, true, false, nat_lt, [], refl, arith, if◌then◌else◌, ◌≤◌, ◌⊎◌, inl, inr, Bool, List, ◌∷◌, Option, length, unwrap_or, rules}
-use Rattle.std.proofs.lemmas.Bool.Decides.{nat_tests}
-use Rattle.std.proofs.lemmas.Bool.{cases_lt}
-use Rattle.std.proofs.lemmas.List.{get_or_past, get_or-set_same}
-use Rattle.bp_language.specs.Ast.{Block, Procedure, Program}
-use Rattle.bp_flat.specs.Moves.{Frame, Configuration, StatementEffect, Leaves, effect, after_effect, call_effect, Valuation}
-use Rattle.bp_machine.specs.declared.calls.Reply.{Reply}
-use Rattle.bp_machine.specs.Histories.{configuration_after_call, configuration_after_step, stack_of, is_granted}
-use Rattle.bp_view.specs.CallFacts.{arguments_of, changed, frame_changed, IsNext, IsSameCall}
+use Rattle.bp_view.proofs.Common.{◌≡◌, ◌<◌, ℕ, true, false, nat_lt, [], refl, arith, if◌then◌else◌, ◌≤◌, ◌⊎◌, inl, inr, Bool, List, ◌∷◌, Option, length, unwrap_or, rules, nat_tests, cases_lt, get_or_past, get_or-set_same, Block, Procedure, Program, Frame, Configuration, StatementEffect, Leaves, effect, after_effect, call_effect, Valuation, Reply, configuration_after_call, configuration_after_step, stack_of, is_granted, arguments_of, changed, frame_changed, IsNext, IsSameCall}
 
 -- What a call changed at the top of a stack, by the depth of the stack after it.
 

@@ -1,33 +1,7 @@
 -- A history has one view, one state, and one list of its contexts, since the facts that they show are single.
-use Rattle.std.proofs.Common.{◌≡◌, ◌∙◌, ℕ, List, ap, sym, ◌<◌, ◌++◌, Bool, true, false, Some, length, map, slice_get, take, ap₂, subst, refl, suc, None, if◌then◌else◌, [], ◌∷◌, Option, IsTrue, ◌↔◌, arith, rules}
-use Rattle.bp_text.specs.Lines.{IsInParts}
-use Rattle.bp_text.proofs.PartsOfTexts.{item_at, one_of_parts}
-use Rattle.bp_language.specs.Ast.{Program}
-use Rattle.bp_flat.specs.StandsFor.{places_of, starts_of}
-use Rattle.bp_machine.specs.declared.calls.Call.{Call}
-use Rattle.bp_machine.specs.declared.calls.Report.{Report}
-use Rattle.bp_machine.specs.Setups.{SetupOf, threads}
-use Rattle.bp_machine.specs.Histories.{configuration_after, granted_threads, stack_of}
-use Rattle.bp_machine.proofs.ContextCounts.{least_opened}
-use Rattle.bp_source.specs.SourceStatements.{place_text}
-use Rattle.bp_source.proofs.OneStatement.{one_list_of_statements}
-use Rattle.bp_tasks.specs.declared.options.ViewFormat.{ViewFormat}
-use Rattle.bp_tasks.specs.declared.options.ViewOptions.{ViewOptions}
-use Rattle.bp_view.specs.CallFacts.{IsNextOf}
+use Rattle.bp_view.proofs.Common.{◌≡◌, ◌∙◌, ℕ, List, ap, sym, ◌<◌, ◌++◌, Bool, true, false, Some, length, map, slice_get, take, ap₂, subst, refl, suc, None, if◌then◌else◌, [], ◌∷◌, Option, IsTrue, ◌↔◌, arith, rules, IsInParts, item_at, one_of_parts, Program, places_of, starts_of, Call, Report, SetupOf, threads, configuration_after, granted_threads, stack_of, least_opened, place_text, one_list_of_statements, ViewFormat, ViewOptions, IsNextOf, foot_text, IsFoot, after_foot, IsEnd, IsStateIf, has_line, AreLines, IsShownLine, IsView, IsViewLineIf, state_text, IsStateText, Widths, view_head, extent, AreWidths, Extent, context_text, contexts_head, AreContextLines, IsContextLine, changes_within, AreContextFacts, IsContextOf, ShownContext, All, All-head, All-tail, Configuration, Outcome, Clean, Failed, waiting, AreFailureFacts, AreFootFacts, AreStandingFacts, ShownCondition, ShownFoot}
 use Rattle.bp_view.proofs.SingleFacts as states
 use Rattle.bp_view.proofs.SingleFacts.{one_call, one_next}
-use Rattle.bp_view.specs.Views.{foot_text, IsFoot, after_foot, IsEnd, IsStateIf, has_line, AreLines, IsShownLine, IsView, IsViewLineIf}
-use Rattle.bp_view.specs.States.{state_text, IsStateText}
-use Rattle.bp_view.specs.declared.view_contexts.Widths.{Widths}
-use Rattle.bp_view.specs.SetupLines.{view_head}
-use Rattle.bp_view.specs.Lines.{extent, AreWidths, Extent}
-use Rattle.bp_view.specs.ContextLines.{context_text, contexts_head, AreContextLines, IsContextLine, changes_within, AreContextFacts, IsContextOf, ShownContext}
-use Rattle.std.specs.List.{All}
-use Rattle.std.proofs.lemmas.List.Elements.{All-head, All-tail}
-use Rattle.bp_flat.specs.Moves.{Configuration}
-use Rattle.bp_machine.specs.declared.calls.Outcome.{Outcome}
-use Rattle.bp_machine.specs.declared.calls.Outcome.TheVariants.{Clean, Failed}
-use Rattle.bp_view.specs.FootFacts.{waiting, AreFailureFacts, AreFootFacts, AreStandingFacts, ShownCondition, ShownFoot}
 use Rattle.bp_view.proofs.FailedConditions.{one_assertion, one_condition, one_decision, one_frame, one_place, same_condition}
 
 -- The facts of a context are single.

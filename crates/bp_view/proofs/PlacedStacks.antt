@@ -1,22 +1,5 @@
 -- Each frame of each stack after a history continues at a place of its program.
-use Rattle.std.proofs.Common.{if◌then◌else◌, ◌≡◌, ℕ, zero, suc, Bool, true, false, List, [], ◌∷◌, Option, Some, map, ◌∙◌, drop, drop-cons, slice_get, ap, slice_index_or, slice_set, unwrap_or, arith, rules}
-use Rattle.std.proofs.lemmas.Option.{slice_get_within, get_or_from_slice_get}
-use Rattle.bp_language.specs.Ast.{Name, Block, Procedure, Program}
-use Rattle.bp_flat.specs.Moves.{Frame, Configuration, first_stack, procedure_named, StatementEffect, Leaves, after_effect, call_effect, effect, Valuation}
-use Rattle.bp_flat.specs.Flat.{Flat, Heading, Instruction, heading_named}
-use Rattle.bp_flat.specs.StandsFor.{Does, Place, Remains, StandsFor, places_of, place}
-use Rattle.bp_flat.proofs.SlotsOfNames.{SameHeading, heading_of_procedure}
-use Rattle.bp_machine.specs.declared.calls.Call.{Call}
-use Rattle.bp_machine.specs.declared.calls.Reply.{Reply}
-use Rattle.bp_machine.specs.Histories.{configuration_after_call, configuration_after_step, stack_of, configuration_after, configuration_after_calls, is_granted}
-use Rattle.bp_machine.specs.Setups.{SetupOf, start}
-use Rattle.bp_machine.specs.declared.tops.Top.{Top}
-use Rattle.bp_machine.specs.Runs.{IsTopOf}
-use Rattle.bp_source.specs.declared.source_statements.SourceStatement.{SourceStatement}
-use Rattle.bp_source.specs.Listings.{name_at}
-use Rattle.bp_source.specs.SourceStatements.{IsSourceStatement}
-use Rattle.bp_view.specs.CallFacts.{IsNextOf, Next}
-use Rattle.bp_view.specs.StateFacts.{AreFrameFacts, ShownFrame}
+use Rattle.bp_view.proofs.Common.{if◌then◌else◌, ◌≡◌, ℕ, zero, suc, Bool, true, false, List, [], ◌∷◌, Option, Some, map, ◌∙◌, drop, drop-cons, slice_get, ap, slice_index_or, slice_set, unwrap_or, arith, rules, slice_get_within, get_or_from_slice_get, Name, Block, Procedure, Program, Frame, Configuration, first_stack, procedure_named, StatementEffect, Leaves, after_effect, call_effect, effect, Valuation, Flat, Heading, Instruction, heading_named, Does, Place, Remains, StandsFor, places_of, place, SameHeading, heading_of_procedure, Call, Reply, configuration_after_call, configuration_after_step, stack_of, configuration_after, configuration_after_calls, is_granted, SetupOf, start, Top, IsTopOf, SourceStatement, name_at, IsSourceStatement, IsNextOf, Next, AreFrameFacts, ShownFrame}
 
 -- the frame continues at an instruction of the program
 pub record IsPlaced (t : Program) (f : Frame) : Type 0 where

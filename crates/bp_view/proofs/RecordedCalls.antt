@@ -1,23 +1,10 @@
 -- A recorded call of a history that may be played is refused for memory alone.
-use Rattle.std.proofs.Common.{if◌then◌else◌, ◌≡◌, ◌∙◌, ◌<◌, ℕ, ◌+◌, ◌^◌, List, [], ◌∷◌, ◌++◌, Bool, true, Option, None, Some, is_some, length, arith, sym, refl, take, drop, get_or, subst, take-append-drop, ◌≢◌, ap, length-append, rules}
+use Rattle.bp_view.proofs.Common.{if◌then◌else◌, ◌≡◌, ◌∙◌, ◌<◌, ℕ, ◌+◌, ◌^◌, List, [], ◌∷◌, ◌++◌, Bool, true, Option, None, Some, is_some, length, arith, sym, refl, take, drop, get_or, subst, take-append-drop, ◌≢◌, ap, length-append, rules, false≢true, take_more, take_all, take-append-le, Program, StandsFor, Call, IsPrintRefusal, IsAskRefusal, given_bit, last_thread, Stands, SetupOf, IsInRange, IsLegal, granted_threads, calls_of_thread, calls_other, calls_of_thread-same, IsOwnRefusal, IsPlayable, next_allowed, front, IsCheckpoint, IsKept, last_reply}
 use Rattle.std.proofs.Math.Nat.{mul-le-mul_left, mul-le-mul_right}
-use Rattle.std.proofs.lemmas.Bool.{false≢true}
-use Rattle.std.proofs.lemmas.List.{take_more, take_all, take-append-le}
-use Rattle.bp_language.specs.Ast.{Program}
-use Rattle.bp_flat.specs.StandsFor.{StandsFor}
 use Rattle.bp_machine.specs.declared.calls.AskFault.{AskFault}
 use Rattle.bp_machine.specs.declared.calls.AskFault.TheVariants as fault
-use Rattle.bp_machine.specs.declared.calls.Call.{Call}
-use Rattle.bp_machine.specs.Sessions.{IsPrintRefusal, IsAskRefusal, given_bit, last_thread, Stands}
-use Rattle.bp_machine.specs.Setups.{SetupOf, IsInRange}
-use Rattle.bp_machine.specs.Histories.{IsLegal, granted_threads, calls_of_thread}
 use Rattle.bp_machine.proofs.HistoriesAreRuns.{legal_length}
-use Rattle.bp_machine.proofs.HistoryWithCall.{calls_other, calls_of_thread-same}
-use Rattle.bp_trace.specs.Replays.{IsOwnRefusal, IsPlayable}
-use Rattle.bp_trace.proofs.PlayableFronts.{next_allowed, front}
 use Rattle.bp_view.specs.declared.checkpoints.Checkpoint.{Checkpoint}
-use Rattle.bp_view.specs.CallFacts.{IsCheckpoint, IsKept}
-use Rattle.bp_view.specs.StateFacts.{last_reply}
 
 -- a recorded bit is handed in exactly where there is no seed
 not_both : (seed : Option ℕ) (bit : Bool) → is_some (if is_some seed then None else Some bit) ≡ true → is_some seed ≡ true → ⊥

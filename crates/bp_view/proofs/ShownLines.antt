@@ -1,32 +1,10 @@
 -- The line of a call, where it has one, and nothing where it has none.
-use Rattle.std.proofs.Common.{if◌then◌else◌, ◌≡◌, ◌∙◌, ◌+◌, ◌-◌, ◌<◌, ◌++◌, ℕ, suc, true, List, [], ◌∷◌, codes, nat_lt, take, length, ap, ap₂, refl, sym, arith, ◌≤◌, length-append, append-nil, ◌/◌, ◌%◌, ◌^◌, ◌==◌, ◌⊎◌, inl, inr, false, decimal, append_assoc, max, Bool, Option, None, ◌&&◌, subst, slice_set, rules}
-use Rattle.std.proofs.lemmas.Bool.Decides.{nat_tests}
-use Rattle.std.specs.List.{concat}
-use Rattle.std.proofs.lemmas.Bool.{cases_lt}
+use Rattle.bp_view.proofs.Common.{if◌then◌else◌, ◌≡◌, ◌∙◌, ◌+◌, ◌-◌, ◌<◌, ◌++◌, ℕ, suc, true, List, [], ◌∷◌, codes, nat_lt, take, length, ap, ap₂, refl, sym, arith, ◌≤◌, length-append, append-nil, ◌/◌, ◌%◌, ◌^◌, ◌==◌, ◌⊎◌, inl, inr, false, decimal, append_assoc, max, Bool, Option, None, ◌&&◌, subst, slice_set, rules, nat_tests, concat, cases_lt, replicate-append-replicate, spaces, at_right, at_left, regrouped, Program, Configuration, Call, is_granted, configuration_after, SetupOf, ViewFormat, ViewOptions, ShownCall, changes_by, AreCallFacts, IsReplayedCall, CallFilter, calls_at, calls_of, is_asked, is_seen, watched_names, shortened, front_text, tens_digits, tens_text, field_texts, mark_text, Widths, line_in, next_print_in, printed_in, filter_of, has_line, IsShownLine, IsViewLineIf, Gains, Grown, Buffer, ViewContext}
 use Rattle.std.proofs.lemmas.Fmt.{decimal_digit, decimal_step}
 use Rattle.std.proofs.Math.ListN.{length-replicate}
-use Rattle.std.proofs.lemmas.List.{replicate-append-replicate}
-use Rattle.bp_text.specs.Pieces.{spaces, at_right, at_left}
-use Rattle.bp_text.proofs.PartsOfTexts.{regrouped}
-use Rattle.bp_language.specs.Ast.{Program}
-use Rattle.bp_flat.specs.Moves.{Configuration}
-use Rattle.bp_machine.specs.declared.calls.Call.{Call}
-use Rattle.bp_machine.specs.Histories.{is_granted, configuration_after}
-use Rattle.bp_machine.specs.Setups.{SetupOf}
-use Rattle.bp_tasks.specs.declared.options.ViewFormat.{ViewFormat}
-use Rattle.bp_tasks.specs.declared.options.ViewOptions.{ViewOptions}
-use Rattle.bp_view.specs.CallFacts.{ShownCall, changes_by, AreCallFacts, IsReplayedCall}
-use Rattle.bp_view.specs.declared.filters.CallFilter.{CallFilter}
 use Rattle.bp_view.specs.declared.checkpoints.ReplayedCall.{ReplayedCall}
-use Rattle.bp_view.specs.Filters.{calls_at, calls_of, is_asked, is_seen, watched_names}
-use Rattle.bp_view.specs.Lines.{shortened, front_text, tens_digits, tens_text, field_texts, mark_text}
 use Rattle.bp_view.specs.declared.fronts.FrontKey.{FrontKey}
-use Rattle.bp_view.specs.declared.view_contexts.Widths.{Widths}
-use Rattle.bp_view.specs.Views.{line_in, next_print_in, printed_in, filter_of, has_line, IsShownLine, IsViewLineIf}
-use Rattle.bp_view.specs.Buffers.{Gains, Grown}
-use Rattle.bp_view.specs.declared.buffers.Buffer.{Buffer}
 use Rattle.bp_view.proofs.Growing.{gains, nothing}
-use Rattle.bp_view.specs.declared.view_contexts.ViewContext.{ViewContext}
 
 -- The first bytes of a line, and a text that is cut.
 

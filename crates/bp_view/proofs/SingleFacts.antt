@@ -1,16 +1,6 @@
 -- The facts of a call, and those of a state, are single.
-use Rattle.std.proofs.Common.{◌≡◌, ◌≤◌, ◌∙◌, ℕ, List, ap, flat_map, length, map, sym, take, [], ◌∷◌, ◌++◌, Option, None, Some, refl, suc, ap₂, arith, take_all, rules}
-use Rattle.std.proofs.lemmas.List.Folds.{flat_map-map}
-use Rattle.std.proofs.lemmas.Bool.{false≢true}
-use Rattle.bp_language.specs.Ast.{Program}
-use Rattle.bp_flat.specs.Moves.{Frame}
-use Rattle.bp_machine.specs.declared.calls.Call.{Call}
-use Rattle.bp_machine.specs.Histories.{granted_threads}
-use Rattle.bp_machine.specs.Setups.{SetupOf}
-use Rattle.bp_machine.proofs.ContextCounts.{least_opened}
-use Rattle.bp_source.proofs.OneStatement.{one_statement_at}
-use Rattle.bp_view.specs.CallFacts.{AreCallFacts, IsNextOf, Next, ShownCall, IsContext}
-use Rattle.bp_view.specs.StateFacts.{AreFrameFacts, AreStackFacts, AreStateFacts, AreThreadFacts, AreThreadsFacts, ShownFrame, ShownState, ShownThread}
+use Rattle.bp_view.proofs.Common.{◌≡◌, ◌≤◌, ◌∙◌, ℕ, List, ap, flat_map, length, map, sym, take, [], ◌∷◌, ◌++◌, Option, None, Some, refl, suc, ap₂, arith, rules, flat_map-map, false≢true, Program, Frame, Call, granted_threads, SetupOf, least_opened, one_statement_at, AreCallFacts, IsNextOf, Next, ShownCall, IsContext, AreFrameFacts, AreStackFacts, AreStateFacts, AreThreadFacts, AreThreadsFacts, ShownFrame, ShownState, ShownThread}
+use Rattle.std.proofs.Common.{take_all}
 
 -- What follows from all values is what follows from what they say.
 

@@ -1,21 +1,6 @@
 -- The spans of a history with one more call.
-use Rattle.std.proofs.Common.{if◌then◌else◌, ◌≡◌, ◌∙◌, ◌⊎◌, inl, inr, ℕ, ◌+◌, ◌<◌, ◌≤◌, List, [], ◌∷◌, ◌++◌, Some, Bool, true, false, length, take, drop, ap, sym, refl, subst, take-append-drop, arith, zero, suc, ◌==◌, cond, map, get_or, append-nil, rules}
-use Rattle.std.proofs.Math.Seq.{take-append_seam, get_or-append_seam}
-use Rattle.std.proofs.lemmas.Bool.{cases_lt, false≢true}
-use Rattle.std.proofs.lemmas.List.{length-append, take-append-le, take_more, get_or_append_left}
-use Rattle.std.proofs.lemmas.Option.{slice_get_within, slice_get-get_or, get_or_from_slice_get}
-use Rattle.std.proofs.lemmas.Bool.Decides.{nat_tests}
-use Rattle.bp_text.proofs.PartsOfTexts.{one_before, one_last, within}
-use Rattle.bp_language.specs.Ast.{Program}
-use Rattle.bp_machine.specs.declared.calls.Call.{Call}
-use Rattle.bp_machine.specs.Histories.{IsWithin, IsLeastWithin, granted_threads, is_granted, configuration_after}
-use Rattle.bp_machine.specs.Sessions.{contexts_opened, last_thread, used_with}
-use Rattle.bp_machine.specs.Setups.{SetupOf}
-use Rattle.bp_machine.proofs.ContextCounts.{within_front, counts_more}
-use Rattle.bp_machine.proofs.HistoryWithCall.{granted_threads-append}
-use Rattle.bp_view.specs.ContextLines.{IsContextOf, IsStepIn, count_of, joined, with_step, AreSpans, AreSpansFrom, IsSpan, IsStandingPoint}
-use Rattle.bp_view.specs.CallFacts.{IsContext}
-use Rattle.bp_view.specs.declared.spans.Span.{Span}
+use Rattle.bp_view.proofs.Common.{if◌then◌else◌, ◌≡◌, ◌∙◌, ◌⊎◌, inl, inr, ℕ, ◌+◌, ◌<◌, ◌≤◌, List, [], ◌∷◌, ◌++◌, Some, Bool, true, false, length, take, drop, ap, sym, refl, subst, take-append-drop, arith, zero, suc, ◌==◌, cond, map, get_or, append-nil, rules, take-append_seam, get_or-append_seam, cases_lt, false≢true, take-append-le, take_more, get_or_append_left, slice_get_within, slice_get-get_or, get_or_from_slice_get, nat_tests, one_before, one_last, within, Program, Call, IsWithin, IsLeastWithin, granted_threads, is_granted, configuration_after, contexts_opened, last_thread, used_with, SetupOf, within_front, counts_more, granted_threads-append, IsContextOf, IsStepIn, count_of, joined, with_step, AreSpans, AreSpansFrom, IsSpan, IsStandingPoint, IsContext, Span}
+use Rattle.std.proofs.lemmas.List.{length-append}
 
 -- The contexts of a history with one more call.
 

@@ -1,27 +1,8 @@
 -- The context of a replayed trace is one of which a view can be made, and its view is one of the trace.
-use Rattle.std.proofs.Common.{◌≡◌, ℕ, List, Option, refl, subst, sym, suc, None, length, arith, rules}
-use Rattle.bp_text.specs.Writing.{IsWritten}
-use Rattle.bp_text.specs.Lines.{Adds, IsInParts}
-use Rattle.bp_text.proofs.Givings.{begun_as, cut_as, written_as}
-use Rattle.bp_language.specs.Ast.{Program}
-use Rattle.bp_flat.specs.Flat.{Flat}
-use Rattle.bp_flat.specs.StandsFor.{StandsFor}
-use Rattle.bp_machine.specs.declared.calls.Call.{Call}
-use Rattle.bp_machine.specs.Setups.{SetupOf, threads}
+use Rattle.bp_view.proofs.Common.{◌≡◌, ℕ, List, Option, refl, subst, sym, suc, None, length, arith, rules, IsWritten, Adds, IsInParts, begun_as, cut_as, written_as, Program, Flat, StandsFor, Call, SetupOf, threads, SourceStatement, AreSourceStatements, texts_are, shown_texts, ViewOptions, watched_names, AreDeclared, IsUndeclared, Memory, NoThread, NoVariable, Replay, Write, Span, AreSpans, contexts_head, AreContextLines, IsContextLine, ViewContext, IsViewContextOf, IsShownTrace, IsMissing, IsStopped, IsThere, IsView, IsViewOfTrace, IsViewRefusal, IsViewable, IsViewed, extent_of, AreWidths}
 use Rattle.bp_trace.specs.declared.replaying.Replayed.{Replayed}
-use Rattle.bp_source.specs.declared.source_statements.SourceStatement.{SourceStatement}
-use Rattle.bp_source.specs.SourceStatements.{AreSourceStatements}
-use Rattle.bp_source.proofs.SourceStatementLists.{texts_are, shown_texts}
-use Rattle.bp_tasks.specs.declared.options.ViewOptions.{ViewOptions}
-use Rattle.bp_view.specs.Filters.{watched_names, AreDeclared, IsUndeclared}
 use Rattle.bp_view.specs.declared.faults.ViewFault.{ViewFault}
-use Rattle.bp_view.specs.declared.faults.ViewFault.TheVariants.{Memory, NoThread, NoVariable, Replay, Write}
-use Rattle.bp_view.specs.declared.spans.Span.{Span}
-use Rattle.bp_view.specs.ContextLines.{AreSpans, contexts_head, AreContextLines, IsContextLine}
-use Rattle.bp_view.specs.declared.view_contexts.ViewContext.{ViewContext}
 use Rattle.bp_view.specs.declared.view_contexts.ShownTrace.{ShownTrace}
-use Rattle.bp_view.specs.Views.{IsViewContextOf, IsShownTrace, IsMissing, IsStopped, IsThere, IsView, IsViewOfTrace, IsViewRefusal, IsViewable, IsViewed}
-use Rattle.bp_view.specs.Lines.{extent_of, AreWidths}
 use Rattle.bp_view.proofs.BegunViews.{places_are}
 
 module _ {t : Program} {text trace : List ℕ} {shown : ShownTrace} (is : IsShownTrace t text t trace shown) where

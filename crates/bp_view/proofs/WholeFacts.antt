@@ -1,31 +1,6 @@
 -- Each call and each end of a history has facts.
-use Rattle.std.proofs.Common.{◌≡◌, ◌⊎◌, inl, inr, ℕ, zero, suc, ◌≤◌, Bool, true, false, [], length, ap, refl, subst, add-one, if◌then◌else◌, ◌∙◌, ◌+◌, ◌++◌, List, ◌∷◌, Some, slice_get, take, sym, arith, Option, None, drop, IsTrue, ◌↔◌, option_map, rules}
-use Rattle.std.proofs.lemmas.Bool.{cases_lt}
-use Rattle.std.proofs.lemmas.List.{get_or_past, map-append}
-use Rattle.std.proofs.lemmas.List.Elements.{All-push, All-nil}
-use Rattle.std.proofs.lemmas.Option.{slice_get_within}
-use Rattle.bp_text.specs.Lines.{position_at}
-use Rattle.bp_language.specs.Ast.{Program}
-use Rattle.bp_flat.specs.Moves.{Configuration, Frame, frame_store}
-use Rattle.bp_flat.specs.Flat.{Flat}
-use Rattle.bp_flat.specs.StandsFor.{StandsFor, place, places_of, start_of_block}
-use Rattle.bp_machine.specs.Runs.{has_frames, is_left, IsDeadlocked, waits}
-use Rattle.bp_machine.specs.declared.calls.Call.{Call}
-use Rattle.bp_machine.specs.Setups.{SetupOf, threads}
-use Rattle.bp_machine.specs.declared.calls.Outcome.{Outcome}
-use Rattle.bp_machine.specs.declared.calls.Outcome.TheVariants.{Clean, Failed}
-use Rattle.bp_machine.specs.declared.calls.Report.{Report}
-use Rattle.bp_machine.specs.Histories.{stack_of, configuration_after, granted_threads, IsLegal, is_granted, outcome_of, IsRealFailure}
+use Rattle.bp_view.proofs.Common.{◌≡◌, ◌⊎◌, inl, inr, ℕ, zero, suc, ◌≤◌, Bool, true, false, [], length, ap, refl, subst, add-one, if◌then◌else◌, ◌∙◌, ◌+◌, ◌++◌, List, ◌∷◌, Some, slice_get, take, sym, arith, Option, None, drop, IsTrue, ◌↔◌, option_map, rules, cases_lt, get_or_past, map-append, All-push, All-nil, slice_get_within, position_at, Program, Configuration, Frame, frame_store, Flat, StandsFor, place, places_of, start_of_block, has_frames, is_left, IsDeadlocked, waits, Call, SetupOf, threads, Outcome, Clean, Failed, Report, stack_of, configuration_after, granted_threads, IsLegal, is_granted, outcome_of, IsRealFailure, opened, opened_least, real, SourceStatement, variables_read, AreSourceStatements, IsStatementAt, place_text, IsStatement, source_statement_at, SourceStatementAt, waiting, AreStandingFacts, AreWaitsFacts, ShownCondition, named_entries, AreFailureFacts, AreFootFacts, IsAtCondition, ShownFoot, AreFrameFacts, AreStackFacts, AreThreadFacts, AreThreadsFacts, ShownFrame, ShownThread, standing, AreStateFacts, ShownState, changes_by, nothing_next, AreCallFacts, IsNextOf, Next, ShownCall, is_switch, IsContext}
 use Rattle.bp_machine.proofs.Deadlocks.{not_waiting, seen_ended, seen_none, seen_waiting, AreSeen}
-use Rattle.bp_machine.proofs.ContextCounts.{opened, opened_least}
-use Rattle.bp_machine.proofs.RealFailures.{real}
-use Rattle.bp_source.specs.declared.source_statements.SourceStatement.{SourceStatement}
-use Rattle.bp_source.specs.Names.{variables_read}
-use Rattle.bp_source.specs.SourceStatements.{AreSourceStatements, IsStatementAt, place_text, IsStatement}
-use Rattle.bp_source.proofs.SourceStatementLists.{source_statement_at, SourceStatementAt}
-use Rattle.bp_view.specs.FootFacts.{waiting, AreStandingFacts, AreWaitsFacts, ShownCondition, named_entries, AreFailureFacts, AreFootFacts, IsAtCondition, ShownFoot}
-use Rattle.bp_view.specs.StateFacts.{AreFrameFacts, AreStackFacts, AreThreadFacts, AreThreadsFacts, ShownFrame, ShownThread, standing, AreStateFacts, ShownState}
-use Rattle.bp_view.specs.CallFacts.{changes_by, nothing_next, AreCallFacts, IsNextOf, Next, ShownCall, is_switch, IsContext}
 use Rattle.bp_view.proofs.FailedConditions.{assertion_facts, at_assertion, at_assumption}
 use Rattle.bp_view.proofs.PlacedStacks.{stack_placed, ArePlaced, IsPlaced, frame_facts, frame_with}
 

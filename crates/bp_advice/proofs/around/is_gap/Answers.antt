@@ -1,4 +1,4 @@
-use Rattle.std.proofs.Common.{rules}
+use Rattle.bp_advice.proofs.Common.{rules}
 use Rattle.bp_advice.proofs.AllKinds.{no_gaps, has_no_tokens, after_gap}
 use Rattle.bp_advice.proofs.around.is_gap.Goals as goal
 

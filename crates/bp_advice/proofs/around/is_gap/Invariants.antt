@@ -1,4 +1,4 @@
-use Rattle.std.proofs.Common.{length}
+use Rattle.bp_advice.proofs.Common.{length}
 use Rattle.bp_advice.proofs.AllKinds.{HasOnlyGaps}
 use Rattle.bp_advice.proofs.around.is_gap.Given as goal
 

@@ -1,4 +1,4 @@
-use Rattle.std.proofs.Common.{◌≤◌, length}
+use Rattle.bp_advice.proofs.Common.{◌≤◌, length}
 use Rattle.bp_advice.proofs.around.size_to_last_token.Given as goal
 
 abbrev pub invariant-loop-lexeme : goal.invariant-loop-lexeme

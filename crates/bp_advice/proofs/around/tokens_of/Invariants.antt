@@ -1,4 +1,4 @@
-use Rattle.std.proofs.Common.{length}
+use Rattle.bp_advice.proofs.Common.{length}
 use Rattle.bp_advice.proofs.around.tokens_of.Given as goal
 
 abbrev pub decreases-loop-lexeme : goal.decreases-loop-lexeme

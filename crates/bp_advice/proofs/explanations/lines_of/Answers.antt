@@ -1,7 +1,6 @@
-use Rattle.std.proofs.Common.{Result, IfOk, Vec, ℕ, List, map, ◌≡◌, rules}
+use Rattle.bp_advice.proofs.Common.{Result, IfOk, Vec, ℕ, List, map, ◌≡◌, rules, shown, IsPlain}
 use Rattle.std.specs.declared.alloc.AllocError.{AllocError}
 use Rattle.std.specs.declared.alloc.Global.{Global}
-use Rattle.bp_advice.specs.Explanations.{shown, IsPlain}
 use Rattle.bp_advice.proofs.PlainTexts.{plain_all}
 use Rattle.bp_advice.proofs.explanations.lines_of.Goals as goal
 

@@ -1,5 +1,4 @@
-use Rattle.std.proofs.Common.{◌≡◌, take, map}
-use Rattle.bp_advice.specs.Explanations.{shown}
+use Rattle.bp_advice.proofs.Common.{◌≡◌, take, map, shown}
 use Rattle.bp_advice.proofs.explanations.shown_bytes.Given as goal
 
 abbrev pub invariant-loop-byte : goal.invariant-loop-byte

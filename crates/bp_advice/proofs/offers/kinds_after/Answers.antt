@@ -1,5 +1,4 @@
-use Rattle.std.proofs.Common.{sym, ap, ◌∙◌, arith}
-use Rattle.std.proofs.lemmas.Bool.{false≢true}
+use Rattle.bp_advice.proofs.Common.{sym, ap, ◌∙◌, arith, false≢true}
 use Rattle.bp_advice.proofs.AllKinds.{all_judged, offered, left_out}
 use Rattle.bp_advice.proofs.offers.kinds_after.Goals as goal
 use Rattle.bp_advice.proofs.offers.kinds_after.Goals.{then-branch+in_ok-push, else-branch}

@@ -1,5 +1,4 @@
-use Rattle.std.proofs.Common.{◌≡◌, ◌↔◌, ◌++◌, ◌∷◌, IsTrue, IfOk, rules, subst}
-use Rattle.bp_advice.specs.Explanations.{BeginsProgram}
+use Rattle.bp_advice.proofs.Common.{◌≡◌, ◌↔◌, ◌++◌, ◌∷◌, IsTrue, IfOk, rules, subst, BeginsProgram}
 use Rattle.bp_advice.proofs.offers.may_follow.Goals as goal
 
 pub returns : goal.returns

@@ -1,4 +1,4 @@
-use Rattle.std.proofs.Common.{Result, Ok, Err, IfOk, inr}
+use Rattle.bp_advice.proofs.Common.{Result, Ok, Err, IfOk, inr}
 use Rattle.bp_advice.proofs.read_sentences.explain_syntax.Goals as goal
 
 if_ok : {A E : Type 0} {P Q : A → Type 0} (r : Result A E) → ((a : A) → P a → Q a) → IfOk r P → IfOk r Q

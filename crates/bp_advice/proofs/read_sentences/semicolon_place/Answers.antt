@@ -1,5 +1,4 @@
-use Rattle.std.proofs.Common.{◌≤◌, [], ℕ, List, IsTrue, length, take, arith, rules, length-take}
-use Rattle.bp_language.specs.Tokens.{HasTokens}
+use Rattle.bp_advice.proofs.Common.{◌≤◌, [], ℕ, List, IsTrue, length, take, arith, rules, length-take, HasTokens}
 use Rattle.bp_advice.proofs.read_sentences.semicolon_place.Goals as goal
 
 within : (size at : ℕ) (text : List ℕ) → size ≤ length (take at text) → size ≤ at

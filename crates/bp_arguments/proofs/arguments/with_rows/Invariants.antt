@@ -1,7 +1,4 @@
-use Rattle.std.proofs.Common.{◌≡◌, drop, false, map}
-use Rattle.clap.specs.Simple.{app_of}
-use Rattle.clap.specs.declared.builder.command.Command.TheViews.{out-Command}
-use Rattle.bp_arguments.specs.Commands.{row_rule, with_rules}
+use Rattle.bp_arguments.proofs.Common.{◌≡◌, drop, false, map, app_of, out-Command, row_rule, with_rules}
 use Rattle.bp_arguments.proofs.arguments.with_rows.Given as goal
 
 abbrev pub invariant-loop-row : goal.invariant-loop-row

@@ -1,9 +1,4 @@
-use Rattle.std.proofs.Common.{◌∙◌, ◌+◌, ap, drop, get_or, map, refl, sym}
-use Rattle.std.proofs.lemmas.List.{drop_more}
-use Rattle.clap.specs.Simple.{app_of}
-use Rattle.bp_arguments.specs.Commands.{command_app, with_commands}
-use Rattle.bp_arguments.specs.declared.table.Named.TheVariants.{Check}
-use Rattle.bp_arguments.specs.declared.table.TheConstants.{NAMED}
+use Rattle.bp_arguments.proofs.Common.{◌∙◌, ◌+◌, ap, drop, get_or, map, refl, sym, drop_more, app_of, command_app, with_commands, Check, NAMED}
 use Rattle.bp_arguments.proofs.NoHelpEntered.{with_command}
 use Rattle.bp_arguments.proofs.commands.command.Goals as goal
 

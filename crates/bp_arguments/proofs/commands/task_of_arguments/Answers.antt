@@ -1,5 +1,4 @@
-use Rattle.std.proofs.Common.{◌∙◌, subst, sym, rules, map, string_bytes}
-use Rattle.bp_arguments.specs.Commands.{IsOurs}
+use Rattle.bp_arguments.proofs.Common.{◌∙◌, subst, sym, rules, map, string_bytes, IsOurs}
 use Rattle.bp_arguments.proofs.NoHelpEntered.{named_ours}
 use Rattle.bp_arguments.proofs.ArgumentFaults.{cleared, named, refused, misused, fine_faulty}
 use Rattle.bp_arguments.proofs.commands.task_of_arguments.Goals as goal

@@ -1,4 +1,4 @@
-use Rattle.std.proofs.Common.{rules}
+use Rattle.bp_arguments.proofs.Common.{rules}
 use Rattle.bp_arguments.proofs.GivenArguments.{number_is}
 use Rattle.bp_arguments.proofs.misuses.backwards_in.Goals as goal
 

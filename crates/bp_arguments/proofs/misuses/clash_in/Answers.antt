@@ -1,10 +1,5 @@
-use Rattle.std.proofs.Common.{◌≡◌, ◌∙◌, ◌+◌, ap, drop, get_or, rules, sym, true, false, find}
-use Rattle.std.proofs.lemmas.List.{drop_more}
-use Rattle.clap.specs.Matches.{found_of}
-use Rattle.clap.specs.Walk.{rows_of}
-use Rattle.bp_arguments.specs.Misuses.{are_on_line}
+use Rattle.bp_arguments.proofs.Common.{◌≡◌, ◌∙◌, ◌+◌, ap, drop, get_or, rules, sym, true, false, find, drop_more, found_of, rows_of, are_on_line, CLASHES}
 use Rattle.bp_arguments.specs.declared.misuses.OptionName.TheVariants.{At}
-use Rattle.bp_arguments.specs.declared.misuses.TheConstants.{CLASHES}
 use Rattle.bp_arguments.proofs.GivenArguments.{find_first, find_later}
 use Rattle.bp_arguments.proofs.misuses.clash_in.Goals as goal
 

@@ -1,4 +1,4 @@
-use Rattle.std.proofs.Common.{rules}
+use Rattle.bp_arguments.proofs.Common.{rules}
 use Rattle.bp_arguments.proofs.GivenArguments.{given_is}
 use Rattle.bp_arguments.proofs.misuses.is_on_line.Goals as goal
 

@@ -1,6 +1,5 @@
-use Rattle.std.proofs.Common.{map, string_bytes}
+use Rattle.bp_arguments.proofs.Common.{map, string_bytes, arguments_fault}
 use Rattle.clap.specs.Words.{kind_of}
-use Rattle.bp_arguments.specs.Commands.{arguments_fault}
 use Rattle.bp_arguments.proofs.NoHelpEntered.{of_kinds}
 use Rattle.bp_arguments.proofs.no_tasks.read_arguments.Goals as goal
 

@@ -1,9 +1,6 @@
-use Rattle.std.proofs.Common.{◌≡◌, ◌∙◌, ◌<◌, ℕ, List, true, false, ap, arith, bytes_eq, get_or, refl, rules, sym}
-use Rattle.std.proofs.lemmas.Slice.Eq.{bytes_eq-Decides}
+use Rattle.bp_arguments.proofs.Common.{◌≡◌, ◌∙◌, ◌<◌, ℕ, List, true, false, ap, arith, get_or, refl, rules, sym, bytes_eq-Decides, Check, Code, Drive, Confirm, Run, Test, Explore, Replay, Show, Migrate, Shrink, NAMED, command_name}
+use Rattle.std.proofs.Common.{bytes_eq}
 use Rattle.bp_arguments.specs.declared.table.Named.{Named}
-use Rattle.bp_arguments.specs.declared.table.Named.TheVariants.{Check, Code, Drive, Confirm, Run, Test, Explore, Replay, Show, Migrate, Shrink}
-use Rattle.bp_arguments.specs.declared.table.TheConstants.{NAMED}
-use Rattle.bp_arguments.specs.Values.{command_name}
 use Rattle.bp_arguments.proofs.table.command_named.Goals as goal
 
 abbrev place : Named → ℕ

@@ -1,5 +1,4 @@
-use Rattle.std.proofs.Common.{◌≡◌, drop, map, string_bytes}
-use Rattle.bp_arguments.specs.NoTasks.{asks_for_json}
+use Rattle.bp_arguments.proofs.Common.{◌≡◌, drop, map, string_bytes, asks_for_json}
 use Rattle.bp_arguments.proofs.usages.asks_for_json.Given as goal
 
 abbrev pub invariant-loop-word : goal.invariant-loop-word

@@ -1,5 +1,4 @@
-use Rattle.std.proofs.Common.{◌≡◌, take}
-use Rattle.bp_arguments.specs.Values.{bits_in}
+use Rattle.bp_arguments.proofs.Common.{◌≡◌, take, bits_in}
 use Rattle.bp_arguments.proofs.values.bits.Given as goal
 
 abbrev pub invariant-loop-byte : goal.invariant-loop-byte

@@ -1,4 +1,4 @@
-use Rattle.std.proofs.Common.{◌≡◌, map, string_bytes, take}
+use Rattle.bp_arguments.proofs.Common.{◌≡◌, map, string_bytes, take}
 use Rattle.bp_arguments.proofs.values.copies.Given as goal
 
 abbrev pub invariant-loop-name : goal.invariant-loop-name

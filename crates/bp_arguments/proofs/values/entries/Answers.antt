@@ -1,5 +1,4 @@
-use Rattle.std.proofs.Common.{codes, string_bytes, rules}
-use Rattle.clap.proofs.WalkLemmas.{raw_values-rows}
+use Rattle.bp_arguments.proofs.Common.{codes, string_bytes, rules, raw_values-rows}
 use Rattle.bp_arguments.proofs.NoHelpEntered.{if_ok}
 use Rattle.bp_arguments.proofs.GivenArguments.{names_read, no_names_read}
 use Rattle.bp_arguments.proofs.values.entries.Goals as goal

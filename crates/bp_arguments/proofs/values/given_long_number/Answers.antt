@@ -1,5 +1,4 @@
-use Rattle.std.proofs.Common.{rules}
-use Rattle.clap.proofs.WalkLemmas.{one_text-rows}
+use Rattle.bp_arguments.proofs.Common.{rules, one_text-rows}
 use Rattle.bp_arguments.proofs.GivenArguments.{number_read}
 use Rattle.bp_arguments.proofs.values.given_long_number.Goals as goal
 

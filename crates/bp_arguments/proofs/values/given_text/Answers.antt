@@ -1,6 +1,4 @@
-use Rattle.std.proofs.Common.{◌∙◌}
-use Rattle.clap.proofs.WalkLemmas.{first_value-rows}
-use Rattle.clap.specs.Matches.{found_of}
+use Rattle.bp_arguments.proofs.Common.{◌∙◌, first_value-rows, found_of}
 use Rattle.bp_arguments.proofs.values.given_text.Goals as goal
 
 pub returns : goal.returns

@@ -1,4 +1,4 @@
-use Rattle.std.proofs.Common.{refl}
+use Rattle.bp_code.proofs.Common.{refl}
 use Rattle.bp_code.proofs.FaultsOfParts.{refusal_of}
 use Rattle.bp_code.proofs.checks.check.Goals as goal
 

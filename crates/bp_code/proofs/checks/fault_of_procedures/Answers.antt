@@ -1,6 +1,4 @@
-use Rattle.std.proofs.Common.{take, ap, sym, ◌∙◌, ◌++◌, ◌∷◌, []}
-use Rattle.std.proofs.lemmas.List.{take_all, take_more}
-use Rattle.bp_code.specs.Sets.{IsProcedureFault}
+use Rattle.bp_code.proofs.Common.{take, ap, sym, ◌∙◌, ◌++◌, ◌∷◌, [], take_all, take_more, IsProcedureFault}
 use Rattle.bp_code.proofs.FaultsOfParts.{one_of_more}
 use Rattle.bp_code.proofs.checks.fault_of_procedures.Goals as goal
 

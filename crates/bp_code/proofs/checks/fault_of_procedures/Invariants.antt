@@ -1,5 +1,4 @@
-use Rattle.std.proofs.Common.{take}
-use Rattle.bp_code.specs.Sets.{IsFaultOfProcedures, Finds}
+use Rattle.bp_code.proofs.Common.{take, IsFaultOfProcedures, Finds}
 use Rattle.bp_code.proofs.checks.fault_of_procedures.Given as goal
 
 abbrev pub invariant-loop-proc : goal.invariant-loop-proc

@@ -1,9 +1,4 @@
-use Rattle.std.proofs.lemmas.Grind.{common_steps}
-use Rattle.std.proofs.Common.{◌≡◌, ◌+◌, ap, subst, arith, length, drop, rules}
-use Rattle.bp_language.specs.Blocks.{block_of, statement_of}
-use Rattle.bp_code.specs.Environments.{environment_of}
-use Rattle.bp_code.specs.Compiled.{block_size, size}
-use Rattle.bp_code.specs.Compilable.{block_sizes, AreSizesOf}
+use Rattle.bp_code.proofs.Common.{common_steps, ◌≡◌, ◌+◌, ap, subst, arith, length, drop, rules, block_of, statement_of, environment_of, block_size, size, block_sizes, AreSizesOf}
 use Rattle.bp_code.proofs.BlockItems.{block_item, item_depth, code_more, inside, behind, second_part}
 use Rattle.bp_code.proofs.emit.+emit.Goals as goal
 

@@ -1,12 +1,4 @@
-use Rattle.std.proofs.Common.{◌≡◌, ◌+◌, ◌*◌, ◌++◌, length, drop}
-use Rattle.bp_language.specs.Ast.{Branches, Loops}
-use Rattle.bp_language.specs.Views.{decision_of}
-use Rattle.bp_language.specs.Blocks.{block_of, statement_of}
-use Rattle.bp_language.specs.Depth.{depth, statement_depth}
-use Rattle.bp_code.specs.Environments.{environment_of}
-use Rattle.bp_code.specs.Known.{IsKnown}
-use Rattle.bp_code.specs.Compilable.{block_sizes, AreSizesOf}
-use Rattle.bp_code.specs.Compiled.{block_size, block_code}
+use Rattle.bp_code.proofs.Common.{◌≡◌, ◌+◌, ◌*◌, ◌++◌, length, drop, Branches, Loops, decision_of, block_of, statement_of, depth, statement_depth, environment_of, IsKnown, block_sizes, AreSizesOf, block_size, block_code}
 use Rattle.bp_code.proofs.emit.+emit.Given as goal
 
 abbrev pub invariant-emit_block-loop-i : goal.invariant-emit_block-loop-i

@@ -1,6 +1,4 @@
-use Rattle.std.proofs.Common.{◌<◌, length, ap, ◌∙◌, arith}
-use Rattle.std.proofs.lemmas.Bool.Decides.{nat_tests}
-use Rattle.bp_code.specs.Compiled.{block_entry}
+use Rattle.bp_code.proofs.Common.{◌<◌, length, ap, ◌∙◌, arith, nat_tests, block_entry}
 use Rattle.bp_code.proofs.BlockItems.{first_within}
 use Rattle.bp_code.proofs.emit.first.Goals as goal
 

@@ -1,4 +1,4 @@
-use Rattle.std.proofs.Common.{◌+◌}
+use Rattle.bp_code.proofs.Common.{◌+◌}
 use Rattle.bp_code.proofs.BlockItems.{first_within}
 use Rattle.bp_code.proofs.emit.following.Goals as goal
 

@@ -1,4 +1,4 @@
-use Rattle.bp_language.specs.Blocks.{statement_of}
+use Rattle.bp_code.proofs.Common.{statement_of}
 use Rattle.bp_code.proofs.FaultsOfParts.{with_stray}
 use Rattle.bp_code.proofs.forms.statement_fault.Goals as goal
 

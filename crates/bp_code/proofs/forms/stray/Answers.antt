@@ -1,4 +1,4 @@
-use Rattle.bp_language.specs.Faults.{Among, SomeUses}
+use Rattle.bp_code.proofs.Common.{Among, SomeUses}
 use Rattle.bp_code.proofs.RepeatedNames.{both_stray}
 use Rattle.bp_code.proofs.forms.stray.Goals as goal
 

@@ -1,6 +1,4 @@
-use Rattle.std.proofs.Common.{sym, ◌∙◌}
-use Rattle.std.proofs.lemmas.List.{length-map}
-use Rattle.bp_language.specs.Views.{expression_of}
+use Rattle.bp_code.proofs.Common.{sym, ◌∙◌, length-map, expression_of}
 use Rattle.bp_code.proofs.forms.uneven_sides.Goals as goal
 
 pub returns-then-targets-values : goal.returns-then-targets-values

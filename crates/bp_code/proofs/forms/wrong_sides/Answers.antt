@@ -1,5 +1,4 @@
-use Rattle.std.proofs.Common.{map}
-use Rattle.bp_language.specs.Views.{expression_of}
+use Rattle.bp_code.proofs.Common.{map, expression_of}
 use Rattle.bp_code.proofs.FaultsOfParts.{both_sides}
 use Rattle.bp_code.proofs.forms.wrong_sides.Goals as goal
 

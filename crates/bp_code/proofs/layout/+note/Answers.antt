@@ -1,14 +1,4 @@
-use Rattle.std.proofs.lemmas.Grind.{common_steps}
-use Rattle.std.proofs.Common.{◌≡◌, ◌+◌, ap, arith, length, ◌∷◌, length-append, rules}
-use Rattle.std.proofs.lemmas.List.{set_at}
-use Rattle.std.proofs.lemmas.Result.{on_ok_weaker}
-use Rattle.bp_text.proofs.PartsOfTexts.{regrouped}
-use Rattle.bp_language.specs.Views.{decision_of}
-use Rattle.bp_language.specs.Blocks.{statement_of}
-use Rattle.bp_language.specs.Depth.{depth, statement_depth}
-use Rattle.bp_code.specs.Sets.{index_in}
-use Rattle.bp_code.specs.Compiled.{block_size, size}
-use Rattle.bp_code.specs.Compilable.{block_sizes, inner_sizes}
+use Rattle.bp_code.proofs.Common.{common_steps, ◌≡◌, ◌+◌, ap, arith, length, ◌∷◌, length-append, rules, set_at, on_ok_weaker, regrouped, decision_of, statement_of, depth, statement_depth, index_in, block_size, size, block_sizes, inner_sizes}
 use Rattle.bp_code.proofs.BlockItems.{block_item, item_depth, sizes_length, inner_length, sizes_more, labels_more, labels_of_both}
 use Rattle.bp_code.proofs.layout.+note.Goals as goal
 

@@ -1,10 +1,4 @@
-use Rattle.std.proofs.Common.{◌≡◌, ◌+◌, ◌*◌, ◌++◌, ℕ, List, length, drop}
-use Rattle.std.specs.Option.{option_or}
-use Rattle.bp_language.specs.Blocks.{block_of, statement_of}
-use Rattle.bp_language.specs.Depth.{depth, statement_depth}
-use Rattle.bp_code.specs.Sets.{index_in}
-use Rattle.bp_code.specs.Compiled.{block_size, label_number}
-use Rattle.bp_code.specs.Compilable.{block_sizes}
+use Rattle.bp_code.proofs.Common.{◌≡◌, ◌+◌, ◌*◌, ◌++◌, ℕ, List, length, drop, option_or, block_of, statement_of, depth, statement_depth, index_in, block_size, label_number, block_sizes}
 use Rattle.bp_code.proofs.layout.+note.Given as goal
 
 abbrev pub invariant-note_block-loop-stmt : goal.invariant-note_block-loop-stmt

@@ -1,5 +1,4 @@
-use Rattle.std.proofs.lemmas.Grind.{common_steps}
-use Rattle.std.proofs.Common.{arith, rules}
+use Rattle.bp_code.proofs.Common.{common_steps, arith, rules}
 use Rattle.bp_code.proofs.BlockItems.{block_item, item_depth}
 use Rattle.bp_code.proofs.layout.+size.Goals as goal
 

@@ -1,7 +1,4 @@
-use Rattle.std.proofs.Common.{◌≡◌, ◌+◌, ◌*◌, drop}
-use Rattle.bp_language.specs.Blocks.{block_of, statement_of}
-use Rattle.bp_language.specs.Depth.{depth, statement_depth}
-use Rattle.bp_code.specs.Compiled.{block_size}
+use Rattle.bp_code.proofs.Common.{◌≡◌, ◌+◌, ◌*◌, drop, block_of, statement_of, depth, statement_depth, block_size}
 use Rattle.bp_code.proofs.layout.+size.Given as goal
 
 abbrev pub invariant-size_of_block-loop-stmt : goal.invariant-size_of_block-loop-stmt

@@ -1,6 +1,4 @@
-use Rattle.std.proofs.Common.{◌≡◌, None, arith}
-use Rattle.std.proofs.lemmas.Map.Text.{btree_map_updates_str}
-use Rattle.bp_code.specs.Sets.{index_in}
+use Rattle.bp_code.proofs.Common.{◌≡◌, None, arith, btree_map_updates_str, index_in}
 use Rattle.bp_code.proofs.BlockItems.{noted}
 use Rattle.bp_code.proofs.layout.note_label.Goals as goal
 

@@ -1,4 +1,4 @@
-use Rattle.bp_text.proofs.Givings.{written_at_end}
+use Rattle.bp_code.proofs.Common.{written_at_end}
 use Rattle.bp_code.proofs.listing.list.Goals as goal
 
 pub returns : goal.returns

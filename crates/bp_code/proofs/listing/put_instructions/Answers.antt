@@ -1,5 +1,4 @@
-use Rattle.std.proofs.Common.{◌<◌, ◌≤◌, length, arith}
-use Rattle.bp_text.proofs.Givings.{left_after}
+use Rattle.bp_code.proofs.Common.{◌<◌, ◌≤◌, length, arith, left_after}
 use Rattle.bp_code.proofs.ListingLines.{lines_next, lines_beyond}
 use Rattle.bp_code.proofs.listing.put_instructions.Goals as goal
 use Rattle.bp_code.proofs.listing.put_instructions.Goals.{in-Some, in_default}

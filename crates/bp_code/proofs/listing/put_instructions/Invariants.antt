@@ -1,5 +1,4 @@
-use Rattle.bp_text.proofs.Givings.{IsLeft}
-use Rattle.bp_code.specs.Listing.{lines_between}
+use Rattle.bp_code.proofs.Common.{IsLeft, lines_between}
 use Rattle.bp_code.proofs.listing.put_instructions.Given as goal
 
 abbrev pub invariant-loop-number : goal.invariant-loop-number

@@ -1,6 +1,5 @@
-use Rattle.std.proofs.Common.{flat_map, take}
+use Rattle.bp_code.proofs.Common.{flat_map, take, number_field}
 use Rattle.bp_text.specs.Writing.{Given}
-use Rattle.bp_code.specs.Listing.{number_field}
 use Rattle.bp_code.proofs.listing.put_numbers.Given as goal
 
 abbrev pub invariant-loop-number : goal.invariant-loop-number

@@ -1,6 +1,4 @@
-use Rattle.std.proofs.Common.{subst}
-use Rattle.bp_text.proofs.Givings.{IsLeft, left_after}
-use Rattle.bp_code.specs.Listing.{listing_text}
+use Rattle.bp_code.proofs.Common.{subst, IsLeft, left_after, listing_text}
 use Rattle.bp_code.proofs.ListingLines.{procedures_next}
 use Rattle.bp_code.proofs.listing.put_procedures.Goals as goal
 

@@ -1,6 +1,4 @@
-use Rattle.std.proofs.Common.{drop}
-use Rattle.bp_text.proofs.Givings.{IsLeft}
-use Rattle.bp_code.specs.Listing.{procedure_lines, listing_text}
+use Rattle.bp_code.proofs.Common.{drop, IsLeft, procedure_lines, listing_text}
 use Rattle.bp_code.proofs.listing.put_procedures.Given as goal
 
 abbrev pub invariant-loop-n : goal.invariant-loop-n

@@ -1,6 +1,4 @@
-use Rattle.std.proofs.lemmas.Grind.{common_steps}
-use Rattle.std.proofs.Common.{arith, rules}
-use Rattle.bp_code.specs.Sets.{all_labelled}
+use Rattle.bp_code.proofs.Common.{common_steps, arith, rules, all_labelled}
 use Rattle.bp_code.proofs.FaultsOfParts.{collect_more, inside_depth}
 use Rattle.bp_code.proofs.procedures.+collect.Goals as goal
 

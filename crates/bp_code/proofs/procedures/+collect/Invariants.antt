@@ -1,8 +1,4 @@
-use Rattle.std.proofs.Common.{◌≡◌, ◌+◌, ◌*◌, ◌++◌, take}
-use Rattle.bp_language.specs.Blocks.{block_of, statement_of}
-use Rattle.bp_language.specs.Depth.{depth, statement_depth}
-use Rattle.bp_language.specs.Faults.{statements}
-use Rattle.bp_code.specs.Sets.{all_labelled}
+use Rattle.bp_code.proofs.Common.{◌≡◌, ◌+◌, ◌*◌, ◌++◌, take, block_of, statement_of, depth, statement_depth, statements, all_labelled}
 use Rattle.bp_code.proofs.procedures.+collect.Given as goal
 
 abbrev pub invariant-collect-loop-stmt : goal.invariant-collect-loop-stmt

@@ -1,7 +1,4 @@
-use Rattle.std.proofs.Common.{ap, ◌∙◌}
-use Rattle.bp_language.specs.declared.faults.CheckFault.TheVariants.{TwiceLabel}
-use Rattle.bp_language.specs.Faults.{labels, labels_of, statements, IsTwice}
-use Rattle.bp_code.specs.Sets.{all_labelled, Only, IsFaultOfStatements}
+use Rattle.bp_code.proofs.Common.{ap, ◌∙◌, TwiceLabel, labels, labels_of, statements, IsTwice, all_labelled, Only, IsFaultOfStatements}
 use Rattle.bp_code.proofs.FaultsOfParts.{finds_both}
 use Rattle.bp_code.proofs.procedures.fault_of_body.Goals as goal
 

@@ -1,5 +1,4 @@
-use Rattle.std.proofs.lemmas.List.{take_all}
-use Rattle.bp_code.specs.Sets.{labelled_of, IsStatementFault}
+use Rattle.bp_code.proofs.Common.{take_all, labelled_of, IsStatementFault}
 use Rattle.bp_code.proofs.FaultsOfParts.{one_of_more, labelled_more}
 use Rattle.bp_code.proofs.procedures.fault_of_statements.Goals as goal
 

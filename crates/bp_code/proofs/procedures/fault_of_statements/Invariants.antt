@@ -1,5 +1,4 @@
-use Rattle.std.proofs.Common.{take}
-use Rattle.bp_code.specs.Sets.{all_labelled, IsFaultOfStatements, Finds}
+use Rattle.bp_code.proofs.Common.{take, all_labelled, IsFaultOfStatements, Finds}
 use Rattle.bp_code.proofs.procedures.fault_of_statements.Given as goal
 
 abbrev pub invariant-loop-stmt : goal.invariant-loop-stmt

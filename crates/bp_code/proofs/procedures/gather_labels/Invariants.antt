@@ -1,6 +1,4 @@
-use Rattle.std.proofs.Common.{◌≡◌, ◌++◌, take}
-use Rattle.bp_language.specs.Faults.{labels_of}
-use Rattle.bp_code.specs.Sets.{names_of, all_labelled}
+use Rattle.bp_code.proofs.Common.{◌≡◌, ◌++◌, take, labels_of, names_of, all_labelled}
 use Rattle.bp_code.proofs.procedures.gather_labels.Given as goal
 
 abbrev pub invariant-loop-stmt : goal.invariant-loop-stmt

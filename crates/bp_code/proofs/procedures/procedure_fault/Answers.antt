@@ -1,8 +1,4 @@
-use Rattle.std.proofs.Common.{◌++◌, ◌∙◌, ap}
-use Rattle.bp_language.specs.declared.faults.CheckFault.TheVariants.{TwiceLocal}
-use Rattle.bp_language.specs.declared.limits.TheConstants.{MAX_OWN_NAMES}
-use Rattle.bp_language.specs.Ast.{variables}
-use Rattle.bp_code.specs.Sets.{IsFaultOfNames, IsFaultOfBody}
+use Rattle.bp_code.proofs.Common.{◌++◌, ◌∙◌, ap, TwiceLocal, MAX_OWN_NAMES, variables, IsFaultOfNames, IsFaultOfBody}
 use Rattle.bp_code.proofs.FaultsOfParts.{finds_both}
 use Rattle.bp_code.proofs.procedures.procedure_fault.Goals as goal
 

@@ -1,4 +1,4 @@
-use Rattle.std.proofs.Common.{rules}
+use Rattle.bp_code.proofs.Common.{rules}
 use Rattle.bp_code.proofs.LawfulIsCompilable.{lawful_compiles}
 use Rattle.bp_code.proofs.programs.compile.Goals as goal
 

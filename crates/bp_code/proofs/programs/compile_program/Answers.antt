@@ -1,6 +1,4 @@
-use Rattle.std.proofs.Common.{sym, ◌∙◌, length, append-nil}
-use Rattle.bp_language.specs.Ast.{Program}
-use Rattle.bp_flat.proofs.ProceduresOfPlaces.{drop_item, dropped_all}
+use Rattle.bp_code.proofs.Common.{sym, ◌∙◌, length, append-nil, Program, drop_item, dropped_all}
 use Rattle.bp_code.proofs.LawfulIsCompilable.{all_few, all_known}
 use Rattle.bp_code.proofs.ListingLines.{names_of_headings}
 use Rattle.bp_code.proofs.CompiledStandsFor.{flat_stands}

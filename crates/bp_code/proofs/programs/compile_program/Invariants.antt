@@ -1,6 +1,4 @@
-use Rattle.std.proofs.Common.{◌≡◌, ◌+◌, ◌++◌, length, drop}
-use Rattle.bp_code.specs.Compilable.{AllCompilableIn}
-use Rattle.bp_code.specs.Compiled.{procedures_size, headings_from, procedures_code}
+use Rattle.bp_code.proofs.Common.{◌≡◌, ◌+◌, ◌++◌, length, drop, AllCompilableIn, procedures_size, headings_from, procedures_code}
 use Rattle.bp_code.proofs.programs.compile_program.Given as goal
 
 abbrev pub invariant-loop-proc : goal.invariant-loop-proc

@@ -1,6 +1,4 @@
-use Rattle.std.proofs.Common.{rules}
-use Rattle.std.proofs.lemmas.Result.{on_ok_weaker}
-use Rattle.bp_text.proofs.PartsOfTexts.{regrouped}
+use Rattle.bp_code.proofs.Common.{rules, on_ok_weaker, regrouped}
 use Rattle.bp_code.proofs.BlockItems.{sizes_length, whole_table}
 use Rattle.bp_code.proofs.programs.emit_proc.Goals as goal
 

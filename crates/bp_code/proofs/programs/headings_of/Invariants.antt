@@ -1,6 +1,4 @@
-use Rattle.std.proofs.Common.{◌≡◌, ◌+◌, ◌++◌, drop}
-use Rattle.bp_code.specs.Compilable.{HaveFew}
-use Rattle.bp_code.specs.Compiled.{procedures_size, headings_from}
+use Rattle.bp_code.proofs.Common.{◌≡◌, ◌+◌, ◌++◌, drop, HaveFew, procedures_size, headings_from}
 use Rattle.bp_code.proofs.programs.headings_of.Given as goal
 
 abbrev pub invariant-loop-proc : goal.invariant-loop-proc

@@ -1,5 +1,4 @@
-use Rattle.std.proofs.lemmas.Grind.{common_steps}
-use Rattle.std.proofs.Common.{arith, rules}
+use Rattle.bp_code.proofs.Common.{common_steps, arith, rules}
 use Rattle.bp_code.proofs.BlockItems.{item_depth, starts_more}
 use Rattle.bp_code.proofs.starts.+note_starts.Goals as goal
 

@@ -1,7 +1,4 @@
-use Rattle.std.proofs.Common.{◌≡◌, ◌+◌, ◌*◌, ◌++◌, drop}
-use Rattle.bp_language.specs.Blocks.{block_of, statement_of}
-use Rattle.bp_language.specs.Depth.{depth, statement_depth}
-use Rattle.bp_flat.specs.StandsFor.{block_starts}
+use Rattle.bp_code.proofs.Common.{◌≡◌, ◌+◌, ◌*◌, ◌++◌, drop, block_of, statement_of, depth, statement_depth, block_starts}
 use Rattle.bp_code.proofs.starts.+note_starts.Given as goal
 
 abbrev pub invariant-note_block-loop-stmt : goal.invariant-note_block-loop-stmt

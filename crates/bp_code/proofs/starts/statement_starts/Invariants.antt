@@ -1,5 +1,4 @@
-use Rattle.std.proofs.Common.{◌≡◌, ◌++◌, drop}
-use Rattle.bp_flat.specs.StandsFor.{places_of}
+use Rattle.bp_code.proofs.Common.{◌≡◌, ◌++◌, drop, places_of}
 use Rattle.bp_code.proofs.BlockItems.{starts}
 use Rattle.bp_code.proofs.starts.statement_starts.Given as goal
 

@@ -1,6 +1,4 @@
-use Rattle.bp_language.specs.declared.faults.CheckFault.TheVariants.{Limit}
-use Rattle.bp_language.specs.Faults.{IsTwice, IsPast}
-use Rattle.bp_code.specs.Sets.{Only}
+use Rattle.bp_code.proofs.Common.{Limit, IsTwice, IsPast, Only}
 use Rattle.bp_code.proofs.FaultsOfParts.{finds_both}
 use Rattle.bp_code.proofs.tables.fault_of_names.Goals as goal
 

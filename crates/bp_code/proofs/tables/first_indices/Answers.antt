@@ -1,7 +1,4 @@
-use Rattle.std.proofs.Common.{◌≡◌, ℕ, ◌+◌, ◌-◌, List, drop, arith, subst}
-use Rattle.std.proofs.lemmas.Map.Text.{btree_map_updates_str}
-use Rattle.bp_code.specs.Sets.{names_of, index_in}
-use Rattle.bp_language.specs.Faults.{first_index_from}
+use Rattle.bp_code.proofs.Common.{◌≡◌, ℕ, ◌+◌, ◌-◌, List, drop, arith, subst, btree_map_updates_str, names_of, index_in, first_index_from}
 use Rattle.bp_code.proofs.RepeatedNames.{first_put, name_at}
 use Rattle.bp_code.proofs.tables.first_indices.Goals as goal
 

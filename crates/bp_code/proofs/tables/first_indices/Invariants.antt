@@ -1,6 +1,4 @@
-use Rattle.std.proofs.Common.{◌≡◌, List, ℕ, drop}
-use Rattle.bp_code.specs.Sets.{names_of, index_in}
-use Rattle.bp_language.specs.Faults.{first_index_from}
+use Rattle.bp_code.proofs.Common.{◌≡◌, List, ℕ, drop, names_of, index_in, first_index_from}
 use Rattle.bp_code.proofs.tables.first_indices.Given as goal
 
 abbrev pub invariant-loop-i : goal.invariant-loop-i

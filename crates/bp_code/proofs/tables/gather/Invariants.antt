@@ -1,5 +1,4 @@
-use Rattle.std.proofs.Common.{◌≡◌, ◌++◌, take}
-use Rattle.bp_code.specs.Sets.{names_of}
+use Rattle.bp_code.proofs.Common.{◌≡◌, ◌++◌, take, names_of}
 use Rattle.bp_code.proofs.tables.gather.Given as goal
 
 abbrev pub invariant-loop-name : goal.invariant-loop-name

@@ -1,5 +1,4 @@
-use Rattle.std.proofs.Common.{◌≡◌, ◌++◌, map, take}
-use Rattle.bp_code.specs.Sets.{names_of}
+use Rattle.bp_code.proofs.Common.{◌≡◌, ◌++◌, map, take, names_of}
 use Rattle.bp_code.proofs.tables.gather_procedures.Given as goal
 
 abbrev pub invariant-loop-proc : goal.invariant-loop-proc

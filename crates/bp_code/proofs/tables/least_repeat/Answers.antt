@@ -1,4 +1,4 @@
-use Rattle.std.proofs.Common.{rules}
+use Rattle.bp_code.proofs.Common.{rules}
 use Rattle.bp_code.proofs.RepeatedNames.{none_here, one_here, all_here}
 use Rattle.bp_code.proofs.tables.least_repeat.Goals as goal
 use Rattle.bp_code.proofs.tables.least_repeat.Goals.{then-has_before, else-has_before}

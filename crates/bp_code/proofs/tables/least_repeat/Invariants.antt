@@ -1,4 +1,4 @@
-use Rattle.bp_code.specs.Sets.{Only, Finds}
+use Rattle.bp_code.proofs.Common.{Only, Finds}
 use Rattle.bp_code.proofs.RepeatedNames.{Below}
 use Rattle.bp_code.proofs.tables.least_repeat.Given as goal
 

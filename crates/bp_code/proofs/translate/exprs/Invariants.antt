@@ -1,10 +1,5 @@
-use Rattle.std.proofs.Common.{◌≡◌, map, take, drop}
-use Rattle.bp_language.specs.Views.{expression_of}
+use Rattle.bp_code.proofs.Common.{◌≡◌, map, take, drop, expression_of, environment_of, NamesInExpressions, HasSlot, formulas_in}
 use Rattle.bp_flat.specs.Views.{formula_of}
-use Rattle.bp_code.specs.Environments.{environment_of}
-use Rattle.bp_language.specs.NamesIn.{NamesInExpressions}
-use Rattle.bp_code.specs.Known.{HasSlot}
-use Rattle.bp_code.specs.Compiled.{formulas_in}
 use Rattle.bp_code.proofs.translate.exprs.Given as goal
 
 abbrev pub invariant-loop-e : goal.invariant-loop-e

@@ -1,8 +1,4 @@
-use Rattle.std.proofs.Common.{◌≡◌, take, drop}
-use Rattle.bp_code.specs.Environments.{environment_of}
-use Rattle.bp_language.specs.NamesIn.{EachName}
-use Rattle.bp_code.specs.Known.{HasSlot}
-use Rattle.bp_code.specs.Compiled.{slots_in}
+use Rattle.bp_code.proofs.Common.{◌≡◌, take, drop, environment_of, EachName, HasSlot, slots_in}
 use Rattle.bp_code.proofs.translate.slots.Given as goal
 
 abbrev pub invariant-loop-name : goal.invariant-loop-name

@@ -1,4 +1,4 @@
-use Rattle.bp_language.specs.Faults.{Uses}
+use Rattle.bp_code.proofs.Common.{Uses}
 use Rattle.bp_code.proofs.RepeatedNames.{both_stray}
 use Rattle.bp_code.proofs.uses.+stray_in.Goals as goal
 

@@ -1,4 +1,4 @@
-use Rattle.std.proofs.lemmas.List.{take_all}
+use Rattle.bp_code.proofs.Common.{take_all}
 use Rattle.bp_code.proofs.RepeatedNames.{expression_more}
 use Rattle.bp_code.proofs.uses.stray_in_all.Goals as goal
 

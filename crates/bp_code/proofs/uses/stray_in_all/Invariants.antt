@@ -1,7 +1,4 @@
-use Rattle.std.proofs.Common.{map, take}
-use Rattle.bp_language.specs.Views.{expression_of}
-use Rattle.bp_language.specs.Faults.{SomeUses}
-use Rattle.bp_code.specs.Sets.{Finds, IsStray}
+use Rattle.bp_code.proofs.Common.{map, take, expression_of, SomeUses, Finds, IsStray}
 use Rattle.bp_code.proofs.uses.stray_in_all.Given as goal
 
 abbrev pub invariant-loop-expr : goal.invariant-loop-expr

@@ -1,4 +1,4 @@
-use Rattle.std.proofs.lemmas.List.{take_all}
+use Rattle.bp_code.proofs.Common.{take_all}
 use Rattle.bp_code.proofs.RepeatedNames.{name_more}
 use Rattle.bp_code.proofs.uses.stray_names.Goals as goal
 

@@ -1,6 +1,4 @@
-use Rattle.std.proofs.Common.{take}
-use Rattle.bp_language.specs.Faults.{Among}
-use Rattle.bp_code.specs.Sets.{Finds, IsStray}
+use Rattle.bp_code.proofs.Common.{take, Among, Finds, IsStray}
 use Rattle.bp_code.proofs.uses.stray_names.Given as goal
 
 abbrev pub invariant-loop-name : goal.invariant-loop-name

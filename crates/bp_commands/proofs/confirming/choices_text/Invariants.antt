@@ -1,5 +1,4 @@
-use Rattle.std.proofs.Common.{◌≡◌, flat_map, take}
-use Rattle.bp_commands.specs.Confirms.{choice_text}
+use Rattle.bp_commands.proofs.Common.{◌≡◌, flat_map, take, choice_text}
 use Rattle.bp_commands.proofs.confirming.choices_text.Given as goal
 
 abbrev pub invariant-loop-choice : goal.invariant-loop-choice

@@ -1,10 +1,5 @@
-use Rattle.std.proofs.Common.{◌∙◌, ap, refl, [], map, option_map}
-use Rattle.bp_view.specs.FootFacts.{condition_in, foot_in}
-use Rattle.bp_view.specs.CallFacts.{AreProgramFacts}
+use Rattle.bp_commands.proofs.Common.{◌∙◌, ap, refl, [], map, option_map, condition_in, foot_in, AreProgramFacts, outcome_text, waits_text, copied, choices_text}
 use Rattle.bp_tasks.specs.declared.options.ViewFormat.TheVariants.{Json}
-use Rattle.bp_view.specs.Views.{outcome_text, waits_text}
-use Rattle.bp_view.proofs.BegunViews.{copied}
-use Rattle.bp_commands.specs.Confirms.{choices_text}
 use Rattle.bp_commands.proofs.confirming.confirmation_of.Goals as goal
 
 pub returns : goal.returns

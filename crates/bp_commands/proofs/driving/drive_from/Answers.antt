@@ -1,7 +1,4 @@
-use Rattle.std.proofs.lemmas.Grind.{common_steps}
-use Rattle.std.proofs.Common.{arith}
-use Rattle.std.proofs.lemmas.Result.{err_from_is_err_and}
-use Rattle.bp_commands.specs.Commands.{Pair}
+use Rattle.bp_commands.proofs.Common.{common_steps, arith, err_from_is_err_and, Pair}
 use Rattle.bp_commands.proofs.Answered.{refused_with}
 use Rattle.bp_commands.proofs.Driven.{driven, not_driven}
 use Rattle.bp_commands.proofs.driving.drive_from.Goals as goal

@@ -1,4 +1,4 @@
-use Rattle.std.proofs.Common.{arith, ◌∙◌, sym, rules}
+use Rattle.bp_commands.proofs.Common.{arith, ◌∙◌, sym, rules}
 use Rattle.bp_commands.proofs.Driven.{HasNoneAt, line_next, none_next, none_within, none_other, split_at}
 use Rattle.bp_commands.proofs.driving.first_separator.Goals as goal
 use Rattle.bp_commands.proofs.driving.first_separator.Goals.{then-begins+in_default, else-begins}

@@ -1,5 +1,4 @@
-use Rattle.std.proofs.Common.{◌≡◌, ◌≤◌, length, take}
-use Rattle.bp_commands.specs.Traces.{ends_line, HasNoneBefore}
+use Rattle.bp_commands.proofs.Common.{◌≡◌, ◌≤◌, length, take, ends_line, HasNoneBefore}
 use Rattle.bp_commands.proofs.driving.first_separator.Given as goal
 
 abbrev pub invariant-loop-at : goal.invariant-loop-at

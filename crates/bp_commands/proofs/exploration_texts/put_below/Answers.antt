@@ -1,5 +1,4 @@
-use Rattle.std.proofs.Common.{◌≡◌, arith, false, nat_le}
-use Rattle.bp_text.proofs.Givings.{and_then}
+use Rattle.bp_commands.proofs.Common.{◌≡◌, arith, false, nat_le, and_then}
 use Rattle.bp_commands.proofs.exploration_texts.put_below.Goals as goal
 
 pub returns : goal.returns

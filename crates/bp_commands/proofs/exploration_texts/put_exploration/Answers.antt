@@ -1,6 +1,4 @@
-use Rattle.std.proofs.Common.{if◌then◌else◌, subst, sym}
-use Rattle.bp_text.specs.Writing.{Writes}
-use Rattle.bp_text.proofs.Givings.{written_at_end}
+use Rattle.bp_commands.proofs.Common.{if◌then◌else◌, subst, sym, Writes, written_at_end}
 use Rattle.bp_commands.specs.ExplorationTexts.{exploration_lines, exploration_object}
 use Rattle.bp_commands.proofs.exploration_texts.put_exploration.Goals as goal
 

@@ -1,5 +1,4 @@
-use Rattle.std.proofs.Common.{◌≡◌, ◌==◌, arith, false}
-use Rattle.bp_text.proofs.Givings.{and_then}
+use Rattle.bp_commands.proofs.Common.{◌≡◌, ◌==◌, arith, false, and_then}
 use Rattle.bp_commands.proofs.exploration_texts.put_first.Goals as goal
 
 pub returns : goal.returns

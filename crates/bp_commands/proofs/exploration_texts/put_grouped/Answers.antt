@@ -1,5 +1,4 @@
-use Rattle.std.proofs.Common.{◌≡◌, append-nil, arith, false, nat_lt}
-use Rattle.bp_text.proofs.Givings.{and_then}
+use Rattle.bp_commands.proofs.Common.{◌≡◌, append-nil, arith, false, nat_lt, and_then}
 use Rattle.bp_commands.proofs.exploration_texts.put_grouped.Goals as goal
 
 pub returns : goal.returns

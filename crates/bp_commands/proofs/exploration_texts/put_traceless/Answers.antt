@@ -1,4 +1,4 @@
-use Rattle.bp_text.proofs.Givings.{and_then}
+use Rattle.bp_commands.proofs.Common.{and_then}
 use Rattle.bp_commands.proofs.exploration_texts.put_traceless.Goals as goal
 
 pub returns-in-false-Some : goal.returns-in-false-Some

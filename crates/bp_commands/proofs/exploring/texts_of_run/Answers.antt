@@ -1,8 +1,4 @@
-use Rattle.std.proofs.Common.{◌∙◌, ap, map, option_map}
-use Rattle.bp_view.specs.FootFacts.{condition_in, foot_in}
-use Rattle.bp_view.specs.CallFacts.{AreProgramFacts}
-use Rattle.bp_view.specs.Views.{outcome_text, waits_text}
-use Rattle.bp_view.proofs.BegunViews.{copied}
+use Rattle.bp_commands.proofs.Common.{◌∙◌, ap, map, option_map, condition_in, foot_in, AreProgramFacts, outcome_text, waits_text, copied}
 use Rattle.bp_commands.proofs.exploring.texts_of_run.Goals as goal
 
 pub returns : goal.returns

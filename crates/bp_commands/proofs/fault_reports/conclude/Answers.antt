@@ -1,5 +1,4 @@
-use Rattle.std.proofs.Common.{sym}
-use Rattle.bp_commands.specs.FaultReports.{IsObjectIn}
+use Rattle.bp_commands.proofs.Common.{sym, IsObjectIn}
 use Rattle.bp_commands.proofs.ConcludedReads.{by_lines}
 use Rattle.bp_commands.proofs.fault_reports.conclude.Goals as goal
 

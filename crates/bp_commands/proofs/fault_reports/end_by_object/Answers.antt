@@ -1,5 +1,4 @@
-use Rattle.std.proofs.Common.{false, Some, ◌∙◌, refl, inl}
-use Rattle.bp_commands.specs.FaultReports.{IsTextOf}
+use Rattle.bp_commands.proofs.Common.{false, Some, ◌∙◌, refl, inl, IsTextOf}
 use Rattle.bp_commands.proofs.fault_reports.end_by_object.Goals as goal
 
 pub returns-in-Ok-Some-clause-object : goal.returns-in-Ok-Some-clause-object

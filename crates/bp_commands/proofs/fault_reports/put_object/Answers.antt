@@ -1,7 +1,5 @@
-use Rattle.std.proofs.Common.{refl, option_map, subst}
+use Rattle.bp_commands.proofs.Common.{refl, option_map, subst, fault_object, name_in, IsValueIn, IsObjectWith}
 use Rattle.bp_confirm.specs.Steps.{value_of}
-use Rattle.bp_messages.specs.FaultObjects.{fault_object, name_in, IsValueIn}
-use Rattle.bp_commands.specs.FaultReports.{IsObjectWith}
 use Rattle.bp_commands.proofs.fault_reports.put_object.Goals as goal
 
 pub returns : goal.returns

@@ -1,6 +1,4 @@
-use Rattle.std.proofs.Common.{arith, ◌≡◌, length, length-append, length-take, take, ◌++◌, ℕ, ◌+◌, ◌-◌, ◌<◌, ◌≤◌, List, rules}
-use Rattle.std.proofs.lemmas.Result.{err_from_is_err_and}
-use Rattle.std.proofs.KnownBytes.{Consumes-trans}
+use Rattle.bp_commands.proofs.Common.{arith, ◌≡◌, length, length-append, length-take, take, ◌++◌, ℕ, ◌+◌, ◌-◌, ◌<◌, ◌≤◌, List, rules, err_from_is_err_and, Consumes-trans}
 use Rattle.bp_commands.proofs.inputs.read_whole.Goals as goal
 
 -- a read into what room is left goes at most one byte past the limit

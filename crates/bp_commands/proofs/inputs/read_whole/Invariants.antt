@@ -1,5 +1,4 @@
-use Rattle.std.proofs.Common.{◌+◌, ◌-◌, ◌≤◌, length}
-use Rattle.std.specs.Io.KnownBytes.{Consumes}
+use Rattle.bp_commands.proofs.Common.{◌+◌, ◌-◌, ◌≤◌, length, Consumes}
 use Rattle.bp_commands.proofs.inputs.read_whole.Given as goal
 
 abbrev pub invariant-loop-count : goal.invariant-loop-count

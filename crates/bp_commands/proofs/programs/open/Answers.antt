@@ -1,9 +1,4 @@
-use Rattle.std.proofs.Common.{◌≡◌, ◌≢◌, ◌∙◌, [], ◌∷◌, inl, inr, List, None, refl, subst}
-use Rattle.std.proofs.lemmas.Result.{err_from_is_err_and}
-use Rattle.bp_language.specs.Ast.{Program}
-use Rattle.bp_machine.specs.Setups.{IsSetupRefusal, StartOf, setup_from}
-use Rattle.bp_tasks.specs.NamedBits.{NamedBitOf, start_by_names}
-use Rattle.bp_commands.specs.Programs.{start_asked}
+use Rattle.bp_commands.proofs.Common.{◌≡◌, ◌≢◌, ◌∙◌, [], ◌∷◌, inl, inr, List, None, refl, subst, err_from_is_err_and, Program, IsSetupRefusal, StartOf, setup_from, NamedBitOf, start_by_names, start_asked}
 use Rattle.bp_commands.proofs.programs.open.Goals as goal
 
 -- where globals are named, the start is that with their bits

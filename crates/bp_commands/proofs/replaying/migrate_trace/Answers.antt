@@ -1,5 +1,4 @@
-use Rattle.std.proofs.lemmas.Result.{err_from_is_err_and}
-use Rattle.bp_commands.specs.Commands.{Pair}
+use Rattle.bp_commands.proofs.Common.{err_from_is_err_and, Pair}
 use Rattle.bp_commands.proofs.Driven.{migrated, not_migrated}
 use Rattle.bp_commands.proofs.replaying.migrate_trace.Goals as goal
 

@@ -1,9 +1,5 @@
-use Rattle.std.proofs.Common.{map, refl}
-use Rattle.std.proofs.lemmas.Result.{err_from_is_err_and}
-use Rattle.bp_trace.specs.Replays.{row_of}
+use Rattle.bp_commands.proofs.Common.{map, refl, err_from_is_err_and, row_of, Pair, IsReplayText}
 use Rattle.bp_messages.specs.ReplayLines.{shown_text}
-use Rattle.bp_commands.specs.Commands.{Pair}
-use Rattle.bp_commands.specs.Traces.{IsReplayText}
 use Rattle.bp_commands.proofs.OnTraces.{done, no_trace}
 use Rattle.bp_commands.proofs.replaying.replay_trace.Goals as goal
 

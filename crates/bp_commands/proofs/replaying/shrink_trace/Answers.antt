@@ -1,9 +1,4 @@
-use Rattle.std.proofs.Common.{refl, subst, inl, inr}
-use Rattle.std.proofs.lemmas.Result.{err_from_is_err_and}
-use Rattle.bp_test.specs.Shrinks.{IsEnd, IsShrunk}
-use Rattle.bp_trace.specs.TraceText.{trace_text}
-use Rattle.bp_commands.specs.Commands.{Pair}
-use Rattle.bp_commands.specs.Traces.{shrinks, IsEndRefusal}
+use Rattle.bp_commands.proofs.Common.{refl, subst, inl, inr, err_from_is_err_and, IsEnd, IsShrunk, trace_text, Pair, shrinks, IsEndRefusal}
 use Rattle.bp_commands.proofs.Answered.{refused_with, cut_short}
 use Rattle.bp_commands.proofs.ShrunkTraces.{end_refuses, memory_refuses, written, reported}
 use Rattle.bp_commands.proofs.replaying.shrink_trace.Goals as goal

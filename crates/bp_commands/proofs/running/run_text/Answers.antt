@@ -1,7 +1,4 @@
-use Rattle.std.proofs.Common.{subst}
-use Rattle.bp_tasks.specs.RunOptions.{options_of}
-use Rattle.bp_commands.specs.Commands.{AnswersOf}
-use Rattle.bp_commands.specs.Runs.{runs, runs_by_names}
+use Rattle.bp_commands.proofs.Common.{subst, options_of, AnswersOf, runs, runs_by_names}
 use Rattle.bp_commands.proofs.Answered.{answers_found}
 use Rattle.bp_commands.proofs.running.run_text.Goals as goal
 

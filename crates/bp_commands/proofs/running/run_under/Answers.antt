@@ -1,4 +1,4 @@
-use Rattle.std.proofs.lemmas.Result.{err_from_is_err_and}
+use Rattle.bp_commands.proofs.Common.{err_from_is_err_and}
 use Rattle.bp_commands.proofs.RunAnswers.{done, refused}
 use Rattle.bp_commands.proofs.running.run_under.Goals as goal
 

@@ -1,7 +1,4 @@
-use Rattle.std.proofs.Common.{◌≡◌, None}
-use Rattle.std.specs.Io.Buffered.{writer_contents}
-use Rattle.bp_commands.specs.FaultReports.{of_report, AreReadOr, IsObjectIn}
-use Rattle.bp_commands.specs.Commands.{bundle_alone, text_alone_of}
+use Rattle.bp_commands.proofs.Common.{◌≡◌, None, writer_contents, of_report, AreReadOr, IsObjectIn, bundle_alone, text_alone_of}
 use Rattle.bp_commands.proofs.ConcludedReads.{concluded_read}
 use Rattle.bp_commands.proofs.runs.run_on_bundle.Goals as goal
 

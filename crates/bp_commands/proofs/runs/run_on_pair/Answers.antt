@@ -1,8 +1,4 @@
-use Rattle.std.proofs.Common.{ℕ, List, Option}
-use Rattle.std.specs.Io.Buffered.{writer_contents}
-use Rattle.bp_commands.specs.FaultReports.{ExplainsPair, AreReadOr, IsFileOfPair, IsObjectIn}
-use Rattle.bp_commands.specs.Jobs.{rest_of, pair_of_files}
-use Rattle.bp_commands.specs.Commands.{Pair}
+use Rattle.bp_commands.proofs.Common.{ℕ, List, Option, writer_contents, ExplainsPair, AreReadOr, IsFileOfPair, IsObjectIn, rest_of, pair_of_files, Pair}
 use Rattle.bp_commands.proofs.ConcludedReads.{concluded_read}
 use Rattle.bp_commands.proofs.runs.run_on_pair.Goals as goal
 

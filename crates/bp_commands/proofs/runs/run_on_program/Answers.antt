@@ -1,7 +1,4 @@
-use Rattle.std.specs.Io.Buffered.{writer_contents}
-use Rattle.bp_commands.specs.FaultReports.{ExplainsText, AreReadOr, IsFileOfText, IsObjectIn}
-use Rattle.bp_commands.specs.Jobs.{rest_of}
-use Rattle.bp_commands.specs.Commands.{text_alone, text_alone_of}
+use Rattle.bp_commands.proofs.Common.{writer_contents, ExplainsText, AreReadOr, IsFileOfText, IsObjectIn, rest_of, text_alone, text_alone_of}
 use Rattle.bp_commands.proofs.ConcludedReads.{concluded_read}
 use Rattle.bp_commands.proofs.runs.run_on_program.Goals as goal
 

@@ -1,9 +1,5 @@
-use Rattle.std.proofs.Common.{subst, sym, rules}
-use Rattle.std.proofs.lemmas.Result.{err_from_is_err_and}
-use Rattle.bp_machine.specs.Histories.{IsReport}
+use Rattle.bp_commands.proofs.Common.{subst, sym, rules, err_from_is_err_and, IsReport, Pair, AreContextsOf}
 use Rattle.bp_view.specs.ContextLines.{AreContextsOfTrace}
-use Rattle.bp_commands.specs.Commands.{Pair}
-use Rattle.bp_commands.specs.Shows.{AreContextsOf}
 use Rattle.bp_commands.proofs.OnTraces.{cut, done, no_trace}
 use Rattle.bp_commands.proofs.shows.show_contexts.Goals as goal
 

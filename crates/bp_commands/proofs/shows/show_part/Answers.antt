@@ -1,6 +1,4 @@
-use Rattle.std.proofs.lemmas.Result.{err_from_is_err_and}
-use Rattle.bp_commands.specs.Commands.{Pair}
-use Rattle.bp_commands.specs.Shows.{on_screen}
+use Rattle.bp_commands.proofs.Common.{err_from_is_err_and, Pair, on_screen}
 use Rattle.bp_commands.proofs.ViewedTraces.{not_viewed, viewed}
 use Rattle.bp_commands.proofs.shows.show_part.Goals as goal
 

@@ -1,9 +1,5 @@
-use Rattle.std.proofs.Common.{subst, sym, rules}
-use Rattle.std.proofs.lemmas.Result.{err_from_is_err_and}
-use Rattle.bp_machine.specs.Histories.{IsReport}
+use Rattle.bp_commands.proofs.Common.{subst, sym, rules, err_from_is_err_and, IsReport, Pair, IsStateOf}
 use Rattle.bp_view.specs.States.{IsStateOfTrace}
-use Rattle.bp_commands.specs.Commands.{Pair}
-use Rattle.bp_commands.specs.Shows.{IsStateOf}
 use Rattle.bp_commands.proofs.OnTraces.{cut, done, no_trace}
 use Rattle.bp_commands.proofs.shows.show_state.Goals as goal
 

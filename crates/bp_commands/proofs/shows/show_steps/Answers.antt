@@ -1,8 +1,4 @@
-use Rattle.std.proofs.Common.{ap, rules}
-use Rattle.std.proofs.lemmas.Result.{err_from_is_err_and}
-use Rattle.bp_confirm.specs.OwnSteps.{own_steps_text}
-use Rattle.bp_commands.specs.Commands.{Pair}
-use Rattle.bp_commands.specs.Shows.{AreStepsOf}
+use Rattle.bp_commands.proofs.Common.{ap, rules, err_from_is_err_and, own_steps_text, Pair, AreStepsOf}
 use Rattle.bp_commands.proofs.OnTraces.{cut, done, no_trace}
 use Rattle.bp_commands.proofs.shows.show_steps.Goals as goal
 

@@ -1,8 +1,4 @@
-use Rattle.std.proofs.Common.{◌≡◌, true}
-use Rattle.std.proofs.lemmas.Result.{err_from_is_err_and}
-use Rattle.bp_trace.specs.Replays.{IsAcceptedTrace}
-use Rattle.bp_commands.specs.Commands.{Pair}
-use Rattle.bp_commands.specs.Shows.{shows_part}
+use Rattle.bp_commands.proofs.Common.{◌≡◌, true, err_from_is_err_and, IsAcceptedTrace, Pair, shows_part}
 use Rattle.bp_commands.proofs.ViewedTraces.{line_cut, line_shown, part_refused}
 use Rattle.bp_commands.proofs.shows.show_trace.Goals as goal
 

@@ -1,5 +1,4 @@
-use Rattle.std.proofs.Common.{◌≡◌, false, get_or}
-use Rattle.bp_confirm.specs.Inferred.{deciding}
+use Rattle.bp_confirm.proofs.Common.{◌≡◌, false, get_or, deciding}
 use Rattle.bp_confirm.proofs.choices.deciding.Given as goal
 
 abbrev pub invariant-loop-thread : goal.invariant-loop-thread

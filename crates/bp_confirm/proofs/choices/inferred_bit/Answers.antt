@@ -1,7 +1,4 @@
-use Rattle.std.proofs.Common.{[], ap, ◌∙◌, option_map}
-use Rattle.bp_confirm.specs.FollowedSteps.{bit_of_instruction, splits}
-use Rattle.bp_confirm.specs.Inferred.{IsAmbiguous, IsClear}
-use Rattle.bp_confirm.specs.Steps.{place_of}
+use Rattle.bp_confirm.proofs.Common.{[], ap, ◌∙◌, option_map, bit_of_instruction, splits, IsAmbiguous, IsClear, place_of}
 use Rattle.bp_confirm.proofs.BitsOfEffects.{bit_at_is, split_is, tells_clear}
 use Rattle.bp_confirm.proofs.ValuesSeen.{numbers_are}
 use Rattle.bp_confirm.proofs.choices.inferred_bit.Goals as goal

@@ -1,5 +1,4 @@
-use Rattle.std.proofs.Common.{◌∙◌, ◌+◌, [], ◌∷◌, length, ap, length-append}
-use Rattle.bp_confirm.specs.Inferred.{waits_after}
+use Rattle.bp_confirm.proofs.Common.{◌∙◌, ◌+◌, [], ◌∷◌, length, ap, length-append, waits_after}
 use Rattle.bp_confirm.proofs.LinesKept.{table_more}
 use Rattle.bp_confirm.proofs.choices.waits_of.Goals as goal
 

@@ -1,6 +1,4 @@
-use Rattle.std.proofs.Common.{take}
-use Rattle.bp_confirm.specs.ConfirmedTexts.{AreDeclaredLines, AreKnown}
-use Rattle.bp_confirm.specs.KeptLines.{kept_lines}
+use Rattle.bp_confirm.proofs.Common.{take, AreDeclaredLines, AreKnown, kept_lines}
 use Rattle.bp_confirm.proofs.declared.are_declared.Given as goal
 
 abbrev pub invariant-loop-line : goal.invariant-loop-line

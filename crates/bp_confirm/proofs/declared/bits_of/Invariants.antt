@@ -1,4 +1,4 @@
-use Rattle.std.proofs.Common.{◌≡◌, ◌≤◌, ◌-◌, length, take}
+use Rattle.bp_confirm.proofs.Common.{◌≡◌, ◌≤◌, ◌-◌, length, take}
 use Rattle.bp_confirm.proofs.declared.bits_of.Given as goal
 
 abbrev pub invariant-loop-bit : goal.invariant-loop-bit

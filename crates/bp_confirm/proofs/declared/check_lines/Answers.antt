@@ -1,6 +1,4 @@
-use Rattle.std.proofs.Common.{subst, rules}
-use Rattle.bp_confirm.specs.ConfirmedTexts.{AreDeclaredLines, IsDeclared}
-use Rattle.bp_confirm.specs.KeptLines.{kept_lines}
+use Rattle.bp_confirm.proofs.Common.{subst, rules, AreDeclaredLines, IsDeclared, kept_lines}
 use Rattle.bp_confirm.proofs.OneTextRefusal.{first_stray}
 use Rattle.bp_confirm.proofs.LinesKept.{all_at}
 use Rattle.bp_confirm.proofs.declared.check_lines.Goals as goal

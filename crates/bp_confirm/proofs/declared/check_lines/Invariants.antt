@@ -1,5 +1,4 @@
-use Rattle.std.proofs.Common.{◌≤◌, ◌-◌, length, take}
-use Rattle.bp_confirm.specs.ConfirmedTexts.{AreDeclaredLines, AreKnown}
+use Rattle.bp_confirm.proofs.Common.{◌≤◌, ◌-◌, length, take, AreDeclaredLines, AreKnown}
 use Rattle.bp_confirm.proofs.declared.check_lines.Given as goal
 
 abbrev pub invariant-loop-n : goal.invariant-loop-n

@@ -1,8 +1,4 @@
-use Rattle.std.proofs.Common.{◌≡◌, ◌∙◌, ◌+◌, ◌<◌, Some, [], length, ap, arith, drop, map, get_or}
-use Rattle.bp_machine.specs.Sessions.{contexts_opened}
-use Rattle.bp_machine.proofs.ContextCounts.{opened}
-use Rattle.bp_confirm.specs.declared.step_lines.Location.TheVariants.{End}
-use Rattle.bp_confirm.specs.ConfirmedTexts.{thread_of}
+use Rattle.bp_confirm.proofs.Common.{◌≡◌, ◌∙◌, ◌+◌, ◌<◌, Some, [], length, ap, arith, drop, map, get_or, contexts_opened, opened, End, thread_of}
 use Rattle.bp_confirm.proofs.LastChanges.{used_more, used_small, used_all}
 use Rattle.bp_confirm.proofs.declared.contexts_used.Goals as goal
 

@@ -1,6 +1,4 @@
-use Rattle.std.proofs.Common.{◌≡◌, ◌≤◌, ◌+◌, ◌-◌, None, drop, length, map}
-use Rattle.bp_machine.proofs.ContextCounts.{opened}
-use Rattle.bp_confirm.specs.ConfirmedTexts.{thread_of}
+use Rattle.bp_confirm.proofs.Common.{◌≡◌, ◌≤◌, ◌+◌, ◌-◌, None, drop, length, map, opened, thread_of}
 use Rattle.bp_confirm.proofs.declared.contexts_used.Given as goal
 
 abbrev pub invariant-loop-n : goal.invariant-loop-n

@@ -1,6 +1,4 @@
-use Rattle.std.proofs.Common.{rules}
-use Rattle.std.proofs.lemmas.List.{map_push}
-use Rattle.std.proofs.lemmas.Option.{slice_get_within}
+use Rattle.bp_confirm.proofs.Common.{rules, map_push, slice_get_within}
 use Rattle.bp_confirm.proofs.Elements.{past_none, take_and}
 use Rattle.bp_confirm.proofs.declared.entries_of.Goals as goal
 

@@ -1,4 +1,4 @@
-use Rattle.std.proofs.Common.{◌≡◌, ◌≤◌, ◌-◌, length, map, take}
+use Rattle.bp_confirm.proofs.Common.{◌≡◌, ◌≤◌, ◌-◌, length, map, take}
 use Rattle.bp_confirm.proofs.declared.entries_of.Given as goal
 
 abbrev pub invariant-loop-name : goal.invariant-loop-name

@@ -1,6 +1,5 @@
 use Rattle.std.proofs.lemmas.Grind.{common_steps}
-use Rattle.std.proofs.Common.{arith}
-use Rattle.std.proofs.lemmas.Slice.Eq.{bytes_eq-Decides}
+use Rattle.bp_confirm.proofs.Common.{arith, bytes_eq-Decides}
 use Rattle.bp_confirm.proofs.ValuesSeen.{known_there, got_item}
 use Rattle.bp_confirm.proofs.declared.is_declared.Goals as goal
 

@@ -1,6 +1,4 @@
-use Rattle.std.proofs.Common.{◌∙◌, sym, subst}
-use Rattle.bp_confirm.specs.ConfirmedTexts.{AreDeclared}
-use Rattle.bp_confirm.specs.LineReading.{values_in}
+use Rattle.bp_confirm.proofs.Common.{◌∙◌, sym, subst, AreDeclared, values_in}
 use Rattle.bp_confirm.proofs.OneTextRefusal.{first_undeclared, declared_more}
 use Rattle.bp_confirm.proofs.ReadLines.{all_read, one_more_read, value_there}
 use Rattle.bp_confirm.proofs.declared.undeclared_value.Goals as goal

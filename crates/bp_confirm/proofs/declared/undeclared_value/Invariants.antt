@@ -1,6 +1,4 @@
-use Rattle.std.proofs.Common.{length, take}
-use Rattle.bp_confirm.specs.ConfirmedTexts.{AreDeclared, AreKnown}
-use Rattle.bp_confirm.specs.LineReading.{values_in}
+use Rattle.bp_confirm.proofs.Common.{length, take, AreDeclared, AreKnown, values_in}
 use Rattle.bp_confirm.proofs.ReadLines.{AreReadTo}
 use Rattle.bp_confirm.proofs.declared.undeclared_value.Given as goal
 

@@ -1,5 +1,4 @@
-use Rattle.bp_text.proofs.Readings.{after_at, at_as, both_at, left_at, neither, no_first, no_word_before, none_after, none_as, right_at, word_at}
-use Rattle.std.proofs.Common.{refl}
+use Rattle.bp_confirm.proofs.Common.{after_at, at_as, both_at, left_at, neither, no_first, no_word_before, none_after, none_as, right_at, word_at, refl}
 use Rattle.bp_confirm.proofs.fields.location_at.Goals as goal
 
 pub returns-in-Some : goal.returns-in-Some

@@ -1,4 +1,4 @@
-use Rattle.bp_text.proofs.Readings.{no_first, no_second, no_word_after, no_word_before, none_after, none_as}
+use Rattle.bp_confirm.proofs.Common.{no_first, no_second, no_word_after, no_word_before, none_after, none_as}
 use Rattle.bp_confirm.proofs.fields.step_at.Goals as goal
 
 pub returns-in_default-after : goal.returns-in_default-after

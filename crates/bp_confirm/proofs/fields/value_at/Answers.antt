@@ -1,4 +1,4 @@
-use Rattle.bp_text.proofs.Readings.{before_at, no_first, no_second, no_word_after, no_word_before, none_after}
+use Rattle.bp_confirm.proofs.Common.{before_at, no_first, no_second, no_word_after, no_word_before, none_after}
 use Rattle.bp_confirm.proofs.fields.value_at.Goals as goal
 
 pub returns-in_default : goal.returns-in_default

@@ -1,5 +1,4 @@
-use Rattle.std.proofs.Common.{arith}
-use Rattle.bp_text.proofs.WholeTexts.{all_read, one_more_read}
+use Rattle.bp_confirm.proofs.Common.{arith, all_read, one_more_read}
 use Rattle.bp_confirm.proofs.ReadLines.{says, value_shorter, values_at}
 use Rattle.bp_confirm.proofs.fields.values_at.Goals as goal
 

@@ -1,7 +1,4 @@
-use Rattle.std.proofs.Common.{◌≤◌, length}
-use Rattle.bp_text.proofs.WholeTexts.{AreReadTo}
-use Rattle.bp_flat.specs.Moves.{Valuation}
-use Rattle.bp_confirm.specs.Steps.{value}
+use Rattle.bp_confirm.proofs.Common.{◌≤◌, length, AreReadTo, Valuation, value}
 use Rattle.bp_confirm.proofs.fields.values_at.Given as goal
 
 abbrev pub invariant-loop-more : goal.invariant-loop-more

@@ -1,7 +1,4 @@
-use Rattle.std.proofs.Common.{◌∙◌, true, ap, refl, sym, slice_get, option_map}
-use Rattle.bp_machine.specs.Histories.{configuration_after}
-use Rattle.bp_confirm.specs.Inferred.{some_follow}
-use Rattle.bp_confirm.specs.Steps.{place_of, next_place}
+use Rattle.bp_confirm.proofs.Common.{◌∙◌, true, ap, refl, sym, slice_get, option_map, configuration_after, some_follow, place_of, next_place}
 use Rattle.bp_confirm.proofs.StepsFollowed.{inferred_here}
 use Rattle.bp_confirm.proofs.following.bit_at.Goals as goal
 

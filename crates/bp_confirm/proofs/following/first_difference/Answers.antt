@@ -1,10 +1,4 @@
-use Rattle.std.proofs.Common.{◌++◌, ◌∷◌, [], subst}
-use Rattle.bp_confirm.specs.declared.confirming.Difference.{Difference}
-use Rattle.bp_machine.specs.Histories.{configuration_after}
-use Rattle.bp_confirm.specs.Confirms.{IsDifference}
-use Rattle.bp_confirm.specs.OwnSteps.{AreShown}
-use Rattle.bp_confirm.specs.Steps.{StepLineOf}
-use Rattle.bp_confirm.specs.LineReading.{values_in}
+use Rattle.bp_confirm.proofs.Common.{◌++◌, ◌∷◌, [], subst, Difference, configuration_after, IsDifference, AreShown, StepLineOf, values_in}
 use Rattle.bp_confirm.proofs.LastChanges.{difference_is}
 use Rattle.bp_confirm.proofs.following.first_difference.Goals as goal
 

@@ -1,4 +1,4 @@
-use Rattle.std.proofs.Common.{rules}
+use Rattle.bp_confirm.proofs.Common.{rules}
 use Rattle.bp_confirm.proofs.StepsFollowed.{fork_here}
 use Rattle.bp_confirm.proofs.following.is_at_fork.Goals as goal
 

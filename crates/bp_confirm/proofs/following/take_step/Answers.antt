@@ -1,4 +1,4 @@
-use Rattle.std.proofs.Common.{◌∙◌, Some, refl, sym}
+use Rattle.bp_confirm.proofs.Common.{◌∙◌, Some, refl, sym}
 use Rattle.bp_confirm.proofs.BitsOfEffects.{if_clear, if_unclear}
 use Rattle.bp_confirm.proofs.StepsFollowed.{ambiguous, answered, elsewhere, finished, follows, others_seen, tells_same}
 use Rattle.bp_confirm.proofs.following.take_step.Goals as goal

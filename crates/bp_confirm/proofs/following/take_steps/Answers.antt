@@ -1,11 +1,4 @@
-use Rattle.std.proofs.Common.{◌≡◌, ◌∙◌, ◌+◌, ◌++◌, ◌∷◌, [], ◌<◌, length, drop, false, ap, refl, sym, subst, arith, length-append}
-use Rattle.std.proofs.lemmas.Result.{err_from_is_err_and}
-use Rattle.bp_flat.specs.StandsFor.{StandsFor}
-use Rattle.bp_machine.specs.Histories.{stack_of, configuration_after}
-use Rattle.bp_machine.specs.Sessions.{Stands}
-use Rattle.bp_confirm.specs.FollowedSteps.{is_fork_on, last_bits}
-use Rattle.bp_confirm.specs.Inferred.{Follows}
-use Rattle.bp_confirm.specs.Steps.{place_of, step_of, steps_of}
+use Rattle.bp_confirm.proofs.Common.{◌≡◌, ◌∙◌, ◌+◌, ◌++◌, ◌∷◌, [], ◌<◌, length, drop, false, ap, refl, sym, subst, arith, length-append, err_from_is_err_and, StandsFor, stack_of, configuration_after, Stands, is_fork_on, last_bits, Follows, place_of, step_of, steps_of}
 use Rattle.bp_confirm.proofs.LastWays.{no_place, unasked}
 use Rattle.bp_confirm.proofs.NextLocations.{as_many_nexts, tells_next}
 use Rattle.bp_confirm.proofs.StepsFollowed.{follow_next, not_followed}

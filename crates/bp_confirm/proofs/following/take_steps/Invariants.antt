@@ -1,8 +1,4 @@
-use Rattle.std.proofs.Common.{◌≡◌, false, ◌≤◌, ◌-◌, ℕ, List, length, take, drop, []}
-use Rattle.bp_machine.specs.Sessions.{Stands}
-use Rattle.bp_confirm.specs.Inferred.{LastBits, FollowAfter}
-use Rattle.bp_confirm.specs.FollowedSteps.{last_bits, source_points_of}
-use Rattle.bp_confirm.specs.Steps.{steps_of}
+use Rattle.bp_confirm.proofs.Common.{◌≡◌, false, ◌≤◌, ◌-◌, ℕ, List, length, take, drop, [], Stands, LastBits, FollowAfter, last_bits, source_points_of, steps_of}
 use Rattle.bp_confirm.proofs.following.take_steps.Given as goal
 
 abbrev pub invariant-loop-n : goal.invariant-loop-n

@@ -1,4 +1,4 @@
-use Rattle.std.proofs.Common.{rules}
+use Rattle.bp_confirm.proofs.Common.{rules}
 use Rattle.bp_confirm.proofs.ValuesSeen.{stands_where}
 use Rattle.bp_confirm.proofs.following.top_at.Goals as goal
 

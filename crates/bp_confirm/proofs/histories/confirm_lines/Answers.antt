@@ -1,10 +1,4 @@
-use Rattle.std.proofs.Common.{◌∙◌, ◌⊎◌, inl, inr, false, get_or, refl, sym, subst, rules}
-use Rattle.bp_flat.specs.StandsFor.{StandsFor}
-use Rattle.bp_machine.specs.Runs.{IsDeadlocked}
-use Rattle.bp_machine.specs.Histories.{configuration_after}
-use Rattle.bp_machine.specs.Setups.{threads}
-use Rattle.bp_confirm.specs.Inferred.{deciding}
-use Rattle.bp_confirm.specs.Steps.{steps_of}
+use Rattle.bp_confirm.proofs.Common.{◌∙◌, ◌⊎◌, inl, inr, false, get_or, refl, sym, subst, rules, StandsFor, IsDeadlocked, configuration_after, threads, deciding, steps_of}
 use Rattle.bp_confirm.proofs.OneConfirmed.{decided, plain_confirmed, table_is, taken_by_zeros, taken_each}
 use Rattle.bp_confirm.proofs.histories.confirm_lines.Goals as goal
 

@@ -1,6 +1,4 @@
-use Rattle.std.proofs.Common.{subst}
-use Rattle.bp_confirm.specs.Confirms.{IsNotFollowed}
-use Rattle.bp_confirm.specs.FollowedSteps.{last_bits}
+use Rattle.bp_confirm.proofs.Common.{subst, IsNotFollowed, last_bits}
 use Rattle.bp_confirm.proofs.OneStepRefusal.{never_refused}
 use Rattle.bp_confirm.proofs.histories.take_again.Goals as goal
 

@@ -1,7 +1,4 @@
-use Rattle.std.proofs.Common.{◌∙◌, ap, sym}
-use Rattle.std.specs.Option.{option_copied}
-use Rattle.std.proofs.lemmas.Bool.Decides.{Decides-eqb}
-use Rattle.std.proofs.lemmas.Slice.Eq.{strip_prefix_is}
+use Rattle.bp_confirm.proofs.Common.{◌∙◌, ap, sym, option_copied, Decides-eqb, strip_prefix_is}
 use Rattle.bp_confirm.proofs.LinesKept.{step_after}
 use Rattle.bp_confirm.proofs.ValuesSeen.{got_item}
 use Rattle.bp_confirm.proofs.kept_lines.after_kept.Goals as goal

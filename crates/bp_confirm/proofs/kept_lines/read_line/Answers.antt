@@ -1,4 +1,4 @@
-use Rattle.bp_confirm.specs.declared.kept_lines.KeptLine.{KeptLine}
+use Rattle.bp_confirm.proofs.Common.{KeptLine}
 use Rattle.bp_confirm.proofs.LinesKept.{each_kept, kept_line}
 use Rattle.bp_confirm.proofs.kept_lines.read_line.Goals as goal
 

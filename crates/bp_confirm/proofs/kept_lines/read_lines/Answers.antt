@@ -1,9 +1,4 @@
-use Rattle.std.proofs.Common.{◌∙◌, ◌∷◌, [], length, length-append, ap, sym, subst, arith, rules}
-use Rattle.std.proofs.lemmas.List.{length-map}
-use Rattle.bp_text.proofs.PartsOfTexts.{none_left, some_left}
-use Rattle.bp_text.proofs.WholeTexts.{AreReadTo, all_read, bad_there, one_more_read}
-use Rattle.bp_confirm.specs.KeptLines.{kept_lines, lines_at, AreWithin}
-use Rattle.bp_confirm.specs.Steps.{step_line}
+use Rattle.bp_confirm.proofs.Common.{◌∙◌, ◌∷◌, [], length, length-append, ap, sym, subst, arith, rules, length-map, none_left, some_left, AreReadTo, all_read, bad_there, one_more_read, kept_lines, lines_at, AreWithin, step_line}
 use Rattle.bp_confirm.proofs.LinesKept.{lines_grown, within_grown}
 use Rattle.bp_confirm.proofs.ReadLines.{no_step_in_nothing, step_shorter}
 use Rattle.bp_confirm.proofs.kept_lines.read_lines.Goals as goal

@@ -1,8 +1,4 @@
-use Rattle.std.proofs.Common.{◌≤◌, ◌+◌, length}
-use Rattle.std.specs.List.{AllByRecursion}
-use Rattle.bp_text.proofs.WholeTexts.{AreReadTo}
-use Rattle.bp_confirm.specs.KeptLines.{kept_lines, lines_at, AreWithin, IsKeptLine}
-use Rattle.bp_confirm.specs.Steps.{step_line}
+use Rattle.bp_confirm.proofs.Common.{◌≤◌, ◌+◌, length, AllByRecursion, AreReadTo, kept_lines, lines_at, AreWithin, IsKeptLine, step_line}
 use Rattle.bp_confirm.proofs.kept_lines.read_lines.Given as goal
 
 abbrev pub invariant-loop-rest : goal.invariant-loop-rest

@@ -1,8 +1,5 @@
-use Rattle.std.proofs.Common.{◌≡◌, ◌+◌, ◌-◌, Some, suc, arith, drop, subst, sym}
+use Rattle.bp_confirm.proofs.Common.{◌≡◌, ◌+◌, ◌-◌, Some, suc, arith, drop, subst, sym, AreAll, next_value, no_next, step_line}
 use Rattle.std.specs.Prelude.{slice_get}
-use Rattle.bp_text.specs.Formats.{AreAll}
-use Rattle.bp_text.proofs.WholeTexts.{next_value, no_next}
-use Rattle.bp_confirm.specs.Steps.{step_line}
 use Rattle.bp_confirm.proofs.kept_lines.step_on_line.Goals as goal
 
 pub returns-in_default : goal.returns-in_default

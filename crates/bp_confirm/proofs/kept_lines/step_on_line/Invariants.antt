@@ -1,7 +1,4 @@
-use Rattle.std.proofs.Common.{◌≤◌, ◌-◌, List, drop}
-use Rattle.bp_text.specs.Formats.{AreAll}
-use Rattle.bp_confirm.specs.Steps.{StepLineOf}
-use Rattle.bp_confirm.specs.Steps.{step_line}
+use Rattle.bp_confirm.proofs.Common.{◌≤◌, ◌-◌, List, drop, AreAll, StepLineOf, step_line}
 use Rattle.bp_confirm.proofs.kept_lines.step_on_line.Given as goal
 
 abbrev pub invariant-loop-before : goal.invariant-loop-before

@@ -1,10 +1,5 @@
-use Rattle.std.proofs.Common.{◌≡◌, ◌+◌, Some, suc, arith, drop, subst, sym}
+use Rattle.bp_confirm.proofs.Common.{◌≡◌, ◌+◌, Some, suc, arith, drop, subst, sym, AreAll, next_value, no_next, value_of, value, values_in}
 use Rattle.std.specs.Prelude.{slice_get}
-use Rattle.bp_text.specs.Formats.{AreAll}
-use Rattle.bp_text.proofs.WholeTexts.{next_value, no_next}
-use Rattle.bp_confirm.specs.Steps.{value_of}
-use Rattle.bp_confirm.specs.Steps.{value}
-use Rattle.bp_confirm.specs.LineReading.{values_in}
 use Rattle.bp_confirm.proofs.kept_lines.value_at_place.Goals as goal
 
 pub returns-in_default : goal.returns-in_default

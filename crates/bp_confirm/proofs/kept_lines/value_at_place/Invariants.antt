@@ -1,7 +1,4 @@
-use Rattle.std.proofs.Common.{◌≤◌, drop}
-use Rattle.bp_text.specs.Formats.{AreAll}
-use Rattle.bp_confirm.specs.Steps.{value}
-use Rattle.bp_confirm.specs.LineReading.{values_in}
+use Rattle.bp_confirm.proofs.Common.{◌≤◌, drop, AreAll, value, values_in}
 use Rattle.bp_confirm.proofs.kept_lines.value_at_place.Given as goal
 
 abbrev pub invariant-loop-before : goal.invariant-loop-before

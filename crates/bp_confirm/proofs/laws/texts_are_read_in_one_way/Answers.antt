@@ -1,4 +1,4 @@
-use Rattle.bp_text.proofs.WholeTexts.{none_bad, one_bad, one_reading}
+use Rattle.bp_confirm.proofs.Common.{none_bad, one_bad, one_reading}
 use Rattle.bp_confirm.proofs.laws.texts_are_read_in_one_way.Goals as goal
 
 pub returns-clause-one : goal.returns-clause-one

@@ -1,4 +1,4 @@
-use Rattle.bp_confirm.specs.LineReading.{values_in}
+use Rattle.bp_confirm.proofs.Common.{values_in}
 use Rattle.bp_confirm.proofs.LinesKept.{seen_or_not}
 use Rattle.bp_confirm.proofs.listed_lines.sees_values.Goals as goal
 

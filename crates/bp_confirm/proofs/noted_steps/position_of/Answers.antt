@@ -1,4 +1,4 @@
-use Rattle.std.proofs.Common.{rules}
+use Rattle.bp_confirm.proofs.Common.{rules}
 use Rattle.bp_confirm.proofs.OwnStepsMade.{point_there, point_missing}
 use Rattle.bp_confirm.proofs.noted_steps.position_of.Goals as goal
 

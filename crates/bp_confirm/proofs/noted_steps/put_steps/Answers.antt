@@ -1,8 +1,6 @@
-use Rattle.std.proofs.Common.{sym, subst}
-use Rattle.std.proofs.lemmas.Result.{err_from_is_err_and}
+use Rattle.bp_confirm.proofs.Common.{sym, subst, err_from_is_err_and, own_line}
 use Rattle.bp_text.proofs.Givings.{flat_map_at, AppendsPart_within}
 use Rattle.bp_text.specs.Writing.{AppendsPart}
-use Rattle.bp_confirm.specs.OwnSteps.{own_line}
 use Rattle.bp_confirm.proofs.noted_steps.put_steps.Goals as goal
 
 pub returns-in_err-put_step : goal.returns-in_err-put_step

@@ -1,6 +1,5 @@
-use Rattle.std.proofs.Common.{flat_map, take}
+use Rattle.bp_confirm.proofs.Common.{flat_map, take, own_line}
 use Rattle.std.specs.Io.KnownBytes.{Appends}
-use Rattle.bp_confirm.specs.OwnSteps.{own_line}
 use Rattle.bp_confirm.proofs.noted_steps.put_steps.Given as goal
 
 abbrev pub invariant-loop-step : goal.invariant-loop-step

@@ -1,6 +1,4 @@
-use Rattle.std.proofs.Common.{◌∙◌, ◌+◌, Some, ap, sym, refl, arith}
-use Rattle.bp_text.specs.Lines.{position_at}
-use Rattle.bp_flat.proofs.ProceduresOfPlaces.{ends_more, few_ends}
+use Rattle.bp_confirm.proofs.Common.{◌∙◌, ◌+◌, Some, ap, sym, refl, arith, position_at, ends_more, few_ends}
 use Rattle.bp_confirm.proofs.ValuesSeen.{points_next}
 use Rattle.bp_confirm.proofs.source_points.source_points_of.Goals.{in-Some+in_ok-push, in_default+in_ok-push-2}
 use Rattle.bp_confirm.proofs.source_points.source_points_of.Goals as goal

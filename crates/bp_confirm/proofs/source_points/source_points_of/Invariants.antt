@@ -1,7 +1,4 @@
-use Rattle.std.proofs.Common.{◌≡◌, take}
-use Rattle.bp_text.specs.Lines.{position_at}
-use Rattle.bp_flat.proofs.ProceduresOfPlaces.{ends}
-use Rattle.bp_confirm.specs.FollowedSteps.{points_from}
+use Rattle.bp_confirm.proofs.Common.{◌≡◌, take, position_at, ends, points_from}
 use Rattle.bp_confirm.proofs.source_points.source_points_of.Given as goal
 
 abbrev pub invariant-loop-start : goal.invariant-loop-start

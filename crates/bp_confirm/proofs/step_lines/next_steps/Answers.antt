@@ -1,6 +1,4 @@
-use Rattle.std.proofs.Common.{rules, ◌≡◌, ◌∙◌, vec_len, Some, drop, length, map, replicate, ap, sym, refl, subst, arith, slice_get, length-set}
-use Rattle.std.proofs.Math.ListN.{drop_of_length-le}
-use Rattle.bp_confirm.specs.Steps.{location_in, next_location, next_locations}
+use Rattle.bp_confirm.proofs.Common.{rules, ◌≡◌, ◌∙◌, vec_len, Some, drop, length, map, replicate, ap, sym, refl, subst, arith, slice_get, length-set, drop_of_length-le, location_in, next_location, next_locations}
 use Rattle.bp_confirm.proofs.NextLocations.{none_yet, table_next, done_next}
 use Rattle.bp_confirm.proofs.step_lines.next_steps.Goals as goal
 

@@ -1,6 +1,4 @@
-use Rattle.std.proofs.Common.{◌≡◌, ◌≤◌, ◌<◌, ℕ, Some, length, drop, map, slice_get}
-use Rattle.bp_machine.specs.declared.limits.TheConstants.{MAX_THREADS}
-use Rattle.bp_confirm.specs.Steps.{location_in, next_location, next_locations}
+use Rattle.bp_confirm.proofs.Common.{◌≡◌, ◌≤◌, ◌<◌, ℕ, Some, length, drop, map, slice_get, MAX_THREADS, location_in, next_location, next_locations}
 use Rattle.bp_confirm.proofs.step_lines.next_steps.Given as goal
 
 abbrev pub invariant-loop-n : goal.invariant-loop-n

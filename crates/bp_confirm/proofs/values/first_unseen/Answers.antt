@@ -1,6 +1,4 @@
-use Rattle.std.proofs.Common.{◌∙◌, ap, sym, option_map, rules}
-use Rattle.bp_confirm.specs.Steps.{value_of}
-use Rattle.bp_confirm.specs.LineReading.{values_in}
+use Rattle.bp_confirm.proofs.Common.{◌∙◌, ap, sym, option_map, rules, value_of, values_in}
 use Rattle.bp_confirm.proofs.StepsFollowed.{sees_more}
 use Rattle.bp_confirm.proofs.ReadLines.{all_read, one_more_read, value_there}
 use Rattle.bp_confirm.proofs.values.first_unseen.Goals as goal

@@ -1,9 +1,4 @@
-use Rattle.std.proofs.Common.{◌≡◌, ℕ, List, length, take}
-use Rattle.bp_flat.specs.Moves.{Configuration}
-use Rattle.bp_confirm.specs.OwnSteps.{AreShown}
-use Rattle.bp_confirm.specs.FollowedSteps.{source_points_of}
-use Rattle.bp_confirm.specs.Steps.{SeesValues}
-use Rattle.bp_confirm.specs.LineReading.{values_in}
+use Rattle.bp_confirm.proofs.Common.{◌≡◌, ℕ, List, length, take, Configuration, AreShown, source_points_of, SeesValues, values_in}
 use Rattle.bp_confirm.proofs.ReadLines.{AreReadTo}
 use Rattle.bp_confirm.proofs.values.first_unseen.Given as goal
 

@@ -1,4 +1,4 @@
-use Rattle.std.proofs.Common.{◌∙◌, ap, rules}
+use Rattle.bp_confirm.proofs.Common.{◌∙◌, ap, rules}
 use Rattle.bp_confirm.proofs.ValuesSeen.{got_item, none_numbered, none_missing, locals_found}
 use Rattle.bp_confirm.proofs.values.local_seen.Goals as goal
 

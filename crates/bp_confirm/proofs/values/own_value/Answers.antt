@@ -1,4 +1,4 @@
-use Rattle.std.proofs.Common.{rules}
+use Rattle.bp_confirm.proofs.Common.{rules}
 use Rattle.bp_confirm.proofs.ValuesSeen.{by_no_name, by_own_name, by_qualified_name}
 use Rattle.bp_confirm.proofs.values.own_value.Goals as goal
 

@@ -1,7 +1,4 @@
-use Rattle.std.proofs.Common.{◌≡◌, ◌∙◌, ◌+◌, [], take, refl, sym, subst, arith}
-use Rattle.bp_flat.specs.StandsFor.{StandsFor}
-use Rattle.bp_machine.specs.Sessions.{Stands}
-use Rattle.bp_confirm.specs.Confirms.{seen_by, seen_after}
+use Rattle.bp_confirm.proofs.Common.{◌≡◌, ◌∙◌, ◌+◌, [], take, refl, sym, subst, arith, StandsFor, Stands, seen_by, seen_after}
 use Rattle.bp_confirm.proofs.StepsFollowed.{front_again}
 use Rattle.bp_confirm.proofs.values.sight_of.Goals as goal
 

@@ -1,7 +1,4 @@
-use Rattle.std.proofs.Common.{◌≡◌, ℕ, List, take}
-use Rattle.bp_machine.specs.Sessions.{Stands}
-use Rattle.bp_confirm.specs.Confirms.{seen_after, IsLastChange}
-use Rattle.bp_confirm.specs.FollowedSteps.{source_points_of}
+use Rattle.bp_confirm.proofs.Common.{◌≡◌, ℕ, List, take, Stands, seen_after, IsLastChange, source_points_of}
 use Rattle.bp_confirm.proofs.values.sight_of.Given as goal
 
 abbrev pub invariant-loop-n : goal.invariant-loop-n

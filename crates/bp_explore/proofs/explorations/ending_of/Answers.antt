@@ -1,7 +1,5 @@
-use Rattle.std.proofs.Common.{subst, rules}
-use Rattle.bp_explore.specs.Searches.{failures, IsSearchEnd}
+use Rattle.bp_explore.proofs.Common.{subst, rules, failures, IsSearchEnd, SearchEnd}
 use Rattle.bp_explore.specs.declared.explorations.Finding.TheVariants.{Failure, Deadlock}
-use Rattle.bp_explore.specs.declared.searches.SearchEnd.{SearchEnd}
 use Rattle.bp_explore.proofs.MadeSteps.{none_below_of, none_of, safe_of}
 use Rattle.bp_explore.proofs.PlayedRuns.{played_answer}
 use Rattle.bp_explore.proofs.explorations.ending_of.Goals as goal

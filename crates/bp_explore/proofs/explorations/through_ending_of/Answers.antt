@@ -1,6 +1,4 @@
-use Rattle.std.proofs.Common.{◌+◌, false, subst}
-use Rattle.bp_explore.specs.declared.searches.SearchEnd.{SearchEnd}
-use Rattle.bp_explore.specs.Searches.{IsSearchEnd}
+use Rattle.bp_explore.proofs.Common.{◌+◌, false, subst, SearchEnd, IsSearchEnd}
 use Rattle.bp_explore.proofs.PlayedThrough.{most_can_be_made, one_more, through_answer}
 use Rattle.bp_explore.proofs.explorations.through_ending_of.Goals as goal
 

@@ -1,5 +1,4 @@
-use Rattle.std.proofs.Common.{◌≡◌, ◌≤◌, length, take}
-use Rattle.bp_machine.specs.Histories.{calls_of_thread}
+use Rattle.bp_explore.proofs.Common.{◌≡◌, ◌≤◌, length, take, calls_of_thread}
 use Rattle.bp_explore.proofs.found_runs.calls_of.Given as goal
 
 abbrev pub invariant-loop-call : goal.invariant-loop-call

@@ -1,5 +1,4 @@
-use Rattle.std.proofs.Common.{◌≡◌}
-use Rattle.bp_explore.specs.Explorations.{most_calls}
+use Rattle.bp_explore.proofs.Common.{◌≡◌, most_calls}
 use Rattle.bp_explore.proofs.found_runs.most_calls.Given as goal
 
 abbrev pub invariant-loop-thread : goal.invariant-loop-thread

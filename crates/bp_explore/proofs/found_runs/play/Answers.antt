@@ -1,14 +1,4 @@
-use Rattle.std.proofs.Common.{◌≡◌, ◌<◌, ◌++◌, ◌+◌, ◌∷◌, [], true, false, get_or, take, ap, sym, ◌∙◌, subst, arith, rules}
-use Rattle.std.proofs.lemmas.List.{take_more}
-use Rattle.bp_flat.specs.InstrEffects.{bits_of}
-use Rattle.bp_flat.specs.StandsFor.{StandsFor, valuation_of}
-use Rattle.bp_machine.specs.declared.calls.Call.{Call}
-use Rattle.bp_machine.specs.declared.calls.Reply.TheVariants.{Stopped}
-use Rattle.bp_machine.specs.Histories.{configuration_after, granted_calls, IsAllowed, is_granted}
-use Rattle.bp_machine.specs.Sessions.{Stands}
-use Rattle.bp_machine.specs.Setups.{SetupOf}
-use Rattle.bp_explore.specs.declared.observers.SeenStep.{SeenStep}
-use Rattle.bp_explore.specs.Searches.{IsPlayedTo, IsTopOrNone, ShowsStep}
+use Rattle.bp_explore.proofs.Common.{◌≡◌, ◌<◌, ◌++◌, ◌+◌, ◌∷◌, [], true, false, get_or, take, ap, sym, ◌∙◌, subst, arith, rules, take_more, bits_of, StandsFor, valuation_of, Call, Stopped, configuration_after, granted_calls, IsAllowed, is_granted, Stands, SetupOf, SeenStep, IsPlayedTo, IsTopOrNone, ShowsStep}
 use Rattle.bp_explore.proofs.PlayedRuns.{granted_more}
 use Rattle.bp_explore.proofs.MadeSteps.{played_none, played_more}
 use Rattle.bp_explore.proofs.found_runs.play.Goals as goal

@@ -1,9 +1,4 @@
-use Rattle.std.proofs.Common.{◌≡◌, take}
-use Rattle.bp_language.specs.Ast.{Program}
-use Rattle.bp_flat.specs.StandsFor.{StandsFor}
-use Rattle.bp_machine.specs.Histories.{granted_calls}
-use Rattle.bp_machine.specs.Sessions.{Stands}
-use Rattle.bp_explore.specs.Searches.{IsPlayedTo}
+use Rattle.bp_explore.proofs.Common.{◌≡◌, take, Program, StandsFor, granted_calls, Stands, IsPlayedTo}
 use Rattle.bp_explore.proofs.found_runs.play.Given as goal
 
 abbrev pub invariant-loop-call : goal.invariant-loop-call

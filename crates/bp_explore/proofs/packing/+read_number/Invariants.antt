@@ -1,4 +1,4 @@
-use Rattle.std.proofs.Common.{◌-◌, length}
+use Rattle.bp_explore.proofs.Common.{◌-◌, length}
 use Rattle.bp_explore.proofs.packing.+read_number.Given as goal
 
 abbrev pub decreases-read_number : goal.decreases-read_number

@@ -1,7 +1,4 @@
-use Rattle.std.proofs.Common.{◌+◌, get_or, take, sym, subst}
-use Rattle.std.proofs.lemmas.List.{take_more}
-use Rattle.bp_machine.specs.declared.stacks.ActivationRecord.{ActivationRecord}
-use Rattle.bp_explore.specs.States.{IsPacked, take_times, take_frame}
+use Rattle.bp_explore.proofs.Common.{◌+◌, get_or, take, sym, subst, take_more, ActivationRecord, IsPacked, take_times, take_frame}
 use Rattle.bp_explore.proofs.PackedNodes.{packed_more}
 use Rattle.bp_explore.proofs.packing.push_frames.Goals as goal
 

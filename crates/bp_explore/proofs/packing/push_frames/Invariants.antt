@@ -1,5 +1,4 @@
-use Rattle.std.proofs.Common.{take}
-use Rattle.bp_explore.specs.States.{IsPacked, take_times, take_frame}
+use Rattle.bp_explore.proofs.Common.{take, IsPacked, take_times, take_frame}
 use Rattle.bp_explore.proofs.packing.push_frames.Given as goal
 
 abbrev pub invariant-loop-frame : goal.invariant-loop-frame

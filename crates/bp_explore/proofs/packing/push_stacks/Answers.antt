@@ -1,5 +1,4 @@
-use Rattle.std.proofs.Common.{◌≡◌, ◌+◌, ◌++◌, ◌∷◌, [], take, sym, subst}
-use Rattle.bp_explore.specs.States.{IsPacked, take_times, take_stack, frames_of}
+use Rattle.bp_explore.proofs.Common.{◌≡◌, ◌+◌, ◌++◌, ◌∷◌, [], take, sym, subst, IsPacked, take_times, take_stack, frames_of}
 use Rattle.bp_explore.proofs.PackedNodes.{packed_more, frames_next}
 use Rattle.bp_explore.proofs.packing.push_stacks.Goals as goal
 

@@ -1,5 +1,4 @@
-use Rattle.std.proofs.Common.{take}
-use Rattle.bp_explore.specs.States.{IsPacked, take_times, take_stack, frames_of}
+use Rattle.bp_explore.proofs.Common.{take, IsPacked, take_times, take_stack, frames_of}
 use Rattle.bp_explore.proofs.packing.push_stacks.Given as goal
 
 abbrev pub invariant-loop-stack : goal.invariant-loop-stack

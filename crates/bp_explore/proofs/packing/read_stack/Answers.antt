@@ -1,6 +1,4 @@
-use Rattle.std.proofs.lemmas.List.{reverse-append}
-use Rattle.std.proofs.Common.{◌∷◌, [], drop, reverse, sym, ap, ◌∙◌}
-use Rattle.bp_explore.specs.States.{take_number, take_frame}
+use Rattle.bp_explore.proofs.Common.{reverse-append, ◌∷◌, [], drop, reverse, sym, ap, ◌∙◌, take_number, take_frame}
 use Rattle.bp_explore.proofs.PackedNodes.{times_more}
 use Rattle.bp_explore.proofs.packing.read_stack.Goals as goal
 

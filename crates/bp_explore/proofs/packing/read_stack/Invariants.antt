@@ -1,5 +1,4 @@
-use Rattle.std.proofs.Common.{◌≡◌, drop, reverse}
-use Rattle.bp_explore.specs.States.{take_number, take_times, take_frame}
+use Rattle.bp_explore.proofs.Common.{◌≡◌, drop, reverse, take_number, take_times, take_frame}
 use Rattle.bp_explore.proofs.packing.read_stack.Given as goal
 
 abbrev pub invariant-loop-n : goal.invariant-loop-n

@@ -1,5 +1,4 @@
-use Rattle.std.proofs.Common.{◌≡◌, ◌+◌, ◌++◌, ◌∷◌, [], ◌<◌, length, take, drop, sym, ap, ◌∙◌, arith, slice_set, length-set}
-use Rattle.bp_explore.specs.States.{take_stack, frames_of}
+use Rattle.bp_explore.proofs.Common.{◌≡◌, ◌+◌, ◌++◌, ◌∷◌, [], ◌<◌, length, take, drop, sym, ap, ◌∙◌, arith, slice_set, length-set, take_stack, frames_of}
 use Rattle.bp_explore.proofs.PackedNodes.{times_more, frames_set}
 use Rattle.bp_explore.proofs.packing.read_stacks.Goals as goal
 

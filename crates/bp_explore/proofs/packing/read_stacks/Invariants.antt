@@ -1,5 +1,4 @@
-use Rattle.std.proofs.Common.{◌≡◌, drop, take, length}
-use Rattle.bp_explore.specs.States.{take_times, take_stack, frames_of}
+use Rattle.bp_explore.proofs.Common.{◌≡◌, drop, take, length, take_times, take_stack, frames_of}
 use Rattle.bp_explore.proofs.packing.read_stacks.Given as goal
 
 abbrev pub invariant-loop-i : goal.invariant-loop-i

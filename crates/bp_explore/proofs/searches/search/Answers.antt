@@ -1,7 +1,4 @@
-use Rattle.std.proofs.Common.{◌≡◌, ◌+◌, refl, ap, ◌∙◌, subst, sym, arith}
-use Rattle.std.specs.Option.{is_some, unwrap_or}
-use Rattle.bp_explore.specs.Explorations.{IsInBound}
-use Rattle.bp_explore.specs.Searches.{HasMade, IsExhausted}
+use Rattle.bp_explore.proofs.Common.{◌≡◌, ◌+◌, refl, ap, ◌∙◌, subst, sym, arith, is_some, unwrap_or, IsInBound, HasMade, IsExhausted}
 use Rattle.bp_explore.proofs.Growth.{at_most_layered}
 use Rattle.bp_explore.proofs.SearchedLayers.{made_before, made_so_far, first_searched, none_in_layer, next_searched, exhausted_at_all, neither_in_next, neither_less, exhausted_so_far, next_in_bound}
 use Rattle.bp_explore.proofs.searches.search.Goals as goal

@@ -1,6 +1,5 @@
-use Rattle.std.proofs.Common.{◌≡◌, ◌∙◌, ap, nat_eq, ◌%◌, ◌-◌, ◌^◌, ◌/◌, arith}
+use Rattle.bp_flat.proofs.Common.{◌≡◌, ◌∙◌, ap, nat_eq, ◌%◌, ◌-◌, ◌^◌, ◌/◌, arith, shr_and_one}
 use Rattle.std.proofs.Math.Nat.{mod-eq_of_lt}
-use Rattle.std.proofs.lemmas.Nat.Bits.{shr_and_one}
 use Rattle.bp_flat.proofs.WordBits.{low_bit, high_bit}
 use Rattle.bp_flat.proofs.stores.bit_at.Goals as goal
 use Rattle.bp_flat.proofs.stores.bit_at.Goals.{then-slot-lt64, else-slot-lt64}

@@ -1,6 +1,4 @@
-use Rattle.std.proofs.Common.{◌∙◌}
-use Rattle.std.proofs.lemmas.Option.{slice_get-get_or}
-use Rattle.bp_flat.specs.InstrEffects.{bits_of}
+use Rattle.bp_flat.proofs.Common.{◌∙◌, slice_get-get_or, bits_of}
 use Rattle.bp_flat.proofs.WordBits.{bits_from_more}
 use Rattle.bp_flat.proofs.stores.word_of.Goals as goal
 

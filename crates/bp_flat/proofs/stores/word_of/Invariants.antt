@@ -1,6 +1,4 @@
-use Rattle.std.proofs.Common.{◌≡◌, take}
-use Rattle.bp_flat.specs.Steps.{bits_from}
-use Rattle.bp_flat.specs.InstrEffects.{bits_of}
+use Rattle.bp_flat.proofs.Common.{◌≡◌, take, bits_from, bits_of}
 use Rattle.bp_flat.proofs.stores.word_of.Given as goal
 
 abbrev pub invariant-loop-i : goal.invariant-loop-i

@@ -1,5 +1,4 @@
-use Rattle.std.proofs.Common.{◌≤◌, ap, sym, nat_eq, arith}
-use Rattle.std.proofs.lemmas.Nat.Bits.{bit_at_above}
+use Rattle.bp_flat.proofs.Common.{◌≤◌, ap, sym, nat_eq, arith, bit_at_above}
 use Rattle.bp_flat.proofs.variables.bit_of.Goals as goal
 
 -- no bit is past the word

@@ -1,5 +1,4 @@
-use Rattle.std.proofs.Common.{◌∙◌, ap, sym, Some, option_map}
-use Rattle.bp_flat.specs.InstrEffects.{bits_of}
+use Rattle.bp_flat.proofs.Common.{◌∙◌, ap, sym, Some, option_map, bits_of}
 use Rattle.bp_flat.proofs.SlotsOfNames.{value_of_slot}
 use Rattle.bp_flat.proofs.variables.global_value.Goals as goal
 

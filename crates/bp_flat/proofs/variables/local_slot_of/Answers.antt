@@ -1,4 +1,4 @@
-use Rattle.std.proofs.Common.{rules}
+use Rattle.bp_flat.proofs.Common.{rules}
 use Rattle.bp_flat.proofs.SlotsOfNames.{index_after, index_append}
 use Rattle.bp_flat.proofs.variables.local_slot_of.Goals as goal
 

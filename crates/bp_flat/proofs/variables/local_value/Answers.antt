@@ -1,6 +1,4 @@
-use Rattle.std.proofs.Common.{◌∙◌, ap, sym, Some, option_map}
-use Rattle.bp_flat.specs.InstrEffects.{bits_of}
-use Rattle.bp_flat.specs.StandsFor.{variables}
+use Rattle.bp_flat.proofs.Common.{◌∙◌, ap, sym, Some, option_map, bits_of, variables}
 use Rattle.bp_flat.proofs.SlotsOfNames.{value_of_slot}
 use Rattle.bp_flat.proofs.variables.local_value.Goals as goal
 

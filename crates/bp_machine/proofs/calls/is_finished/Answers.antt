@@ -1,4 +1,4 @@
-use Rattle.std.proofs.Common.{rules}
+use Rattle.bp_machine.proofs.Common.{rules}
 use Rattle.bp_machine.proofs.HistoryWithCall.{calls_other, count_same, ended_same}
 use Rattle.bp_machine.proofs.calls.is_finished.Goals as goal
 use Rattle.bp_machine.proofs.calls.is_finished.Goals.{then-call-thread, else-call-thread}

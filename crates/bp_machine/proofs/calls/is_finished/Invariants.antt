@@ -1,5 +1,4 @@
-use Rattle.std.proofs.Common.{◌≡◌, ◌≤◌, length, take}
-use Rattle.bp_machine.specs.Histories.{calls_of_thread, ends_with_last}
+use Rattle.bp_machine.proofs.Common.{◌≡◌, ◌≤◌, length, take, calls_of_thread, ends_with_last}
 use Rattle.bp_machine.proofs.calls.is_finished.Given as goal
 
 abbrev pub invariant-loop-call : goal.invariant-loop-call

@@ -1,5 +1,4 @@
-use Rattle.std.proofs.Common.{◌≡◌, ◌≤◌}
-use Rattle.bp_machine.specs.Histories.{open_below}
+use Rattle.bp_machine.proofs.Common.{◌≡◌, ◌≤◌, open_below}
 use Rattle.bp_machine.proofs.calls.open_lines.Given as goal
 
 abbrev pub invariant-loop-thread : goal.invariant-loop-thread

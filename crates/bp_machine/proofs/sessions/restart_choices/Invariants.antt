@@ -1,5 +1,4 @@
-use Rattle.std.proofs.Common.{◌≡◌, ℕ, Some, length, slice_get}
-use Rattle.bp_machine.specs.Histories.{ChoicesOf, IsAt}
+use Rattle.bp_machine.proofs.Common.{◌≡◌, ℕ, Some, length, slice_get, ChoicesOf, IsAt}
 use Rattle.bp_machine.proofs.sessions.restart_choices.Given as goal
 
 abbrev pub invariant-loop-thread : goal.invariant-loop-thread

@@ -1,4 +1,4 @@
-use Rattle.std.proofs.Common.{◌∙◌, sym, string_bytes}
+use Rattle.bp_machine.proofs.Common.{◌∙◌, sym, string_bytes}
 use Rattle.bp_machine.proofs.SetupInRange.{refused, fine}
 use Rattle.bp_machine.proofs.setup_faults.fault_of_entries.Goals as goal
 

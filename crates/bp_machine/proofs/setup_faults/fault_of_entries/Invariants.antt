@@ -1,7 +1,4 @@
-use Rattle.std.proofs.Common.{◌≡◌, drop, map, string_bytes}
-use Rattle.bp_language.specs.Ast.{Program}
-use Rattle.bp_flat.specs.StandsFor.{StandsFor}
-use Rattle.bp_machine.specs.Setups.{entries_fault}
+use Rattle.bp_machine.proofs.Common.{◌≡◌, drop, map, string_bytes, Program, StandsFor, entries_fault}
 use Rattle.bp_machine.proofs.setup_faults.fault_of_entries.Given as goal
 
 abbrev pub invariant-loop-thread : goal.invariant-loop-thread

@@ -1,4 +1,4 @@
-use Rattle.std.proofs.Common.{rules}
+use Rattle.bp_machine.proofs.Common.{rules}
 use Rattle.bp_machine.proofs.SessionsInOrder.{entered, top_is}
 use Rattle.bp_machine.proofs.stacks.enter.Goals as goal
 

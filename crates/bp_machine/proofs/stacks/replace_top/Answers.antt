@@ -1,4 +1,4 @@
-use Rattle.std.proofs.Common.{arith}
+use Rattle.bp_machine.proofs.Common.{arith}
 use Rattle.bp_machine.proofs.SessionsInOrder.{replaced}
 use Rattle.bp_machine.proofs.stacks.replace_top.Goals as goal
 

@@ -1,4 +1,4 @@
-use Rattle.std.proofs.Common.{◌∙◌, sym, refl, []}
+use Rattle.bp_machine.proofs.Common.{◌∙◌, sym, refl, []}
 use Rattle.bp_machine.proofs.SetupInRange.{refused, fine}
 use Rattle.bp_machine.proofs.starts.fault_of_names.Goals as goal
 

@@ -1,7 +1,4 @@
-use Rattle.std.proofs.Common.{◌≡◌, drop, map}
-use Rattle.bp_language.specs.Ast.{Program}
-use Rattle.bp_flat.specs.StandsFor.{StandsFor}
-use Rattle.bp_machine.specs.Setups.{entries_fault}
+use Rattle.bp_machine.proofs.Common.{◌≡◌, drop, map, Program, StandsFor, entries_fault}
 use Rattle.bp_machine.proofs.starts.fault_of_names.Given as goal
 
 abbrev pub invariant-loop-thread : goal.invariant-loop-thread

@@ -1,4 +1,4 @@
-use Rattle.std.proofs.Common.{string_bytes, rules}
+use Rattle.bp_machine.proofs.Common.{string_bytes, rules}
 use Rattle.bp_machine.proofs.SetupInRange.{name_of_found, found_somewhere, name_at, names_more}
 use Rattle.bp_machine.proofs.starts.own_names.Goals as goal
 

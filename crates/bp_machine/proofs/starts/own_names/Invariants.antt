@@ -1,4 +1,4 @@
-use Rattle.std.proofs.Common.{◌≡◌, take, map, string_bytes}
+use Rattle.bp_machine.proofs.Common.{◌≡◌, take, map, string_bytes}
 use Rattle.bp_machine.proofs.starts.own_names.Given as goal
 
 abbrev pub invariant-loop-name : goal.invariant-loop-name

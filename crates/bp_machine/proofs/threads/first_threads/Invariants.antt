@@ -1,5 +1,4 @@
-use Rattle.std.proofs.Common.{◌≡◌, map, take, string_bytes}
-use Rattle.bp_machine.specs.Sessions.{first_thread, guests}
+use Rattle.bp_machine.proofs.Common.{◌≡◌, map, take, string_bytes, first_thread, guests}
 use Rattle.bp_machine.proofs.threads.first_threads.Given as goal
 
 abbrev pub invariant-loop-name : goal.invariant-loop-name

@@ -1,5 +1,4 @@
-use Rattle.std.proofs.Common.{◌≡◌, length, map, take, string_bytes, vec_len}
-use Rattle.bp_machine.specs.Sessions.{first_thread, guests}
+use Rattle.bp_machine.proofs.Common.{◌≡◌, length, map, take, string_bytes, vec_len, first_thread, guests}
 use Rattle.bp_machine.proofs.threads.restart_threads.Given as goal
 
 abbrev pub invariant-loop-i : goal.invariant-loop-i

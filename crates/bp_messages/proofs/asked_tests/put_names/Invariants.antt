@@ -1,6 +1,4 @@
-use Rattle.std.proofs.Common.{length, map, string_bytes}
-use Rattle.bp_text.proofs.Givings.{IsLeft}
-use Rattle.bp_messages.specs.Summaries.{names_text}
+use Rattle.bp_messages.proofs.Common.{length, map, string_bytes, IsLeft, names_text}
 use Rattle.bp_messages.proofs.asked_tests.put_names.Given as goal
 
 abbrev pub invariant-loop-name : goal.invariant-loop-name

@@ -1,6 +1,4 @@
-use Rattle.std.proofs.Common.{length, []}
-use Rattle.bp_text.proofs.Givings.{IsLeft}
-use Rattle.bp_messages.specs.Summaries.{wait_objects}
+use Rattle.bp_messages.proofs.Common.{length, [], IsLeft, wait_objects}
 use Rattle.bp_messages.proofs.failures.put_wait_objects.Given as goal
 
 abbrev pub invariant-loop-wait : goal.invariant-loop-wait

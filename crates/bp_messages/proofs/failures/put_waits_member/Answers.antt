@@ -1,4 +1,4 @@
-use Rattle.bp_text.proofs.Givings.{and_then}
+use Rattle.bp_messages.proofs.Common.{and_then}
 use Rattle.bp_messages.proofs.failures.put_waits_member.Goals as goal
 
 pub returns : goal.returns

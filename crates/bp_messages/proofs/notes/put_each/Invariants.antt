@@ -1,6 +1,5 @@
-use Rattle.std.proofs.Common.{flat_map, take}
+use Rattle.bp_messages.proofs.Common.{flat_map, take, Given}
 use Rattle.bp_text.specs.Pieces.{piece_text}
-use Rattle.bp_text.specs.Writing.{Given}
 use Rattle.bp_messages.proofs.notes.put_each.Given as goal
 
 abbrev pub invariant-loop-note : goal.invariant-loop-note

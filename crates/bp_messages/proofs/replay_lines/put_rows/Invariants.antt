@@ -1,6 +1,4 @@
-use Rattle.std.proofs.Common.{flat_map, take}
-use Rattle.bp_messages.specs.ReplayLines.{printed_line}
-use Rattle.bp_text.specs.Writing.{Given}
+use Rattle.bp_messages.proofs.Common.{flat_map, take, printed_line, Given}
 use Rattle.bp_messages.proofs.replay_lines.put_rows.Given as goal
 
 abbrev pub invariant-loop-row : goal.invariant-loop-row

@@ -1,7 +1,6 @@
 use Rattle.std.proofs.lemmas.List.Folds.{flat_map-map}
 use Rattle.bp_trace.specs.Replays.{row_of}
-use Rattle.bp_messages.specs.ReplayLines.{row_line}
-use Rattle.bp_text.proofs.Givings.{and_then, written_at_end}
+use Rattle.bp_messages.proofs.Common.{row_line, and_then, written_at_end}
 use Rattle.bp_messages.proofs.replay_lines.show_replay.Goals as goal
 
 pub returns : goal.returns

@@ -1,4 +1,4 @@
-use Rattle.bp_text.proofs.Givings.{and_then, written_at_end}
+use Rattle.bp_messages.proofs.Common.{and_then, written_at_end}
 use Rattle.bp_messages.proofs.summaries.put_summary.Goals as goal
 
 pub returns : goal.returns

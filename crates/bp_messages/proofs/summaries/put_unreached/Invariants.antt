@@ -1,6 +1,4 @@
-use Rattle.std.proofs.Common.{length}
-use Rattle.bp_text.proofs.Givings.{IsLeft}
-use Rattle.bp_messages.specs.Summaries.{unreached_text}
+use Rattle.bp_messages.proofs.Common.{length, IsLeft, unreached_text}
 use Rattle.bp_messages.proofs.summaries.put_unreached.Given as goal
 
 abbrev pub invariant-loop-line : goal.invariant-loop-line

@@ -1,4 +1,4 @@
-use Rattle.bp_text.proofs.Givings.{and_then}
+use Rattle.bp_messages.proofs.Common.{and_then}
 use Rattle.bp_messages.proofs.summary_objects.put_summary_object.Goals as goal
 
 pub returns : goal.returns

@@ -1,6 +1,4 @@
-use Rattle.std.proofs.Common.{◌≡◌, ◌≤◌, ◌+◌, ◌++◌, map, vec_len, vec_capacity}
-use Rattle.std.specs.Vec.Iter.{into_iter_items, into_iter_len}
-use Rattle.bp_run.specs.Runs.{seat_of_worker}
+use Rattle.bp_run.proofs.Common.{◌≡◌, ◌≤◌, ◌+◌, ◌++◌, map, vec_len, vec_capacity, into_iter_items, into_iter_len, seat_of_worker}
 use Rattle.bp_run.proofs.answers.counts_of.Given as goal
 
 abbrev pub invariant-loop-seat : goal.invariant-loop-seat

@@ -1,10 +1,5 @@
-use Rattle.std.proofs.Common.{◌≡◌, ◌<◌, List, ℕ, false, true}
-use Rattle.bp_language.specs.Ast.{Program}
-use Rattle.bp_flat.specs.StandsFor.{StandsFor}
+use Rattle.bp_run.proofs.Common.{◌≡◌, ◌<◌, List, ℕ, false, true, Program, StandsFor, is_finished, Stands, is_at_call}
 use Rattle.bp_machine.specs.declared.calls.Call.{Call as Answered}
-use Rattle.bp_machine.specs.Histories.{is_finished}
-use Rattle.bp_machine.specs.Sessions.{Stands}
-use Rattle.bp_run.specs.Gatherings.{is_at_call}
 use Rattle.bp_run.proofs.desks.stopped_early.Given as goal
 
 abbrev pub invariant-loop-thread : goal.invariant-loop-thread

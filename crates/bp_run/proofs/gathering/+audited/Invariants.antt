@@ -1,4 +1,4 @@
-use Rattle.std.proofs.Common.{vec_len}
+use Rattle.bp_run.proofs.Common.{vec_len}
 use Rattle.bp_run.proofs.gathering.+audited.Given as goal
 
 abbrev pub decreases-audited : goal.decreases-audited

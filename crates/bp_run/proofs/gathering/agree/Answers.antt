@@ -1,6 +1,4 @@
-use Rattle.std.proofs.Common.{subst, take_all, rules}
-use Rattle.std.proofs.lemmas.List.Elements.{All-more}
-use Rattle.bp_run.specs.Gatherings.{IsSeatOf}
+use Rattle.bp_run.proofs.Common.{subst, take_all, rules, All-more, IsSeatOf}
 use Rattle.bp_run.proofs.gathering.agree.Goals as goal
 
 pub loop-seat-preserved : goal.loop-seat-preserved

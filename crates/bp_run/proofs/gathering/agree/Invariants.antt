@@ -1,8 +1,5 @@
-use Rattle.std.proofs.Common.{List, take}
-use Rattle.bp_language.specs.Ast.{Program}
+use Rattle.bp_run.proofs.Common.{List, take, Program, Stands, AreSeatsOf}
 use Rattle.bp_machine.specs.declared.calls.Call.{Call as Answered}
-use Rattle.bp_machine.specs.Sessions.{Stands}
-use Rattle.bp_run.specs.Gatherings.{AreSeatsOf}
 use Rattle.bp_run.proofs.gathering.agree.Given as goal
 
 abbrev pub invariant-loop-seat : goal.invariant-loop-seat

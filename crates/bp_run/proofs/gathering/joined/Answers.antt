@@ -1,10 +1,4 @@
-use Rattle.std.proofs.Common.{rules, arith, ◌≡◌, ℕ, ◌+◌, List, [], ◌∷◌, ◌++◌, length, vec_len, refl, sym, ◌∙◌, ap, subst}
-use Rattle.std.specs.List.{sum_by}
-use Rattle.std.proofs.lemmas.List.Sums.{sum_by-append}
-use Rattle.rtrb.specs.Ring.{received, known_items}
-use Rattle.bp_machine.specs.Setups.{threads}
-use Rattle.bp_run.specs.Gatherings.{AreOnePerThread, calls_of_seats, open_seats}
-use Rattle.bp_run.specs.Desks.{SeatOf, open_amount}
+use Rattle.bp_run.proofs.Common.{rules, arith, ◌≡◌, ℕ, ◌+◌, List, [], ◌∷◌, ◌++◌, length, vec_len, refl, sym, ◌∙◌, ap, subst, sum_by, sum_by-append, received, known_items, threads, AreOnePerThread, calls_of_seats, open_seats, SeatOf, open_amount}
 use Rattle.bp_run.proofs.GatheredBooks.{gathered, gathered_as}
 use Rattle.bp_run.proofs.gathering.joined.Given.{Over}
 use Rattle.bp_run.proofs.gathering.joined.Goals.{After-pop}

@@ -1,4 +1,4 @@
-use Rattle.bp_run.specs.Works.{IsScribed}
+use Rattle.bp_run.proofs.Common.{IsScribed}
 use Rattle.bp_run.proofs.scribes.scribe.Given as goal
 
 abbrev pub invariant-loop : goal.invariant-loop

@@ -1,4 +1,4 @@
-use Rattle.bp_run.specs.Works.{IsRestScribed, rest_length}
+use Rattle.bp_run.proofs.Common.{IsRestScribed, rest_length}
 use Rattle.bp_run.proofs.scribes.write_rest.Given as goal
 
 abbrev pub invariant-loop-call : goal.invariant-loop-call

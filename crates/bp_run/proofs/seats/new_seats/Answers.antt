@@ -1,7 +1,4 @@
-use Rattle.std.proofs.Common.{rules, arith, ◌≡◌, ◌+◌, map}
-use Rattle.std.specs.List.{range_with_len}
-use Rattle.std.proofs.lemmas.List.FromFn.{map-range_with_len_more}
-use Rattle.bp_run.specs.Desks.{new_seat}
+use Rattle.bp_run.proofs.Common.{rules, arith, ◌≡◌, ◌+◌, map, range_with_len, map-range_with_len_more, new_seat}
 use Rattle.bp_run.proofs.seats.new_seats.Given.{Over}
 use Rattle.bp_run.proofs.seats.new_seats.Goals.{In_ok-push}
 use Rattle.bp_run.proofs.seats.new_seats.Goals as goal

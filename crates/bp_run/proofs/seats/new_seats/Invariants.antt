@@ -1,6 +1,4 @@
-use Rattle.std.proofs.Common.{◌≡◌, ◌+◌, vec_len, map}
-use Rattle.std.specs.List.{range_with_len}
-use Rattle.bp_run.specs.Desks.{new_seat}
+use Rattle.bp_run.proofs.Common.{◌≡◌, ◌+◌, vec_len, map, range_with_len, new_seat}
 use Rattle.bp_run.proofs.seats.new_seats.Given as goal
 
 abbrev pub invariant-loop-thread : goal.invariant-loop-thread

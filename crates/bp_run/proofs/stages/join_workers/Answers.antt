@@ -1,10 +1,5 @@
-use Rattle.std.proofs.Common.{arith, rules, ◌≡◌, Bool, Some, List, [], ◌∷◌, ◌++◌, Result, MatchResult, false, true, sym, ◌∙◌}
+use Rattle.bp_run.proofs.Common.{arith, rules, ◌≡◌, Bool, Some, List, [], ◌∷◌, ◌++◌, Result, MatchResult, false, true, sym, ◌∙◌, false≢true, common_steps, All-push, All-same, All-pop, SeatOf, TellsShut}
 use Rattle.std.specs.Result.{is_ok}
-use Rattle.std.proofs.lemmas.Bool.{false≢true}
-use Rattle.std.proofs.lemmas.Grind.{common_steps}
-use Rattle.std.proofs.lemmas.List.Elements.{All-push, All-same, All-pop}
-use Rattle.bp_run.specs.Desks.{SeatOf}
-use Rattle.bp_run.specs.Works.{TellsShut}
 use Rattle.bp_run.specs.declared.workers.Unfinished.{Unfinished}
 use Rattle.bp_run.proofs.stages.join_workers.Goals.{then-all_done, else-all_done}
 use Rattle.bp_run.proofs.stages.join_workers.Goals as goal

@@ -1,6 +1,4 @@
-use Rattle.std.proofs.Common.{◌≡◌, ◌≤◌, ◌+◌, ◌++◌, map, vec_len, vec_capacity}
-use Rattle.bp_run.specs.Works.{TellsShut}
-use Rattle.std.specs.Vec.Iter.{into_iter_items, into_iter_len}
+use Rattle.bp_run.proofs.Common.{◌≡◌, ◌≤◌, ◌+◌, ◌++◌, map, vec_len, vec_capacity, TellsShut, into_iter_items, into_iter_len}
 use Rattle.bp_run.proofs.stages.join_workers.Given as goal
 
 abbrev pub invariant-loop-handle : goal.invariant-loop-handle

@@ -1,7 +1,5 @@
-use Rattle.std.proofs.lemmas.Grind.{common_steps}
-use Rattle.std.proofs.Common.{arith}
+use Rattle.bp_run.proofs.Common.{common_steps, arith, crosses}
 use denote.Param.Send.{sendable}
-use Rattle.std.proofs.Crossing.{crosses}
 use Rattle.bp_run.proofs.seats.Seat.TheSendSync.{the_send as seat_send}
 use Rattle.bp_run.proofs.BoardsCross.{board_sync, signals_sync}
 use Rattle.bp_run.proofs.stages.start_workers.Goals as goal

@@ -1,5 +1,4 @@
-use Rattle.std.proofs.Common.{◌≡◌, ◌≤◌, ◌+◌, ◌++◌, true, map, vec_len, vec_capacity}
-use Rattle.std.specs.Vec.Iter.{into_iter_items, into_iter_len}
+use Rattle.bp_run.proofs.Common.{◌≡◌, ◌≤◌, ◌+◌, ◌++◌, true, map, vec_len, vec_capacity, into_iter_items, into_iter_len}
 use Rattle.bp_run.proofs.stages.start_workers.Given as goal
 
 abbrev pub invariant-loop-seat : goal.invariant-loop-seat

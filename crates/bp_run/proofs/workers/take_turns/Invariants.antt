@@ -1,4 +1,4 @@
-use Rattle.std.proofs.Common.{◌≡◌, ◌≤◌}
+use Rattle.bp_run.proofs.Common.{◌≡◌, ◌≤◌}
 use Rattle.bp_run.proofs.workers.take_turns.Given as goal
 
 abbrev pub invariant-loop : goal.invariant-loop

@@ -1,5 +1,4 @@
-use Rattle.std.proofs.lemmas.Grind.{common_steps}
-use Rattle.std.proofs.Common.{arith, rules}
+use Rattle.bp_source.proofs.Common.{common_steps, arith, rules}
 use Rattle.bp_source.proofs.DecidersOfPlaces.{depth_inside, noted_one, statement_more}
 use Rattle.bp_source.proofs.assertions.+note_deciders.Goals as goal
 

@@ -1,7 +1,4 @@
-use Rattle.std.proofs.Common.{◌≡◌, ◌+◌, ◌*◌, ◌++◌, drop, map}
-use Rattle.bp_language.specs.Blocks.{block_of, statement_of}
-use Rattle.bp_language.specs.Depth.{depth, statement_depth}
-use Rattle.bp_source.specs.Names.{block_decisions, reading_of}
+use Rattle.bp_source.proofs.Common.{◌≡◌, ◌+◌, ◌*◌, ◌++◌, drop, map, block_of, statement_of, depth, statement_depth, block_decisions, reading_of}
 use Rattle.bp_source.proofs.assertions.+note_deciders.Given as goal
 
 abbrev pub invariant-note_block-loop-stmt : goal.invariant-note_block-loop-stmt

@@ -1,5 +1,4 @@
-use Rattle.std.proofs.Common.{rules}
-use Rattle.std.proofs.lemmas.List.{map-append}
+use Rattle.bp_source.proofs.Common.{rules, map-append}
 use Rattle.bp_source.proofs.DecidersOfPlaces.{among_named}
 use Rattle.bp_source.proofs.assertions.add_name.Goals as goal
 

@@ -1,7 +1,4 @@
-use Rattle.std.proofs.Common.{◌≡◌, ◌∙◌, Some, ap, map, slice_get, sym, option_map, unwrap_or}
-use Rattle.std.proofs.lemmas.Option.{slice_get-map}
-use Rattle.bp_flat.specs.StandsFor.{places_of, Place}
-use Rattle.bp_source.specs.Names.{next_decision, reading_of}
+use Rattle.bp_source.proofs.Common.{◌≡◌, ◌∙◌, Some, ap, map, slice_get, sym, option_map, unwrap_or, slice_get-map, places_of, Place, next_decision, reading_of}
 use Rattle.bp_source.proofs.SourceStatementLists.{got_item}
 use Rattle.bp_source.proofs.assertions.decider_at.Goals as goal
 

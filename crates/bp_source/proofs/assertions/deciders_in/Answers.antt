@@ -1,5 +1,4 @@
-use Rattle.std.proofs.Common.{map, refl}
-use Rattle.bp_source.specs.Names.{reading_of}
+use Rattle.bp_source.proofs.Common.{map, refl, reading_of}
 use Rattle.bp_source.proofs.DecidersOfPlaces.{noted_one, procedure_more}
 use Rattle.bp_source.proofs.assertions.deciders_in.Goals as goal
 

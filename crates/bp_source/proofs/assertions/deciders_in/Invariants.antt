@@ -1,6 +1,4 @@
-use Rattle.std.proofs.Common.{◌≡◌, ◌++◌, drop, map}
-use Rattle.bp_flat.specs.StandsFor.{places_of}
-use Rattle.bp_source.specs.Names.{reading_of}
+use Rattle.bp_source.proofs.Common.{◌≡◌, ◌++◌, drop, map, places_of, reading_of}
 use Rattle.bp_source.proofs.DecidersOfPlaces.{asserted}
 use Rattle.bp_source.proofs.assertions.deciders_in.Given as goal
 

@@ -1,6 +1,5 @@
-use Rattle.std.proofs.Common.{sym, subst, ◌||◌, rules}
+use Rattle.bp_source.proofs.Common.{sym, subst, ◌||◌, rules, Lexeme, is_choice}
 use Rattle.bp_text.proofs.LinesOfTexts.{one_line_after}
-use Rattle.bp_source.specs.SourceStatements.{Lexeme, is_choice}
 use Rattle.bp_source.proofs.OneStatement.{ReadsTo, reads_all, reads_more}
 use Rattle.bp_source.proofs.excerpts.excerpt_of.Goals as goal
 

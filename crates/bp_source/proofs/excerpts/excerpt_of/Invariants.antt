@@ -1,5 +1,4 @@
-use Rattle.std.proofs.Common.{length}
-use Rattle.bp_text.specs.Lines.{IsOneLine}
+use Rattle.bp_source.proofs.Common.{length, IsOneLine}
 use Rattle.bp_source.proofs.OneStatement.{ReadsTo}
 use Rattle.bp_source.proofs.excerpts.excerpt_of.Given as goal
 

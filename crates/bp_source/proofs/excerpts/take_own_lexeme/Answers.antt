@@ -1,5 +1,4 @@
-use Rattle.std.proofs.Common.{◌∙◌, sym, subst}
-use Rattle.bp_source.specs.SourceStatements.{IsAtEnd, none_left, ending}
+use Rattle.bp_source.proofs.Common.{◌∙◌, sym, subst, IsAtEnd, none_left, ending}
 use Rattle.bp_source.proofs.excerpts.take_own_lexeme.Goals as goal
 
 pub returns-in_default-clause-lexeme : goal.returns-in_default-clause-lexeme

@@ -1,4 +1,4 @@
-use Rattle.std.proofs.Common.{rules}
+use Rattle.bp_source.proofs.Common.{rules}
 use Rattle.bp_source.proofs.SourceStatementLists.{place_count, statement_count}
 use Rattle.bp_source.proofs.listings.code_objects.Goals as goal
 

@@ -1,6 +1,4 @@
-use Rattle.std.proofs.Common.{◌∙◌, ◌++◌, ap}
-use Rattle.bp_text.proofs.PartsOfTexts.{one_more}
-use Rattle.bp_source.specs.Listings.{heading_item}
+use Rattle.bp_source.proofs.Common.{◌∙◌, ◌++◌, ap, one_more, heading_item}
 use Rattle.bp_source.proofs.listings.push_headings.Goals as goal
 
 pub loop-heading-preserved : goal.loop-heading-preserved

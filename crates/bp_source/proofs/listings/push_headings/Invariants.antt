@@ -1,5 +1,4 @@
-use Rattle.std.proofs.Common.{◌≡◌, ◌++◌, flat_map, take}
-use Rattle.bp_source.specs.Listings.{heading_item}
+use Rattle.bp_source.proofs.Common.{◌≡◌, ◌++◌, flat_map, take, heading_item}
 use Rattle.bp_source.proofs.listings.push_headings.Given as goal
 
 abbrev pub invariant-loop-heading : goal.invariant-loop-heading

@@ -1,7 +1,5 @@
-use Rattle.std.proofs.Common.{◌≡◌, ◌∙◌, ◌++◌, Some, suc, drop, slice_get, ap, sym, add-one, rules}
+use Rattle.bp_source.proofs.Common.{◌≡◌, ◌∙◌, ◌++◌, Some, suc, drop, slice_get, ap, sym, add-one, rules, rest_left, instruction_object, instruction_objects}
 use Rattle.std.specs.Option.{option_copied}
-use Rattle.bp_text.proofs.PartsOfTexts.{rest_left}
-use Rattle.bp_source.specs.Listings.{instruction_object, instruction_objects}
 use Rattle.bp_source.proofs.SourceStatementLists.{next_object, without_instruction, without_statement}
 use Rattle.bp_source.proofs.listings.push_instructions.Goals as goal
 

@@ -1,5 +1,4 @@
-use Rattle.std.proofs.Common.{◌≡◌, ◌++◌, drop}
-use Rattle.bp_source.specs.Listings.{instruction_objects}
+use Rattle.bp_source.proofs.Common.{◌≡◌, ◌++◌, drop, instruction_objects}
 use Rattle.bp_source.proofs.listings.push_instructions.Given as goal
 
 -- with the objects that are left, those that were added are all

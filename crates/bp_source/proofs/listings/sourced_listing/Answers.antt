@@ -1,10 +1,4 @@
-use Rattle.std.proofs.lemmas.Grind.{common_steps}
-use Rattle.std.proofs.Common.{◌≡◌, ◌∙◌, ◌++◌, ◌==◌, ◌<◌, ℕ, List, [], ◌∷◌, length, ap, sym, subst, append-nil, arith}
-use Rattle.std.specs.List.{after_first}
-use Rattle.bp_text.specs.Lines.{first_line}
-use Rattle.bp_text.proofs.PartsOfTexts.{rest_left}
-use Rattle.bp_source.specs.declared.source_statements.SourceStatement.{SourceStatement}
-use Rattle.bp_source.specs.Listings.{line_with, statements_after, IsSourced, nothing, line}
+use Rattle.bp_source.proofs.Common.{common_steps, ◌≡◌, ◌∙◌, ◌++◌, ◌==◌, ◌<◌, ℕ, List, [], ◌∷◌, length, ap, sym, subst, append-nil, arith, after_first, first_line, rest_left, SourceStatement, line_with, statements_after, IsSourced, nothing, line}
 use Rattle.bp_source.proofs.listings.sourced_listing.Goals as goal
 
 one_line : (rest next instruction written : List ℕ) (left after : List SourceStatement) → 0 < length rest → instruction ≡ first_line rest

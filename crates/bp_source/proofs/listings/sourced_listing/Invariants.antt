@@ -1,5 +1,4 @@
-use Rattle.std.proofs.Common.{◌++◌, ℕ, List, length}
-use Rattle.bp_source.specs.Listings.{IsSourced}
+use Rattle.bp_source.proofs.Common.{◌++◌, ℕ, List, length, IsSourced}
 use Rattle.bp_source.proofs.listings.sourced_listing.Given as goal
 
 -- what is written of the rest completes what is written of the whole

@@ -1,4 +1,4 @@
-use Rattle.std.proofs.Common.{rules}
+use Rattle.bp_source.proofs.Common.{rules}
 use Rattle.bp_source.proofs.DecidersOfPlaces.{first_piece, one_piece}
 use Rattle.bp_source.proofs.names.first_piece.Goals as goal
 

@@ -1,4 +1,4 @@
-use Rattle.std.proofs.Common.{bytes_eq, rules}
+use Rattle.bp_source.proofs.Common.{bytes_eq, rules}
 use Rattle.bp_source.proofs.DecidersOfPlaces.{same_qualified}
 use Rattle.bp_source.proofs.names.is_qualified.Goals as goal
 

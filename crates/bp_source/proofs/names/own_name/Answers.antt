@@ -1,4 +1,4 @@
-use Rattle.std.proofs.Common.{◌≡◌, ◌∙◌, ◌∷◌, ◌++◌, ap, sym}
+use Rattle.bp_source.proofs.Common.{◌≡◌, ◌∙◌, ◌∷◌, ◌++◌, ap, sym}
 use Rattle.std.proofs.lemmas.Bool.Decides.{Decides-eqb}
 use Rattle.std.proofs.lemmas.Slice.Eq.{strip_prefix_is}
 use Rattle.bp_source.proofs.DecidersOfPlaces.{no_owner, qualified_parts}

@@ -1,5 +1,4 @@
-use Rattle.std.proofs.Common.{◌≡◌, ◌+◌, ◌≤◌, false, length, drop}
-use Rattle.bp_source.specs.Names.{piece_size}
+use Rattle.bp_source.proofs.Common.{◌≡◌, ◌+◌, ◌≤◌, false, length, drop, piece_size}
 use Rattle.bp_source.proofs.names.piece_size.Given as goal
 
 abbrev pub invariant-loop-i : goal.invariant-loop-i

@@ -1,5 +1,4 @@
-use Rattle.std.proofs.Common.{◌≡◌, ◌∙◌, ap, slice_get}
-use Rattle.bp_flat.specs.StandsFor.{places_of}
+use Rattle.bp_source.proofs.Common.{◌≡◌, ◌∙◌, ap, slice_get, places_of}
 use Rattle.bp_source.proofs.SourceStatementLists.{got_item, source_statement_at}
 use Rattle.bp_source.proofs.names.procedure_at.Goals as goal
 

@@ -1,5 +1,4 @@
-use Rattle.std.proofs.Common.{◌≡◌, ◌++◌, flat_map, take}
-use Rattle.bp_source.specs.Listings.{name_item}
+use Rattle.bp_source.proofs.Common.{◌≡◌, ◌++◌, flat_map, take, name_item}
 use Rattle.bp_source.proofs.programs.push_names.Given as goal
 
 abbrev pub invariant-loop-name : goal.invariant-loop-name

@@ -1,6 +1,5 @@
-use Rattle.std.proofs.Common.{[], ◌∷◌, codes}
+use Rattle.bp_source.proofs.Common.{[], ◌∷◌, codes, name_list}
 use Rattle.bp_text.specs.Pieces.{string_text, key_text}
-use Rattle.bp_source.specs.Listings.{name_list}
 use Rattle.bp_source.proofs.DecidersOfPlaces.{first_joined, when_ok}
 use Rattle.bp_source.proofs.programs.push_procedure.Goals as goal
 

@@ -1,6 +1,4 @@
-use Rattle.std.proofs.Common.{◌∙◌, ◌++◌, ap}
-use Rattle.bp_text.proofs.PartsOfTexts.{one_more}
-use Rattle.bp_source.specs.Listings.{procedure_item}
+use Rattle.bp_source.proofs.Common.{◌∙◌, ◌++◌, ap, one_more, procedure_item}
 use Rattle.bp_source.proofs.programs.push_procedures.Goals as goal
 
 pub loop-proc-preserved : goal.loop-proc-preserved

@@ -1,5 +1,4 @@
-use Rattle.std.proofs.Common.{◌≡◌, ◌++◌, flat_map, take}
-use Rattle.bp_source.specs.Listings.{procedure_item}
+use Rattle.bp_source.proofs.Common.{◌≡◌, ◌++◌, flat_map, take, procedure_item}
 use Rattle.bp_source.proofs.programs.push_procedures.Given as goal
 
 abbrev pub invariant-loop-proc : goal.invariant-loop-proc

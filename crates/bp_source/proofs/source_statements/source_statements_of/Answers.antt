@@ -1,11 +1,5 @@
-use Rattle.std.proofs.Common.{◌≡◌, ◌∙◌, ◌+◌, ℕ, List, IfOk, Ok, Result, ap, subst, sym, arith, take, slice_get}
-use Rattle.bp_language.specs.Ast.{Procedure}
-use Rattle.bp_flat.specs.StandsFor.{places_of, Place}
-use Rattle.bp_source.specs.declared.source_statements.SourceStatement.{SourceStatement}
-use Rattle.bp_source.specs.SourceStatements.{IsSourceStatement}
+use Rattle.bp_source.proofs.Common.{◌≡◌, ◌∙◌, ◌+◌, ℕ, List, IfOk, Ok, Result, ap, subst, sym, arith, take, slice_get, Procedure, places_of, Place, SourceStatement, IsSourceStatement, ends, ends_more, few_ends, procedure_of, starts, position_at}
 use Rattle.bp_source.proofs.SourceStatementLists.{more_statements, place_at}
-use Rattle.bp_flat.proofs.ProceduresOfPlaces.{ends, ends_more, few_ends, procedure_of, starts}
-use Rattle.bp_text.specs.Lines.{position_at}
 use Rattle.bp_source.proofs.source_statements.source_statements_of.Goals.{in-Some, in_default}
 use Rattle.bp_source.proofs.source_statements.source_statements_of.Goals as goal
 

@@ -1,8 +1,4 @@
-use Rattle.std.proofs.Common.{◌≡◌, take}
-use Rattle.bp_text.specs.Lines.{position_at}
-use Rattle.bp_flat.specs.StandsFor.{places_of}
-use Rattle.bp_source.specs.SourceStatements.{AreSourceStatementsAt}
-use Rattle.bp_flat.proofs.ProceduresOfPlaces.{ends}
+use Rattle.bp_source.proofs.Common.{◌≡◌, take, position_at, places_of, AreSourceStatementsAt, ends}
 use Rattle.bp_source.proofs.source_statements.source_statements_of.Given as goal
 
 abbrev pub invariant-loop-start : goal.invariant-loop-start

@@ -1,5 +1,4 @@
-use Rattle.std.proofs.Common.{◌≡◌, map, take}
-use Rattle.bp_source.specs.StatementLines.{said_of}
+use Rattle.bp_source.proofs.Common.{◌≡◌, map, take, said_of}
 use Rattle.bp_source.proofs.statements.all_said.Given as goal
 
 abbrev pub invariant-loop-statement : goal.invariant-loop-statement

@@ -1,4 +1,4 @@
-use Rattle.std.proofs.Common.{take_all, rules}
+use Rattle.bp_source.proofs.Common.{take_all, rules}
 use Rattle.bp_source.proofs.SourceStatementLists.{positions_are}
 use Rattle.bp_source.proofs.statements.statement_positions.Goals as goal
 

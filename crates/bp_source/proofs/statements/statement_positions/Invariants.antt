@@ -1,4 +1,4 @@
-use Rattle.std.proofs.Common.{◌≡◌, map, take}
+use Rattle.bp_source.proofs.Common.{◌≡◌, map, take}
 use Rattle.bp_source.proofs.statements.statement_positions.Given as goal
 
 abbrev pub invariant-loop-statement : goal.invariant-loop-statement

@@ -1,4 +1,4 @@
-use Rattle.std.proofs.Common.{◌∙◌, sym}
+use Rattle.bp_syntax.proofs.Common.{◌∙◌, sym}
 use Rattle.bp_syntax.proofs.BracedNames.{byte_read, is_byte, other_byte}
 use Rattle.bp_syntax.proofs.LongestLexeme.{closed_name, unclosed_front}
 use Rattle.bp_syntax.proofs.lexemes.braced_lexeme.Goals as goal

@@ -1,4 +1,4 @@
-use Rattle.std.proofs.Common.{Some, None}
+use Rattle.bp_syntax.proofs.Common.{Some, None}
 use Rattle.bp_syntax.proofs.LongestLexeme.{open_front, unbraced_longest, brace_first, other_first}
 use Rattle.bp_syntax.proofs.lexemes.first_lexeme.Goals as goal
 

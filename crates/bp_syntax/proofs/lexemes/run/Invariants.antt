@@ -1,5 +1,4 @@
-use Rattle.std.proofs.Common.{◌≡◌, ◌+◌, drop}
-use Rattle.bp_syntax.specs.Lexer.{run, is_continuation}
+use Rattle.bp_syntax.proofs.Common.{◌≡◌, ◌+◌, drop, run, is_continuation}
 use Rattle.bp_syntax.proofs.lexemes.run.Given as goal
 
 abbrev pub invariant-loop-i : goal.invariant-loop-i

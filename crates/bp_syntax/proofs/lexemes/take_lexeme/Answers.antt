@@ -1,4 +1,4 @@
-use Rattle.std.proofs.Common.{false-eqb, rules}
+use Rattle.bp_syntax.proofs.Common.{false-eqb, rules}
 use Rattle.bp_syntax.proofs.OneCut.{lexeme_is_taken}
 use Rattle.bp_syntax.proofs.lexemes.take_lexeme.Goals as goal
 

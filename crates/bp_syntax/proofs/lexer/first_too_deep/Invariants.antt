@@ -1,6 +1,4 @@
-use Rattle.std.proofs.Common.{◌≡◌, ◌≤◌, drop}
-use Rattle.bp_language.specs.declared.limits.TheConstants.{NESTING_LIMIT}
-use Rattle.bp_syntax.specs.Lexer.{first_too_deep, token_list}
+use Rattle.bp_syntax.proofs.Common.{◌≡◌, ◌≤◌, drop, NESTING_LIMIT, first_too_deep, token_list}
 use Rattle.bp_syntax.proofs.lexer.first_too_deep.Given as goal
 
 abbrev pub invariant-loop-token : goal.invariant-loop-token

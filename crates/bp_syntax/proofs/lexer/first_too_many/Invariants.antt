@@ -1,5 +1,4 @@
-use Rattle.std.proofs.Common.{◌≡◌, drop}
-use Rattle.bp_syntax.specs.Lexer.{first_too_many, token_list}
+use Rattle.bp_syntax.proofs.Common.{◌≡◌, drop, first_too_many, token_list}
 use Rattle.bp_syntax.proofs.lexer.first_too_many.Given as goal
 
 abbrev pub invariant-loop-token : goal.invariant-loop-token

@@ -1,4 +1,4 @@
-use Rattle.std.proofs.Common.{sym}
+use Rattle.bp_syntax.proofs.Common.{sym}
 use Rattle.bp_syntax.proofs.OneCut.{token_is_text}
 use Rattle.bp_syntax.proofs.lexer.push_token.Goals as goal
 

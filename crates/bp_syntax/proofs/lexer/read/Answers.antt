@@ -1,9 +1,4 @@
-use Rattle.std.proofs.Common.{length, Ok, Err, arith, rules}
-use Rattle.bp_syntax.specs.Lexer.{token_list}
-use Rattle.bp_syntax.specs.ParserState.{program_of, IsParseFault}
-use Rattle.bp_language.specs.Texts.{IsTextOf}
-use Rattle.bp_syntax.specs.Refusals.{IsRefusal}
-use Rattle.bp_syntax.specs.declared.faults.ReadFault.{ReadFault}
+use Rattle.bp_syntax.proofs.Common.{length, Ok, Err, arith, rules, token_list, program_of, IsParseFault, IsTextOf, IsRefusal, ReadFault}
 use Rattle.bp_syntax.specs.declared.faults.ReadFault.TheVariants as fault
 use Rattle.bp_syntax.proofs.FirstTooMany.{none_is_shallow, none_is_sparse}
 use Rattle.bp_syntax.proofs.OneAnswer.{only_answer, scan_fault, nested_fault, crowd_fault, parse_fault, parsed, fault_passed_on}

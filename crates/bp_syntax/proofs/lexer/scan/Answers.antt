@@ -1,6 +1,5 @@
-use Rattle.std.proofs.Common.{[], ◌++◌, ◌∙◌, ap, arith, false-eqb, length, sym, ◌<◌, ◌≡◌, eqb-true}
-use Rattle.bp_language.specs.Tokens.{with_token, kind_of}
-use Rattle.bp_syntax.specs.Lexer.{token_list}
+use Rattle.bp_syntax.proofs.Common.{[], ◌++◌, ◌∙◌, ap, arith, false-eqb, length, sym, ◌<◌, ◌≡◌, with_token, kind_of, token_list}
+use Rattle.std.proofs.Common.{eqb-true}
 use Rattle.bp_syntax.proofs.OneCut.{lexeme_taken, brace_taken, all_scanned, open_there, bad_here}
 use Rattle.bp_syntax.proofs.lexer.scan.Goals as goal
 use Rattle.bp_syntax.proofs.lexer.scan.Goals.{in-Fits+in_ok-push_token-in-Fits, in-OpenBrace}

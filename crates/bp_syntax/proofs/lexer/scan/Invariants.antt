@@ -1,5 +1,4 @@
-use Rattle.std.proofs.Common.{length}
-use Rattle.bp_syntax.specs.Lexer.{token_list}
+use Rattle.bp_syntax.proofs.Common.{length, token_list}
 use Rattle.bp_syntax.proofs.OneCut.{Known}
 use Rattle.bp_syntax.proofs.lexer.scan.Given as goal
 

@@ -1,7 +1,5 @@
-use Rattle.std.proofs.Common.{◌≡◌, ◌∙◌, true, false, bytes_eq, get_or, rules, refl, sym}
-use Rattle.bp_syntax.specs.declared.tokens.TheConstants.{RESERVED}
+use Rattle.bp_syntax.proofs.Common.{◌≡◌, ◌∙◌, true, false, bytes_eq, get_or, rules, refl, sym, RESERVED, spelling}
 use Rattle.bp_language.specs.declared.tokens.TokenKind.TheVariants as kind
-use Rattle.bp_syntax.specs.Spellings.{spelling}
 use Rattle.bp_syntax.proofs.WantedPhrases.{go_on}
 use Rattle.bp_syntax.proofs.tokens.reserved_word.Goals as goal
 

@@ -1,6 +1,4 @@
-use Rattle.std.proofs.Common.{◌≡◌, drop}
-use Rattle.bp_syntax.specs.declared.tokens.TheConstants.{RESERVED}
-use Rattle.bp_language.specs.Tokens.{reserved_word}
+use Rattle.bp_syntax.proofs.Common.{◌≡◌, drop, RESERVED, reserved_word}
 use Rattle.bp_syntax.proofs.WantedPhrases.{first_spelled}
 use Rattle.bp_syntax.proofs.tokens.reserved_word.Given as goal
 

@@ -1,6 +1,4 @@
-use Rattle.std.proofs.Common.{◌≡◌}
-use Rattle.bp_source.specs.Names.{pieces_left}
-use Rattle.bp_tasks.specs.NamedBits.{are_named, are_named_bits}
+use Rattle.bp_tasks.proofs.Common.{◌≡◌, pieces_left, are_named, are_named_bits}
 use Rattle.bp_tasks.proofs.NamedValues.{size_left}
 use Rattle.bp_tasks.proofs.names.are_named_bits.Given as goal
 

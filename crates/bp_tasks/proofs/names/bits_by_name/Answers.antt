@@ -1,7 +1,5 @@
-use Rattle.std.proofs.Common.{◌≡◌, ◌∙◌, ap, sym, arith}
+use Rattle.bp_tasks.proofs.Common.{◌≡◌, ◌∙◌, ap, sym, arith, NamedBitOf, named_bit, values_of, bit_of, is_set, NamedBit}
 use Rattle.std.proofs.lemmas.Grind.{common_steps}
-use Rattle.bp_tasks.specs.NamedBits.{NamedBitOf, named_bit, values_of, bit_of, is_set}
-use Rattle.bp_tasks.specs.declared.names.NamedBit.{NamedBit}
 use Rattle.bp_tasks.proofs.NamedValues.{list_any-map}
 use Rattle.bp_tasks.proofs.names.bits_by_name.Goals as goal
 

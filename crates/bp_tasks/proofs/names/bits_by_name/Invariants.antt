@@ -1,5 +1,4 @@
-use Rattle.std.proofs.Common.{◌≡◌, take}
-use Rattle.bp_tasks.specs.NamedBits.{values_of, bits_by_name}
+use Rattle.bp_tasks.proofs.Common.{◌≡◌, take, values_of, bits_by_name}
 use Rattle.bp_tasks.proofs.names.bits_by_name.Given as goal
 
 abbrev pub invariant-loop-global : goal.invariant-loop-global

@@ -1,4 +1,4 @@
-use Rattle.std.proofs.Common.{◌≡◌, take, map, string_bytes}
+use Rattle.bp_tasks.proofs.Common.{◌≡◌, take, map, string_bytes}
 use Rattle.bp_tasks.proofs.names.copies.Given as goal
 
 abbrev pub invariant-loop-name : goal.invariant-loop-name

@@ -1,9 +1,7 @@
-use Rattle.std.proofs.Common.{◌≡◌, ◌∙◌, ◌<◌, ◌&&◌, [], true, false, length, get_or, ap, ap₂, sym, arith}
+use Rattle.bp_tasks.proofs.Common.{◌≡◌, ◌∙◌, ◌<◌, ◌&&◌, [], true, false, length, get_or, ap, ap₂, sym, arith, named_bit, values_of, has_global, NamedBit}
 use Rattle.std.proofs.lemmas.List.{length-map, get_or-map}
 use Rattle.std.proofs.lemmas.List.Folds.{list_all_more}
 use Rattle.std.proofs.lemmas.Option.{slice_get-get_or}
-use Rattle.bp_tasks.specs.NamedBits.{named_bit, values_of, has_global}
-use Rattle.bp_tasks.specs.declared.names.NamedBit.{NamedBit}
 use Rattle.bp_tasks.proofs.names.first_unknown.Goals as goal
 
 pub returns-then-not-has_global : goal.returns-then-not-has_global

@@ -1,5 +1,4 @@
-use Rattle.std.proofs.Common.{take}
-use Rattle.bp_tasks.specs.NamedBits.{values_of, AreGlobals}
+use Rattle.bp_tasks.proofs.Common.{take, values_of, AreGlobals}
 use Rattle.bp_tasks.proofs.names.first_unknown.Given as goal
 
 abbrev pub invariant-loop-n : goal.invariant-loop-n

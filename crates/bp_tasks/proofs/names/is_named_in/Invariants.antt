@@ -1,6 +1,4 @@
-use Rattle.std.proofs.Common.{◌≡◌}
-use Rattle.bp_source.specs.Names.{pieces_left}
-use Rattle.bp_tasks.specs.NamedBits.{is_named_in}
+use Rattle.bp_tasks.proofs.Common.{◌≡◌, pieces_left, is_named_in}
 use Rattle.bp_tasks.proofs.NamedValues.{size_left}
 use Rattle.bp_tasks.proofs.names.is_named_in.Given as goal
 

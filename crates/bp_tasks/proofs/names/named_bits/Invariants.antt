@@ -1,6 +1,4 @@
-use Rattle.std.proofs.Common.{◌≡◌, ◌++◌, map}
-use Rattle.bp_tasks.specs.NamedBits.{values_of, named_bit_in, named_bits}
-use Rattle.bp_source.specs.Names.{pieces_left}
+use Rattle.bp_tasks.proofs.Common.{◌≡◌, ◌++◌, map, values_of, named_bit_in, named_bits, pieces_left}
 use Rattle.bp_tasks.proofs.NamedValues.{size_left}
 use Rattle.bp_tasks.proofs.names.named_bits.Given as goal
 

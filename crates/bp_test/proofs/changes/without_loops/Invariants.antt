@@ -1,4 +1,4 @@
-use Rattle.std.proofs.Common.{◌≡◌}
+use Rattle.bp_test.proofs.Common.{◌≡◌}
 use Rattle.bp_test.proofs.changes.without_loops.Given as goal
 
 abbrev pub invariant-loop-call : goal.invariant-loop-call

@@ -1,5 +1,4 @@
-use Rattle.std.proofs.Common.{◌≡◌, ◌≤◌}
-use Rattle.bp_test.specs.Tallies.{alone_before}
+use Rattle.bp_test.proofs.Common.{◌≡◌, ◌≤◌, alone_before}
 use Rattle.bp_test.proofs.counts.count_alone.Given as goal
 
 abbrev pub invariant-loop-place : goal.invariant-loop-place

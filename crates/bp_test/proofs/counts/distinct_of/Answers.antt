@@ -1,8 +1,5 @@
-use Rattle.std.proofs.Common.{length, ap, ◌∙◌}
+use Rattle.bp_test.proofs.Common.{length, ap, ◌∙◌, IsNonDecreasingBy-from_sort, length_permutation, IsStrictlyIncreasing-dedup, alone_before}
 use Rattle.std.proofs.lemmas.List.Filters.{dedup_is}
-use Rattle.std.proofs.lemmas.List.Sorted.{IsNonDecreasingBy-from_sort, length_permutation}
-use Rattle.std.proofs.lemmas.Map.Keys.{IsStrictlyIncreasing-dedup}
-use Rattle.bp_test.specs.Tallies.{alone_before}
 use Rattle.bp_test.proofs.DistinctKeys.{once_in_order, runs_in_order}
 use Rattle.bp_test.proofs.counts.distinct_of.Goals as goal
 

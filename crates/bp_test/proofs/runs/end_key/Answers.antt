@@ -1,4 +1,4 @@
-use Rattle.bp_test.specs.Reached.{no_thread, one_thread}
+use Rattle.bp_test.proofs.Common.{no_thread, one_thread}
 use Rattle.bp_test.proofs.runs.end_key.Goals as goal
 
 pub loop-thread-init : goal.loop-thread-init

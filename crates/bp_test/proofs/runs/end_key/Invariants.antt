@@ -1,10 +1,4 @@
-use Rattle.std.proofs.Common.{List}
-use Rattle.bp_language.specs.Ast.{Program}
-use Rattle.bp_flat.specs.StandsFor.{StandsFor}
-use Rattle.bp_machine.specs.declared.calls.Call.{Call}
-use Rattle.bp_machine.specs.Histories.{configuration_after}
-use Rattle.bp_machine.specs.Sessions.{Stands}
-use Rattle.bp_test.specs.Reached.{IsEndKey}
+use Rattle.bp_test.proofs.Common.{List, Program, StandsFor, Call, configuration_after, Stands, IsEndKey}
 use Rattle.bp_test.proofs.runs.end_key.Given as goal
 
 abbrev pub invariant-loop-thread : goal.invariant-loop-thread

@@ -1,8 +1,5 @@
-use Rattle.std.proofs.Common.{◌≡◌, [], rules, refl, ap, ◌∙◌, sym, subst}
-use Rattle.bp_flat.specs.StandsFor.{IsOfProgram, StandsFor}
-use Rattle.bp_machine.specs.Sessions.{Stands}
+use Rattle.bp_test.proofs.Common.{◌≡◌, [], rules, refl, ap, ◌∙◌, sym, subst, IsOfProgram, StandsFor, Stands, no_call, IsKey, has_refusal, place_of, IsReachedByCall, MarksGrow}
 use Rattle.bp_test.specs.declared.runs.TheConstants.{FIRST_KEY}
-use Rattle.bp_test.specs.Reached.{no_call, IsKey, has_refusal, place_of, IsReachedByCall, MarksGrow}
 use Rattle.bp_test.proofs.TallyLemmas.{key_of_call}
 use Rattle.bp_test.proofs.Playing.{smaller, refusal_of_call}
 use Rattle.bp_test.proofs.ReachedPlaces.{marks_of_call, none_by_call}

@@ -1,9 +1,4 @@
-use Rattle.std.proofs.Common.{◌≡◌, ◌*◌, ◌-◌, length}
-use Rattle.bp_language.specs.Ast.{Program}
-use Rattle.bp_flat.specs.StandsFor.{StandsFor}
-use Rattle.bp_machine.specs.Sessions.{StandsForAll}
-use Rattle.bp_machine.specs.Setups.{threads}
-use Rattle.bp_test.specs.Reached.{IsKey, has_refusal, place_of, IsReachedByCall, MarksGrow}
+use Rattle.bp_test.proofs.Common.{◌≡◌, ◌*◌, ◌-◌, length, Program, StandsFor, StandsForAll, threads, IsKey, has_refusal, place_of, IsReachedByCall, MarksGrow}
 use Rattle.bp_test.proofs.runs.follow.Given as goal
 
 abbrev pub invariant-loop-thread : goal.invariant-loop-thread

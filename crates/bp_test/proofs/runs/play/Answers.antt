@@ -1,4 +1,4 @@
-use Rattle.std.proofs.Common.{rules}
+use Rattle.bp_test.proofs.Common.{rules}
 use Rattle.bp_test.proofs.Playing.{failure_of}
 use Rattle.bp_test.proofs.runs.play.Goals as goal
 

@@ -1,9 +1,4 @@
-use Rattle.std.proofs.Common.{List}
-use Rattle.bp_language.specs.Ast.{Program}
-use Rattle.bp_flat.specs.StandsFor.{StandsFor}
-use Rattle.bp_machine.specs.declared.calls.Call.{Call}
-use Rattle.bp_machine.specs.Sessions.{Stands}
-use Rattle.bp_test.specs.Reached.{place_of, MarksGrow}
+use Rattle.bp_test.proofs.Common.{List, Program, StandsFor, Call, Stands, place_of, MarksGrow}
 use Rattle.bp_test.proofs.ReachedPlaces.{WaitsBelow}
 use Rattle.bp_test.proofs.runs.reach_waits.Given as goal
 

@@ -1,6 +1,4 @@
-use Rattle.std.proofs.Common.{ℕ, [], subst, sym}
-use Rattle.bp_flat.specs.StandsFor.{IsOfProgram, StandsFor}
-use Rattle.bp_test.specs.Reached.{place_of, IsWaiting, MarksGrow}
+use Rattle.bp_test.proofs.Common.{ℕ, [], subst, sym, IsOfProgram, StandsFor, place_of, IsWaiting, MarksGrow}
 use Rattle.bp_test.proofs.ReachedPlaces.{whole_marks}
 use Rattle.bp_test.proofs.runs.run_once.Goals as goal
 

@@ -1,5 +1,4 @@
-use Rattle.std.proofs.Common.{rules, below_more}
-use Rattle.bp_test.specs.Tests.{RestsIn}
+use Rattle.bp_test.proofs.Common.{rules, below_more, RestsIn}
 use Rattle.bp_test.proofs.schedulers.first.Goals as goal
 
 pub loop-thread-preserved : goal.loop-thread-preserved

@@ -1,5 +1,4 @@
-use Rattle.std.proofs.Common.{ℕ, ◌<◌}
-use Rattle.bp_test.specs.Tests.{RestsIn}
+use Rattle.bp_test.proofs.Common.{ℕ, ◌<◌, RestsIn}
 use Rattle.bp_test.proofs.schedulers.first.Given as goal
 
 abbrev pub invariant-loop-thread : goal.invariant-loop-thread

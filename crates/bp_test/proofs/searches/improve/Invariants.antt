@@ -1,4 +1,4 @@
-use Rattle.bp_test.specs.Shrinks.{GoesOn}
+use Rattle.bp_test.proofs.Common.{GoesOn}
 use Rattle.bp_test.proofs.searches.improve.Given as goal
 
 abbrev pub invariant-loop : goal.invariant-loop

@@ -1,5 +1,4 @@
-use Rattle.std.proofs.Common.{sym, subst, ◌∙◌}
-use Rattle.bp_flat.specs.StandsFor.{IsOfProgram}
+use Rattle.bp_test.proofs.Common.{sym, subst, ◌∙◌, IsOfProgram}
 use Rattle.bp_test.proofs.shrinking.drive_again.Goals as goal
 
 pub make_again-requires-clause-program : goal.make_again-requires-clause-program

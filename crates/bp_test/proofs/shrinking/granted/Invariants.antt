@@ -1,5 +1,4 @@
-use Rattle.std.proofs.Common.{◌≡◌, take}
-use Rattle.bp_machine.specs.Histories.{granted_calls}
+use Rattle.bp_test.proofs.Common.{◌≡◌, take, granted_calls}
 use Rattle.bp_test.proofs.shrinking.granted.Given as goal
 
 abbrev pub invariant-loop-call : goal.invariant-loop-call

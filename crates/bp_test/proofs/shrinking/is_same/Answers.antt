@@ -1,4 +1,4 @@
-use Rattle.std.proofs.Common.{rules}
+use Rattle.bp_test.proofs.Common.{rules}
 use Rattle.std.proofs.lemmas.Slice.Eq.{slice_eq-Decides}
 use Rattle.bp_test.proofs.ShrunkHistories.{waits_Decides, same_waits}
 use Rattle.bp_test.proofs.shrinking.is_same.Goals as goal

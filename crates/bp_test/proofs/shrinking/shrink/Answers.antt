@@ -1,6 +1,4 @@
-use Rattle.std.proofs.Common.{None, sym, subst, ap, ◌∙◌}
-use Rattle.bp_machine.specs.Setups.{SetupOf, FitsCode}
-use Rattle.bp_test.specs.Shrinks.{IsDriven, IsShrunkOf}
+use Rattle.bp_test.proofs.Common.{None, sym, subst, ap, ◌∙◌, SetupOf, FitsCode, IsDriven, IsShrunkOf}
 use Rattle.bp_test.proofs.ShrunkHistories.{starts, leads_to, shrunk_of, fits_unseeded}
 use Rattle.bp_test.proofs.shrinking.shrink.Goals as goal
 

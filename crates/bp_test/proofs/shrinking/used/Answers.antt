@@ -1,10 +1,6 @@
-use Rattle.std.proofs.Common.{◌≡◌, ◌≤◌, length, None, ap, sym, ◌∙◌, subst, arith}
+use Rattle.bp_test.proofs.Common.{◌≡◌, ◌≤◌, length, None, ap, sym, ◌∙◌, subst, arith, IsLeastWithin, granted_calls, granted_threads, open_lines, IsLegal, outcome_of, SetupOf, IsInRange, setup_fault, for_one, IsEnd}
 use Rattle.std.proofs.Math.Logic.{∥∥₁_elim}
 use Rattle.std.specs.Coded.{le_prop}
-use Rattle.bp_machine.specs.Histories.{IsLeastWithin, granted_calls, granted_threads, open_lines, IsLegal, outcome_of}
-use Rattle.bp_machine.specs.Setups.{SetupOf, IsInRange, setup_fault}
-use Rattle.bp_machine.proofs.SetupInRange.{for_one}
-use Rattle.bp_test.specs.Shrinks.{IsEnd}
 use Rattle.bp_test.proofs.ShrunkHistories.{no_fault, fewer_calls, granted_again, same_outcome, granted_legal, granted_end, granted_same}
 use Rattle.bp_test.proofs.shrinking.used.Goals as goal
 

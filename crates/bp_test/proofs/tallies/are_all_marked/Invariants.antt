@@ -1,5 +1,4 @@
-use Rattle.std.proofs.Common.{◌≡◌, ◌<◌, ℕ, true}
-use Rattle.bp_test.specs.Reached.{is_marked}
+use Rattle.bp_test.proofs.Common.{◌≡◌, ◌<◌, ℕ, true, is_marked}
 use Rattle.bp_test.proofs.tallies.are_all_marked.Given as goal
 
 abbrev pub invariant-loop-is_marked : goal.invariant-loop-is_marked

@@ -1,4 +1,4 @@
-use Rattle.std.proofs.Common.{◌≡◌, ◌+◌, ◌-◌, ℕ, vec_len, slice_index_or}
+use Rattle.bp_test.proofs.Common.{◌≡◌, ◌+◌, ◌-◌, ℕ, vec_len, slice_index_or}
 use Rattle.bp_test.proofs.tallies.count_contexts.Given as goal
 
 abbrev pub invariant-loop-counts : goal.invariant-loop-counts

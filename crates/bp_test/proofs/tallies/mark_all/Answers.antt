@@ -1,4 +1,4 @@
-use Rattle.std.proofs.Common.{rules}
+use Rattle.bp_test.proofs.Common.{rules}
 use Rattle.bp_test.proofs.MarkLemmas.{below_marked, below_unmarked}
 use Rattle.bp_test.proofs.tallies.mark_all.Goals.{then-is_marked, else-is_marked}
 use Rattle.bp_test.proofs.tallies.mark_all.Goals as goal

@@ -1,5 +1,4 @@
-use Rattle.std.proofs.Common.{Some}
-use Rattle.bp_test.specs.Reached.{MarksGrow}
+use Rattle.bp_test.proofs.Common.{Some, MarksGrow}
 use Rattle.bp_test.proofs.MarkLemmas.{IsMarkedBelow}
 use Rattle.bp_test.proofs.tallies.mark_all.Given as goal
 

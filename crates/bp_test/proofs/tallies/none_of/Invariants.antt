@@ -1,5 +1,4 @@
-use Rattle.std.proofs.Common.{◌≡◌, ◌≤◌, ◌-◌, ℕ, false, length, vec_len}
-use Rattle.bp_test.specs.Reached.{is_marked}
+use Rattle.bp_test.proofs.Common.{◌≡◌, ◌≤◌, ◌-◌, ℕ, false, length, vec_len, is_marked}
 use Rattle.bp_test.proofs.tallies.none_of.Given as goal
 
 abbrev pub invariant-loop-marks : goal.invariant-loop-marks

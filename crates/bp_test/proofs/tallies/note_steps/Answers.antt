@@ -1,5 +1,5 @@
-use Rattle.std.proofs.Common.{◌≡◌, ◌<◌, ℕ, true, length, subst, take_all, rules}
-use Rattle.bp_test.specs.Reached.{is_marked, HasStep}
+use Rattle.bp_test.proofs.Common.{◌≡◌, ◌<◌, ℕ, true, length, subst, rules, is_marked, HasStep}
+use Rattle.std.proofs.Common.{take_all}
 use Rattle.bp_test.proofs.MarkLemmas.{all_marked, step_at, no_step_at}
 use Rattle.bp_test.proofs.tallies.note_steps.Goals.{then-is_step, else-is_step}
 use Rattle.bp_test.proofs.tallies.note_steps.Goals as goal

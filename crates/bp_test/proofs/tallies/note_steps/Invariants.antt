@@ -1,5 +1,4 @@
-use Rattle.std.proofs.Common.{take, Some}
-use Rattle.bp_test.specs.Reached.{HasStep, MarksGrow}
+use Rattle.bp_test.proofs.Common.{take, Some, HasStep, MarksGrow}
 use Rattle.bp_test.proofs.tallies.note_steps.Given as goal
 
 abbrev pub invariant-loop-call : goal.invariant-loop-call

@@ -1,6 +1,4 @@
-use Rattle.std.proofs.Common.{◌+◌, ◌%◌, ◌^◌, Some, ap, ◌∙◌, arith, rules}
-use Rattle.std.proofs.lemmas.Result.{err_from_is_err_and}
-use Rattle.bp_machine.specs.Setups.{SetupOf}
+use Rattle.bp_test.proofs.Common.{◌+◌, ◌%◌, ◌^◌, Some, ap, ◌∙◌, arith, rules, err_from_is_err_and, SetupOf}
 use Rattle.bp_test.proofs.FirstFound.{as_asked, few_with, found_among_more, found_of_run, cut_run}
 use Rattle.bp_test.proofs.testing.test.Goals as goal
 

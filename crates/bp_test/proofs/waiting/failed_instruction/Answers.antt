@@ -1,4 +1,4 @@
-use Rattle.std.proofs.Common.{rules}
+use Rattle.bp_test.proofs.Common.{rules}
 use Rattle.bp_test.proofs.Playing.{has_frame}
 use Rattle.bp_test.proofs.waiting.failed_instruction.Goals as goal
 

@@ -1,5 +1,4 @@
-use Rattle.std.proofs.Common.{rules, ◌≡◌, ◌++◌, ◌∷◌, []}
-use Rattle.bp_machine.specs.Histories.{configuration_after}
+use Rattle.bp_test.proofs.Common.{rules, ◌≡◌, ◌++◌, ◌∷◌, [], configuration_after}
 use Rattle.bp_test.proofs.Playing.{waits_not, waits_more}
 use Rattle.bp_test.proofs.waiting.waiting_threads.Goals.{in-Some+in_ok-push, in_default}
 use Rattle.bp_test.proofs.waiting.waiting_threads.Goals as goal

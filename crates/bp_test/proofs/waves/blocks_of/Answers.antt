@@ -1,6 +1,6 @@
 use denote.Param.{param}
 use denote.Param.Send.{sendable, IsSync}
-use Rattle.std.proofs.Crossing.{crosses}
+use Rattle.bp_test.proofs.Common.{crosses}
 use Rattle.bp_flat.proofs.CodesCross.{code_sync}
 use Rattle.bp_test.proofs.CodesShared.{setup_sync, plan_sync}
 use Rattle.bp_test.proofs.waves.blocks_of.Goals as goal

@@ -1,8 +1,4 @@
-use Rattle.std.proofs.Common.{◌++◌, ◌∷◌, [], ◌∙◌, Some, refl, ap, sym, subst, arith, rules}
-use Rattle.std.proofs.lemmas.List.{length_push}
-use Rattle.bp_machine.specs.Setups.{SetupOf}
-use Rattle.bp_test.specs.Tallies.{made}
-use Rattle.bp_test.specs.Tests.{setup_of_run, IsCleanRun}
+use Rattle.bp_test.proofs.Common.{◌++◌, ◌∷◌, [], ◌∙◌, Some, refl, ap, sym, subst, arith, rules, length_push, SetupOf, made, setup_of_run, IsCleanRun}
 use Rattle.bp_test.proofs.FirstFound.{clean_one}
 use Rattle.bp_test.proofs.RunsOfTests.{fits_again, reseeded, clean_run, reaches_is, key_is, sought_run, waits_there, fails_there}
 use Rattle.bp_test.proofs.TallyLemmas.{same_counts, tally_run}

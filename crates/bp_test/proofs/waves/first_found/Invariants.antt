@@ -1,8 +1,4 @@
-use Rattle.std.proofs.Common.{◌≡◌, ◌≤◌, ◌-◌, max, List, length}
-use Rattle.bp_language.specs.Ast.{Program}
-use Rattle.bp_flat.specs.StandsFor.{StandsFor}
-use Rattle.bp_test.specs.Tallies.{MadeRun, IsTally}
-use Rattle.bp_test.specs.Tests.{AreCleanRuns}
+use Rattle.bp_test.proofs.Common.{◌≡◌, ◌≤◌, ◌-◌, max, List, length, Program, StandsFor, MadeRun, IsTally, AreCleanRuns}
 use Rattle.bp_test.proofs.RunsOfTests.{IsReseeded}
 use Rattle.bp_test.proofs.waves.first_found.Given as goal
 

@@ -1,4 +1,4 @@
-use Rattle.std.proofs.Common.{rules, sym, ap, ◌∙◌, length, arith}
+use Rattle.bp_test.proofs.Common.{rules, sym, ap, ◌∙◌, length, arith}
 use Rattle.bp_test.proofs.FirstFound.{before_all, before_rest, ends_cut, ends_found, found_any, after_made, ends_all}
 use Rattle.bp_test.proofs.waves.first_of.Goals as goal
 

@@ -1,12 +1,5 @@
-use Rattle.std.proofs.Common.{◌≡◌, ℕ, List, length}
+use Rattle.bp_test.proofs.Common.{◌≡◌, ℕ, List, length, Program, Flat, StandsFor, SetupOf, Plan, start_of_block, AreBlocks, MadeRun, IsTally}
 use Rattle.std.specs.Vec.Iter.{into_iter_items, into_iter_len}
-use Rattle.bp_language.specs.Ast.{Program}
-use Rattle.bp_flat.specs.Flat.{Flat}
-use Rattle.bp_flat.specs.StandsFor.{StandsFor}
-use Rattle.bp_machine.specs.Setups.{SetupOf}
-use Rattle.bp_test.specs.declared.plans.Plan.{Plan}
-use Rattle.bp_test.specs.Tests.{start_of_block, AreBlocks}
-use Rattle.bp_test.specs.Tallies.{MadeRun, IsTally}
 use Rattle.bp_test.proofs.FirstFound.{IsBefore}
 use Rattle.bp_test.proofs.waves.first_of.Given as goal
 

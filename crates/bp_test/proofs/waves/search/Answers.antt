@@ -1,5 +1,4 @@
-use Rattle.std.proofs.Common.{None, ap, sym, ◌≡◌, ◌∙◌, ◌*◌, subst, arith}
-use Rattle.bp_test.specs.Tests.{start_of_block, IsTallied}
+use Rattle.bp_test.proofs.Common.{None, ap, sym, ◌≡◌, ◌∙◌, ◌*◌, subst, arith, start_of_block, IsTallied}
 use Rattle.bp_test.proofs.FirstFound.{none_of, some_of, after_wave}
 use Rattle.bp_test.proofs.waves.search.Goals.{then-is_some-via-then-is_some, then-is_some-via-else-is_some+then-end-next}
 use Rattle.bp_test.proofs.waves.search.Goals as goal

@@ -1,8 +1,4 @@
-use Rattle.std.proofs.Common.{◌<◌, ◌≤◌, ◌-◌, None}
-use Rattle.bp_language.specs.Ast.{Program}
-use Rattle.bp_flat.specs.StandsFor.{StandsFor}
-use Rattle.bp_test.specs.declared.limits.TheConstants.{LONGEST_BLOCK}
-use Rattle.bp_test.specs.Tests.{IsTallied}
+use Rattle.bp_test.proofs.Common.{◌<◌, ◌≤◌, ◌-◌, None, Program, StandsFor, LONGEST_BLOCK, IsTallied}
 use Rattle.bp_test.proofs.waves.search.Given as goal
 
 abbrev pub invariant-loop-from : goal.invariant-loop-from

@@ -1,4 +1,4 @@
-use Rattle.std.proofs.Common.{◌∙◌, sym}
+use Rattle.bp_text.proofs.Common.{◌∙◌, sym}
 use Rattle.bp_text.proofs.NumbersInTurn.{more_than_number, no_whole_number}
 use Rattle.bp_text.proofs.PartsOfTexts.{some_left}
 use Rattle.bp_text.proofs.decimals.number_of.Goals as goal

@@ -1,5 +1,4 @@
-use Rattle.std.proofs.lemmas.Grind.{common_steps}
-use Rattle.std.proofs.Common.{◌∙◌, ◌++◌, ap, arith}
+use Rattle.bp_text.proofs.Common.{common_steps, ◌∙◌, ◌++◌, ap, arith}
 use Rattle.bp_text.proofs.DisplayedTexts.{all_displayed, displayed_next}
 use Rattle.bp_text.proofs.PartsOfTexts.{both_added}
 use Rattle.bp_text.proofs.displayed.push_displayed.Goals as goal

@@ -1,5 +1,4 @@
-use Rattle.std.proofs.Common.{◌≡◌, ◌++◌, take, drop}
-use Rattle.bp_text.specs.Pieces.{displayed, displayed_after}
+use Rattle.bp_text.proofs.Common.{◌≡◌, ◌++◌, take, drop, displayed, displayed_after}
 use Rattle.bp_text.proofs.displayed.push_displayed.Given as goal
 
 abbrev pub invariant-loop-at : goal.invariant-loop-at

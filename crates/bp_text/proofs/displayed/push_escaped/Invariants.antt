@@ -1,5 +1,4 @@
-use Rattle.std.proofs.Common.{◌≡◌, ◌++◌, flat_map, take}
-use Rattle.bp_text.specs.Pieces.{string_byte}
+use Rattle.bp_text.proofs.Common.{◌≡◌, ◌++◌, flat_map, take, string_byte}
 use Rattle.bp_text.proofs.displayed.push_escaped.Given as goal
 
 abbrev pub invariant-loop-byte : goal.invariant-loop-byte

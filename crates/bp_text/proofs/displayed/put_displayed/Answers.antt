@@ -1,5 +1,4 @@
-use Rattle.std.proofs.Common.{◌∙◌, ap, get_or}
-use Rattle.bp_text.specs.Pieces.{control_bytes, displayed_byte}
+use Rattle.bp_text.proofs.Common.{◌∙◌, ap, get_or, control_bytes, displayed_byte}
 use Rattle.bp_text.proofs.DisplayedTexts.{displayed_at}
 use Rattle.bp_text.proofs.Givings.{left_after}
 use Rattle.bp_text.proofs.displayed.put_displayed.Goals as goal

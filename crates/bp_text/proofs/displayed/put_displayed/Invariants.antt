@@ -1,5 +1,4 @@
-use Rattle.std.proofs.Common.{drop}
-use Rattle.bp_text.specs.Pieces.{displayed, displayed_after}
+use Rattle.bp_text.proofs.Common.{drop, displayed, displayed_after}
 use Rattle.bp_text.proofs.Givings.{IsLeft}
 use Rattle.bp_text.proofs.displayed.put_displayed.Given as goal
 

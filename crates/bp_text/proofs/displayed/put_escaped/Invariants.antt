@@ -1,6 +1,4 @@
-use Rattle.std.proofs.Common.{flat_map, take}
-use Rattle.bp_text.specs.Pieces.{string_byte}
-use Rattle.bp_text.specs.Writing.{Given}
+use Rattle.bp_text.proofs.Common.{flat_map, take, string_byte, Given}
 use Rattle.bp_text.proofs.displayed.put_escaped.Given as goal
 
 abbrev pub invariant-loop-byte : goal.invariant-loop-byte

@@ -1,4 +1,4 @@
-use Rattle.std.proofs.lemmas.Bool.Decides.{Decides-eqb}
+use Rattle.bp_text.proofs.Common.{Decides-eqb}
 use Rattle.std.proofs.lemmas.Slice.Eq.{strip_prefix_is}
 use Rattle.bp_text.proofs.Readings.{finds_after}
 use Rattle.bp_text.proofs.formats.after_word.Goals as goal

@@ -1,5 +1,4 @@
-use Rattle.std.proofs.Common.{subst, sym, arith, rules}
-use Rattle.bp_text.specs.Formats.{EndsNumber}
+use Rattle.bp_text.proofs.Common.{subst, sym, arith, rules, EndsNumber}
 use Rattle.bp_text.proofs.NumbersInTurn.{ends_at, ends_empty, first_front, leading_zero, more_front, no_digit_first, no_number_of_none, number_there, too_large}
 use Rattle.bp_text.proofs.formats.long_number_at.Goals as goal
 

@@ -1,4 +1,4 @@
-use Rattle.std.proofs.Common.{length}
+use Rattle.bp_text.proofs.Common.{length}
 use Rattle.bp_text.proofs.NumbersInTurn.{IsFront}
 use Rattle.bp_text.proofs.formats.long_number_at.Given as goal
 

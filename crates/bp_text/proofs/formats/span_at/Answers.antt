@@ -1,5 +1,4 @@
-use Rattle.std.proofs.Common.{◌∙◌, sym}
-use Rattle.bp_text.specs.Formats.{Stops}
+use Rattle.bp_text.proofs.Common.{◌∙◌, sym, Stops}
 use Rattle.bp_text.proofs.SpansInTurn.{is_span, stops_at, stops_at_end, takes}
 use Rattle.bp_text.proofs.formats.span_at.Goals as goal
 use Rattle.bp_text.proofs.formats.span_at.Goals.{in-Some+in_default-after, in_default}

@@ -1,4 +1,4 @@
-use Rattle.std.proofs.Common.{length}
+use Rattle.bp_text.proofs.Common.{length}
 use Rattle.bp_text.proofs.SpansInTurn.{HasCome}
 use Rattle.bp_text.proofs.formats.span_at.Given as goal
 

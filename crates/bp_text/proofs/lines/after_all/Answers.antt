@@ -1,5 +1,5 @@
-use Rattle.std.proofs.Common.{append_assoc, rules}
-use Rattle.std.proofs.lemmas.List.{take_all, take_more}
+use Rattle.bp_text.proofs.Common.{append_assoc, rules, take_more}
+use Rattle.std.proofs.lemmas.List.{take_all}
 use Rattle.bp_text.proofs.lines.after_all.Goals as goal
 
 pub loop-byte-preserved : goal.loop-byte-preserved

@@ -1,5 +1,4 @@
-use Rattle.std.proofs.Common.{◌≡◌, ◌++◌, ◌+◌, ◌≤◌, ℕ, List, take}
-use Rattle.bp_text.specs.Lines.{position_after}
+use Rattle.bp_text.proofs.Common.{◌≡◌, ◌++◌, ◌+◌, ◌≤◌, ℕ, List, take, position_after}
 use Rattle.bp_text.proofs.lines.after_all.Given as goal
 
 abbrev pub invariant-loop-byte : goal.invariant-loop-byte

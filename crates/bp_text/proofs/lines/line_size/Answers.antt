@@ -1,5 +1,4 @@
-use Rattle.std.proofs.Common.{◌==◌, ◌≤◌, length, sym, arith, eq-eqb, rules}
-use Rattle.std.proofs.lemmas.List.Sums.{position_or_len_is}
+use Rattle.bp_text.proofs.Common.{◌==◌, ◌≤◌, length, sym, arith, eq-eqb, rules, position_or_len_is}
 use Rattle.bp_text.proofs.lines.line_size.Goals as goal
 
 pub returns-then-byte-eq10 : goal.returns-then-byte-eq10

@@ -1,4 +1,4 @@
-use Rattle.std.proofs.Common.{◌≡◌, ◌==◌, ◌<◌, ℕ, false, get_or}
+use Rattle.bp_text.proofs.Common.{◌≡◌, ◌==◌, ◌<◌, ℕ, false, get_or}
 use Rattle.bp_text.proofs.lines.line_size.Given as goal
 
 abbrev pub invariant-loop-i : goal.invariant-loop-i

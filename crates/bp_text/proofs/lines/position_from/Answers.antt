@@ -1,4 +1,4 @@
-use Rattle.std.proofs.Common.{rules}
+use Rattle.bp_text.proofs.Common.{rules}
 use Rattle.bp_text.proofs.LinesOfTexts.{take_parts, taken_within, line_within}
 use Rattle.bp_text.proofs.lines.position_from.Goals as goal
 

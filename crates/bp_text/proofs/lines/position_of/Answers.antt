@@ -1,5 +1,4 @@
-use Rattle.std.proofs.Common.{◌∙◌, [], ap, sym, refl, arith, take_all}
-use Rattle.bp_text.specs.Lines.{position_after}
+use Rattle.bp_text.proofs.Common.{◌∙◌, [], ap, sym, refl, arith, take_all, position_after}
 use Rattle.bp_text.proofs.lines.position_of.Goals as goal
 
 pub returns-then-at-text : goal.returns-then-at-text

@@ -1,5 +1,4 @@
-use Rattle.std.proofs.Common.{◌≡◌, ◌++◌, take, map}
-use Rattle.bp_text.specs.Lines.{on_one_line}
+use Rattle.bp_text.proofs.Common.{◌≡◌, ◌++◌, take, map, on_one_line}
 use Rattle.bp_text.proofs.lines.push_on_one_line.Given as goal
 
 abbrev pub invariant-loop-byte : goal.invariant-loop-byte

@@ -1,5 +1,4 @@
-use Rattle.bp_text.specs.Pieces.{spaces}
-use Rattle.bp_text.specs.Writing.{Given}
+use Rattle.bp_text.proofs.Common.{spaces, Given}
 use Rattle.bp_text.proofs.pieces.put_spaces.Given as goal
 
 abbrev pub invariant-loop-done : goal.invariant-loop-done

@@ -1,4 +1,4 @@
-use Rattle.std.proofs.Common.{arith, length-drop}
+use Rattle.bp_text.proofs.Common.{arith, length-drop}
 use Rattle.bp_text.proofs.Givings.{all_from, Appends_next}
 use Rattle.bp_text.proofs.sinks.put.Goals as goal
 

@@ -1,5 +1,4 @@
-use Rattle.std.proofs.Common.{length, take, ◌-◌, ◌≤◌}
-use Rattle.std.specs.Io.KnownBytes.{Appends}
+use Rattle.bp_text.proofs.Common.{length, take, ◌-◌, ◌≤◌, Appends}
 use Rattle.bp_text.proofs.sinks.put.Given as goal
 
 abbrev pub invariant-loop-done : goal.invariant-loop-done

@@ -1,7 +1,4 @@
-use Rattle.std.proofs.Common.{◌∙◌, sym, subst}
-use Rattle.std.proofs.lemmas.Result.{err_from_is_err_and}
-use Rattle.bp_flat.specs.StandsFor.{IsOfProgram, StandsFor}
-use Rattle.bp_machine.proofs.SetupInRange.{same_open}
+use Rattle.bp_trace.proofs.Common.{◌∙◌, sym, subst, err_from_is_err_and, IsOfProgram, StandsFor, same_open}
 use Rattle.bp_trace.proofs.driving.drive.Goals as goal
 
 pub play-requires-clause-program : goal.play-requires-clause-program

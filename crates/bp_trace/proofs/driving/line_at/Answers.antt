@@ -1,4 +1,4 @@
-use Rattle.bp_text.proofs.Readings.{no_first, no_second, no_word_after, none_as, none_before}
+use Rattle.bp_trace.proofs.Common.{no_first, no_second, no_word_after, none_as, none_before}
 use Rattle.bp_trace.proofs.driving.line_at.Goals as goal
 
 pub returns-in_default : goal.returns-in_default

@@ -1,8 +1,4 @@
-use Rattle.std.proofs.lemmas.Grind.{common_steps}
-use Rattle.std.proofs.Common.{◌∙◌, sym, subst, arith}
-use Rattle.std.proofs.lemmas.Result.{err_from_is_err_and}
-use Rattle.bp_text.proofs.PartsOfTexts.{some_left}
-use Rattle.bp_flat.specs.StandsFor.{IsOfProgram, StandsFor}
+use Rattle.bp_trace.proofs.Common.{common_steps, ◌∙◌, sym, subst, arith, err_from_is_err_and, some_left, IsOfProgram, StandsFor}
 use Rattle.bp_trace.proofs.ScheduleLines.{bad_line, line_refused, line_found, no_line}
 use Rattle.bp_trace.proofs.driving.play.Goals as goal
 

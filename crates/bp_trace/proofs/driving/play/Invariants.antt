@@ -1,6 +1,4 @@
-use Rattle.std.proofs.Common.{◌≡◌, ◌≤◌, ◌+◌, ◌++◌, length}
-use Rattle.bp_trace.specs.TraceText.{schedule_text, lines_of_history}
-use Rattle.bp_machine.specs.Sessions.{StandsForAll}
+use Rattle.bp_trace.proofs.Common.{◌≡◌, ◌≤◌, ◌+◌, ◌++◌, length, schedule_text, lines_of_history, StandsForAll}
 use Rattle.bp_trace.proofs.driving.play.Given as goal
 
 abbrev pub invariant-loop-rest : goal.invariant-loop-rest

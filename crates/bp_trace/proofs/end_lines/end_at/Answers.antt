@@ -1,4 +1,4 @@
-use Rattle.bp_text.proofs.Readings.{after_at, both_at, no_first, no_second, no_word_before, none_after}
+use Rattle.bp_trace.proofs.Common.{after_at, both_at, no_first, no_second, no_word_before, none_after}
 use Rattle.bp_trace.proofs.EndLineAt.{has_end, no_end}
 use Rattle.bp_trace.proofs.end_lines.end_at.Goals as goal
 

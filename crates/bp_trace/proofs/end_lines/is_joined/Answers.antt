@@ -1,5 +1,4 @@
-use Rattle.std.proofs.Common.{None, Some}
-use Rattle.std.proofs.lemmas.Bool.Decides.{Decides-eqb}
+use Rattle.bp_trace.proofs.Common.{None, Some, Decides-eqb}
 use Rattle.std.proofs.lemmas.Slice.Eq.{strip_prefix_is}
 use Rattle.bp_trace.proofs.EndLineAt.{one_more, one_missing}
 use Rattle.bp_trace.proofs.end_lines.is_joined.Goals as goal

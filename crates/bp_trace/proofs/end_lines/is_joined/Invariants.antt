@@ -1,4 +1,4 @@
-use Rattle.std.proofs.Common.{◌≡◌, ◌++◌, flat_map, take}
+use Rattle.bp_trace.proofs.Common.{◌≡◌, ◌++◌, flat_map, take}
 use Rattle.bp_trace.proofs.end_lines.is_joined.Given as goal
 
 abbrev pub invariant-loop-piece : goal.invariant-loop-piece

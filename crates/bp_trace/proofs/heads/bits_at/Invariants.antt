@@ -1,6 +1,4 @@
-use Rattle.std.proofs.Common.{length}
-use Rattle.bp_text.proofs.WholeTexts.{AreReadTo}
-use Rattle.bp_text.specs.Formats.{bit}
+use Rattle.bp_trace.proofs.Common.{length, AreReadTo, bit}
 use Rattle.bp_trace.proofs.heads.bits_at.Given as goal
 
 abbrev pub invariant-loop-bit : goal.invariant-loop-bit

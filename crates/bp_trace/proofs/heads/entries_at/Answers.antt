@@ -1,4 +1,4 @@
-use Rattle.bp_text.proofs.WholeTexts.{all_read}
+use Rattle.bp_trace.proofs.Common.{all_read}
 use Rattle.bp_trace.proofs.heads.entries_at.Goals as goal
 
 pub returns : goal.returns

@@ -1,6 +1,4 @@
-use Rattle.std.proofs.Common.{length, map}
-use Rattle.bp_text.proofs.WholeTexts.{AreReadTo}
-use Rattle.bp_trace.specs.HeadFormat.{entry}
+use Rattle.bp_trace.proofs.Common.{length, map, AreReadTo, entry}
 use Rattle.bp_trace.proofs.heads.entries_at.Given as goal
 
 abbrev pub invariant-loop-name : goal.invariant-loop-name

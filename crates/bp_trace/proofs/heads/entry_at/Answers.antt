@@ -1,4 +1,4 @@
-use Rattle.bp_text.proofs.Readings.{after_at, no_feed, no_word_before, none_in_line}
+use Rattle.bp_trace.proofs.Common.{after_at, no_feed, no_word_before, none_in_line}
 use Rattle.bp_trace.proofs.heads.entry_at.Goals as goal
 
 pub returns-in_default : goal.returns-in_default

@@ -1,9 +1,4 @@
-use Rattle.std.proofs.Common.{◌==◌, ap, ◌∙◌, subst, sym}
-use Rattle.bp_text.specs.Formats.{bit}
-use Rattle.bp_text.specs.Formats.{IsAt}
-use Rattle.bp_text.specs.Formats.Format.{Many}
-use Rattle.bp_text.proofs.PartsOfTexts.{none_left}
-use Rattle.bp_text.proofs.Readings.{neither, no_first, none_as, none_of_many}
+use Rattle.bp_trace.proofs.Common.{◌==◌, ap, ◌∙◌, subst, sym, bit, IsAt, Many, none_left, neither, no_first, none_as, none_of_many}
 use Rattle.bp_trace.proofs.heads.init_value_at.Goals as goal
 
 pub returns-then-is_empty : goal.returns-then-is_empty

@@ -1,8 +1,4 @@
-use Rattle.std.proofs.Common.{inl, refl, arith}
-use Rattle.std.proofs.lemmas.List.{length-map}
-use Rattle.bp_text.proofs.Breaks.{breaks_after}
-use Rattle.bp_text.proofs.Readings.{at_as, both_at}
-use Rattle.bp_trace.specs.HeadFormat.{last_limits, limits, seed}
+use Rattle.bp_trace.proofs.Common.{inl, refl, arith, length-map, breaks_after, at_as, both_at, last_limits, limits, seed}
 use Rattle.bp_trace.proofs.HeadsRead.{breaks_after_entries, few_entries, is_head}
 use Rattle.bp_trace.proofs.heads.read_head.Goals as goal
 

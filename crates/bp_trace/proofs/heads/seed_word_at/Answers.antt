@@ -1,4 +1,4 @@
-use Rattle.bp_text.proofs.Readings.{at_as, neither, none_as, right_at}
+use Rattle.bp_trace.proofs.Common.{at_as, neither, none_as, right_at}
 use Rattle.bp_trace.proofs.heads.seed_word_at.Goals as goal
 
 pub returns-in-None : goal.returns-in-None

@@ -1,4 +1,4 @@
-use Rattle.bp_text.proofs.Readings.{no_feed}
+use Rattle.bp_trace.proofs.Common.{no_feed}
 use Rattle.bp_trace.proofs.heads.version_at.Goals as goal
 
 pub returns-in-None : goal.returns-in-None

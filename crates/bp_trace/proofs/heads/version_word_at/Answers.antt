@@ -1,4 +1,4 @@
-use Rattle.bp_text.proofs.Readings.{neither, none_as}
+use Rattle.bp_trace.proofs.Common.{neither, none_as}
 use Rattle.bp_trace.proofs.heads.version_word_at.Goals as goal
 
 pub returns-in-None : goal.returns-in-None

@@ -1,6 +1,4 @@
-use Rattle.std.proofs.Common.{◌∙◌, sym, subst, rules}
-use Rattle.std.proofs.lemmas.Result.{err_from_is_err_and}
-use Rattle.bp_flat.specs.StandsFor.{StandsFor}
+use Rattle.bp_trace.proofs.Common.{◌∙◌, sym, subst, rules, err_from_is_err_and, StandsFor}
 use Rattle.bp_trace.proofs.LongestAccepted.{line_refused, playable_of, played_more, history_more}
 use Rattle.bp_trace.proofs.playing.judge_line.Goals as goal
 

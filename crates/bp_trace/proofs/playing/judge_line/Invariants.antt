@@ -1,7 +1,4 @@
-use Rattle.std.proofs.Common.{◌≡◌, ◌++◌, take}
-use Rattle.bp_language.specs.Ast.{Program}
-use Rattle.bp_flat.specs.StandsFor.{StandsFor}
-use Rattle.bp_trace.specs.Judging.{ArePlayed, Watches}
+use Rattle.bp_trace.proofs.Common.{◌≡◌, ◌++◌, take, Program, StandsFor, ArePlayed, Watches}
 use Rattle.bp_trace.proofs.playing.judge_line.Given as goal
 
 abbrev pub invariant-loop-call : goal.invariant-loop-call

@@ -1,4 +1,4 @@
-use Rattle.std.proofs.Common.{sym}
+use Rattle.bp_trace.proofs.Common.{sym}
 use Rattle.bp_trace.proofs.LongestAccepted.{last_is}
 use Rattle.bp_trace.proofs.playing.last_thread.Goals as goal
 

@@ -1,5 +1,4 @@
-use Rattle.std.proofs.Common.{◌∙◌, sym, subst, rules}
-use Rattle.bp_flat.specs.StandsFor.{StandsFor}
+use Rattle.bp_trace.proofs.Common.{◌∙◌, sym, subst, rules, StandsFor}
 use Rattle.bp_trace.proofs.PiecesAreFewest.{line_below}
 use Rattle.bp_trace.proofs.LongestAccepted.{playable_of, next_line, body_refused}
 use Rattle.bp_trace.proofs.playing.play.Goals as goal

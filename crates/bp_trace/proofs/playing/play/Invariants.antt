@@ -1,9 +1,4 @@
-use Rattle.std.proofs.Common.{◌≡◌, ◌≤◌, ◌-◌, ◌+◌, ◌++◌, length, drop}
-use Rattle.bp_language.specs.Ast.{Program}
-use Rattle.bp_flat.specs.StandsFor.{StandsFor}
-use Rattle.bp_trace.specs.Judging.{ArePlayed, WatchesAll}
-use Rattle.bp_trace.specs.Replays.{line_count}
-use Rattle.bp_trace.specs.TraceText.{calls_text}
+use Rattle.bp_trace.proofs.Common.{◌≡◌, ◌≤◌, ◌-◌, ◌+◌, ◌++◌, length, drop, Program, StandsFor, ArePlayed, WatchesAll, line_count, calls_text}
 use Rattle.bp_trace.proofs.playing.play.Given as goal
 
 abbrev pub invariant-loop-calls : goal.invariant-loop-calls

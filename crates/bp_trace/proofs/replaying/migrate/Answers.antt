@@ -1,5 +1,4 @@
-use Rattle.bp_machine.specs.Histories.{open_lines}
-use Rattle.bp_machine.proofs.SetupInRange.{same_number}
+use Rattle.bp_trace.proofs.Common.{open_lines, same_number}
 use Rattle.bp_trace.proofs.replaying.migrate.Goals as goal
 
 pub write_with_open_lines-requires : goal.write_with_open_lines-requires

@@ -1,5 +1,4 @@
-use Rattle.std.proofs.lemmas.Grind.{common_steps}
-use Rattle.std.proofs.Common.{refl, arith}
+use Rattle.bp_trace.proofs.Common.{common_steps, refl, arith}
 use Rattle.bp_trace.proofs.ReplayedTexts.{head_fits, head_opened}
 use Rattle.bp_trace.proofs.replaying.open.Goals as goal
 

@@ -1,6 +1,4 @@
-use Rattle.std.proofs.Common.{◌+◌, ap, inr, subst, sym, rules}
-use Rattle.std.proofs.lemmas.Result.{err_from_is_err_and}
-use Rattle.bp_flat.specs.StandsFor.{StandsFor}
+use Rattle.bp_trace.proofs.Common.{◌+◌, ap, inr, subst, sym, rules, err_from_is_err_and, StandsFor}
 use Rattle.bp_trace.proofs.LongestAccepted.{playable_of}
 use Rattle.bp_trace.proofs.ReplayedTexts.{body_keeps, body_refuses, end_keeps, end_refuses}
 use Rattle.bp_trace.proofs.replaying.play_opened.Goals as goal

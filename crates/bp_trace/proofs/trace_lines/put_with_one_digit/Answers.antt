@@ -1,5 +1,4 @@
-use Rattle.std.proofs.Common.{rules}
-use Rattle.std.proofs.lemmas.Fmt.{decimal_digit}
+use Rattle.bp_trace.proofs.Common.{rules, decimal_digit}
 use Rattle.bp_trace.proofs.trace_lines.put_with_one_digit.Goals as goal
 
 pub returns : goal.returns

@@ -1,5 +1,4 @@
-use Rattle.std.proofs.Common.{◌∙◌, sym, arith, rules}
-use Rattle.std.proofs.lemmas.Bool.{false≢true}
+use Rattle.bp_trace.proofs.Common.{◌∙◌, sym, arith, rules, false≢true}
 use Rattle.bp_trace.proofs.EndLineAt.{no_piece_of_last, no_piece, no_thread_no_piece, has_piece}
 use Rattle.bp_trace.proofs.trace_lines.read_piece.Goals as goal
 use Rattle.bp_trace.proofs.trace_lines.read_piece.Goals.{else-size-gt0-via-then-size-gt0+else-has_byte, else-size-gt0-via-else-size-gt0}

@@ -1,4 +1,4 @@
-use Rattle.std.proofs.Common.{rules}
+use Rattle.bp_trace.proofs.Common.{rules}
 use Rattle.bp_trace.proofs.EndLineAt.{symbol_read}
 use Rattle.bp_trace.proofs.trace_lines.read_symbols.Goals as goal
 

@@ -1,4 +1,4 @@
-use Rattle.std.proofs.Common.{◌-◌, length}
+use Rattle.bp_trace.proofs.Common.{◌-◌, length}
 use Rattle.bp_trace.proofs.EndLineAt.{HasRead}
 use Rattle.bp_trace.proofs.trace_lines.read_symbols.Given as goal
 

@@ -1,4 +1,4 @@
-use Rattle.bp_text.proofs.Readings.{no_word_after}
+use Rattle.bp_trace.proofs.Common.{no_word_after}
 use Rattle.bp_trace.proofs.trace_lines.thread_at.Goals as goal
 
 pub returns-in-None : goal.returns-in-None

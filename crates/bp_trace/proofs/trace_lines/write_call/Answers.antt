@@ -1,4 +1,4 @@
-use Rattle.bp_text.proofs.Givings.{written_at_end}
+use Rattle.bp_trace.proofs.Common.{written_at_end}
 use Rattle.bp_trace.proofs.trace_lines.write_call.Goals as goal
 
 pub returns : goal.returns

@@ -1,6 +1,4 @@
-use Rattle.std.proofs.Common.{flat_map, take}
-use Rattle.bp_text.specs.Writing.{Given}
-use Rattle.bp_trace.specs.TraceText.{call_line}
+use Rattle.bp_trace.proofs.Common.{flat_map, take, Given, call_line}
 use Rattle.bp_trace.proofs.traces.put_calls.Given as goal
 
 abbrev pub invariant-loop-call : goal.invariant-loop-call

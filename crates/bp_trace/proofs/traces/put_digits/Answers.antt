@@ -1,5 +1,4 @@
-use Rattle.std.proofs.Common.{rules}
-use Rattle.std.proofs.lemmas.Bool.Decides.{nat_tests}
+use Rattle.bp_trace.proofs.Common.{rules, nat_tests}
 use Rattle.bp_trace.proofs.HeadsRead.{some_digits}
 use Rattle.bp_trace.proofs.traces.put_digits.Goals as goal
 

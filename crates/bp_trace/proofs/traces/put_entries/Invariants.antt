@@ -1,6 +1,4 @@
-use Rattle.std.proofs.Common.{flat_map, map, string_bytes, take}
-use Rattle.bp_text.specs.Writing.{Given}
-use Rattle.bp_trace.specs.TraceText.{entry_line}
+use Rattle.bp_trace.proofs.Common.{flat_map, map, string_bytes, take, Given, entry_line}
 use Rattle.bp_trace.proofs.traces.put_entries.Given as goal
 
 abbrev pub invariant-loop-name : goal.invariant-loop-name

@@ -1,6 +1,4 @@
-use Rattle.std.proofs.lemmas.Grind.{common_steps}
-use Rattle.std.proofs.Common.{arith}
-use Rattle.bp_text.proofs.Givings.{and_then}
+use Rattle.bp_trace.proofs.Common.{common_steps, arith, and_then}
 use Rattle.bp_trace.proofs.HeadsRead.{head_parts}
 use Rattle.bp_trace.proofs.traces.put_head_of.Goals as goal
 

@@ -1,6 +1,4 @@
-use Rattle.std.proofs.Common.{None, length}
-use Rattle.bp_text.proofs.Givings.{IsLeft}
-use Rattle.bp_trace.specs.Reading.{symbols_after}
+use Rattle.bp_trace.proofs.Common.{None, length, IsLeft, symbols_after}
 use Rattle.bp_trace.proofs.traces.put_symbols.Given as goal
 
 abbrev pub invariant-loop-call : goal.invariant-loop-call

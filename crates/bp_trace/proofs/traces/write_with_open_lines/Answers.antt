@@ -1,4 +1,4 @@
-use Rattle.bp_text.proofs.Givings.{and_then, written_at_end}
+use Rattle.bp_trace.proofs.Common.{and_then, written_at_end}
 use Rattle.bp_trace.proofs.traces.write_with_open_lines.Goals as goal
 
 pub returns : goal.returns

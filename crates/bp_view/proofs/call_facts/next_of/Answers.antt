@@ -1,4 +1,4 @@
-use Rattle.bp_machine.specs.Histories.{stack_of}
+use Rattle.bp_view.proofs.Common.{stack_of}
 use Rattle.bp_view.proofs.PlacedStacks.{next_of_top}
 use Rattle.bp_view.proofs.call_facts.next_of.Goals as goal
 

@@ -1,8 +1,5 @@
-use Rattle.std.proofs.Common.{◌≡◌, ◌++◌, ◌∷◌, [], ℕ, List, Option, None, Some, true, false, MatchOption, rules}
+use Rattle.bp_view.proofs.Common.{◌≡◌, ◌++◌, ◌∷◌, [], ℕ, List, Option, None, Some, true, false, MatchOption, rules, IsLeastWithin, granted_threads, is_granted, configuration_after-append, IsContext}
 use Rattle.bp_machine.specs.declared.calls.Call.{Call as Answered}
-use Rattle.bp_machine.specs.Histories.{IsLeastWithin, granted_threads, is_granted}
-use Rattle.bp_machine.proofs.HistoryWithCall.{configuration_after-append}
-use Rattle.bp_view.specs.CallFacts.{IsContext}
 use Rattle.bp_view.proofs.NextConfigurations.{next_of_call}
 use Rattle.bp_view.proofs.checkpoints.replayed_call.Goals as goal
 

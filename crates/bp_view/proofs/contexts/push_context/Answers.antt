@@ -1,7 +1,4 @@
-use Rattle.std.proofs.Common.{◌∙◌, List, map, ap, refl}
-use Rattle.bp_view.specs.declared.change_facts.Change.{Change}
-use Rattle.bp_view.specs.CallFacts.{entry_of}
-use Rattle.bp_view.specs.ContextLines.{context_in}
+use Rattle.bp_view.proofs.Common.{◌∙◌, List, map, ap, refl, Change, entry_of, context_in}
 use Rattle.bp_view.proofs.Growing.{gains}
 use Rattle.bp_view.proofs.contexts.push_context.Goals as goal
 

@@ -1,5 +1,4 @@
-use Rattle.std.proofs.Common.{◌≡◌, length, add-one, arith}
-use Rattle.bp_text.proofs.PartsOfTexts.{one_added}
+use Rattle.bp_view.proofs.Common.{◌≡◌, length, add-one, arith, one_added}
 use Rattle.bp_view.proofs.SpansOfHistories.{span_of}
 use Rattle.bp_view.proofs.contexts.push_contexts.Goals as goal
 

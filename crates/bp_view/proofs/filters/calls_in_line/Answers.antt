@@ -1,6 +1,4 @@
-use Rattle.std.proofs.Common.{reverse, rules}
-use Rattle.std.proofs.lemmas.Bool.Decides.{nat_tests}
-use Rattle.std.proofs.lemmas.List.{length-reverse}
+use Rattle.bp_view.proofs.Common.{reverse, rules, nat_tests, length-reverse}
 use Rattle.bp_view.proofs.CallsOfLines.{at_most}
 use Rattle.bp_view.proofs.filters.calls_in_line.Goals as goal
 

@@ -1,5 +1,4 @@
-use Rattle.std.proofs.Common.{◌-◌, ◌≡◌, ◌+◌, ◌≤◌, ℕ, reverse}
-use Rattle.bp_view.specs.Filters.{waits_like}
+use Rattle.bp_view.proofs.Common.{◌-◌, ◌≡◌, ◌+◌, ◌≤◌, ℕ, reverse, waits_like}
 use Rattle.bp_view.proofs.filters.waits_before.Given as goal
 
 pub record Counted (all left limit count : ℕ) : Type 0 where

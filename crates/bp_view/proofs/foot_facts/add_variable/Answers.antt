@@ -1,13 +1,4 @@
-use Rattle.std.proofs.Common.{◌≡◌, ◌∙◌, ◌++◌, ◌∷◌, [], ℕ, List, Bool, Option, Some, None, map, ap, append-nil, refl, sym, rules, option_map}
-use Rattle.std.proofs.lemmas.List.{map-append}
-use Rattle.bp_language.specs.Ast.{Name, Procedure}
-use Rattle.bp_flat.specs.InstrEffects.{bits_of}
-use Rattle.bp_flat.specs.StandsFor.{named_store, variables}
-use Rattle.bp_flat.specs.Steps.{Bits}
-use Rattle.bp_language.specs.Faults.{first_index}
-use Rattle.bp_flat.proofs.SlotsOfNames.{value_of_slot}
-use Rattle.bp_view.specs.CallFacts.{entry_of, Entry}
-use Rattle.bp_view.specs.FootFacts.{named_entry, resolved}
+use Rattle.bp_view.proofs.Common.{◌≡◌, ◌∙◌, ◌++◌, ◌∷◌, [], ℕ, List, Bool, Option, Some, None, map, ap, append-nil, refl, sym, rules, option_map, map-append, Name, Procedure, bits_of, named_store, variables, Bits, first_index, value_of_slot, entry_of, Entry, named_entry, resolved}
 use Rattle.bp_view.proofs.foot_facts.add_variable.Goals as goal
 
 -- what a name means, by the slots of the local and of the global of that name

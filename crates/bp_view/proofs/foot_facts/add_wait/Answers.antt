@@ -1,8 +1,4 @@
-use Rattle.std.proofs.Common.{◌≡◌, ◌∙◌, ◌++◌, ◌∷◌, [], suc, true, map, subst, sym, rules}
-use Rattle.std.proofs.lemmas.List.{map-append}
-use Rattle.bp_machine.specs.Histories.{configuration_after}
-use Rattle.bp_machine.specs.Runs.{waits}
-use Rattle.bp_view.specs.FootFacts.{condition_in, waiting, AreWaitsFacts}
+use Rattle.bp_view.proofs.Common.{◌≡◌, ◌∙◌, ◌++◌, ◌∷◌, [], suc, true, map, subst, sym, rules, map-append, configuration_after, waits, condition_in, waiting, AreWaitsFacts}
 use Rattle.bp_view.proofs.WholeFacts.{one_wait_more}
 use Rattle.bp_view.proofs.FailedConditions.{at_assumption}
 use Rattle.bp_view.proofs.foot_facts.add_wait.Goals as goal

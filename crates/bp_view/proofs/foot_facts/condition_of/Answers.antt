@@ -1,9 +1,5 @@
-use Rattle.std.proofs.Common.{◌≡◌, ◌∙◌, Some, ap, is_some, refl, sym}
-use Rattle.std.proofs.lemmas.Bool.{false≢true}
+use Rattle.bp_view.proofs.Common.{◌≡◌, ◌∙◌, Some, ap, is_some, refl, sym, false≢true, place, stack_of, configuration_after, next_decision}
 use Rattle.bp_language.specs.Views.{decision_of}
-use Rattle.bp_flat.specs.StandsFor.{place}
-use Rattle.bp_machine.specs.Histories.{stack_of, configuration_after}
-use Rattle.bp_source.specs.Names.{next_decision}
 use Rattle.bp_view.proofs.FailedConditions.{decision_is, position_is, standing_facts}
 use Rattle.bp_view.proofs.foot_facts.condition_of.Goals as goal
 

@@ -1,13 +1,5 @@
-use Rattle.std.proofs.Common.{◌≡◌, ◌∙◌, ℕ, List, Option, sym, option_map, IsSomeAnd, rules}
-use Rattle.std.proofs.lemmas.Result.{IfOk-weaker}
-use Rattle.bp_language.specs.Ast.{Program}
-use Rattle.bp_machine.specs.declared.calls.Call.{Call}
-use Rattle.bp_machine.specs.declared.calls.Outcome.TheVariants.{Failed}
-use Rattle.bp_machine.specs.Histories.{configuration_after, outcome_of, IsRealFailure}
-use Rattle.bp_machine.specs.Setups.{SetupOf}
-use Rattle.bp_machine.proofs.RealFailures.{real}
+use Rattle.bp_view.proofs.Common.{◌≡◌, ◌∙◌, ℕ, List, Option, sym, option_map, IsSomeAnd, rules, IfOk-weaker, Program, Call, Failed, configuration_after, outcome_of, IsRealFailure, SetupOf, real, condition_in, AreFailureFacts, AreStandingFacts}
 use Rattle.bp_view.specs.declared.foot_facts.ConditionFacts.{ConditionFacts}
-use Rattle.bp_view.specs.FootFacts.{condition_in, AreFailureFacts, AreStandingFacts}
 use Rattle.bp_view.proofs.FailedConditions.{assertion_facts, at_assertion}
 use Rattle.bp_view.proofs.foot_facts.failure_of.Goals as goal
 

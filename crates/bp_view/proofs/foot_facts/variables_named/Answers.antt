@@ -1,5 +1,4 @@
-use Rattle.std.proofs.lemmas.Grind.{common_steps}
-use Rattle.std.proofs.Common.{arith}
+use Rattle.bp_view.proofs.Common.{common_steps, arith}
 use Rattle.bp_view.proofs.SingleFacts.{all_mapped}
 use Rattle.bp_view.proofs.foot_facts.variables_named.Goals as goal
 

@@ -1,8 +1,4 @@
-use Rattle.std.proofs.Common.{◌≡◌, flat_map, map, take}
-use Rattle.bp_flat.specs.InstrEffects.{store_of}
-use Rattle.bp_flat.specs.StandsFor.{named_store}
-use Rattle.bp_view.specs.CallFacts.{entry_of}
-use Rattle.bp_view.specs.FootFacts.{named_entry}
+use Rattle.bp_view.proofs.Common.{◌≡◌, flat_map, map, take, store_of, named_store, entry_of, named_entry}
 use Rattle.bp_view.proofs.foot_facts.variables_named.Given as goal
 
 abbrev pub invariant-loop-name : goal.invariant-loop-name

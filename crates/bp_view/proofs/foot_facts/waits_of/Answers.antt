@@ -1,7 +1,4 @@
-use Rattle.std.proofs.Common.{◌≡◌, ◌∙◌, map, subst, sym, ap, add-one, arith}
-use Rattle.bp_machine.specs.Histories.{configuration_after}
-use Rattle.bp_machine.specs.Setups.{threads}
-use Rattle.bp_view.specs.FootFacts.{condition_in, waiting, AreWaitsFacts}
+use Rattle.bp_view.proofs.Common.{◌≡◌, ◌∙◌, map, subst, sym, ap, add-one, arith, configuration_after, threads, condition_in, waiting, AreWaitsFacts}
 use Rattle.bp_view.proofs.foot_facts.waits_of.Goals as goal
 
 pub loop-thread-preserved : goal.loop-thread-preserved

@@ -1,11 +1,4 @@
-use Rattle.std.proofs.Common.{List, ℕ, map}
-use Rattle.bp_language.specs.Ast.{Program}
-use Rattle.bp_flat.specs.StandsFor.{StandsFor}
-use Rattle.bp_machine.specs.declared.calls.Call.{Call}
-use Rattle.bp_machine.specs.Histories.{configuration_after}
-use Rattle.bp_machine.specs.Sessions.{Stands}
-use Rattle.bp_view.specs.FootFacts.{condition_in, waiting, AreWaitsFacts}
-use Rattle.bp_view.specs.CallFacts.{AreProgramFacts}
+use Rattle.bp_view.proofs.Common.{List, ℕ, map, Program, StandsFor, Call, configuration_after, Stands, condition_in, waiting, AreWaitsFacts, AreProgramFacts}
 use Rattle.bp_view.proofs.foot_facts.waits_of.Given as goal
 
 abbrev pub invariant-loop-thread : goal.invariant-loop-thread

@@ -1,7 +1,4 @@
-use Rattle.std.proofs.Common.{flat_map, take}
-use Rattle.bp_view.specs.Buffers.{Grown}
-use Rattle.bp_view.specs.StateFacts.{frame_in}
-use Rattle.bp_view.specs.States.{frame_text}
+use Rattle.bp_view.proofs.Common.{flat_map, take, Grown, frame_in, frame_text}
 use Rattle.bp_view.proofs.frames.push_frames.Given as goal
 
 abbrev pub invariant-loop-frame : goal.invariant-loop-frame

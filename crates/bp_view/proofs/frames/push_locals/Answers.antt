@@ -1,6 +1,4 @@
-use Rattle.std.proofs.Common.{Some}
-use Rattle.std.proofs.lemmas.Grind.{flat_map-append}
-use Rattle.bp_flat.specs.InstrEffects.{bits_of}
+use Rattle.bp_view.proofs.Common.{Some, flat_map-append, bits_of}
 use Rattle.bp_view.proofs.ChangedEntries.{from_first, values_both}
 use Rattle.bp_view.proofs.Growing.{and_then}
 use Rattle.bp_view.proofs.frames.push_locals.Goals as goal

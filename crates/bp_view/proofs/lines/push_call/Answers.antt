@@ -1,7 +1,4 @@
-use Rattle.std.proofs.Common.{◌≡◌, ◌++◌, ◌-◌, length, length-append, ap, arith}
-use Rattle.bp_text.specs.Pieces.{at_left}
-use Rattle.bp_view.specs.CallFacts.{facts_in}
-use Rattle.bp_view.specs.Lines.{indented}
+use Rattle.bp_view.proofs.Common.{◌≡◌, ◌++◌, ◌-◌, length, length-append, ap, arith, at_left, facts_in, indented}
 use Rattle.bp_view.proofs.ShownLines.{place_length}
 use Rattle.bp_view.proofs.Growing.{and_then, ends, regroup_pair}
 use Rattle.bp_view.proofs.lines.push_call.Goals as goal

@@ -1,7 +1,4 @@
-use Rattle.std.proofs.Common.{flat_map, take}
-use Rattle.bp_view.specs.Buffers.{Grown}
-use Rattle.bp_view.specs.CallFacts.{entry_of}
-use Rattle.bp_view.specs.Lines.{entry_text}
+use Rattle.bp_view.proofs.Common.{flat_map, take, Grown, entry_of, entry_text}
 use Rattle.bp_view.proofs.lines.push_changed.Given as goal
 
 abbrev pub invariant-loop-change : goal.invariant-loop-change

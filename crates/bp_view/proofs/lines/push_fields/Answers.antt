@@ -1,5 +1,4 @@
-use Rattle.std.proofs.Common.{◌∙◌, ◌+◌, ◌%◌, ◌^◌, ◌<◌, refl, rules}
-use Rattle.bp_view.specs.CallFacts.{facts_in}
+use Rattle.bp_view.proofs.Common.{◌∙◌, ◌+◌, ◌%◌, ◌^◌, ◌<◌, refl, rules, facts_in}
 use Rattle.bp_view.proofs.ShownLines.{fields_are}
 use Rattle.bp_view.proofs.lines.push_fields.Goals as goal
 

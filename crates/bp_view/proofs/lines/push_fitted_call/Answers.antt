@@ -1,5 +1,4 @@
-use Rattle.std.proofs.Common.{length-append, rules}
-use Rattle.std.proofs.lemmas.Bool.Decides.{nat_tests}
+use Rattle.bp_view.proofs.Common.{length-append, rules, nat_tests}
 use Rattle.bp_view.proofs.ShownLines.{taken}
 use Rattle.bp_view.proofs.lines.push_fitted_call.Goals as goal
 

@@ -1,9 +1,4 @@
-use Rattle.std.proofs.Common.{◌≡◌, ◌∙◌, ◌-◌, ◌++◌, [], ◌∷◌, length, length-append, ap, arith}
-use Rattle.std.specs.List.{concat}
-use Rattle.bp_text.specs.Pieces.{at_left}
-use Rattle.bp_text.proofs.PartsOfTexts.{regrouped}
-use Rattle.bp_view.specs.CallFacts.{facts_in}
-use Rattle.bp_view.specs.Lines.{field_texts, note_text, standing_text, shortened}
+use Rattle.bp_view.proofs.Common.{◌≡◌, ◌∙◌, ◌-◌, ◌++◌, [], ◌∷◌, length, length-append, ap, arith, concat, at_left, regrouped, facts_in, field_texts, note_text, standing_text, shortened}
 use Rattle.bp_view.proofs.Growing.{held}
 use Rattle.bp_view.proofs.lines.push_narrow_call.Goals as goal
 

@@ -1,6 +1,4 @@
-use Rattle.std.proofs.Common.{min, rules}
-use Rattle.std.proofs.lemmas.List.{nil_from_length}
-use Rattle.std.proofs.lemmas.Bool.Decides.{nat_tests}
+use Rattle.bp_view.proofs.Common.{min, rules, nil_from_length, nat_tests}
 use Rattle.bp_view.proofs.Growing.{nothing}
 use Rattle.bp_view.proofs.ShownLines.{statement_is}
 use Rattle.bp_view.proofs.lines.push_statement.Goals as goal

@@ -1,4 +1,4 @@
-use Rattle.bp_view.specs.FootFacts.{condition_in}
+use Rattle.bp_view.proofs.Common.{condition_in}
 use Rattle.bp_view.proofs.BegunViews.{copied}
 use Rattle.bp_view.proofs.Growing.{and_then, listed}
 use Rattle.bp_view.proofs.outcomes.push_foot_object.Goals as goal

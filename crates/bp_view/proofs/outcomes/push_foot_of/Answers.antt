@@ -1,5 +1,4 @@
-use Rattle.std.proofs.Common.{refl}
-use Rattle.bp_view.specs.FootFacts.{foot_in}
+use Rattle.bp_view.proofs.Common.{refl, foot_in}
 use Rattle.bp_view.proofs.Growing.{gains}
 use Rattle.bp_view.proofs.outcomes.push_foot_of.Goals as goal
 

@@ -1,7 +1,4 @@
-use Rattle.std.proofs.Common.{flat_map, take}
-use Rattle.bp_view.specs.Buffers.{Grown}
-use Rattle.bp_view.specs.FootFacts.{condition_in}
-use Rattle.bp_view.specs.Views.{wait_text}
+use Rattle.bp_view.proofs.Common.{flat_map, take, Grown, condition_in, wait_text}
 use Rattle.bp_view.proofs.outcomes.push_waits.Given as goal
 
 abbrev pub invariant-loop-wait : goal.invariant-loop-wait

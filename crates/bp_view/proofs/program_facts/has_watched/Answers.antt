@@ -1,4 +1,4 @@
-use Rattle.std.proofs.Common.{◌∙◌, ◌<◌, length, arith}
+use Rattle.bp_view.proofs.Common.{◌∙◌, ◌<◌, length, arith}
 use Rattle.bp_view.proofs.ChangedEntries.{seen_some}
 use Rattle.bp_view.proofs.program_facts.has_watched.Goals as goal
 

@@ -1,7 +1,4 @@
-use Rattle.std.proofs.lemmas.Grind.{common_steps}
-use Rattle.std.proofs.Common.{arith, rules}
-use Rattle.std.proofs.lemmas.List.{map-append}
-use Rattle.bp_text.proofs.PartsOfTexts.{both_added}
+use Rattle.bp_view.proofs.Common.{common_steps, arith, rules, map-append, both_added}
 use Rattle.bp_view.proofs.program_facts.names_in.Goals as goal
 use Rattle.bp_source.proofs.DecidersOfPlaces.{first_piece, one_piece}
 

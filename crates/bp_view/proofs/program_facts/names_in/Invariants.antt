@@ -1,6 +1,4 @@
-use Rattle.std.proofs.Common.{◌≡◌, ◌++◌, ℕ, List, false, length, map}
-use Rattle.bp_source.specs.Names.{piece_size, pieces}
-use Rattle.bp_view.specs.Filters.{trimmed}
+use Rattle.bp_view.proofs.Common.{◌≡◌, ◌++◌, ℕ, List, false, length, map, piece_size, pieces, trimmed}
 use Rattle.bp_view.proofs.program_facts.names_in.Given as goal
 
 pub record Split (whole rest : List ℕ) (names : List (List ℕ)) (size : ℕ) : Type 0 where

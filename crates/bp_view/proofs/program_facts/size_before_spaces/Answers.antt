@@ -1,6 +1,4 @@
-use Rattle.std.proofs.Common.{◌≡◌, ◌==◌, ◌-◌, ◌<◌, ◌≤◌, ℕ, List, true, false, length, get_or, arith, ne_eqb}
-use Rattle.std.specs.List.{suffix_len}
-use Rattle.std.proofs.lemmas.List.Sums.{suffix_len_is}
+use Rattle.bp_view.proofs.Common.{◌≡◌, ◌==◌, ◌-◌, ◌<◌, ◌≤◌, ℕ, List, true, false, length, get_or, arith, ne_eqb, suffix_len, suffix_len_is}
 use Rattle.bp_view.proofs.program_facts.size_before_spaces.Goals as goal
 
 -- only spaces are from here on, and another byte is before this place

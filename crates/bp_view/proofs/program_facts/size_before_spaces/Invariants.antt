@@ -1,4 +1,4 @@
-use Rattle.std.proofs.Common.{◌≡◌, ◌==◌, ◌<◌, ◌≤◌, ℕ, true, length, get_or}
+use Rattle.bp_view.proofs.Common.{◌≡◌, ◌==◌, ◌<◌, ◌≤◌, ℕ, true, length, get_or}
 use Rattle.bp_view.proofs.program_facts.size_before_spaces.Given as goal
 
 abbrev pub invariant-loop-size : goal.invariant-loop-size

@@ -1,8 +1,4 @@
-use Rattle.std.proofs.Common.{◌≡◌, Bor, Option, None, Some, subst, ◌∙◌, option_map, IsSomeAnd}
-use Rattle.bp_flat.specs.StandsFor.{place, places_of}
-use Rattle.bp_source.specs.declared.source_statements.SourceStatement.{SourceStatement}
-use Rattle.bp_source.specs.SourceStatements.{IsSourceStatement}
-use Rattle.bp_source.proofs.SourceStatementLists.{got_item, source_statement_at}
+use Rattle.bp_view.proofs.Common.{◌≡◌, Bor, Option, None, Some, subst, ◌∙◌, option_map, IsSomeAnd, place, places_of, SourceStatement, IsSourceStatement, got_item, source_statement_at}
 use Rattle.bp_view.proofs.program_facts.source_statement_of.Goals as goal
 
 -- what is got is the source statement that is there

@@ -1,5 +1,4 @@
-use Rattle.std.proofs.Common.{◌==◌, ◌≤◌, length, sym, arith, ne_eqb, rules}
-use Rattle.std.proofs.lemmas.List.Sums.{prefix_len_is}
+use Rattle.bp_view.proofs.Common.{◌==◌, ◌≤◌, length, sym, arith, ne_eqb, rules, prefix_len_is}
 use Rattle.bp_view.proofs.program_facts.spaces_before.Goals as goal
 
 pub returns-then-byte-ne32 : goal.returns-then-byte-ne32

@@ -1,4 +1,4 @@
-use Rattle.std.proofs.Common.{◌≡◌, ◌==◌, ◌<◌, ℕ, true, get_or}
+use Rattle.bp_view.proofs.Common.{◌≡◌, ◌==◌, ◌<◌, ℕ, true, get_or}
 use Rattle.bp_view.proofs.program_facts.spaces_before.Given as goal
 
 abbrev pub invariant-loop-i : goal.invariant-loop-i

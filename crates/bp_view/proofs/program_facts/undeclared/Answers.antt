@@ -1,7 +1,4 @@
-use Rattle.std.proofs.Common.{◌≡◌, ◌∙◌, ◌<◌, ◌&&◌, true, [], length, map, get_or, ap, ap₂, sym, arith}
-use Rattle.std.proofs.lemmas.List.{length-map, get_or-map}
-use Rattle.std.proofs.lemmas.List.Folds.{list_all_more}
-use Rattle.bp_source.specs.Names.{declares}
+use Rattle.bp_view.proofs.Common.{◌≡◌, ◌∙◌, ◌<◌, ◌&&◌, true, [], length, map, get_or, ap, ap₂, sym, arith, length-map, get_or-map, list_all_more, declares}
 use Rattle.bp_view.proofs.program_facts.undeclared.Goals as goal
 
 pub loop-n-preserved : goal.loop-n-preserved

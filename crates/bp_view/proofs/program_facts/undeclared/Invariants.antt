@@ -1,5 +1,4 @@
-use Rattle.std.proofs.Common.{take, map}
-use Rattle.bp_view.specs.Filters.{AreDeclared}
+use Rattle.bp_view.proofs.Common.{take, map, AreDeclared}
 use Rattle.bp_view.proofs.program_facts.undeclared.Given as goal
 
 abbrev pub invariant-loop-n : goal.invariant-loop-n

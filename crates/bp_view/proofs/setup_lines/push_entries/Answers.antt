@@ -1,7 +1,4 @@
-use Rattle.std.proofs.Common.{arith}
-use Rattle.std.proofs.lemmas.Option.{unwrap_or-slice_get}
-use Rattle.std.proofs.lemmas.List.{take_more}
-use Rattle.std.proofs.lemmas.Grind.{flat_map-append, common_steps}
+use Rattle.bp_view.proofs.Common.{arith, unwrap_or-slice_get, take_more, flat_map-append, common_steps}
 use Rattle.bp_view.proofs.Growing.{and_then, ends, nothing}
 use Rattle.bp_view.proofs.setup_lines.push_entries.Goals as goal
 

@@ -1,6 +1,4 @@
-use Rattle.std.proofs.Common.{flat_map, take}
-use Rattle.bp_source.specs.Listings.{string_item}
-use Rattle.bp_view.specs.Buffers.{Grown}
+use Rattle.bp_view.proofs.Common.{flat_map, take, string_item, Grown}
 use Rattle.bp_view.proofs.setup_lines.push_entries.Given as goal
 
 abbrev pub invariant-loop-thread : goal.invariant-loop-thread

@@ -1,5 +1,4 @@
-use Rattle.std.proofs.lemmas.Grind.{common_steps}
-use Rattle.std.proofs.Common.{arith}
+use Rattle.bp_view.proofs.Common.{common_steps, arith}
 use Rattle.bp_view.proofs.BegunViews.{line_of_some}
 use Rattle.bp_view.proofs.Growing.{and_then}
 use Rattle.bp_view.proofs.setup_lines.push_globals.Goals as goal

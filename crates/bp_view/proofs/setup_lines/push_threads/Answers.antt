@@ -1,4 +1,4 @@
-use Rattle.std.proofs.Common.{◌≡◌, ℕ, ◌+◌, add-one, arith, rules}
+use Rattle.bp_view.proofs.Common.{◌≡◌, ℕ, ◌+◌, add-one, arith, rules}
 use Rattle.bp_view.proofs.BegunViews.{thread_more}
 use Rattle.bp_view.proofs.Growing.{and_then}
 use Rattle.bp_view.proofs.setup_lines.push_threads.Goals as goal

@@ -1,6 +1,4 @@
-use Rattle.std.proofs.Common.{take}
-use Rattle.bp_view.specs.Buffers.{Grown}
-use Rattle.bp_view.specs.SetupLines.{thread_lines}
+use Rattle.bp_view.proofs.Common.{take, Grown, thread_lines}
 use Rattle.bp_view.proofs.setup_lines.push_threads.Given as goal
 
 abbrev pub invariant-loop-thread : goal.invariant-loop-thread

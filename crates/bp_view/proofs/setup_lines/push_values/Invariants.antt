@@ -1,7 +1,4 @@
-use Rattle.std.proofs.Common.{None, take}
-use Rattle.bp_flat.specs.Moves.{binding}
-use Rattle.bp_view.specs.Buffers.{Grown}
-use Rattle.bp_view.specs.Lines.{variables_text}
+use Rattle.bp_view.proofs.Common.{None, take, binding, Grown, variables_text}
 use Rattle.bp_view.proofs.setup_lines.push_values.Given as goal
 
 abbrev pub invariant-loop-n : goal.invariant-loop-n

@@ -1,11 +1,4 @@
-use Rattle.std.proofs.Common.{◌≡◌, ◌∙◌, ◌++◌, ◌∷◌, [], false, true, ap, refl, subst, sym, rules}
-use Rattle.std.proofs.lemmas.Result.{err_from_is_err_and}
-use Rattle.bp_flat.specs.StandsFor.{StandsFor}
-use Rattle.bp_machine.specs.Histories.{configuration_after, is_granted}
-use Rattle.bp_machine.specs.Sessions.{Stands}
-use Rattle.bp_trace.proofs.PlayableFronts.{own_is}
-use Rattle.bp_view.specs.declared.spans.Span.{Span}
-use Rattle.bp_view.specs.ContextLines.{AreSpans, IsStandingPoint}
+use Rattle.bp_view.proofs.Common.{◌≡◌, ◌∙◌, ◌++◌, ◌∷◌, [], false, true, ap, refl, subst, sym, rules, err_from_is_err_and, StandsFor, configuration_after, is_granted, Stands, own_is, Span, AreSpans, IsStandingPoint}
 use Rattle.bp_view.proofs.RecordedCalls.{asked_refused}
 use Rattle.bp_view.proofs.SpansOfHistories.{spans_idle, spans_with, IsOwnStep}
 use Rattle.bp_view.proofs.spans.play_call.Goals as goal

@@ -1,7 +1,4 @@
-use Rattle.std.proofs.lemmas.Grind.{common_steps}
-use Rattle.std.proofs.Common.{arith, rules}
-use Rattle.std.proofs.lemmas.Bool.Decides.{nat_tests}
-use Rattle.bp_text.proofs.PartsOfTexts.{both_added}
+use Rattle.bp_view.proofs.Common.{common_steps, arith, rules, nat_tests, both_added}
 use Rattle.bp_view.proofs.SpansOfHistories.{with_step_after}
 use Rattle.bp_view.proofs.spans.push_step.Goals as goal
 

@@ -1,9 +1,5 @@
-use Rattle.std.proofs.Common.{◌≡◌, ◌∙◌, ◌+◌, ◌<◌, suc, length, sym, subst, take, length-take-le, arith, rules}
-use Rattle.std.proofs.lemmas.List.{take_all, take_more}
-use Rattle.std.proofs.lemmas.Result.{err_from_is_err_and}
-use Rattle.bp_flat.specs.StandsFor.{StandsFor}
-use Rattle.bp_machine.specs.Sessions.{Stands}
-use Rattle.bp_view.specs.ContextLines.{AreSpans}
+use Rattle.bp_view.proofs.Common.{◌≡◌, ◌∙◌, ◌+◌, ◌<◌, suc, length, sym, subst, take, arith, rules, take_all, take_more, err_from_is_err_and, StandsFor, Stands, AreSpans}
+use Rattle.std.proofs.Common.{length-take-le}
 use Rattle.bp_view.proofs.RecordedCalls.{playable_here}
 use Rattle.bp_view.proofs.spans.spans_of.Goals as goal
 

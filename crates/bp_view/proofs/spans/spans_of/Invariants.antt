@@ -1,8 +1,4 @@
-use Rattle.std.proofs.Common.{◌≡◌, take}
-use Rattle.bp_language.specs.Ast.{Program}
-use Rattle.bp_flat.specs.StandsFor.{StandsFor}
-use Rattle.bp_machine.specs.Sessions.{Stands}
-use Rattle.bp_view.specs.ContextLines.{AreSpans}
+use Rattle.bp_view.proofs.Common.{◌≡◌, take, Program, StandsFor, Stands, AreSpans}
 use Rattle.bp_view.proofs.spans.spans_of.Given as goal
 
 abbrev pub invariant-loop-n : goal.invariant-loop-n

@@ -1,10 +1,4 @@
-use Rattle.std.proofs.Common.{◌≡◌, ◌∙◌, ap, ap₂, drop, subst, rules}
-use Rattle.bp_language.specs.Ast.{Procedure}
-use Rattle.bp_flat.specs.InstrEffects.{bits_of}
-use Rattle.bp_flat.specs.StandsFor.{place, valuation_of, variables}
-use Rattle.bp_flat.specs.Moves.{Valuation}
-use Rattle.bp_machine.specs.Histories.{stack_of, configuration_after}
-use Rattle.bp_view.specs.StateFacts.{AreFrameFacts}
+use Rattle.bp_view.proofs.Common.{◌≡◌, ◌∙◌, ap, ap₂, drop, subst, rules, Procedure, bits_of, place, valuation_of, variables, Valuation, stack_of, configuration_after, AreFrameFacts}
 use Rattle.bp_view.proofs.PlacedStacks.{frame_facts, frame_with, from_here}
 use Rattle.bp_view.proofs.state_facts.frame_below.Goals as goal
 

@@ -1,8 +1,4 @@
-use Rattle.std.proofs.Common.{◌≡◌, ◌<◌, ◌≤◌, ◌++◌, ◌∷◌, [], suc, map, take, length, subst, sym, add-one, arith, rules}
-use Rattle.std.proofs.lemmas.List.{map-append, take_all}
-use Rattle.bp_machine.specs.Histories.{stack_of, configuration_after}
-use Rattle.bp_text.proofs.PartsOfTexts.{item_at}
-use Rattle.bp_view.specs.StateFacts.{frame_in, AreStackFacts}
+use Rattle.bp_view.proofs.Common.{◌≡◌, ◌<◌, ◌≤◌, ◌++◌, ◌∷◌, [], suc, map, take, length, subst, sym, add-one, arith, rules, map-append, take_all, stack_of, configuration_after, item_at, frame_in, AreStackFacts}
 use Rattle.bp_view.proofs.WholeFacts.{one_frame_more}
 use Rattle.bp_view.proofs.state_facts.frames_of.Goals as goal
 

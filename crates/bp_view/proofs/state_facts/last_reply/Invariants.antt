@@ -1,6 +1,4 @@
-use Rattle.std.proofs.Common.{◌≡◌, take}
-use Rattle.bp_machine.specs.Histories.{calls_of_thread}
-use Rattle.bp_view.specs.StateFacts.{last_reply}
+use Rattle.bp_view.proofs.Common.{◌≡◌, take, calls_of_thread, last_reply}
 use Rattle.bp_view.proofs.state_facts.last_reply.Given as goal
 
 abbrev pub invariant-loop-call : goal.invariant-loop-call

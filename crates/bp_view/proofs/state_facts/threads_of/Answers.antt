@@ -1,6 +1,5 @@
-use Rattle.std.proofs.Common.{◌≡◌, ◌+◌, ◌++◌, ◌∷◌, [], map, length, subst, sym, arith, rules}
-use Rattle.std.proofs.lemmas.List.{length-append, length-map, map-append}
-use Rattle.bp_view.specs.StateFacts.{thread_in, AreThreadsFacts}
+use Rattle.bp_view.proofs.Common.{◌≡◌, ◌+◌, ◌++◌, ◌∷◌, [], map, length, subst, sym, arith, rules, length-map, map-append, thread_in, AreThreadsFacts}
+use Rattle.std.proofs.lemmas.List.{length-append}
 use Rattle.bp_view.proofs.WholeFacts.{one_thread_more}
 use Rattle.bp_view.proofs.state_facts.threads_of.Goals as goal
 

@@ -1,9 +1,4 @@
-use Rattle.std.proofs.Common.{◌≡◌, List, ℕ, length, map}
-use Rattle.bp_language.specs.Ast.{Program}
-use Rattle.bp_flat.specs.StandsFor.{StandsFor}
-use Rattle.bp_machine.specs.Sessions.{Stands}
-use Rattle.bp_view.specs.CallFacts.{AreProgramFacts}
-use Rattle.bp_view.specs.StateFacts.{thread_in, AreThreadsFacts}
+use Rattle.bp_view.proofs.Common.{◌≡◌, List, ℕ, length, map, Program, StandsFor, Stands, AreProgramFacts, thread_in, AreThreadsFacts}
 use Rattle.bp_view.proofs.state_facts.threads_of.Given as goal
 
 pub record Filled (count : ℕ) (n : ℕ) (Are : Type 0) : Type 0 where

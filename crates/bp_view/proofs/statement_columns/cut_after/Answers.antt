@@ -1,5 +1,4 @@
-use Rattle.std.proofs.Common.{append_assoc, codes, length-append, rules}
-use Rattle.std.proofs.Math.Seq.{take-append-add}
+use Rattle.bp_view.proofs.Common.{append_assoc, codes, length-append, rules, take-append-add}
 use Rattle.bp_view.proofs.ShownLines.{cut_long}
 use Rattle.bp_view.proofs.statement_columns.cut_after.Goals as goal
 

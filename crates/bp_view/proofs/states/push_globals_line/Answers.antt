@@ -1,11 +1,4 @@
-use Rattle.std.proofs.lemmas.Grind.{common_steps}
-use Rattle.std.proofs.Common.{◌≡◌, ◌++◌, ◌<◌, List, [], ◌∷◌, None, length, codes, refl, arith}
-use Rattle.bp_language.specs.Ast.{Name}
-use Rattle.bp_flat.specs.Steps.{Bits}
-use Rattle.bp_flat.specs.StandsFor.{valuation_of}
-use Rattle.bp_tasks.specs.declared.options.ViewFormat.TheVariants.{Columns}
-use Rattle.bp_view.specs.SetupLines.{globals_line}
-use Rattle.bp_view.specs.Lines.{variables_text}
+use Rattle.bp_view.proofs.Common.{common_steps, ◌≡◌, ◌++◌, ◌<◌, List, [], ◌∷◌, None, length, codes, refl, arith, Name, Bits, valuation_of, Columns, globals_line, variables_text}
 use Rattle.bp_view.proofs.ChangedEntries.{from_first}
 use Rattle.bp_view.proofs.Growing.{and_then}
 use Rattle.bp_view.proofs.states.push_globals_line.Goals as goal

@@ -1,7 +1,4 @@
-use Rattle.std.proofs.Common.{flat_map, take}
-use Rattle.bp_view.specs.Buffers.{Grown}
-use Rattle.bp_view.specs.StateFacts.{thread_in}
-use Rattle.bp_view.specs.States.{thread_text}
+use Rattle.bp_view.proofs.Common.{flat_map, take, Grown, thread_in, thread_text}
 use Rattle.bp_view.proofs.states.push_threads.Given as goal
 
 abbrev pub invariant-loop-thread : goal.invariant-loop-thread

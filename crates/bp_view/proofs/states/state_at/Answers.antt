@@ -1,7 +1,4 @@
-use Rattle.std.proofs.Common.{◌∙◌, ap, length, refl, subst, sym, take}
-use Rattle.std.proofs.lemmas.List.{take_min}
-use Rattle.bp_machine.specs.Sessions.{Stands}
-use Rattle.bp_view.specs.States.{IsStateText}
+use Rattle.bp_view.proofs.Common.{◌∙◌, ap, length, refl, subst, sym, take, take_min, Stands, IsStateText}
 use Rattle.bp_view.proofs.Growing.{gained}
 use Rattle.bp_view.proofs.states.state_at.Goals as goal
 

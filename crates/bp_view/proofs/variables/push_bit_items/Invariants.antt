@@ -1,6 +1,4 @@
-use Rattle.std.proofs.Common.{flat_map, take}
-use Rattle.bp_view.specs.Buffers.{Grown}
-use Rattle.bp_view.specs.Lines.{bit_item}
+use Rattle.bp_view.proofs.Common.{flat_map, take, Grown, bit_item}
 use Rattle.bp_view.proofs.variables.push_bit_items.Given as goal
 
 abbrev pub invariant-loop-bit : goal.invariant-loop-bit

@@ -1,7 +1,4 @@
-use Rattle.std.proofs.Common.{◌≡◌, ◌∙◌, ◌+◌, ◌<◌, length, get_or, ap, add-one, arith, option_map}
-use Rattle.std.proofs.lemmas.Grind.{flat_map-append}
-use Rattle.bp_flat.specs.InstrEffects.{bits_of}
-use Rattle.bp_flat.specs.Steps.{Bits}
+use Rattle.bp_view.proofs.Common.{◌≡◌, ◌∙◌, ◌+◌, ◌<◌, length, get_or, ap, add-one, arith, option_map, flat_map-append, bits_of, Bits}
 use Rattle.bp_view.proofs.ChangedEntries.{values_more}
 use Rattle.bp_view.proofs.Growing.{and_then, ends}
 use Rattle.bp_view.proofs.variables.push_values.Goals as goal

@@ -1,8 +1,4 @@
-use Rattle.std.proofs.Common.{◌+◌, take, option_map}
-use Rattle.bp_flat.specs.InstrEffects.{bits_of}
-use Rattle.bp_flat.specs.StandsFor.{valuation_of}
-use Rattle.bp_view.specs.Buffers.{Grown}
-use Rattle.bp_view.specs.Lines.{variables_text}
+use Rattle.bp_view.proofs.Common.{◌+◌, take, option_map, bits_of, valuation_of, Grown, variables_text}
 use Rattle.bp_view.proofs.variables.push_values.Given as goal
 
 abbrev pub invariant-loop-n : goal.invariant-loop-n

@@ -1,5 +1,4 @@
-use Rattle.std.proofs.Common.{◌≡◌, ◌+◌, ◌<◌, take, length, max, ap, add-one, arith}
-use Rattle.bp_view.specs.Lines.{longest}
+use Rattle.bp_view.proofs.Common.{◌≡◌, ◌+◌, ◌<◌, take, length, max, ap, add-one, arith, longest}
 use Rattle.bp_view.proofs.BegunViews.{longest_more, place_items}
 use Rattle.bp_view.proofs.view_contexts.longest_place.Goals as goal
 

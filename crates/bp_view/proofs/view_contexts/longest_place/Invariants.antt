@@ -1,5 +1,4 @@
-use Rattle.std.proofs.Common.{◌≡◌, take, max}
-use Rattle.bp_view.specs.Lines.{longest}
+use Rattle.bp_view.proofs.Common.{◌≡◌, take, max, longest}
 use Rattle.bp_view.proofs.BegunViews.{place_items}
 use Rattle.bp_view.proofs.view_contexts.longest_place.Given as goal
 

@@ -1,6 +1,4 @@
-use Rattle.std.proofs.Common.{◌≡◌, ◌+◌, ◌<◌, map, take, length, ap, add-one, arith}
-use Rattle.bp_source.proofs.SourceStatementLists.{shown_texts}
-use Rattle.bp_view.specs.Lines.{shortened, longest}
+use Rattle.bp_view.proofs.Common.{◌≡◌, ◌+◌, ◌<◌, map, take, length, ap, add-one, arith, shown_texts, shortened, longest}
 use Rattle.bp_view.proofs.BegunViews.{longest_statement_more, shortened_length}
 use Rattle.bp_view.proofs.view_contexts.longest_statement.Goals as goal
 

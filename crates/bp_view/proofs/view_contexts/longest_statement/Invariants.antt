@@ -1,6 +1,4 @@
-use Rattle.std.proofs.Common.{◌≡◌, ◌<◌, ◌^◌, map, take}
-use Rattle.bp_source.proofs.SourceStatementLists.{shown_texts}
-use Rattle.bp_view.specs.Lines.{shortened, longest}
+use Rattle.bp_view.proofs.Common.{◌≡◌, ◌<◌, ◌^◌, map, take, shown_texts, shortened, longest}
 use Rattle.bp_view.proofs.view_contexts.longest_statement.Given as goal
 
 abbrev pub invariant-loop-statement : goal.invariant-loop-statement

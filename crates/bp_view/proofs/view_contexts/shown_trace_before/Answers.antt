@@ -1,4 +1,4 @@
-use Rattle.std.proofs.Common.{arith}
+use Rattle.bp_view.proofs.Common.{arith}
 use Rattle.bp_view.proofs.view_contexts.shown_trace_before.Goals as goal
 
 pub returns : goal.returns

@@ -1,5 +1,4 @@
-use Rattle.std.proofs.Common.{◌∙◌, ◌++◌, ap}
-use Rattle.std.proofs.lemmas.Result.{IfOk-weaker}
+use Rattle.bp_view.proofs.Common.{◌∙◌, ◌++◌, ap, IfOk-weaker}
 use Rattle.bp_view.proofs.views.end_of.Goals as goal
 
 pub returns : goal.returns

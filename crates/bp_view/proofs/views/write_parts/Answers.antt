@@ -1,6 +1,4 @@
-use Rattle.std.proofs.Common.{arith, rules}
-use Rattle.std.proofs.lemmas.Result.{err_from_is_err_and}
-use Rattle.bp_text.proofs.Givings.{end_cut, end_written, head_cut, head_written, part_cut, parts_begun}
+use Rattle.bp_view.proofs.Common.{arith, rules, err_from_is_err_and, end_cut, end_written, head_cut, head_written, part_cut, parts_begun}
 use Rattle.bp_view.proofs.BegunViews.{end_there, kind, line_there, line_written, playable_next, none_before}
 use Rattle.bp_view.proofs.views.write_parts.Goals as goal
 

@@ -1,8 +1,4 @@
-use Rattle.std.proofs.Common.{◌≡◌, ◌≤◌, ℕ, List, length, take}
-use Rattle.bp_language.specs.Ast.{Program}
-use Rattle.bp_view.specs.Filters.{skipped}
-use Rattle.bp_view.specs.Views.{filter_of, HasMade, IsViewable}
-use Rattle.bp_view.specs.SetupLines.{view_head}
+use Rattle.bp_view.proofs.Common.{◌≡◌, ◌≤◌, ℕ, List, length, take, Program, skipped, filter_of, HasMade, IsViewable, view_head}
 use Rattle.bp_view.proofs.BegunViews.{HasWritten}
 use Rattle.bp_view.proofs.views.write_parts.Given as goal
 

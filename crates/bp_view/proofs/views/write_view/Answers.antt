@@ -1,7 +1,5 @@
-use Rattle.std.proofs.Common.{◌∙◌, refl, length-take-le, rules}
-use Rattle.std.proofs.lemmas.Result.{err_from_is_err_and}
-use Rattle.bp_text.proofs.Givings.{none_begun}
-use Rattle.bp_view.specs.declared.faults.ViewFault.TheVariants.{Memory}
+use Rattle.bp_view.proofs.Common.{◌∙◌, refl, rules, err_from_is_err_and, none_begun, Memory}
+use Rattle.std.proofs.Common.{length-take-le}
 use Rattle.bp_view.proofs.BegunViews.{kind}
 use Rattle.bp_view.proofs.ViewableContexts.{missing, stopped, unnamed, viewable, viewed}
 use Rattle.bp_view.proofs.views.write_view.Goals as goal

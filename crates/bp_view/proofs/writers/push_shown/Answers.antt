@@ -1,9 +1,4 @@
-use Rattle.std.proofs.Common.{◌≡◌, ◌∙◌, ◌++◌, ◌∷◌, [], List, map, nat_lt, true, false, ap, ap₂, sym, arith, rules}
-use Rattle.std.proofs.lemmas.Bool.Decides.{nat_tests}
-use Rattle.bp_machine.specs.Histories.{configuration_after}
-use Rattle.bp_view.specs.declared.change_facts.Change.{Change}
-use Rattle.bp_view.specs.CallFacts.{changes_by, facts_in, entry_of}
-use Rattle.bp_view.specs.Filters.{is_seen, watched_names}
+use Rattle.bp_view.proofs.Common.{◌≡◌, ◌∙◌, ◌++◌, ◌∷◌, [], List, map, nat_lt, true, false, ap, ap₂, sym, arith, rules, nat_tests, configuration_after, Change, changes_by, facts_in, entry_of, is_seen, watched_names}
 use Rattle.bp_view.proofs.ShownLines.{asked_of, calls_are, hidden, line_if, no_calls, shown}
 use Rattle.bp_view.proofs.writers.push_shown.Goals as goal
 

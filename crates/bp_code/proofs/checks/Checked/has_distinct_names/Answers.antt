@@ -1,4 +1,4 @@
-use Rattle.bp_language.proofs.LawsOfLawfulPrograms.{distinct_names}
+use Rattle.bp_code.proofs.Common.{distinct_names}
 use Rattle.bp_code.proofs.checks.Checked.has_distinct_names.Goals as goal
 
 pub returns : goal.returns

@@ -1,4 +1,4 @@
-use Rattle.bp_language.proofs.LawsOfLawfulPrograms.{few_names}
+use Rattle.bp_code.proofs.Common.{few_names}
 use Rattle.bp_code.proofs.checks.Checked.has_few_names.Goals as goal
 
 pub returns : goal.returns

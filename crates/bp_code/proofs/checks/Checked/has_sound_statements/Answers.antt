@@ -1,4 +1,4 @@
-use Rattle.bp_language.proofs.LawsOfLawfulPrograms.{sound_statements}
+use Rattle.bp_code.proofs.Common.{sound_statements}
 use Rattle.bp_code.proofs.checks.Checked.has_sound_statements.Goals as goal
 
 pub returns : goal.returns

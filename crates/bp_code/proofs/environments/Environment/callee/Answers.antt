@@ -1,4 +1,4 @@
-use Rattle.std.proofs.Common.{rules}
+use Rattle.bp_code.proofs.Common.{rules}
 use Rattle.bp_code.proofs.SlotsAreVariables.{name_found, heading_within, entry_of_first}
 use Rattle.bp_code.proofs.environments.Environment.callee.Goals as goal
 

@@ -1,4 +1,4 @@
-use Rattle.std.proofs.Common.{rules}
+use Rattle.bp_code.proofs.Common.{rules}
 use Rattle.bp_code.proofs.SlotsAreVariables.{first_within}
 use Rattle.bp_code.proofs.environments.Environment.slot.Goals as goal
 

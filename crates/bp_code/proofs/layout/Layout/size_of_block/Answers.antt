@@ -1,7 +1,4 @@
-use Rattle.std.proofs.Common.{◌≡◌, ◌+◌, ap, subst, arith, drop, add-zero, rules}
-use Rattle.bp_language.specs.Blocks.{block_of, statement_of}
-use Rattle.bp_code.specs.Compiled.{block_size, size}
-use Rattle.bp_code.specs.Compilable.{block_sizes, AreSizesOf}
+use Rattle.bp_code.proofs.Common.{◌≡◌, ◌+◌, ap, subst, arith, drop, add-zero, rules, block_of, statement_of, block_size, size, block_sizes, AreSizesOf}
 use Rattle.bp_code.proofs.BlockItems.{block_item, behind}
 use Rattle.bp_code.proofs.layout.Layout.size_of_block.Goals as goal
 

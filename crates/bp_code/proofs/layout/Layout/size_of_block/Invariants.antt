@@ -1,7 +1,4 @@
-use Rattle.std.proofs.Common.{◌≡◌, ◌+◌, drop}
-use Rattle.bp_language.specs.Blocks.{block_of}
-use Rattle.bp_code.specs.Compiled.{block_size}
-use Rattle.bp_code.specs.Compilable.{block_sizes, AreSizesOf}
+use Rattle.bp_code.proofs.Common.{◌≡◌, ◌+◌, drop, block_of, block_size, block_sizes, AreSizesOf}
 use Rattle.bp_code.proofs.layout.Layout.size_of_block.Given as goal
 
 abbrev pub invariant-loop-stmt : goal.invariant-loop-stmt

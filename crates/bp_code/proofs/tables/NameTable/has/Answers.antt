@@ -1,4 +1,4 @@
-use Rattle.std.proofs.Common.{◌∙◌, ap, is_some}
+use Rattle.bp_code.proofs.Common.{◌∙◌, ap, is_some}
 use Rattle.bp_code.proofs.RepeatedNames.{first_has}
 use Rattle.bp_code.proofs.tables.NameTable.has.Goals as goal
 

@@ -1,5 +1,4 @@
-use Rattle.std.proofs.Common.{ap, sym, ◌∙◌, zero-add}
-use Rattle.bp_language.specs.Faults.{first_index}
+use Rattle.bp_code.proofs.Common.{ap, sym, ◌∙◌, zero-add, first_index}
 use Rattle.bp_code.proofs.RepeatedNames.{below, first_below}
 use Rattle.bp_code.proofs.tables.NameTable.has_before.Goals as goal
 

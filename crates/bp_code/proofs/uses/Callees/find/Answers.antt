@@ -1,6 +1,4 @@
-use Rattle.std.proofs.Common.{ap, sym, ◌∙◌, rules}
-use Rattle.bp_language.specs.Ast.{procedure_named}
-use Rattle.bp_language.specs.Faults.{first_index}
+use Rattle.bp_code.proofs.Common.{ap, sym, ◌∙◌, rules, procedure_named, first_index}
 use Rattle.bp_code.proofs.RepeatedNames.{named_first, named_nowhere, got_at}
 use Rattle.bp_code.proofs.uses.Callees.find.Goals as goal
 

@@ -1,9 +1,6 @@
-use Rattle.std.proofs.Common.{refl}
-use Rattle.std.proofs.lemmas.Result.{err_from_is_err_and}
+use Rattle.bp_commands.proofs.Common.{refl, err_from_is_err_and, IsProgramRefusal, checks}
 use Rattle.bp_language.specs.declared.faults.CheckFault.TheVariants.{Memory}
-use Rattle.bp_code.specs.LawfulTexts.{IsProgramRefusal}
 use Rattle.bp_code.specs.declared.texts.ProgramFault.TheVariants.{Check}
-use Rattle.bp_commands.specs.Programs.{checks}
 use Rattle.bp_commands.proofs.Answered.{refused_with}
 use Rattle.bp_commands.proofs.checking.CheckTaskProgramCommand.apply.Goals as goal
 

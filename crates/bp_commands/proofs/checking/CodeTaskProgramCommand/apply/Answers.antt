@@ -1,7 +1,5 @@
-use Rattle.std.proofs.Common.{refl}
-use Rattle.std.proofs.lemmas.Result.{err_from_is_err_and}
+use Rattle.bp_commands.proofs.Common.{refl, err_from_is_err_and, lists}
 use Rattle.bp_code.specs.declared.texts.CodeFault.TheVariants as code
-use Rattle.bp_commands.specs.Programs.{lists}
 use Rattle.bp_commands.proofs.Answered.{refused_with}
 use Rattle.bp_commands.proofs.checking.CodeTaskProgramCommand.apply.Goals as goal
 

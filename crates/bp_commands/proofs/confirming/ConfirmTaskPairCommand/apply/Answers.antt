@@ -1,11 +1,4 @@
-use Rattle.std.proofs.lemmas.Grind.{common_steps}
-use Rattle.std.proofs.Common.{inr, refl, subst, arith, rules}
-use Rattle.std.proofs.lemmas.Result.{err_from_is_err_and}
-use Rattle.bp_text.specs.Writing.{AppendsAll, AppendsPart}
-use Rattle.bp_trace.specs.declared.traces.Version.TheVariants.{One}
-use Rattle.bp_trace.specs.TraceText.{text_of, trace_text}
-use Rattle.bp_commands.specs.Commands.{Pair}
-use Rattle.bp_commands.specs.Confirms.{confirms, IsOfSteps}
+use Rattle.bp_commands.proofs.Common.{common_steps, inr, refl, subst, arith, rules, err_from_is_err_and, AppendsAll, AppendsPart, One, text_of, trace_text, Pair, confirms, IsOfSteps}
 use Rattle.bp_commands.proofs.Answered.{cut_short, refused_with}
 use Rattle.bp_commands.proofs.confirming.ConfirmTaskPairCommand.apply.Goals as goal
 

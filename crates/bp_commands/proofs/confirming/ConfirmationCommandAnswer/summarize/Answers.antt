@@ -1,8 +1,4 @@
-use Rattle.std.proofs.Common.{if◌then◌else◌, subst, sym, ℕ, List, Option, Some}
-use Rattle.bp_text.specs.Writing.{Writes}
-use Rattle.bp_messages.specs.FaultObjects.{verdict_object, ShownVerdict}
-use Rattle.bp_commands.specs.FaultReports.{HasSummary}
-use Rattle.bp_commands.specs.Confirms.{confirmation_shown, line_as, verdict_word}
+use Rattle.bp_commands.proofs.Common.{if◌then◌else◌, subst, sym, ℕ, List, Option, Some, Writes, verdict_object, ShownVerdict, HasSummary, confirmation_shown, line_as, verdict_word}
 use Rattle.bp_commands.proofs.confirming.ConfirmationCommandAnswer.summarize.Goals as goal
 
 pub returns-then-self : goal.returns-then-self

@@ -1,8 +1,5 @@
-use Rattle.std.proofs.lemmas.Grind.{common_steps}
-use Rattle.std.proofs.Common.{◌∙◌, ap, refl, subst, arith, rules}
-use Rattle.std.proofs.lemmas.Result.{err_from_is_err_and}
+use Rattle.bp_commands.proofs.Common.{common_steps, ◌∙◌, ap, refl, subst, arith, rules, err_from_is_err_and, bound_of, trace_of}
 use Rattle.bp_explore.specs.Explorations.{IsExploration}
-use Rattle.bp_commands.specs.Explores.{bound_of, trace_of}
 use Rattle.bp_commands.proofs.Answered.{cut_short, refused_with}
 use Rattle.bp_commands.proofs.exploring.ExploreProgramCommand.apply.Goals as goal
 

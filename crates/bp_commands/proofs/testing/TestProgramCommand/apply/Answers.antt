@@ -1,8 +1,5 @@
-use Rattle.std.proofs.Common.{◌≤◌, ◌∙◌, arith, inl, refl, rules}
+use Rattle.bp_commands.proofs.Common.{◌≤◌, ◌∙◌, arith, inl, refl, rules, err_from_is_err_and, MAX_JOBS, tests}
 use Rattle.std.proofs.lemmas.Bool.Decides.{nat_tests}
-use Rattle.std.proofs.lemmas.Result.{err_from_is_err_and}
-use Rattle.bp_tasks.specs.declared.limits.TheConstants.{MAX_JOBS}
-use Rattle.bp_commands.specs.Tests.{tests}
 use Rattle.bp_commands.proofs.Answered.{refused_with}
 use Rattle.bp_commands.proofs.TestAnswers.{done, lacks_memory, many_jobs, refused}
 use Rattle.bp_commands.proofs.testing.TestProgramCommand.apply.Goals as goal

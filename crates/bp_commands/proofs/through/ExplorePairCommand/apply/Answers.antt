@@ -1,10 +1,5 @@
-use Rattle.std.proofs.lemmas.Grind.{common_steps}
-use Rattle.std.proofs.Common.{◌∙◌, ap, arith, inl, inr, refl, subst, sym}
-use Rattle.std.proofs.lemmas.Result.{err_from_is_err_and}
-use Rattle.bp_confirm.specs.OwnSteps.{listed_steps}
+use Rattle.bp_commands.proofs.Common.{common_steps, ◌∙◌, ap, arith, inl, inr, refl, subst, sym, err_from_is_err_and, listed_steps, Pair, bound_of}
 use Rattle.bp_explore.specs.ThroughExplorations.{IsThrough}
-use Rattle.bp_commands.specs.Commands.{Pair}
-use Rattle.bp_commands.specs.Explores.{bound_of}
 use Rattle.bp_commands.specs.Throughs.{explores_through, trace_through, IsThroughTrace}
 use Rattle.bp_commands.proofs.Answered.{cut_short, refused_with}
 use Rattle.bp_commands.proofs.through.ExplorePairCommand.apply.Goals as goal

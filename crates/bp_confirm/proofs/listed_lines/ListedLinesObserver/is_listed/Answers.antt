@@ -1,4 +1,4 @@
-use Rattle.std.proofs.Common.{eq-eqb, rules}
+use Rattle.bp_confirm.proofs.Common.{eq-eqb, rules}
 use Rattle.bp_confirm.proofs.LinesKept.{elsewhere, if_it_sees, step_listed}
 use Rattle.bp_confirm.proofs.ValuesSeen.{stands_where}
 use Rattle.bp_confirm.proofs.listed_lines.ListedLinesObserver.is_listed.Goals as goal

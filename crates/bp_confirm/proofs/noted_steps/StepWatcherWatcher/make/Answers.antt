@@ -1,4 +1,4 @@
-use Rattle.std.proofs.Common.{rules}
+use Rattle.bp_confirm.proofs.Common.{rules}
 use Rattle.bp_confirm.proofs.OwnStepsMade.{noted, not_noted}
 use Rattle.bp_confirm.proofs.noted_steps.StepWatcherWatcher.make.Goals as goal
 

@@ -1,5 +1,4 @@
-use Rattle.std.proofs.lemmas.Grind.{common_steps}
-use Rattle.std.proofs.Common.{length-append, arith, rules}
+use Rattle.bp_explore.proofs.Common.{common_steps, length-append, arith, rules}
 use Rattle.bp_explore.proofs.PackedNodes.{bounded_added, end_of_added, nodes_added}
 use Rattle.bp_explore.proofs.nodes.Nodes.add.Goals as goal
 

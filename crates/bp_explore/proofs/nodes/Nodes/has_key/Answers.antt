@@ -1,6 +1,5 @@
-use Rattle.std.proofs.Common.{◌≡◌, ◌<◌, length, drop, ap, sym, ◌∙◌, arith, slice_get, length-drop, take_all}
+use Rattle.bp_explore.proofs.Common.{◌≡◌, ◌<◌, length, drop, ap, sym, ◌∙◌, arith, slice_get, length-drop, take_all, take_number, NodesOf, node_of, take_key, record_at}
 use Rattle.std.proofs.lemmas.Slice.Eq.{bytes_eq-Decides}
-use Rattle.bp_explore.specs.States.{take_number, NodesOf, node_of, take_key, record_at}
 use Rattle.bp_explore.proofs.PackedNodes.{node_there}
 use Rattle.bp_explore.proofs.nodes.Nodes.has_key.Goals as goal
 

@@ -1,5 +1,4 @@
-use Rattle.std.proofs.Common.{ap, subst}
-use Rattle.bp_explore.specs.States.{IsLive, NodesOf}
+use Rattle.bp_explore.proofs.Common.{ap, subst, IsLive, NodesOf}
 use Rattle.bp_explore.proofs.nodes.Nodes.is_live.Goals as goal
 
 pub returns : goal.returns

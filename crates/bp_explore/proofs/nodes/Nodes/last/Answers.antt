@@ -1,4 +1,4 @@
-use Rattle.std.proofs.Common.{rules}
+use Rattle.bp_explore.proofs.Common.{rules}
 use Rattle.bp_explore.proofs.PackedNodes.{node_is, last_there}
 use Rattle.bp_explore.proofs.nodes.Nodes.last.Goals as goal
 

@@ -1,4 +1,4 @@
-use Rattle.std.proofs.Common.{rules}
+use Rattle.bp_explore.proofs.Common.{rules}
 use Rattle.bp_explore.proofs.PackedNodes.{nodes_length}
 use Rattle.bp_explore.proofs.nodes.Nodes.len.Goals as goal
 

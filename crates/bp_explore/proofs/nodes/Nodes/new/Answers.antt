@@ -1,5 +1,4 @@
-use Rattle.std.proofs.lemmas.Grind.{common_steps}
-use Rattle.std.proofs.Common.{arith}
+use Rattle.bp_explore.proofs.Common.{common_steps, arith}
 use Rattle.bp_explore.proofs.PackedNodes.{packed_node}
 use Rattle.bp_explore.proofs.nodes.Nodes.new.Goals as goal
 

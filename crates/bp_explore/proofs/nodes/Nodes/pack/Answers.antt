@@ -1,5 +1,4 @@
-use Rattle.std.proofs.Common.{◌≡◌, ◌+◌, ◌*◌, ◌/◌, ◌%◌, ◌^◌, [], ℕ, Option, Some, length, drop, ap, ◌∙◌, subst, arith}
-use Rattle.bp_explore.specs.States.{IsPacked, take_number, IsRecordOf, NodesOf, take_key}
+use Rattle.bp_explore.proofs.Common.{◌≡◌, ◌+◌, ◌*◌, ◌/◌, ◌%◌, ◌^◌, [], ℕ, Option, Some, length, drop, ap, ◌∙◌, subst, arith, IsPacked, take_number, IsRecordOf, NodesOf, take_key}
 use Rattle.bp_explore.proofs.PackedNodes.{packed_key, packed_node, last_of_head, made_of_head}
 use Rattle.bp_explore.proofs.nodes.Nodes.pack.Goals as goal
 

@@ -1,5 +1,4 @@
-use Rattle.std.proofs.Common.{ap, sym, subst}
-use Rattle.bp_explore.specs.States.{NodesOf, StateOf, Shows}
+use Rattle.bp_explore.proofs.Common.{ap, sym, subst, NodesOf, StateOf, Shows}
 use Rattle.bp_explore.proofs.nodes.Nodes.seen.Goals as goal
 
 pub returns-clause-shows : goal.returns-clause-shows

@@ -1,5 +1,4 @@
-use Rattle.std.proofs.Common.{◌≡◌, ◌<◌, ◌≤◌, length, sym, subst, arith}
-use Rattle.bp_explore.specs.Searches.{IsClosed, IsExpanded, level_with}
+use Rattle.bp_explore.proofs.Common.{◌≡◌, ◌<◌, ◌≤◌, length, sym, subst, arith, IsClosed, IsExpanded, level_with}
 use Rattle.bp_explore.proofs.Growth.{item_at, grown_none, grown_then, closed_below, closed_kept, closed_next, closed_less, before, expanded_kept, other_closed, at_most_kept, at_most_more, at_most_layered}
 use Rattle.bp_explore.proofs.ReachedNodes.{stay_then}
 use Rattle.bp_explore.proofs.spaces.Space.begin_layer.Goals as goal

@@ -1,5 +1,4 @@
-use Rattle.std.proofs.Common.{◌≡◌, ◌+◌, ℕ}
-use Rattle.bp_explore.specs.Searches.{StayReached, AreAtMost, IsClosed, IsExplored, IsGrown}
+use Rattle.bp_explore.proofs.Common.{◌≡◌, ◌+◌, ℕ, StayReached, AreAtMost, IsClosed, IsExplored, IsGrown}
 use Rattle.bp_explore.proofs.spaces.Space.begin_layer.Given as goal
 
 abbrev pub invariant-loop-at : goal.invariant-loop-at

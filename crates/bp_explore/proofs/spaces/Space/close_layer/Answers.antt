@@ -1,4 +1,4 @@
-use Rattle.std.proofs.Common.{◌≡◌, ◌<◌, ◌≤◌, length, arith}
+use Rattle.bp_explore.proofs.Common.{◌≡◌, ◌<◌, ◌≤◌, length, arith}
 use Rattle.bp_explore.proofs.Growth.{item_at, grown_then, closed_kept, closed_next, closed_less, before, layered_kept, own_closed, at_most_kept, at_most_layered}
 use Rattle.bp_explore.proofs.ReachedNodes.{stay_then}
 use Rattle.bp_explore.proofs.spaces.Space.close_layer.Goals as goal

@@ -1,5 +1,4 @@
-use Rattle.std.proofs.Common.{◌≤◌, ℕ, length}
-use Rattle.bp_explore.specs.Searches.{StayReached, AreAtMost, IsClosed, AreLayered, IsGrown}
+use Rattle.bp_explore.proofs.Common.{◌≤◌, ℕ, length, StayReached, AreAtMost, IsClosed, AreLayered, IsGrown}
 use Rattle.bp_explore.proofs.spaces.Space.close_layer.Given as goal
 
 abbrev pub invariant-loop-at : goal.invariant-loop-at

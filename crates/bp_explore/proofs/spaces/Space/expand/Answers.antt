@@ -1,11 +1,4 @@
-use Rattle.std.proofs.Common.{◌≡◌, ◌+◌, true, false, Bool, List, sym, ◌∙◌, subst, ℕ, Some, slice_get}
-use Rattle.bp_flat.specs.Flat.{Instruction}
-use Rattle.bp_machine.specs.declared.stacks.ActivationRecord.{ActivationRecord}
-use Rattle.bp_machine.specs.declared.threads.Transition.{Transition}
-use Rattle.bp_machine.specs.Transitions.{IsTransitionOn}
-use Rattle.bp_explore.specs.Explorations.{ListedSteps}
-use Rattle.bp_explore.specs.States.{NodeOf, StateOf}
-use Rattle.bp_explore.specs.Searches.{IsTaken, AreAtMost, IsGrown, IsFollowed, IsStep, Step}
+use Rattle.bp_explore.proofs.Common.{◌≡◌, ◌+◌, true, false, Bool, List, sym, ◌∙◌, subst, ℕ, Some, slice_get, Instruction, ActivationRecord, Transition, IsTransitionOn, ListedSteps, NodeOf, StateOf, IsTaken, AreAtMost, IsGrown, IsFollowed, IsStep, Step}
 use Rattle.bp_explore.proofs.Growth.{grown_then, seen_kept, at_most_kept, expanded_both}
 use Rattle.bp_explore.proofs.ReachedNodes.{stay_then, taken_reached}
 use Rattle.bp_explore.proofs.spaces.Space.expand.Goals as goal

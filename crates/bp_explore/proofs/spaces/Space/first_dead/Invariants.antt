@@ -1,5 +1,4 @@
-use Rattle.std.proofs.Common.{◌≡◌, ◌<◌, ◌≤◌, ℕ, Some, slice_get}
-use Rattle.bp_explore.specs.States.{NodeOf, IsLive}
+use Rattle.bp_explore.proofs.Common.{◌≡◌, ◌<◌, ◌≤◌, ℕ, Some, slice_get, NodeOf, IsLive}
 use Rattle.bp_explore.proofs.spaces.Space.first_dead.Given as goal
 
 abbrev pub invariant-loop-at : goal.invariant-loop-at

@@ -1,7 +1,4 @@
-use Rattle.std.proofs.Common.{◌<◌, true, false, List, refl, ap, sym, subst, arith}
-use Rattle.bp_machine.specs.declared.threads.Transition.{Transition}
-use Rattle.bp_explore.specs.States.{NodeOf, StateOf}
-use Rattle.bp_explore.specs.Searches.{MayAdd, node_with, AreAtMost, IsGrown, IsCountTo, IsFollowed, Step, Stays, Fails, Leads}
+use Rattle.bp_explore.proofs.Common.{◌<◌, true, false, List, refl, ap, sym, subst, arith, Transition, NodeOf, StateOf, MayAdd, node_with, AreAtMost, IsGrown, IsCountTo, IsFollowed, Step, Stays, Fails, Leads}
 use Rattle.bp_explore.proofs.MadeSteps.{counted_to}
 use Rattle.bp_explore.proofs.Growth.{grown_may}
 use Rattle.bp_explore.proofs.spaces.Space.follow.Goals as goal

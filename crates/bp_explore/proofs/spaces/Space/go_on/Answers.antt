@@ -1,5 +1,4 @@
-use Rattle.std.proofs.Common.{◌≡◌, Some, sym, ◌∙◌, subst, arith}
-use Rattle.bp_explore.specs.Searches.{IsExpanded}
+use Rattle.bp_explore.proofs.Common.{◌≡◌, Some, sym, ◌∙◌, subst, arith, IsExpanded}
 use Rattle.bp_explore.proofs.Growth.{opened_own}
 use Rattle.bp_explore.proofs.spaces.Space.go_on.Goals as goal
 

@@ -1,7 +1,4 @@
-use Rattle.std.proofs.Common.{◌≡◌, ◌+◌, ◌<◌, ◌≤◌, ℕ, Some, inl, inr, sym, ◌∙◌, subst, arith, slice_get, rules}
-use Rattle.std.proofs.lemmas.Bool.{cases_lt}
-use Rattle.std.proofs.lemmas.Option.{slice_get_within}
-use Rattle.bp_explore.specs.States.{NodeOf}
+use Rattle.bp_explore.proofs.Common.{◌≡◌, ◌+◌, ◌<◌, ◌≤◌, ℕ, Some, inl, inr, sym, ◌∙◌, subst, arith, slice_get, rules, cases_lt, slice_get_within, NodeOf}
 use Rattle.bp_explore.proofs.Growth.{item_at}
 use Rattle.bp_explore.proofs.spaces.Space.most_made.Goals as goal
 use Rattle.bp_explore.proofs.spaces.Space.most_made.Goals.{then-made-most, else-made-most}

@@ -1,6 +1,4 @@
-use Rattle.std.proofs.Common.{◌≡◌, ◌⊎◌, ◌<◌, ◌≤◌, ℕ, Some, slice_get}
-use Rattle.bp_explore.specs.States.{NodeOf}
-use Rattle.bp_explore.specs.Searches.{HasOneMade}
+use Rattle.bp_explore.proofs.Common.{◌≡◌, ◌⊎◌, ◌<◌, ◌≤◌, ℕ, Some, slice_get, NodeOf, HasOneMade}
 use Rattle.bp_explore.proofs.spaces.Space.most_made.Given as goal
 
 abbrev pub invariant-loop-at : goal.invariant-loop-at

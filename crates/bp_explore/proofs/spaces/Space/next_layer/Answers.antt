@@ -1,4 +1,4 @@
-use Rattle.std.proofs.Common.{arith}
+use Rattle.bp_explore.proofs.Common.{arith}
 use Rattle.bp_explore.proofs.Growth.{at_most_kept, at_most_more, grown_then, explored_next}
 use Rattle.bp_explore.proofs.ReachedNodes.{stay_more, stay_then}
 use Rattle.bp_explore.proofs.spaces.Space.next_layer.Goals as goal

@@ -1,6 +1,4 @@
-use Rattle.std.proofs.Common.{◌≡◌, ◌≢◌, ◌+◌, Some, sym, subst, arith, inl, inr}
-use Rattle.std.proofs.lemmas.Bool.{cases_lt}
-use Rattle.bp_explore.specs.Searches.{IsExpanded}
+use Rattle.bp_explore.proofs.Common.{◌≡◌, ◌≢◌, ◌+◌, Some, sym, subst, arith, inl, inr, cases_lt, IsExpanded}
 use Rattle.bp_explore.proofs.Growth.{grown_then, expanded_kept, at_most_kept}
 use Rattle.bp_explore.proofs.ReachedNodes.{stay_more, stay_then}
 use Rattle.bp_explore.proofs.spaces.Space.switch.Goals as goal

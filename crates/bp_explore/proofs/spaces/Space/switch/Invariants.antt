@@ -1,6 +1,5 @@
-use Rattle.std.proofs.Common.{◌≡◌, ◌≢◌, ◌<◌, ℕ, Some, slice_get}
+use Rattle.bp_explore.proofs.Common.{◌≡◌, ◌≢◌, ◌<◌, ℕ, Some, slice_get, StayReached, IsExpanded, AreAtMost, IsGrown}
 use Rattle.bp_explore.specs.States.{NodeOf as Node}
-use Rattle.bp_explore.specs.Searches.{StayReached, IsExpanded, AreAtMost, IsGrown}
 use Rattle.bp_explore.proofs.spaces.Space.switch.Given as goal
 
 abbrev pub invariant-loop-thread : goal.invariant-loop-thread

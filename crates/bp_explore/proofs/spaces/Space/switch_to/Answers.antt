@@ -1,4 +1,4 @@
-use Rattle.std.proofs.Common.{arith}
+use Rattle.bp_explore.proofs.Common.{arith}
 use Rattle.bp_explore.proofs.Growth.{opened_small}
 use Rattle.bp_explore.proofs.spaces.Space.switch_to.Goals as goal
 

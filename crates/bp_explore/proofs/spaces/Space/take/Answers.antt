@@ -1,6 +1,4 @@
-use Rattle.std.proofs.Common.{◌≡◌, ◌-◌, ◌++◌, ◌∷◌, [], ℕ, List, length, take, drop, ap, sym, ◌∙◌, subst, arith, length-drop, take_all}
-use Rattle.bp_explore.specs.States.{HasKey, NodeOf, NodesOf, node_of, StateOf}
-use Rattle.bp_explore.specs.Searches.{Has}
+use Rattle.bp_explore.proofs.Common.{◌≡◌, ◌-◌, ◌++◌, ◌∷◌, [], ℕ, List, length, take, drop, ap, sym, ◌∙◌, subst, arith, length-drop, take_all, HasKey, NodeOf, NodesOf, node_of, StateOf, Has}
 use Rattle.bp_explore.proofs.Growth.{has_one, has_held}
 use Rattle.bp_explore.proofs.PackedNodes.{key_held}
 use Rattle.bp_explore.proofs.spaces.Space.take.Goals as goal

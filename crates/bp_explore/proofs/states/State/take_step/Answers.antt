@@ -1,6 +1,4 @@
-use Rattle.std.proofs.Common.{rules}
-use Rattle.std.proofs.lemmas.List.{map-set}
-use Rattle.std.proofs.lemmas.Option.{slice_get_read, slice_get-map}
+use Rattle.bp_explore.proofs.Common.{rules, map-set, slice_get_read, slice_get-map}
 use Rattle.bp_explore.proofs.states.State.take_step.Goals as goal
 
 pub returns-in_ok-take_step-clause-state : goal.returns-in_ok-take_step-clause-state

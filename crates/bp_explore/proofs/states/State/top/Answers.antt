@@ -1,11 +1,4 @@
-use Rattle.std.proofs.Common.{◌≡◌, ◌<◌, Some, [], length, reverse, refl, ap, sym, ◌∙◌, arith, slice_get, option_map, rules}
-use Rattle.std.proofs.lemmas.List.{length-reverse}
-use Rattle.std.proofs.lemmas.Option.{slice_get_read, slice_get-map}
-use Rattle.bp_machine.specs.Histories.{stack_of}
-use Rattle.bp_machine.specs.Sessions.{StackOf, top_of}
-use Rattle.bp_machine.proofs.Deadlocks.{none_shown}
-use Rattle.bp_machine.proofs.SessionsInOrder.{top_is}
-use Rattle.bp_explore.specs.States.{StateOf, frames_of}
+use Rattle.bp_explore.proofs.Common.{◌≡◌, ◌<◌, Some, [], length, reverse, refl, ap, sym, ◌∙◌, arith, slice_get, option_map, rules, length-reverse, slice_get_read, slice_get-map, stack_of, StackOf, top_of, none_shown, top_is, StateOf, frames_of}
 use Rattle.bp_explore.proofs.Growth.{item_at}
 use Rattle.bp_explore.proofs.LiveStates.{no_frames}
 use Rattle.bp_explore.proofs.MadeSteps.{index_is, state_top}

@@ -1,8 +1,4 @@
-use Rattle.std.proofs.Common.{refl, ◌∙◌, map}
-use Rattle.std.proofs.lemmas.Option.{slice_get_read}
-use Rattle.bp_flat.specs.Steps.{formula_values}
-use Rattle.bp_flat.specs.InstrEffects.{store_of}
-use Rattle.bp_flat.specs.Views.{formula_of}
+use Rattle.bp_flat.proofs.Common.{refl, ◌∙◌, map, slice_get_read, formula_values, store_of, formula_of}
 use Rattle.bp_flat.proofs.SlotsOfNames.{with_slots_at, value_at}
 use Rattle.bp_flat.proofs.actions.Assignment.store_after.Goals as goal
 

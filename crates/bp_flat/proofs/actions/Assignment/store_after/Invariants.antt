@@ -1,7 +1,4 @@
-use Rattle.std.proofs.Common.{◌≡◌, map, drop}
-use Rattle.bp_flat.specs.Steps.{with_slots, formula_values}
-use Rattle.bp_flat.specs.InstrEffects.{store_of}
-use Rattle.bp_flat.specs.Views.{formula_of}
+use Rattle.bp_flat.proofs.Common.{◌≡◌, map, drop, with_slots, formula_values, store_of, formula_of}
 use Rattle.bp_flat.proofs.actions.Assignment.store_after.Given as goal
 
 -- what the targets that are left make of the store now is what all of them make of the first store

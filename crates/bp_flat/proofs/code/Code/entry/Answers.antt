@@ -1,4 +1,4 @@
-use Rattle.std.proofs.Common.{rules}
+use Rattle.bp_flat.proofs.Common.{rules}
 use Rattle.bp_flat.proofs.SlotsOfNames.{entry_found, entry_missing}
 use Rattle.bp_flat.proofs.code.Code.entry.Goals as goal
 

@@ -1,5 +1,4 @@
-use Rattle.std.proofs.Common.{rules, ◌≡◌, ◌∙◌, option_map, Some, None}
-use Rattle.bp_flat.specs.Flat.{heading_named}
+use Rattle.bp_flat.proofs.Common.{rules, ◌≡◌, ◌∙◌, option_map, Some, None, heading_named}
 use Rattle.bp_flat.proofs.SlotsOfNames.{formals_of_procedure}
 use Rattle.bp_flat.proofs.code.Code.formals.Goals as goal
 

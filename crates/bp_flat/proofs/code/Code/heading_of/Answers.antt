@@ -1,5 +1,4 @@
-use Rattle.std.proofs.Common.{rules, ◌≡◌, refl, option_map, Option, Some, None, Bor}
-use Rattle.std.specs.Option.{option_copied}
+use Rattle.bp_flat.proofs.Common.{rules, ◌≡◌, refl, option_map, Option, Some, None, Bor, option_copied}
 use Rattle.bp_flat.specs.Flat as flat
 use Rattle.bp_flat.specs.declared.headings.Heading.{Heading}
 use Rattle.bp_flat.proofs.SlotsOfNames.{formals_of_procedure}

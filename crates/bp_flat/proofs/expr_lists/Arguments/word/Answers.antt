@@ -1,8 +1,4 @@
-use Rattle.std.proofs.Common.{refl, ◌∙◌, map}
-use Rattle.std.proofs.lemmas.Option.{slice_get_read}
-use Rattle.bp_flat.specs.Steps.{formula_values}
-use Rattle.bp_flat.specs.InstrEffects.{bits_of, store_of}
-use Rattle.bp_flat.specs.Views.{formula_of}
+use Rattle.bp_flat.proofs.Common.{refl, ◌∙◌, map, slice_get_read, formula_values, bits_of, store_of, formula_of}
 use Rattle.bp_flat.proofs.WordBits.{bits_from_more}
 use Rattle.bp_flat.proofs.SlotsOfNames.{value_at}
 use Rattle.bp_flat.proofs.expr_lists.Arguments.word.Goals as goal

@@ -1,7 +1,4 @@
-use Rattle.std.proofs.Common.{◌≡◌, map, take}
-use Rattle.bp_flat.specs.Steps.{formula_values, bits_from}
-use Rattle.bp_flat.specs.InstrEffects.{bits_of, store_of}
-use Rattle.bp_flat.specs.Views.{formula_of}
+use Rattle.bp_flat.proofs.Common.{◌≡◌, map, take, formula_values, bits_from, bits_of, store_of, formula_of}
 use Rattle.bp_flat.proofs.expr_lists.Arguments.word.Given as goal
 
 abbrev pub invariant-loop-i : goal.invariant-loop-i

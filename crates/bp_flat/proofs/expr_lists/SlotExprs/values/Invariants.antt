@@ -1,7 +1,4 @@
-use Rattle.std.proofs.Common.{◌≡◌, map, take}
-use Rattle.bp_flat.specs.Steps.{formula_values}
-use Rattle.bp_flat.specs.InstrEffects.{store_of}
-use Rattle.bp_flat.specs.Views.{formula_of}
+use Rattle.bp_flat.proofs.Common.{◌≡◌, map, take, formula_values, store_of, formula_of}
 use Rattle.bp_flat.proofs.expr_lists.SlotExprs.values.Given as goal
 
 abbrev pub invariant-loop-expr : goal.invariant-loop-expr

@@ -1,6 +1,4 @@
-use Rattle.std.proofs.Common.{◌+◌, ap, ◌∙◌}
-use Rattle.rand_pcg.specs.Lcg.{started, increment_of}
-use Rattle.rand_pcg.specs.Pcg.{multiplier_64, pcg32}
+use Rattle.bp_machine.proofs.Common.{◌+◌, ap, ◌∙◌, started, increment_of, multiplier_64, pcg32}
 use Rattle.bp_machine.proofs.StandsAfterTransition.{at_first_word}
 use Rattle.bp_machine.proofs.choices.Choices.new.Goals as goal
 

@@ -1,5 +1,4 @@
-use Rattle.std.proofs.Common.{subst, sym}
-use Rattle.bp_machine.specs.Histories.{IsAt}
+use Rattle.bp_machine.proofs.Common.{subst, sym, IsAt}
 use Rattle.bp_machine.proofs.StandsAfterTransition.{at_next_word}
 use Rattle.bp_machine.proofs.choices.Choices.next.Goals as goal
 

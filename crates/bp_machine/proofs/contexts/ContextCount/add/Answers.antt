@@ -1,6 +1,4 @@
-use Rattle.std.proofs.Common.{◌≡◌, ◌+◌, ◌++◌, ◌∷◌, [], Some, rules, subst, sym}
-use Rattle.bp_machine.specs.declared.contexts.ContextCount.{ContextCount}
-use Rattle.bp_machine.specs.Sessions.{count_with, IsCountOf}
+use Rattle.bp_machine.proofs.Common.{◌≡◌, ◌+◌, ◌++◌, ◌∷◌, [], Some, rules, subst, sym, ContextCount, count_with, IsCountOf}
 use Rattle.bp_machine.proofs.ContextCounts.{counts_more}
 use Rattle.bp_machine.proofs.contexts.ContextCount.add.Goals as goal
 

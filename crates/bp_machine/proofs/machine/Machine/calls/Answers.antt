@@ -1,7 +1,4 @@
-use Rattle.std.proofs.Common.{◌+◌, ◌∙◌, ap, sym, arith, length, slice_get, rules}
-use Rattle.std.proofs.lemmas.List.{length-map}
-use Rattle.bp_machine.specs.Sessions.{guests}
-use Rattle.bp_machine.specs.Histories.{calls_of_thread}
+use Rattle.bp_machine.proofs.Common.{◌+◌, ◌∙◌, ap, sym, arith, length, slice_get, rules, length-map, guests, calls_of_thread}
 use Rattle.bp_machine.proofs.HistoriesAreRuns.{total, total_zero, total_next, all_calls}
 use Rattle.bp_machine.proofs.TransitionIsAnswer.{guest_here}
 use Rattle.bp_machine.proofs.machine.Machine.calls.Goals as goal

@@ -1,8 +1,4 @@
-use Rattle.std.proofs.Common.{◌≡◌, ◌≤◌, ◌*◌, List}
-use Rattle.bp_language.specs.Ast.{Program}
-use Rattle.bp_machine.specs.declared.calls.Call.{Call}
-use Rattle.bp_machine.specs.Setups.{SetupOf}
-use Rattle.bp_machine.specs.Sessions.{StandsAfter}
+use Rattle.bp_machine.proofs.Common.{◌≡◌, ◌≤◌, ◌*◌, List, Program, Call, SetupOf, StandsAfter}
 use Rattle.bp_machine.proofs.HistoriesAreRuns.{total}
 use Rattle.bp_machine.proofs.machine.Machine.calls.Given as goal
 

@@ -1,4 +1,4 @@
-use Rattle.std.proofs.Common.{◌<◌, ap, arith, length, rules}
+use Rattle.bp_machine.proofs.Common.{◌<◌, ap, arith, length, rules}
 use Rattle.bp_machine.proofs.TransitionIsAnswer.{counted, guest_here, room_here, stays_after, fails_after, steps_after}
 use Rattle.bp_machine.proofs.machine.Machine.make.Goals as goal
 

@@ -1,5 +1,4 @@
-use Rattle.std.proofs.Common.{◌∙◌, ap, sym, arith, ◌||◌, nat_le, slice_get}
-use Rattle.bp_machine.specs.Sessions.{guests}
+use Rattle.bp_machine.proofs.Common.{◌∙◌, ap, sym, arith, ◌||◌, nat_le, slice_get, guests}
 use Rattle.bp_machine.proofs.SessionAnswers.{count_more}
 use Rattle.bp_machine.proofs.TransitionIsAnswer.{guest_here}
 use Rattle.bp_machine.proofs.machine.Machine.open_lines.Goals as goal

@@ -1,4 +1,4 @@
-use Rattle.std.proofs.Common.{rules}
+use Rattle.bp_machine.proofs.Common.{rules}
 use Rattle.bp_machine.proofs.TransitionIsAnswer.{counted, same_guests, has_room, state}
 use Rattle.bp_machine.proofs.machine.Machine.reserve.Goals as goal
 

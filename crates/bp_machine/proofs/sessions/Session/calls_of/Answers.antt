@@ -1,4 +1,4 @@
-use Rattle.std.proofs.Common.{◌∙◌, sym, ap, slice_get}
+use Rattle.bp_machine.proofs.Common.{◌∙◌, sym, ap, slice_get}
 use Rattle.bp_machine.proofs.sessions.Session.calls_of.Goals as goal
 
 pub returns-in-Some : goal.returns-in-Some

@@ -1,10 +1,4 @@
-use Rattle.std.proofs.Common.{◌∙◌, ap, sym, subst, true, Some}
-use Rattle.bp_language.specs.Ast.{Program}
-use Rattle.bp_flat.specs.StandsFor.{StandsFor, StepsAlike}
-use Rattle.bp_machine.specs.Histories.{stack_of, configuration_after}
-use Rattle.bp_machine.specs.Sessions.{SessionOf}
-use Rattle.bp_machine.specs.Transitions.{IsTransitionOn}
-use Rattle.bp_machine.specs.Runs.{is_blocked}
+use Rattle.bp_machine.proofs.Common.{◌∙◌, ap, sym, subst, true, Some, Program, StandsFor, StepsAlike, stack_of, configuration_after, SessionOf, IsTransitionOn, is_blocked}
 use Rattle.bp_machine.proofs.TransitionIsAnswer.{on_stack}
 use Rattle.bp_machine.proofs.sessions.Session.finds_zero.Goals as goal
 

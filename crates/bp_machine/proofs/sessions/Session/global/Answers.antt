@@ -1,4 +1,4 @@
-use Rattle.std.proofs.Common.{arith, rules}
+use Rattle.bp_machine.proofs.Common.{arith, rules}
 use Rattle.bp_machine.proofs.SessionAnswers.{global_here, no_global}
 use Rattle.bp_machine.proofs.SetupInRange.{few_globals}
 use Rattle.bp_machine.proofs.sessions.Session.global.Goals as goal

@@ -1,5 +1,4 @@
-use Rattle.std.proofs.Common.{ap, sym, ◌∙◌, is_some, slice_get, rules}
-use Rattle.bp_machine.specs.Sessions.{top_of}
+use Rattle.bp_machine.proofs.Common.{ap, sym, ◌∙◌, is_some, slice_get, rules, top_of}
 use Rattle.bp_machine.proofs.PrintsAlike.{nothing_printed, none_printed, instruction_printed, print_prints, other_prints_nothing}
 use Rattle.bp_machine.proofs.Deadlocks.{no_stack}
 use Rattle.bp_machine.proofs.sessions.Session.is_at_print.Goals as goal

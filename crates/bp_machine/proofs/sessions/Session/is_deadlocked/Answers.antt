@@ -1,5 +1,5 @@
 use Rattle.std.proofs.lemmas.Grind.{common_steps}
-use Rattle.std.proofs.Common.{arith, rules}
+use Rattle.bp_machine.proofs.Common.{arith, rules}
 use Rattle.bp_machine.proofs.Deadlocks.{seen_ended, seen_waiting, all_seen}
 use Rattle.bp_machine.proofs.sessions.Session.is_deadlocked.Goals.{then-has_frames+else-not-waits, else-has_frames}
 use Rattle.bp_machine.proofs.sessions.Session.is_deadlocked.Goals as goal

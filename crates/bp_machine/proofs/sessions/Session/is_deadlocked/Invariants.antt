@@ -1,9 +1,4 @@
-use Rattle.std.proofs.Common.{List}
-use Rattle.bp_language.specs.Ast.{Program}
-use Rattle.bp_flat.specs.StandsFor.{StandsFor}
-use Rattle.bp_machine.specs.declared.calls.Call.{Call}
-use Rattle.bp_machine.specs.Histories.{configuration_after}
-use Rattle.bp_machine.specs.Sessions.{Stands}
+use Rattle.bp_machine.proofs.Common.{List, Program, StandsFor, Call, configuration_after, Stands}
 use Rattle.bp_machine.proofs.Deadlocks.{AreSeen}
 use Rattle.bp_machine.proofs.sessions.Session.is_deadlocked.Given as goal
 

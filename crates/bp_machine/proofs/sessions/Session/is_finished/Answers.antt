@@ -1,4 +1,4 @@
-use Rattle.std.proofs.Common.{rules}
+use Rattle.bp_machine.proofs.Common.{rules}
 use Rattle.bp_machine.proofs.SessionAnswers.{over_is}
 use Rattle.bp_machine.proofs.sessions.Session.is_finished.Goals as goal
 

@@ -1,10 +1,4 @@
-use Rattle.std.proofs.Common.{subst, rules}
-use Rattle.bp_language.specs.Ast.{Program}
-use Rattle.bp_flat.specs.StandsFor.{StandsFor, StepsAlike}
-use Rattle.std.proofs.lemmas.Option.{slice_get_within}
-use Rattle.std.proofs.lemmas.Result.{err_from_is_err_and}
-use Rattle.bp_machine.specs.Sessions.{SessionOf, IsInOrder}
-use Rattle.bp_machine.specs.Transitions.{session_of, IsJudged}
+use Rattle.bp_machine.proofs.Common.{subst, rules, Program, StandsFor, StepsAlike, slice_get_within, err_from_is_err_and, SessionOf, IsInOrder, session_of, IsJudged}
 use Rattle.bp_machine.proofs.SessionAnswers.{judged_next, refused_after, refused_for_memory, within, made_stands, made_in_order}
 use Rattle.bp_machine.proofs.sessions.Session.make_given.Goals.{In_ok-made}
 use Rattle.bp_machine.proofs.sessions.Session.make_given.Goals as goal

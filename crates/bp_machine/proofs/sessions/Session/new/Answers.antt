@@ -1,6 +1,4 @@
-use Rattle.std.proofs.Common.{◌∙◌, ap, map}
-use Rattle.bp_flat.specs.Steps.{bits_from}
-use Rattle.bp_machine.specs.Sessions.{first_thread}
+use Rattle.bp_machine.proofs.Common.{◌∙◌, ap, map, bits_from, first_thread}
 use Rattle.bp_machine.proofs.SessionsInOrder.{stands_at_start, in_order_at_start}
 use Rattle.bp_machine.proofs.sessions.Session.new.Goals as goal
 

@@ -1,5 +1,4 @@
-use Rattle.std.proofs.Common.{rules}
-use Rattle.std.proofs.lemmas.Result.{err_from_is_err_and}
+use Rattle.bp_machine.proofs.Common.{rules, err_from_is_err_and}
 use Rattle.bp_machine.proofs.SessionAnswers.{within_threads}
 use Rattle.bp_machine.proofs.PrintsAlike.{nothing_printed, none_printed, instruction_printed}
 use Rattle.bp_machine.proofs.sessions.Session.next_print.Goals as goal

@@ -1,9 +1,4 @@
-use Rattle.std.proofs.Common.{◌∙◌, ap, map, sym, subst}
-use Rattle.bp_flat.specs.Steps.{bits_from}
-use Rattle.bp_flat.specs.StandsFor.{StandsFor}
-use Rattle.bp_machine.specs.Sessions.{first_thread}
-use Rattle.bp_machine.specs.Setups.{FitsCode}
-use Rattle.bp_machine.specs.Transitions.{AreFirstChoices}
+use Rattle.bp_machine.proofs.Common.{◌∙◌, ap, map, sym, subst, bits_from, StandsFor, first_thread, FitsCode, AreFirstChoices}
 use Rattle.bp_machine.proofs.SessionsInOrder.{stands_at_start, in_order_at_start, fits_anew, in_range_anew}
 use Rattle.bp_machine.proofs.sessions.Session.restart.Goals as goal
 

@@ -1,8 +1,4 @@
-use Rattle.std.proofs.Common.{◌-◌, ap, sym, ◌∙◌, drop, drop_of_length-le, length, length-drop, slice_get, rules}
-use Rattle.bp_flat.specs.InstrEffects.{bits_of}
-use Rattle.bp_flat.specs.StandsFor.{valuation_of}
-use Rattle.bp_machine.specs.Sessions.{top_of}
-use Rattle.bp_machine.specs.Histories.{stack_of, configuration_after}
+use Rattle.bp_machine.proofs.Common.{◌-◌, ap, sym, ◌∙◌, drop, drop_of_length-le, length, length-drop, slice_get, rules, bits_of, valuation_of, top_of, stack_of, configuration_after}
 use Rattle.bp_machine.proofs.Deadlocks.{none_shown, top_shown, shown_below, no_stack}
 use Rattle.bp_machine.proofs.sessions.Session.top_below.Goals as goal
 

@@ -1,4 +1,4 @@
-use Rattle.std.proofs.Common.{◌∙◌}
+use Rattle.bp_machine.proofs.Common.{◌∙◌}
 use Rattle.bp_machine.proofs.SessionsInOrder.{stays_in_order, still_stands}
 use Rattle.bp_machine.proofs.sessions.Session.try_copy.Goals as goal
 

@@ -1,4 +1,4 @@
-use Rattle.std.proofs.Common.{rules}
+use Rattle.bp_machine.proofs.Common.{rules}
 use Rattle.bp_machine.proofs.Deadlocks.{with_either_bit, no_stack}
 use Rattle.bp_machine.proofs.sessions.Session.waits.Goals as goal
 

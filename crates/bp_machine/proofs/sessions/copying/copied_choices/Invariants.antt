@@ -1,4 +1,4 @@
-use Rattle.std.proofs.Common.{◌≡◌, take}
+use Rattle.bp_machine.proofs.Common.{◌≡◌, take}
 use Rattle.bp_machine.proofs.sessions.copying.copied_choices.Given as goal
 
 abbrev pub invariant-loop-choice : goal.invariant-loop-choice

@@ -1,5 +1,4 @@
-use Rattle.std.proofs.Common.{sym, ◌∙◌, map, arith, rules}
-use Rattle.bp_machine.specs.Setups.{setup_of}
+use Rattle.bp_machine.proofs.Common.{sym, ◌∙◌, map, arith, rules, setup_of}
 use Rattle.bp_machine.proofs.SetupInRange.{names_found, fits, in_range, fault_refuses}
 use Rattle.bp_machine.proofs.setups.Setup.from_names.Goals as goal
 

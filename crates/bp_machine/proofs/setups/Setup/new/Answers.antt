@@ -1,5 +1,4 @@
-use Rattle.std.proofs.Common.{sym, ◌∙◌, map, string_bytes, rules}
-use Rattle.bp_machine.specs.Setups.{setup_of}
+use Rattle.bp_machine.proofs.Common.{sym, ◌∙◌, map, string_bytes, rules, setup_of}
 use Rattle.bp_machine.proofs.SetupInRange.{in_range, fault_refuses}
 use Rattle.bp_machine.proofs.setups.Setup.new.Goals as goal
 

@@ -1,5 +1,4 @@
-use Rattle.std.proofs.Common.{rules}
-use Rattle.std.proofs.lemmas.Option.{slice_get_read}
+use Rattle.bp_machine.proofs.Common.{rules, slice_get_read}
 use Rattle.bp_machine.proofs.SessionsInOrder.{below_is}
 use Rattle.bp_machine.proofs.stacks.Stack.below.Goals as goal
 

@@ -1,7 +1,4 @@
-use Rattle.std.proofs.Common.{◌≡◌, ◌∙◌, ap, length, map, string_bytes, rules}
-use Rattle.bp_language.specs.Ast.{Program}
-use Rattle.bp_flat.specs.StandsFor.{StandsFor}
-use Rattle.bp_machine.specs.Setups.{initial_bits, setup_of, setup_from}
+use Rattle.bp_machine.proofs.Common.{◌≡◌, ◌∙◌, ap, length, map, string_bytes, rules, Program, StandsFor, initial_bits, setup_of, setup_from}
 use Rattle.bp_machine.proofs.SetupInRange.{bits_given, bits_not_given}
 use Rattle.bp_machine.proofs.starts.Start.setup.Goals as goal
 use Rattle.bp_machine.proofs.starts.Start.setup.Goals.{in-Some, in-None}

@@ -1,5 +1,4 @@
-use Rattle.std.proofs.Common.{rules, ◌≡◌, subst, sym}
-use Rattle.bp_flat.specs.StandsFor.{StandsFor}
+use Rattle.bp_run.proofs.Common.{rules, ◌≡◌, subst, sym, StandsFor}
 use Rattle.bp_run.proofs.TurnsWithCall.{seat_turn, told}
 use Rattle.bp_run.proofs.boards.Board.turn.Goals as goal
 

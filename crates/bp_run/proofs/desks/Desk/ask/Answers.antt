@@ -1,14 +1,4 @@
-use Rattle.std.proofs.Common.{rules, arith, refl, sym, ◌∙◌, ap, subst, ◌≡◌, ◌+◌, ◌<◌, List, [], ◌∷◌, ◌++◌, length, Err, Bool, true, false, not, None, length-append}
-use Rattle.bp_language.specs.Ast.{Program}
-use Rattle.bp_flat.specs.StandsFor.{IsOfProgram, StandsFor}
-use Rattle.bp_machine.specs.declared.calls.Call.{Call}
-use Rattle.bp_machine.specs.Histories.{is_finished}
-use Rattle.bp_machine.specs.Sessions.{Stands, IsNextCall}
-use Rattle.bp_machine.specs.Setups.{threads, IsInRange}
-use Rattle.bp_machine.proofs.SetupInRange.{is_true, is_untrue, same_number}
-use Rattle.rtrb.specs.Ring.{known_free}
-use Rattle.bp_run.specs.Turns.{IsAsked, IsDeskRefusal}
-use Rattle.bp_run.specs.Desks.{desk_of, seat_of}
+use Rattle.bp_run.proofs.Common.{rules, arith, refl, sym, ◌∙◌, ap, subst, ◌≡◌, ◌+◌, ◌<◌, List, [], ◌∷◌, ◌++◌, length, Err, Bool, true, false, not, None, length-append, Program, IsOfProgram, StandsFor, Call, is_finished, Stands, IsNextCall, threads, IsInRange, is_true, is_untrue, same_number, known_free, IsAsked, IsDeskRefusal, desk_of, seat_of}
 use Rattle.bp_run.proofs.GatheredBooks.{books_when_finished, books_when_open, few_made}
 use Rattle.bp_run.proofs.TurnsWithCall.{unfinished, desk_refusal, refused_where_shut, not_shut}
 use Rattle.bp_run.proofs.desks.Desk.ask.Given.{Over}

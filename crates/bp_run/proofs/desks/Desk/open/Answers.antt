@@ -1,5 +1,4 @@
-use Rattle.std.proofs.Common.{rules, arith, ◌≡◌, ◌+◌, ℕ, ◌∙◌}
-use Rattle.bp_machine.specs.Setups.{threads}
+use Rattle.bp_run.proofs.Common.{rules, arith, ◌≡◌, ◌+◌, ℕ, ◌∙◌, threads}
 use Rattle.bp_run.proofs.GatheredBooks.{books_at_start}
 use Rattle.bp_run.proofs.desks.Desk.open.Goals as goal
 

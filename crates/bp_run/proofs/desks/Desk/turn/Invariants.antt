@@ -1,7 +1,4 @@
-use Rattle.std.proofs.Common.{◌≡◌, ◌+◌, ◌≤◌, ◌++◌, ◌∷◌, [], List, length, not}
-use Rattle.bp_machine.specs.declared.calls.Call.{Call}
-use Rattle.bp_machine.specs.Histories.{is_finished}
-use Rattle.bp_run.specs.Turns.{AreSteps}
+use Rattle.bp_run.proofs.Common.{◌≡◌, ◌+◌, ◌≤◌, ◌++◌, ◌∷◌, [], List, length, not, Call, is_finished, AreSteps}
 use Rattle.bp_run.proofs.desks.Desk.turn.Given as goal
 
 abbrev pub invariant-loop-made : goal.invariant-loop-made

@@ -1,8 +1,4 @@
-use Rattle.std.proofs.Common.{◌≡◌, ◌∙◌, sym, refl, Some, arith, rules}
-use Rattle.bp_language.specs.Ast.{Block, Then, Skips, Returns, Branches, Loops}
-use Rattle.bp_language.specs.Blocks.{statement_of}
-use Rattle.bp_language.specs.Views.{decision_of}
-use Rattle.bp_syntax.specs.ParserState.{WordThen, KeywordThen, StmtsTo, FormThen, GotoThen, IfThen, WhileThen, AssertThen, AssumeThen, PrintThen, MoreStmts, kind_ahead, place_ahead}
+use Rattle.bp_syntax.proofs.Common.{◌≡◌, ◌∙◌, sym, refl, Some, arith, rules, Block, Then, Skips, Returns, Branches, Loops, statement_of, decision_of, WordThen, KeywordThen, StmtsTo, FormThen, GotoThen, IfThen, WhileThen, AssertThen, AssumeThen, PrintThen, MoreStmts, kind_ahead, place_ahead}
 use Rattle.bp_language.specs.declared.tokens.TokenKind.TheVariants as kind
 use Rattle.bp_syntax.proofs.ResultAfterToken.{at_exit, passed_on, word_comes, before_block, block_is, one_more_form, more_stmts_ahead, no_stmt}
 use Rattle.bp_syntax.proofs.parser.Parser.+stmt.Goals as goal

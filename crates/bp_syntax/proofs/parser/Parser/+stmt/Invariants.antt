@@ -1,6 +1,4 @@
-use Rattle.std.proofs.Common.{◌≡◌, ◌<◌, length, ◌+◌, ◌*◌}
-use Rattle.bp_language.specs.Ast.{Block}
-use Rattle.bp_syntax.specs.ParserState.{Wanted, StmtsThen, MoreStmts, parse_result}
+use Rattle.bp_syntax.proofs.Common.{◌≡◌, ◌<◌, length, ◌+◌, ◌*◌, Block, Wanted, StmtsThen, MoreStmts, parse_result}
 use Rattle.bp_syntax.proofs.ResultAfterToken.{before_block}
 use Rattle.bp_syntax.proofs.parser.Parser.+stmt.Given as goal
 

@@ -1,4 +1,4 @@
-use Rattle.std.proofs.Common.{rules}
+use Rattle.bp_syntax.proofs.Common.{rules}
 use Rattle.bp_syntax.proofs.ResultAfterToken.{passed_on, some_expr}
 use Rattle.bp_syntax.proofs.parser.Parser.any_exprs.Goals as goal
 

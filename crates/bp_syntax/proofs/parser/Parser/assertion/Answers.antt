@@ -1,6 +1,4 @@
-use Rattle.std.proofs.Common.{refl}
-use Rattle.bp_language.specs.Ast.{Asserts}
-use Rattle.bp_syntax.specs.ParserState.{KeywordThen, AssertThen}
+use Rattle.bp_syntax.proofs.Common.{refl, Asserts, KeywordThen, AssertThen}
 use Rattle.bp_language.specs.declared.tokens.TokenKind.TheVariants as kind
 use Rattle.bp_syntax.proofs.ResultAfterToken.{at_exit}
 use Rattle.bp_syntax.proofs.parser.Parser.assertion.Goals as goal

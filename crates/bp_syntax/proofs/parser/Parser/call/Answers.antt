@@ -1,6 +1,4 @@
-use Rattle.std.proofs.Common.{◌∙◌}
-use Rattle.bp_language.specs.Ast.{Calls}
-use Rattle.bp_syntax.specs.ParserState.{ListedThen, CallThen}
+use Rattle.bp_syntax.proofs.Common.{◌∙◌, Calls, ListedThen, CallThen}
 use Rattle.bp_syntax.proofs.ResultAfterToken.{at_exit}
 use Rattle.bp_syntax.proofs.parser.Parser.call.Goals as goal
 

@@ -1,6 +1,4 @@
-use Rattle.std.proofs.Common.{sym}
-use Rattle.bp_language.specs.Blocks.{statement_of}
-use Rattle.bp_syntax.specs.ParserState.{FormThen, CallThen, AssignThen, place_ahead}
+use Rattle.bp_syntax.proofs.Common.{sym, statement_of, FormThen, CallThen, AssignThen, place_ahead}
 use Rattle.bp_syntax.proofs.ResultAfterToken.{passed_on, call_comes, assign_comes}
 use Rattle.bp_syntax.proofs.parser.Parser.call_or_assignment.Goals as goal
 

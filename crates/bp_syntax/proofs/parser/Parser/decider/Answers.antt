@@ -1,4 +1,4 @@
-use Rattle.std.proofs.Common.{rules}
+use Rattle.bp_syntax.proofs.Common.{rules}
 use Rattle.bp_syntax.proofs.ResultAfterToken.{at_exit, no_question}
 use Rattle.bp_syntax.proofs.parser.Parser.decider.Goals as goal
 

@@ -1,6 +1,4 @@
-use Rattle.std.proofs.Common.{◌≡◌, ◌≤◌, [], length, List}
-use Rattle.bp_language.specs.Ast.{Name}
-use Rattle.bp_syntax.specs.ParserState.{Wanted, MoreDecls, parse_result}
+use Rattle.bp_syntax.proofs.Common.{◌≡◌, ◌≤◌, [], length, List, Name, Wanted, MoreDecls, parse_result}
 use Rattle.bp_syntax.proofs.parser.Parser.decls.Given as goal
 
 abbrev pub invariant-loop-alloc : goal.invariant-loop-alloc

@@ -1,6 +1,4 @@
-use Rattle.std.proofs.Common.{[], sym, ap, map}
-use Rattle.bp_language.specs.Views.{expression_of}
-use Rattle.bp_syntax.specs.ParserState.{ExprsThen, parse_result}
+use Rattle.bp_syntax.proofs.Common.{[], sym, ap, map, expression_of, ExprsThen, parse_result}
 use Rattle.bp_syntax.proofs.ResultAfterToken.{at_exit}
 use Rattle.bp_syntax.proofs.parser.Parser.expr_list.Goals as goal
 

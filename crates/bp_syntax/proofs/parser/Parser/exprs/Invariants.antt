@@ -1,7 +1,4 @@
-use Rattle.std.proofs.Common.{◌≡◌, ◌<◌, List, length, map}
-use Rattle.bp_language.specs.Ast.{Expression}
-use Rattle.bp_language.specs.Views.{expression_of}
-use Rattle.bp_syntax.specs.ParserState.{Wanted, ExprsThen, MoreExprs, parse_result}
+use Rattle.bp_syntax.proofs.Common.{◌≡◌, ◌<◌, List, length, map, Expression, expression_of, Wanted, ExprsThen, MoreExprs, parse_result}
 use Rattle.bp_syntax.proofs.parser.Parser.exprs.Given as goal
 
 abbrev pub invariant-loop-alloc : goal.invariant-loop-alloc

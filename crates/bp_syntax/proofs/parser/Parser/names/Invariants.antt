@@ -1,6 +1,4 @@
-use Rattle.std.proofs.Common.{◌≡◌, ◌<◌, List, length}
-use Rattle.bp_language.specs.Ast.{Name}
-use Rattle.bp_syntax.specs.ParserState.{Wanted, NamesThen, MoreNames, parse_result}
+use Rattle.bp_syntax.proofs.Common.{◌≡◌, ◌<◌, List, length, Name, Wanted, NamesThen, MoreNames, parse_result}
 use Rattle.bp_syntax.proofs.parser.Parser.names.Given as goal
 
 abbrev pub invariant-loop-alloc : goal.invariant-loop-alloc

@@ -1,4 +1,4 @@
-use Rattle.std.proofs.Common.{rules}
+use Rattle.bp_syntax.proofs.Common.{rules}
 use Rattle.bp_syntax.proofs.ResultAfterToken.{at_exit, more_procs_ahead}
 use Rattle.bp_syntax.proofs.parser.Parser.procs.Goals as goal
 

@@ -1,6 +1,4 @@
-use Rattle.std.proofs.Common.{◌≡◌, [], length, List}
-use Rattle.bp_language.specs.Ast.{Procedure}
-use Rattle.bp_syntax.specs.ParserState.{Wanted, MoreProcs, parse_result}
+use Rattle.bp_syntax.proofs.Common.{◌≡◌, [], length, List, Procedure, Wanted, MoreProcs, parse_result}
 use Rattle.bp_syntax.proofs.parser.Parser.procs.Given as goal
 
 abbrev pub invariant-loop-alloc : goal.invariant-loop-alloc

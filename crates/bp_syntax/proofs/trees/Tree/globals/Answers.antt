@@ -1,5 +1,4 @@
-use Rattle.std.proofs.Common.{subst}
-use Rattle.bp_language.specs.Texts.{HasText}
+use Rattle.bp_syntax.proofs.Common.{subst, HasText}
 use Rattle.bp_syntax.proofs.trees.Tree.globals.Goals as goal
 
 pub returns-clause-of_text : goal.returns-clause-of_text

@@ -1,4 +1,4 @@
-use Rattle.std.proofs.Common.{◌∙◌, rules}
+use Rattle.bp_test.proofs.Common.{◌∙◌, rules}
 use Rattle.bp_test.proofs.RunsOfTests.{fits_again, reseeded}
 use Rattle.bp_test.proofs.plans.Plan.new.Goals as goal
 

@@ -1,4 +1,4 @@
-use Rattle.std.proofs.Common.{◌≡◌}
+use Rattle.bp_test.proofs.Common.{◌≡◌}
 use Rattle.bp_test.proofs.RunsOfTests.{IsReseeded}
 use Rattle.bp_test.proofs.plans.Plan.new.Given as goal
 

@@ -1,4 +1,4 @@
-use Rattle.std.proofs.Common.{length, subst, ◌≤◌}
+use Rattle.bp_test.proofs.Common.{length, subst, ◌≤◌}
 use Rattle.bp_test.proofs.TallyLemmas.{tally_both, all_added, few_contexts}
 use Rattle.bp_test.proofs.tallies.Tally.add.Goals as goal
 

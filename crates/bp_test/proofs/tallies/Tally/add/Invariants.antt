@@ -1,7 +1,4 @@
-use Rattle.std.proofs.Common.{◌≡◌, ◌+◌, ◌-◌, ◌^◌, ◌<◌, ◌≤◌, ℕ, min, max, true, take, ◌++◌, Some, slice_index_or}
-use Rattle.bp_test.specs.declared.limits.TheConstants.{MAX_KEYS}
-use Rattle.bp_test.specs.Reached.{is_marked, MarksGrow}
-use Rattle.bp_test.specs.Tallies.{capped, ends_sum}
+use Rattle.bp_test.proofs.Common.{◌≡◌, ◌+◌, ◌-◌, ◌^◌, ◌<◌, ◌≤◌, ℕ, min, max, true, take, ◌++◌, Some, slice_index_or, MAX_KEYS, is_marked, MarksGrow, capped, ends_sum}
 use Rattle.bp_test.proofs.tallies.Tally.add.Given as goal
 
 abbrev pub invariant-loop-used : goal.invariant-loop-used

@@ -1,5 +1,4 @@
-use Rattle.std.proofs.lemmas.Result.{on_ok_weaker}
-use Rattle.bp_test.specs.Tallies.{made}
+use Rattle.bp_test.proofs.Common.{on_ok_weaker, made}
 use Rattle.bp_test.proofs.TallyLemmas.{counted_run}
 use Rattle.bp_test.proofs.tallies.Tally.add_run.Goals as goal
 

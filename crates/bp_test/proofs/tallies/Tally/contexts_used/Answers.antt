@@ -1,4 +1,4 @@
-use Rattle.std.proofs.Common.{refl, subst, length, ◌≤◌}
+use Rattle.bp_test.proofs.Common.{refl, subst, length, ◌≤◌}
 use Rattle.bp_test.proofs.ContextLemmas.{none_so_far, seen_none, seen_some, all_seen}
 use Rattle.bp_test.proofs.tallies.Tally.contexts_used.Goals.{then-runs-gt0, else-runs-gt0}
 use Rattle.bp_test.proofs.tallies.Tally.contexts_used.Goals as goal

@@ -1,6 +1,4 @@
-use Rattle.std.proofs.Common.{◌≡◌, ◌<◌, ◌^◌, List, length}
-use Rattle.bp_machine.specs.Setups.{SetupOf}
-use Rattle.bp_test.specs.Tallies.{MadeRun, IsCounted}
+use Rattle.bp_test.proofs.Common.{◌≡◌, ◌<◌, ◌^◌, List, length, SetupOf, MadeRun, IsCounted}
 use Rattle.bp_test.proofs.ContextLemmas.{AreSoFar}
 use Rattle.bp_test.proofs.tallies.Tally.contexts_used.Given as goal
 

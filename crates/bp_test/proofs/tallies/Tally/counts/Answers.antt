@@ -1,4 +1,4 @@
-use Rattle.std.proofs.Common.{length, ap, ◌∙◌, count_by}
+use Rattle.bp_test.proofs.Common.{length, ap, ◌∙◌, count_by}
 use Rattle.bp_test.proofs.ContextLemmas.{exact_runs}
 use Rattle.bp_test.proofs.tallies.Tally.counts.Goals as goal
 

@@ -1,4 +1,4 @@
-use Rattle.std.proofs.Common.{refl}
+use Rattle.bp_text.proofs.Common.{refl}
 use Rattle.bp_text.proofs.Givings.{given_written}
 use Rattle.bp_text.proofs.sinks.Sink.put.Goals as goal
 

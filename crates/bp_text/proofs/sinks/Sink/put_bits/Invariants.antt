@@ -1,6 +1,4 @@
-use Rattle.std.proofs.Common.{flat_map, take}
-use Rattle.bp_text.specs.Pieces.{bit_text}
-use Rattle.bp_text.specs.Writing.{Given}
+use Rattle.bp_text.proofs.Common.{flat_map, take, bit_text, Given}
 use Rattle.bp_text.proofs.sinks.Sink.put_bits.Given as goal
 
 abbrev pub invariant-loop-bit : goal.invariant-loop-bit

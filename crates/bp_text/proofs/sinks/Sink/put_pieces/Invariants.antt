@@ -1,6 +1,4 @@
-use Rattle.std.proofs.Common.{flat_map, take}
-use Rattle.bp_text.specs.Pieces.{piece_text}
-use Rattle.bp_text.specs.Writing.{Given}
+use Rattle.bp_text.proofs.Common.{flat_map, take, piece_text, Given}
 use Rattle.bp_text.proofs.sinks.Sink.put_pieces.Given as goal
 
 abbrev pub invariant-loop-piece : goal.invariant-loop-piece

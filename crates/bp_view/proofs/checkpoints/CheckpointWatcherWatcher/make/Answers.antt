@@ -1,5 +1,4 @@
-use Rattle.std.proofs.Common.{◌≡◌, ◌∙◌, ◌++◌, ◌∷◌, [], sym, subst, arith, length, rules}
-use Rattle.bp_flat.specs.StandsFor.{StandsFor}
+use Rattle.bp_view.proofs.Common.{◌≡◌, ◌∙◌, ◌++◌, ◌∷◌, [], sym, subst, arith, length, rules, StandsFor}
 use Rattle.bp_view.proofs.RecordedCalls.{one_more, still_kept, whole, next_number}
 use Rattle.bp_view.proofs.checkpoints.CheckpointWatcherWatcher.make.Goals as goal
 

@@ -1,11 +1,5 @@
-use Rattle.std.proofs.Common.{if◌then◌else◌, None, ap, ◌≡◌, ◌∙◌, ◌++◌, ◌∷◌, [], suc, length, arith, length-append, subst, sym, option_map, rules}
-use Rattle.std.proofs.lemmas.Result.{err_from_is_err_and}
-use Rattle.bp_flat.specs.StandsFor.{StandsFor}
-use Rattle.bp_machine.specs.Sessions.{last_thread, Stands}
-use Rattle.bp_machine.specs.Histories.{configuration_after, granted_threads, is_granted}
-use Rattle.bp_trace.proofs.PlayableFronts.{own_is}
+use Rattle.bp_view.proofs.Common.{if◌then◌else◌, None, ap, ◌≡◌, ◌∙◌, ◌++◌, ◌∷◌, [], suc, length, arith, length-append, subst, sym, option_map, rules, err_from_is_err_and, StandsFor, last_thread, Stands, configuration_after, granted_threads, is_granted, own_is, next_print_in, IsShownLine}
 use Rattle.bp_view.proofs.RecordedCalls.{next_number, own_refused, print_refused}
-use Rattle.bp_view.specs.Views.{next_print_in, IsShownLine}
 use Rattle.bp_view.proofs.Growing.{gained}
 use Rattle.bp_view.proofs.ShownLines.{printed_of}
 use Rattle.bp_view.proofs.writers.ViewWriter.make_line.Goals as goal
