@@ -1,5 +1,5 @@
 //! The choice bits that reported steps leave out, and those that threads take if their last step is
-//! at a `?`, of which no later step tells.
+//! at a `?` and no later step shows which way it went.
 ghost use Rattle.std.specs.Prelude.{◌≡◌, ℕ, Bool, List, Option, IfSome, option_map, if◌then◌else◌, ◌++◌, ◌∷◌, [], false, not, get_or, IfOk, OnOk};
 ghost use Rattle.bp_language.specs.Ast.{Block, Procedure, Program};
 ghost use Rattle.bp_flat.specs.StandsFor.{Does, places_of};

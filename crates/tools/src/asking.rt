@@ -1,5 +1,5 @@
-//! Asks of one thread at a session, at a desk and at a board. Each ask has to be a step, and the tap
-//! has to give all calls.
+//! Asks of one thread at a session, at a desk and at a board. Each ask has to be a step, and the
+//! tap has to give all calls.
 
 use crate::cases::{Case, unmeasured};
 use crate::rounds::measure;
