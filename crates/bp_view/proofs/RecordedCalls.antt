@@ -74,10 +74,10 @@ last_reply-append (y ∷ []) x = refl
 last_reply-append (y ∷ z ∷ ys) x = last_reply-append (z ∷ ys) x
 
 module _ (h : List Call) (i n : ℕ) (d : Call) (within : i < length h) where
-  pub reply_same : (get_or h i d).thread ≡ n → Some (get_or h i d).reply ≡ last_reply (calls_of_thread n (take (i + 1) h))
-  reply_same e =
+  pub own : (get_or h i d).thread ≡ n → Some (get_or h i d).reply ≡ last_reply (calls_of_thread n (take (i + 1) h))
+  own e =
       let more = ap (calls_of_thread n) (take_more h i d within) ∙ calls_of_thread-same (take i h) (get_or h i d) n e in
       sym (ap last_reply more ∙ last_reply-append (calls_of_thread n (take i h)) (get_or h i d))
 
-  pub reply_other : (get_or h i d).thread ≢ n → last_reply (calls_of_thread n (take i h)) ≡ last_reply (calls_of_thread n (take (i + 1) h))
-  reply_other e = sym (ap last_reply (calls_other h i n d within e))
+  pub other : (get_or h i d).thread ≢ n → last_reply (calls_of_thread n (take i h)) ≡ last_reply (calls_of_thread n (take (i + 1) h))
+  other e = sym (ap last_reply (calls_other h i n d within e))

@@ -40,7 +40,7 @@ pub enum Standing {
 }
 
 /// The reply to the last call of the thread.
-#[tactic(auto, using(crate::proofs::RecordedCalls::reply_other, crate::proofs::RecordedCalls::reply_same))]
+#[tactic(auto, using(crate::proofs::RecordedCalls::other, crate::proofs::RecordedCalls::own))]
 fn last_reply(history: &[Call], thread: u32) -> Option<Reply>
     ensures { result ≡ last_reply (calls_of_thread thread history.now) }
 {
