@@ -34,6 +34,9 @@ module _ {K : Type 0} (test : K → Bool) (text : List ℕ) where
       by true passes later e = let same : x.1 ≡ k = cc in p.0 passes ∙ ap spelling same
       by false fails later e = later e
 
+also : {A B : Type 0} → A → B → A × B
+also a b = (a, b)
+
 word : (s w : List ℕ) → bytes_eq s w ≡ true → s ≡ w
 word s w = (bytes_eq-Decides s w).0
 
@@ -44,31 +47,10 @@ two : (b c d f : ℕ) → (nat_eq b d && nat_eq c f) ≡ true → b ∷ c ∷ []
 two b c d f given1 = grind (arith)
 
 of_word : (s : List ℕ) (k : TokenKind) → reserved_word s ≡ Some k → s ≡ spelling k
-of_word s k = found (bytes_eq s) s reserved_words (
-  word s _,
-  (
-    word s _,
-    (
-      word s _,
-      (
-        word s _,
-        (
-          word s _,
-          (
-            word s _,
-            (
-              word s _,
-              (
-                word s _,
-                (word s _, (word s _, (word s _, (word s _, (word s _, (word s _, (word s _, (word s _, tt)))))))),
-              ),
-            ),
-          ),
-        ),
-      ),
-    ),
-  ),
-) k
+of_word s k =
+    found (bytes_eq s) s reserved_words
+    (also (word s _) (also (word s _) (also (word s _) (also (word s _) (also (word s _) (also (word s _) (also (word s _) (also (word s _)
+    (also (word s _) (also (word s _) (also (word s _) (also (word s _) (also (word s _) (also (word s _) (also (word s _) (also (word s _) tt)))))))))))))))) k
 
 of_constant : (b : ℕ) (k : TokenKind) → lookup (nat_eq b) constants ≡ Some k → b ∷ [] ≡ spelling k
 of_constant b k = found (nat_eq b) (b ∷ []) constants (byte b _, (byte b _, tt)) k
@@ -239,28 +221,17 @@ has_no_tokens text gaps =
     record { lexemes = all.lexemes; cut = all.cut; good = all.good; closed = all.closed; tokens = all.tokens }
 
 module _ (text bytes rest : List ℕ) (gaps : HasOnlyGaps rest) where
-  after_white : TakesLexeme text (Some White) bytes rest → HasOnlyGaps text
-  after_white taken at =
+  after_lexeme : (kind : LexemeKind) → kind_of kind bytes ≡ None → TakesLexeme text (Some kind) bytes rest → HasOnlyGaps text
+  after_lexeme kind none taken at =
       let more = gaps (at + taken.size) in
       record {
-        lexemes = lexeme_of (Some White) at bytes ∷ more.lexemes;
+        lexemes = lexeme_of (Some kind) at bytes ∷ more.lexemes;
         cut = taken.cut at more.lexemes more.cut;
         good = more.good;
         closed = more.closed;
-        tokens = more.tokens;
-      }
-
-  after_comment : TakesLexeme text (Some Comment) bytes rest → HasOnlyGaps text
-  after_comment taken at =
-      let more = gaps (at + taken.size) in
-      record {
-        lexemes = lexeme_of (Some Comment) at bytes ∷ more.lexemes;
-        cut = taken.cut at more.lexemes more.cut;
-        good = more.good;
-        closed = more.closed;
-        tokens = more.tokens;
+        tokens = rw none more.tokens;
       }
 
   pub after_gap : (kind : Option LexemeKind) → TakesLexeme text kind bytes rest → (kind ≡ Some White) ⊎ (kind ≡ Some Comment) → HasOnlyGaps text
-  after_gap kind taken (inl is) = after_white (subst (λ k. TakesLexeme text k bytes rest) is taken)
-  after_gap kind taken (inr is) = after_comment (subst (λ k. TakesLexeme text k bytes rest) is taken)
+  after_gap kind taken (inl is) = after_lexeme White refl (subst (λ k. TakesLexeme text k bytes rest) is taken)
+  after_gap kind taken (inr is) = after_lexeme Comment refl (subst (λ k. TakesLexeme text k bytes rest) is taken)

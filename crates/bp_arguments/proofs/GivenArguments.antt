@@ -1,5 +1,5 @@
 -- What a match on an argument's value says of the rows of a parse.
-use Rattle.bp_arguments.proofs.Common.{◌≡◌, refl, codes, map, option_map, unwrap_or, List, [], ◌∷◌, Bor, Option, Some, None, ◌∙◌, ap, sym, Bool, true, false, if◌then◌else◌, ◌^◌, ℕ, Result, find, option_and_then, length, nat_lt, ltb-true, lt-ltb, arith, rules, Text, Row, row_of, rows_of, bytes_eq, find_row, both, matched_of, ReadsOne, list_all, is_from_line, is_on_line, option_name, is_number_text, number_in, number_of, IsNumberIn, IsNumberText, IsNumberOf}
+use Rattle.bp_arguments.proofs.Common.{◌≡◌, refl, codes, map, option_map, unwrap_or, List, [], ◌∷◌, Bor, Option, Some, None, ◌∙◌, ap, sym, Bool, true, if◌then◌else◌, ◌^◌, ◌<◌, ℕ, Result, find, option_and_then, length, nat_lt, ltb-true, lt-ltb, arith, rules, Text, Row, row_of, rows_of, bytes_eq, find_row, both, matched_of, ReadsOne, list_all, is_from_line, is_on_line, option_name, is_number_text, number_in, number_of}
 use Rattle.clap.specs.Facts.{Entry}
 use Rattle.clap.specs.declared.parser.matches.Found.{Found}
 use Rattle.clap.specs.declared.parser.matches.MatchedArg.{MatchedArg}
@@ -16,7 +16,7 @@ module _ (given : Option (Bor (List (Bor Text)))) (all : Option (List Text)) (sa
   pub no_names_read : given ≡ None → (codes "main" ∷ []) ≡ unwrap_or all (codes "main" ∷ [])
   no_names_read is = rw (← same, is) refl
 
--- Which options the arguments gave, and the first pair of them that clashes.
+-- Which options the arguments gave.
 
 -- where the value of an argument came from, by the rows
 pub source-rows : (f : Found) (id : Text) → option_and_then (λ (a : MatchedArg). a.source) (matched_of f id)
@@ -32,14 +32,10 @@ pub given_is : (f : Found) (o : OptionName) (name : Text) (source : Option Value
     → source ≡ option_and_then (λ (a : MatchedArg). a.source) (matched_of f name) → is_from_line source ≡ is_on_line (rows_of f) o
 given_is f o name source given1 given2 = search (rules, source-rows, option_and_then, find)
 
--- the first element that has a property, where the first one has it or not
-pub find_first : {X : Type 0} (p : X → Bool) (x : X) (xs : List X) → p x ≡ true → find p (x ∷ xs) ≡ Some x
-find_first p x xs e = rw e refl
+-- The number of an option, from what a parse reads of it.
 
-pub find_later : {X : Type 0} (p : X → Bool) (x : X) (xs : List X) → p x ≡ false → find p (x ∷ xs) ≡ find p xs
-find_later p x xs e = rw e refl
-
--- The number of a text as a relation, and as a function.
+abbrev IsNumberText : ℕ → Text → Type 0
+IsNumberText bits text = IsNumeral 10 (without_leading_plus text) × (number_of text < 2 ^ bits)
 
 digits_from : (ds : List ℕ) → list_all (λ d. nat_lt (digit_value d) 10) ds ≡ true → AllDigits 10 ds
 digits_from [] e = tt
@@ -58,26 +54,21 @@ is_a_number bits t h = rw (numeral_back (without_leading_plus t) h.0) (lt-ltb (n
 a_number_is : (bits : ℕ) (t : Text) → is_number_text bits t ≡ true → IsNumberText bits t
 a_number_is bits t given1 = search (rules, both, ltb-true, digits_from)
 
-read_as_number : (b : Bool) (n : ℕ) → b ≡ true → (if b then Some n else None) ≡ Some n
-read_as_number b n given1 = grind (arith)
+-- a parse reads the number of a text, and none if the text is no such number
+abbrev pub IsNumberIn : ℕ → Option Text → Option ℕ → Type 0
+IsNumberIn bits None read = read ≡ None
+IsNumberIn bits (Some text) (Some n) = IsNumberText bits text × (n ≡ number_of text)
+IsNumberIn bits (Some text) None = IsNumberText bits text → ⊥
 
-no_number : (b : Bool) (n : ℕ) → (b ≡ true → ⊥) → (if b then Some n else None) ≡ None
+no_number : (b : Bool) (n : ℕ) → (b ≡ true → ⊥) → None ≡ (if b then Some n else None)
 no_number b n given1 = grind (arith)
 
--- the number that is read of a text is that of the text
-pub number_is : (bits : ℕ) (text : Option Text) (read : Option ℕ) → IsNumberIn bits text read → read ≡ number_in bits text
-number_is bits text read given1 = search (rules, read_as_number, is_a_number, no_number, a_number_is)
-
--- The number of an option, from what a parse reads of it.
+pub number_is : (bits : ℕ) (text : Option Text) (read : Option ℕ) → IsNumberIn bits text read → read ≡ option_and_then (number_in bits) text
+number_is bits None read is = is
+number_is bits (Some t) (Some n) is = rw (is_a_number bits t is.0) (ap Some is.1)
+number_is bits (Some t) None is = no_number (is_number_text bits t) (number_of t) (λ e. is (a_number_is bits t e))
 
 module _ {E : Type 0} (bits : ℕ) (gives : Text → Result ℕ E → Type 0) (parses : (t : Text) (r : Result ℕ E) → gives t r → ParsesUnsigned bits 10 t r) where
-  read_of : (default : ℕ) (t : Text) (read : Option ℕ) → ReadsOne gives t read → IsNumberOf bits default (Some t) (unwrap_or read default)
-  read_of default t read given1 = grind (arith)
-
-  pub number_given : (default : ℕ) (text : Option Text) (read : Option ℕ) (n : ℕ) → n ≡ unwrap_or read default → (text ≡ None → read ≡ None)
-      → ((t : Text) → text ≡ Some t → ReadsOne gives t read) → IsNumberOf bits default text n
-  number_given default text read n given1 given2 given3 = search (rules, read_of)
-
   read_in : (t : Text) (read : Option ℕ) → ReadsOne gives t read → IsNumberIn bits (Some t) read
   read_in t read given1 = grind (arith)
 

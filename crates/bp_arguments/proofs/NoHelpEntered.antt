@@ -93,6 +93,9 @@ module _ (p : Text × List Text) where
   found_ours [] ours = tt
   found_ours (s ∷ ss) (first, others) = pick (answers_to p.0 (label_of s)) s _ first (found_ours ss others)
 
+also : {A B : Type 0} → A → B → A × B
+also a b = (a, b)
+
 other_way : (a b : Text) → bytes_eq a b ≡ false → (bytes_eq b a || false) ≡ false
 other_way a b e = grind (arith, bytes_eq-Decides a b, bytes_eq-Decides b a, e)
 
@@ -100,34 +103,10 @@ entered_ours : (stop : Option (Text × List Text)) → NoHelp stop → IsOurs (e
 unfolding clap_on_literals
 entered_ours None fine = tt
 entered_ours (Some p) fine =
-    found_ours p (built btrun_app).subs (
-      inr (name.Check, refl),
-      (
-        inr (name.Code, refl),
-        (
-          inr (name.Drive, refl),
-          (
-            inr (name.Confirm, refl),
-            (
-              inr (name.Run, refl),
-              (
-                inr (name.Test, refl),
-                (
-                  inr (name.Explore, refl),
-                  (
-                    inr (name.Replay, refl),
-                    (
-                      inr (name.Show, refl),
-                      (inr (name.Migrate, refl), (inr (name.Shrink, refl), (inl (other_way p.0 (codes "help") fine), tt))),
-                    ),
-                  ),
-                ),
-              ),
-            ),
-          ),
-        ),
-      ),
-    )
+    found_ours p (built btrun_app).subs
+    (also (inr (name.Check, refl)) (also (inr (name.Code, refl)) (also (inr (name.Drive, refl)) (also (inr (name.Confirm, refl)) (also (inr (name.Run, refl))
+    (also (inr (name.Test, refl)) (also (inr (name.Explore, refl)) (also (inr (name.Replay, refl)) (also (inr (name.Show, refl)) (also (inr (name.Migrate, refl))
+    (also (inr (name.Shrink, refl)) (inl (other_way p.0 (codes "help") fine), tt))))))))))))
 
 enabled : (built btrun_app).top.disable_help_subcommand ≡ false
 unfolding clap_on_literals

@@ -1,12 +1,16 @@
 -- What the arguments after each command ask for.
-use Rattle.std.specs.Prelude.{◌≡◌, List, codes, ℕ, None, Some, true, false, option_map, ◌+◌, ◌-◌, ◌^◌, Option, length, min}
+use Rattle.std.specs.Prelude.{◌≡◌, if◌then◌else◌, List, codes, ℕ, None, Some, true, false, option_map, ◌+◌, ◌-◌, ◌^◌, Option, is_some, length, min}
 use Rattle.clap.specs.Walk.{Row, one_of, first_of}
+use Rattle.bp_machine.specs.Setups.{start_with}
 use Rattle.bp_machine.specs.declared.limits.TheConstants.{DEFAULT_CONTEXTS, DEFAULT_CALLS, MAX_THREADS}
 use Rattle.bp_tasks.specs.declared.tasks.CheckTask.{CheckTask}
+use Rattle.bp_tasks.specs.declared.tasks.CodeTask.{CodeTask}
 use Rattle.bp_tasks.specs.declared.tasks.ContextBound.{ContextBound}
 use Rattle.bp_tasks.specs.declared.tasks.ContextBound.TheVariants.{AsUsed, Kept}
 use Rattle.bp_tasks.specs.declared.tasks.ConfirmTask.{ConfirmTask}
 use Rattle.bp_tasks.specs.declared.tasks.DriveTask.{DriveTask}
+use Rattle.bp_tasks.specs.declared.tasks.ListingForm.{ListingForm}
+use Rattle.bp_tasks.specs.declared.tasks.ListingForm.TheVariants as form
 use Rattle.bp_tasks.specs.declared.limits.TheConstants.{DEFAULT_TURN, DEFAULT_SEED, DEFAULT_RING, DEFAULT_JOBS, DEFAULT_RUNS, DEFAULT_STATES}
 use Rattle.bp_tasks.specs.declared.tasks.RunTask.{RunTask}
 use Rattle.bp_tasks.specs.declared.tasks.ShowTask.{ShowTask}
@@ -16,74 +20,63 @@ use Rattle.bp_tasks.specs.declared.options.ViewOptions.{ViewOptions}
 use Rattle.bp_tasks.specs.declared.tasks.TestTask.{TestTask}
 use Rattle.bp_tasks.specs.declared.tasks.TraceTask.{TraceTask}
 use Rattle.bp_tasks.specs.declared.tasks.ExploreTask.{ExploreTask}
-use Rattle.bp_arguments.specs.Values.{value_of, IsFlagOf, IsExplainingOf, entries_in, expected_in, init_in, named_in, IsNumberIn, IsNumberOf}
+use Rattle.bp_arguments.specs.Values.{value_of, given_number, number_or, IsFlagOf, IsExplainingOf, entries_in, expected_in, init_in, named_in, start_in}
 
--- What the arguments after `check` ask for.
-
--- the file and the flags are those of the arguments
+-- the file and the flags of `check` are those of its arguments
 pub record IsCheckArgumentsOf (rows : List Row) (task : CheckTask) : Type 0 where
   pub program : task.program.now ≡ value_of (codes "FILE") rows
   pub json : IsFlagOf (one_of (codes "json") rows) task.json
   pub explain : IsExplainingOf rows task.explain
 
--- What the arguments after `confirm` ask for.
+-- the listing is JSON where that is asked for, and else has the source where that is
+abbrev pub IsFormOf : List Row → ListingForm → Type 0
+IsFormOf rows form.Json = IsFlagOf (one_of (codes "json") rows) true
+IsFormOf rows form.Sourced =
+    IsFlagOf (one_of (codes "json") rows) false
+    × IsFlagOf (one_of (codes "source") rows) true
+IsFormOf rows form.Lines =
+    IsFlagOf (one_of (codes "json") rows) false
+    × IsFlagOf (one_of (codes "source") rows) false
+
+-- the file and the flags of `code` are those of its arguments
+pub record IsCodeArgumentsOf (rows : List Row) (task : CodeTask) : Type 0 where
+  pub program : task.program.now ≡ value_of (codes "FILE") rows
+  pub form : IsFormOf rows task.form
+  pub explain : IsExplainingOf rows task.explain
 
 -- as many contexts as are used are allowed, unless a number is given
-abbrev pub IsBoundOf : List Row → ContextBound → Type 0
-IsBoundOf rows AsUsed = IsNumberIn 32 (one_of (codes "contexts") rows) None
-IsBoundOf rows Kept = (n : ℕ) × IsNumberIn 32 (one_of (codes "contexts") rows) (Some n)
+abbrev pub bound_in : List Row → ContextBound
+bound_in rows = if is_some (given_number 32 (codes "contexts") rows) then Kept else AsUsed
 
 -- the files and the options of `confirm` are those of its arguments
 pub record IsConfirmOf (rows : List Row) (task : ConfirmTask) : Type 0 where
   pub program : task.program.now ≡ value_of (codes "FILE") rows
   pub steps : task.steps.now ≡ value_of (codes "STEPS") rows
-  pub entries : task.start.entries ≡ entries_in rows
-  pub init : task.start.init ≡ init_in rows
+  pub start : task.start ≡ start_in DEFAULT_CONTEXTS rows
   pub named : task.named ≡ named_in rows
-  pub bound : IsBoundOf rows task.bound
-  pub contexts :
-      IsNumberOf 32 DEFAULT_CONTEXTS (one_of (codes "contexts") rows) task.start.contexts
-  pub calls :
-      IsNumberOf 32 DEFAULT_CALLS (one_of (codes "calls") rows) task.start.calls
+  pub bound : task.bound ≡ bound_in rows
   pub expected : task.expected ≡ expected_in rows
   pub json : IsFlagOf (one_of (codes "json") rows) task.json
   pub explain : IsExplainingOf rows task.explain
-
--- What the arguments after `drive` ask for.
 
 -- the files and the options of `drive` are those of its arguments
 pub record IsDriveOf (rows : List Row) (task : DriveTask) : Type 0 where
   pub program : task.program.now ≡ value_of (codes "FILE") rows
   pub schedule : task.schedule.now ≡ value_of (codes "SCHEDULE") rows
-  pub entries : task.start.entries ≡ entries_in rows
-  pub init : task.start.init ≡ init_in rows
+  pub start : task.start ≡ start_in DEFAULT_CONTEXTS rows
   pub named : task.named ≡ named_in rows
-  pub contexts :
-      IsNumberOf 32 DEFAULT_CONTEXTS (one_of (codes "contexts") rows) task.start.contexts
-  pub calls :
-      IsNumberOf 32 DEFAULT_CALLS (one_of (codes "calls") rows) task.start.calls
   pub explain : IsExplainingOf rows task.explain
-
--- What the arguments after `run` ask for.
 
 -- the file and the options of `run` are those of its arguments
 pub record IsRunOf (rows : List Row) (task : RunTask) : Type 0 where
   pub program : task.program.now ≡ value_of (codes "FILE") rows
-  pub entries : task.options.start.entries ≡ entries_in rows
-  pub init : task.options.start.init ≡ init_in rows
+  pub start : task.options.start ≡ start_in DEFAULT_CONTEXTS rows
   pub named : task.named ≡ named_in rows
-  pub contexts :
-      let row = one_of (codes "contexts") rows in
-      IsNumberOf 32 DEFAULT_CONTEXTS row task.options.start.contexts
-  pub calls :
-      IsNumberOf 32 DEFAULT_CALLS (one_of (codes "calls") rows) task.options.start.calls
-  pub turn : IsNumberOf 32 DEFAULT_TURN (one_of (codes "turn") rows) task.options.turn
-  pub seed : IsNumberOf 64 DEFAULT_SEED (one_of (codes "seed") rows) task.options.seed
-  pub ring : IsNumberOf 32 DEFAULT_RING (one_of (codes "ring") rows) task.options.ring
+  pub turn : task.options.turn ≡ number_or DEFAULT_TURN 32 (codes "turn") rows
+  pub seed : task.options.seed ≡ number_or DEFAULT_SEED 64 (codes "seed") rows
+  pub ring : task.options.ring ≡ number_or DEFAULT_RING 32 (codes "ring") rows
   pub spread : IsFlagOf (one_of (codes "spread") rows) task.spread
   pub explain : IsExplainingOf rows task.explain
-
--- What the arguments after `show` ask for.
 
 -- what is shown is JSON where that is asked for
 abbrev pub IsViewFormatOf : List Row → ViewFormat → Type 0
@@ -92,10 +85,10 @@ IsViewFormatOf rows Columns = IsFlagOf (one_of (codes "json") rows) false
 
 -- the calls that are shown are those of the arguments, without colours and in lines of any width
 pub record IsViewOf (rows : List Row) (options : ViewOptions) : Type 0 where
-  pub thread : IsNumberIn 32 (one_of (codes "thread") rows) options.thread
-  pub last : IsNumberIn 64 (one_of (codes "last") rows) options.last
-  pub from : IsNumberIn 64 (one_of (codes "from") rows) options.from
-  pub to : IsNumberIn 64 (one_of (codes "to") rows) options.to
+  pub thread : options.thread ≡ given_number 32 (codes "thread") rows
+  pub last : options.last ≡ given_number 64 (codes "last") rows
+  pub from : options.from ≡ given_number 64 (codes "from") rows
+  pub to : options.to ≡ given_number 64 (codes "to") rows
   pub watch : option_map (λ s. s.now) options.watch ≡ first_of (codes "watch") rows
   pub fold : IsFlagOf (one_of (codes "fold") rows) options.fold
   pub state : IsFlagOf (one_of (codes "state") rows) options.has_state
@@ -104,18 +97,16 @@ pub record IsViewOf (rows : List Row) (options : ViewOptions) : Type 0 where
   pub columns : options.columns ≡ None
   pub format : IsViewFormatOf rows options.format
 
--- the files and what is shown are those of the arguments
+-- the files of `show` and what is shown are those of its arguments
 pub record IsShowOf (rows : List Row) (task : ShowTask) : Type 0 where
   pub program : task.program.now ≡ value_of (codes "FILE") rows
   pub trace : task.trace.now ≡ value_of (codes "TRACE") rows
-  pub at : IsNumberIn 64 (one_of (codes "at") rows) task.at
+  pub at : task.at ≡ given_number 64 (codes "at") rows
   pub contexts : IsFlagOf (one_of (codes "contexts") rows) task.contexts
   pub steps : IsFlagOf (one_of (codes "steps") rows) task.steps
   pub valid : IsFlagOf (one_of (codes "valid") rows) task.valid
   pub options : IsViewOf rows task.options
   pub explain : IsExplainingOf rows task.explain
-
--- What the arguments after `test` ask for.
 
 -- how many contexts a test of this many threads allows by default; a setup has at most MAX_THREADS
 abbrev pub contexts_for : ℕ → ℕ
@@ -129,47 +120,36 @@ runs_within (Some seconds) = 2 ^ 64 - 1
 -- the file and the options of `test` are those of its arguments
 pub record IsTestOf (rows : List Row) (task : TestTask) : Type 0 where
   pub program : task.program.now ≡ value_of (codes "FILE") rows
-  pub entries : task.start.entries ≡ entries_in rows
-  pub init : task.start.init ≡ init_in rows
+  pub start : task.start ≡ start_in (contexts_for (length task.start.entries)) rows
   pub named : task.named ≡ named_in rows
-  pub contexts :
-      IsNumberOf 32 (contexts_for (length task.start.entries)) (one_of (codes "contexts") rows)
-      task.start.contexts
-  pub calls : IsNumberOf 32 DEFAULT_CALLS (one_of (codes "calls") rows) task.start.calls
-  pub seed : IsNumberOf 64 DEFAULT_SEED (one_of (codes "seed") rows) task.options.seed
+  pub seed : task.options.seed ≡ number_or DEFAULT_SEED 64 (codes "seed") rows
   pub runs :
-      IsNumberOf 64 (runs_within task.options.seconds) (one_of (codes "runs") rows)
-      task.options.runs
-  pub time : IsNumberIn 64 (one_of (codes "time") rows) task.options.seconds
-  pub jobs : IsNumberOf 32 DEFAULT_JOBS (one_of (codes "jobs") rows) task.options.jobs
+      let most = runs_within task.options.seconds in
+      task.options.runs ≡ number_or most 64 (codes "runs") rows
+  pub time : task.options.seconds ≡ given_number 64 (codes "time") rows
+  pub jobs : task.options.jobs ≡ number_or DEFAULT_JOBS 32 (codes "jobs") rows
   pub deadlock : IsFlagOf (one_of (codes "deadlock") rows) task.options.with_deadlock
   pub unreached : IsFlagOf (one_of (codes "unreached") rows) task.unreached
   pub json : IsFlagOf (one_of (codes "json") rows) task.json
   pub explain : IsExplainingOf rows task.explain
 
--- What the arguments after `replay`, `migrate` and `shrink` ask for.
-
--- the files are those of the arguments
+-- the files of `replay`, `migrate` and `shrink` are those of their arguments
 pub record IsTraceArgumentsOf (rows : List Row) (task : TraceTask) : Type 0 where
   pub program : task.program.now ≡ value_of (codes "FILE") rows
   pub trace : task.trace.now ≡ value_of (codes "TRACE") rows
   pub explain : IsExplainingOf rows task.explain
 
--- What the arguments after `explore` ask for.
-
--- the file and the options of `explore` are those of its arguments
+-- the file and the options of `explore` are those of its arguments; the calls are not bounded
 pub record IsExploreOf (rows : List Row) (task : ExploreTask) : Type 0 where
   pub program : task.program.now ≡ value_of (codes "FILE") rows
-  pub entries : task.start.entries ≡ entries_in rows
-  pub init : task.start.init ≡ init_in rows
+  pub start :
+      let contexts = number_or DEFAULT_CONTEXTS 32 (codes "contexts") rows in
+      task.start ≡ start_with (entries_in rows) (init_in rows) contexts DEFAULT_CALLS
   pub named : task.named ≡ named_in rows
   pub through : option_map (λ file. file.now) task.through ≡ first_of (codes "through") rows
-  pub contexts :
-      IsNumberOf 32 DEFAULT_CONTEXTS (one_of (codes "contexts") rows) task.start.contexts
-  pub calls : task.start.calls ≡ DEFAULT_CALLS
-  pub bound : IsBoundOf rows task.options.bound
-  pub states : IsNumberOf 64 DEFAULT_STATES (one_of (codes "states") rows) task.options.states
-  pub time : IsNumberIn 64 (one_of (codes "time") rows) task.options.seconds
+  pub bound : task.options.bound ≡ bound_in rows
+  pub states : task.options.states ≡ number_or DEFAULT_STATES 64 (codes "states") rows
+  pub time : task.options.seconds ≡ given_number 64 (codes "time") rows
   pub deadlock : IsFlagOf (one_of (codes "deadlock") rows) task.options.with_deadlock
   pub json : IsFlagOf (one_of (codes "json") rows) task.json
   pub explain : IsExplainingOf rows task.explain

@@ -9,15 +9,13 @@ use Rattle.clap.specs.Simple.{App, new_app, new_rule, on_top, subcommand_of, wit
 use Rattle.clap.specs.declared.builder.action.ArgAction.TheVariants.{SetTrue}
 use Rattle.clap.specs.declared.builder.value_parser.ValueParser.TheVariants as parser
 use Rattle.bp_arguments.specs.declared.arguments.Row.{Row as TableRow}
-use Rattle.bp_arguments.specs.declared.arguments.Takes.{Takes}
-use Rattle.bp_arguments.specs.declared.arguments.Takes.TheVariants as takes
+use Rattle.bp_arguments.specs.declared.arguments.Row.TheVariants as row
 use Rattle.bp_arguments.specs.declared.table.Named.{Named}
 use Rattle.bp_arguments.specs.declared.table.Named.TheVariants as name
 use Rattle.bp_arguments.specs.declared.table.TheConstants.{NAMED}
 use Rattle.bp_arguments.specs.Values.{command_name, IsNamed}
 use Rattle.bp_arguments.specs.Misuses.{misuse_fault}
-use Rattle.bp_arguments.specs.CommandArguments.{IsCheckArgumentsOf, IsConfirmOf, IsDriveOf, IsExploreOf, IsRunOf, IsShowOf, IsTestOf, IsTraceArgumentsOf}
-use Rattle.bp_arguments.specs.CodeArguments.{IsCodeArgumentsOf}
+use Rattle.bp_arguments.specs.CommandArguments.{IsCheckArgumentsOf, IsCodeArgumentsOf, IsConfirmOf, IsDriveOf, IsExploreOf, IsRunOf, IsShowOf, IsTestOf, IsTraceArgumentsOf}
 use Rattle.bp_tasks.specs.declared.tasks.CheckTask.{CheckTask}
 use Rattle.bp_tasks.specs.declared.tasks.CodeTask.{CodeTask}
 use Rattle.bp_tasks.specs.declared.tasks.ConfirmTask.{ConfirmTask}
@@ -64,18 +62,14 @@ abbrev pub with_rules : App → List Rule → App
 with_rules a [] = a
 with_rules a (r ∷ rs) = with_rules (with_rule a r) rs
 
--- an argument that takes this
-abbrev pub rule_taking : Takes → Text → Rule
-rule_taking takes.One = required_rule
-rule_taking takes.Any = values_rule
-rule_taking takes.Nothing = flag_rule
-rule_taking takes.Number = number_rule
-rule_taking takes.LongNumber = long_number_rule
-rule_taking (takes.Text value) = option_rule
-
 -- the argument of a row
 abbrev pub row_rule : TableRow → Rule
-row_rule row = rule_taking row.takes row.name.now
+row_rule (row.Required name help) = required_rule name.now
+row_rule (row.Values name help) = values_rule name.now
+row_rule (row.Flag name help) = flag_rule name.now
+row_rule (row.Number name help) = number_rule name.now
+row_rule (row.LongNumber name help) = long_number_rule name.now
+row_rule (row.Text name value help) = option_rule name.now
 
 -- what each command on a file takes first: `FILE [--explain] [--no-explain]`
 abbrev pub file_rules : List Rule
@@ -85,30 +79,29 @@ file_rules =
     ∷ flag_rule (codes "no-explain")
     ∷ []
 
--- `[--json]`
-abbrev pub check_rules : List Rule
-check_rules = flag_rule (codes "json") ∷ []
+-- `TRACE`: of `replay`, `migrate` and `shrink`
+abbrev pub trace_rules : List Rule
+trace_rules = required_rule (codes "TRACE") ∷ []
 
+-- what each command takes after that
+abbrev pub command_rules : Named → List Rule
+-- `[--json]`
+command_rules name.Check = flag_rule (codes "json") ∷ []
 -- `[--source] [--json]`
-abbrev pub code_rules : List Rule
-code_rules =
+command_rules name.Code =
     flag_rule (codes "source")
     ∷ flag_rule (codes "json")
     ∷ []
-
 -- `SCHEDULE [ENTRY].. [--contexts N] [--calls N] [--init BITS]`
-abbrev pub drive_rules : List Rule
-drive_rules =
+command_rules name.Drive =
     required_rule (codes "SCHEDULE")
     ∷ values_rule (codes "ENTRY")
     ∷ number_rule (codes "contexts")
     ∷ number_rule (codes "calls")
     ∷ option_rule (codes "init")
     ∷ []
-
 -- `STEPS [ENTRY].. [--contexts N] [--calls N] [--init BITS] [--expect END] [--json]`
-abbrev pub confirm_rules : List Rule
-confirm_rules =
+command_rules name.Confirm =
     required_rule (codes "STEPS")
     ∷ values_rule (codes "ENTRY")
     ∷ number_rule (codes "contexts")
@@ -117,21 +110,17 @@ confirm_rules =
     ∷ option_rule (codes "expect")
     ∷ flag_rule (codes "json")
     ∷ []
-
 -- `[ENTRY].. [--seed N] [--contexts N] [--calls N] [--init BITS]`
-abbrev pub run_rules : List Rule
-run_rules =
+command_rules name.Run =
     values_rule (codes "ENTRY")
     ∷ long_number_rule (codes "seed")
     ∷ number_rule (codes "contexts")
     ∷ number_rule (codes "calls")
     ∷ option_rule (codes "init")
     ∷ []
-
 -- `[ENTRY].. [--seed N] [--contexts N] [--calls N] [--init BITS] [--runs N] [--time N]
 -- [--jobs N] [--deadlock] [--unreached] [--json]`
-abbrev pub test_rules : List Rule
-test_rules =
+command_rules name.Test =
     values_rule (codes "ENTRY")
     ∷ long_number_rule (codes "seed")
     ∷ number_rule (codes "contexts")
@@ -144,11 +133,9 @@ test_rules =
     ∷ flag_rule (codes "unreached")
     ∷ flag_rule (codes "json")
     ∷ []
-
 -- `[ENTRY].. [--contexts N] [--init BITS] [--states N] [--time N] [--deadlock]
 -- [--through STEPS] [--json]`
-abbrev pub explore_rules : List Rule
-explore_rules =
+command_rules name.Explore =
     values_rule (codes "ENTRY")
     ∷ number_rule (codes "contexts")
     ∷ option_rule (codes "init")
@@ -158,15 +145,9 @@ explore_rules =
     ∷ option_rule (codes "through")
     ∷ flag_rule (codes "json")
     ∷ []
-
--- `TRACE`
-abbrev pub trace_rules : List Rule
-trace_rules = required_rule (codes "TRACE") ∷ []
-
 -- `TRACE [--thread N] [--last N] [--from N] [--to N] [--watch NAMES] [--fold] [--state] [--brief]
 -- [--valid] [--at N] [--contexts] [--steps] [--json]`
-abbrev pub show_rules : List Rule
-show_rules =
+command_rules name.Show =
     required_rule (codes "TRACE")
     ∷ number_rule (codes "thread")
     ∷ long_number_rule (codes "last")
@@ -182,18 +163,7 @@ show_rules =
     ∷ flag_rule (codes "steps")
     ∷ flag_rule (codes "json")
     ∷ []
-
--- what each command takes after that
-abbrev pub command_rules : Named → List Rule
-command_rules name.Check = check_rules
-command_rules name.Code = code_rules
-command_rules name.Drive = drive_rules
-command_rules name.Confirm = confirm_rules
-command_rules name.Run = run_rules
-command_rules name.Test = test_rules
-command_rules name.Explore = explore_rules
 command_rules name.Replay = trace_rules
-command_rules name.Show = show_rules
 command_rules name.Migrate = trace_rules
 command_rules name.Shrink = trace_rules
 
@@ -206,16 +176,11 @@ advanced_rules name.Run =
     ∷ []
 advanced_rules command = []
 
--- a command of this name with its file
-abbrev pub file_app : Text → App
-file_app name = with_rules (new_app name) file_rules
-
 -- the command of each name
 abbrev pub command_app : Named → App
 command_app command =
-    with_rules (
-    with_rules (file_app (command_name command)) (command_rules command)) (
-    advanced_rules command)
+    let file = with_rules (new_app (command_name command)) file_rules in
+    with_rules (with_rules file (command_rules command)) (advanced_rules command)
 
 -- the program without a command
 abbrev pub program_app : App

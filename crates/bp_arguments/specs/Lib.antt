@@ -1,5 +1,4 @@
 pub mod CommandArguments
-pub mod CodeArguments
 pub mod Commands
 pub mod Values
 pub mod Misuses

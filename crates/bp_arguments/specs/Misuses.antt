@@ -3,12 +3,12 @@ use Rattle.std.specs.Prelude.{if◌then◌else◌, ◌&&◌, ℕ, Bool, true, fa
 use Rattle.std.specs.Option.{option_map_or}
 use Rattle.std.specs.Str.{bytes_eq}
 use Rattle.clap.specs.Kinds.{Kinds}
-use Rattle.clap.specs.Walk.{Row, Text, one_of}
+use Rattle.clap.specs.Walk.{Row, Text}
 use Rattle.clap.specs.declared.error.kind.ErrorKind.{ErrorKind}
 use Rattle.clap.specs.declared.error.kind.ErrorKind.TheVariants.{ArgumentConflict, InvalidValue}
 use Rattle.clap.specs.declared.parser.matches.ValueSource.{ValueSource}
 use Rattle.clap.specs.declared.parser.matches.ValueSource.TheVariants.{CommandLine, DefaultValue}
-use Rattle.bp_arguments.specs.Values.{has_bad_init, has_bad_verdict, number_in}
+use Rattle.bp_arguments.specs.Values.{has_bad_init, has_bad_verdict, given_number}
 use Rattle.bp_arguments.specs.declared.misuses.Misuse.{Misuse}
 use Rattle.bp_arguments.specs.declared.misuses.Misuse.TheVariants.{BadInit, BadVerdict, Together, Backwards}
 use Rattle.bp_arguments.specs.declared.misuses.OptionName.{OptionName}
@@ -88,7 +88,7 @@ descending _ _ = None
 
 abbrev pub backwards_in : List Row → Option (ℕ × ℕ)
 backwards_in rows =
-    descending (number_in 64 (one_of (codes "from") rows)) (number_in 64 (one_of (codes "to") rows))
+    descending (given_number 64 (codes "from") rows) (given_number 64 (codes "to") rows)
 
 -- what is wrong with two options, or with the calls from one to another
 abbrev pub pair_misuse : Option (OptionName × OptionName) → Option (ℕ × ℕ) → Option Misuse

@@ -1,10 +1,12 @@
 -- The names of the commands, and what the values of arguments say: numbers, bits, names.
-use Rattle.std.specs.Prelude.{◌≡◌, codes, if◌then◌else◌, ◌⊎◌, ◌<◌, ◌^◌, ◌==◌, ◌&&◌, ◌||◌, ℕ, Bool, false, true, not, List, [], ◌∷◌, Option, Some, None, map, nat_lt, option_and_then, unwrap_or, is_some, bytes_eq}
+use Rattle.std.specs.Prelude.{◌≡◌, codes, if◌then◌else◌, ◌^◌, ◌==◌, ◌&&◌, ◌||◌, ℕ, Bool, false, true, not, List, [], ◌∷◌, Option, Some, None, map, nat_lt, option_and_then, unwrap_or, is_some, bytes_eq}
 use Rattle.clap.specs.Walk.{Text, Row, all_of, first_of, one_of}
 use Rattle.std.specs.List.{list_all}
 use Rattle.std.specs.Option.{option_map_or}
-use Rattle.std.specs.Str.Parse.{IsNumeral, digits_value, without_leading_plus}
+use Rattle.std.specs.Str.Parse.{digits_value, without_leading_plus}
 use Rattle.clap.specs.ValueTests.{is_numeral}
+use Rattle.bp_machine.specs.Setups.{StartOf, start_with}
+use Rattle.bp_machine.specs.declared.limits.TheConstants.{DEFAULT_CALLS}
 use Rattle.bp_tasks.specs.NamedBits.{NamedBitOf, are_named_bits, gives_names, named_bits}
 use Rattle.bp_tasks.specs.declared.tasks.Verdict.{Verdict}
 use Rattle.bp_tasks.specs.declared.tasks.Verdict.TheVariants as verdict
@@ -41,34 +43,21 @@ abbrev pub number_of : Text → ℕ
 number_of text = digits_value 10 (without_leading_plus text)
 
 -- the text is a number of this many bits
-abbrev pub IsNumberText : ℕ → Text → Type 0
-IsNumberText bits text =
-    IsNumeral 10 (without_leading_plus text)
-    × (number_of text < 2 ^ bits)
-
--- the same, as a test
 abbrev pub is_number_text : ℕ → Text → Bool
 is_number_text bits text =
     is_numeral (without_leading_plus text) && nat_lt (number_of text) (2 ^ bits)
 
--- the number of a text; the default where none is given, or the text is no such number
-abbrev pub IsNumberOf : ℕ → ℕ → Option Text → ℕ → Type 0
-IsNumberOf bits default None n = n ≡ default
-IsNumberOf bits default (Some text) n =
-    (IsNumberText bits text × (n ≡ number_of text))
-    ⊎ ((IsNumberText bits text → ⊥) × (n ≡ default))
+-- the number of a text, if it is one of this many bits
+abbrev pub number_in : ℕ → Text → Option ℕ
+number_in bits text = if is_number_text bits text then Some (number_of text) else None
 
--- the number of a text, and none if none is given or the text is no such number
-abbrev pub IsNumberIn : ℕ → Option Text → Option ℕ → Type 0
-IsNumberIn bits None n = n ≡ None
-IsNumberIn bits (Some text) (Some n) =
-    IsNumberText bits text × (n ≡ number_of text)
-IsNumberIn bits (Some text) None = IsNumberText bits text → ⊥
+-- the number of an option, if its value is one of this many bits
+abbrev pub given_number : ℕ → Text → List Row → Option ℕ
+given_number bits name rows = option_and_then (number_in bits) (one_of name rows)
 
--- the same as a function of the text
-abbrev pub number_in : ℕ → Option Text → Option ℕ
-number_in bits text =
-    option_and_then (λ t. if is_number_text bits t then Some (number_of t) else None) text
+-- the same, and this number if there is none
+abbrev pub number_or : (default : ℕ) → ℕ → Text → List Row → ℕ
+number_or default bits name rows = unwrap_or (given_number bits name rows) default
 
 -- a flag is up where it is given; `clap` has a text for either
 abbrev pub IsFlagOf : Option Text → Bool → Type 0
@@ -107,6 +96,12 @@ init_in rows = option_and_then bits_given (first_of (codes "init") rows)
 -- the globals whose initial bits are given by name
 abbrev pub named_in : List Row → List NamedBitOf
 named_in rows = option_map_or names_given (first_of (codes "init") rows) []
+
+-- what a run starts from, with this many contexts if no other number is given
+abbrev pub start_in : (contexts : ℕ) → List Row → StartOf
+start_in contexts rows =
+    start_with (entries_in rows) (init_in rows) (number_or contexts 32 (codes "contexts") rows)
+    (number_or DEFAULT_CALLS 32 (codes "calls") rows)
 
 -- the initial bits are neither bits nor names with bits
 abbrev pub has_bad_init : List Row → Bool

@@ -2,51 +2,43 @@
 ghost use Rattle.std.specs.Prelude.{◌≡◌, false, map, IfOk};
 ghost use Rattle.clap.specs.Words.{app_of, rule_of};
 ghost use Rattle.clap.specs.declared.builder.command.Command.TheViews.{out-Command};
-ghost use Rattle.bp_arguments.specs.Commands.{flag_rule, long_number_rule, number_rule, option_rule, required_rule, row_rule, values_rule, with_rules};
+ghost use Rattle.bp_arguments.specs.Commands.{option_rule, row_rule, with_rules};
 
 use clap::{Arg, ArgAction, Command, value_parser};
 use std::alloc::{AllocError, Global};
 
-/// What an argument takes.
+/// An argument of a command: its name and what help says of it.
 #[derive(Clone, Copy)]
-pub enum Takes<'a> {
+pub enum Row<'a> {
     /// One value, which has to be there.
-    One,
+    Required(&'a str, &'a str),
     /// Any number of values.
-    Any,
-    /// Nothing: an option without a value.
-    Nothing,
-    /// The value of an option: a number of 32 bits.
-    Number,
-    /// The value of an option: a number of 64 bits.
-    LongNumber,
-    /// The value of an option: a text, which help calls so.
-    Text(&'a str),
+    Values(&'a str, &'a str),
+    /// An option without a value.
+    Flag(&'a str, &'a str),
+    /// An option whose value is a number of 32 bits.
+    Number(&'a str, &'a str),
+    /// An option whose value is a number of 64 bits.
+    LongNumber(&'a str, &'a str),
+    /// An option whose value is a text, which help calls by the name in the middle.
+    Text(&'a str, &'a str, &'a str),
 }
 
-/// An argument of a command: a row of its table.
+/// A command that has a name.
 #[derive(Clone, Copy)]
-pub struct Row<'a> {
+pub struct Subcommand<'a> {
     pub name: &'a str,
-    pub takes: Takes<'a>,
-    pub help: &'a str,
+    /// What its help says first, and the help of the program beside its name.
+    pub about: &'a str,
+    /// What its help says after the arguments.
+    pub notes: &'a str,
+    /// Its arguments after the file and the flags on explanations.
+    pub rows: &'a [Row<'a>],
+    /// Its options under the heading 'Advanced'.
+    pub advanced: &'a [Row<'a>],
 }
 
-/// An argument that has to be there.
-fn required<'a>(alloc: Global, name: &'a str, help: &'a str) -> Arg<'a>
-    ensures { (rule_of result ≡ required_rule name.now) × (result.global ≡ false) }
-{
-    Arg::new(alloc, name).required(true).help(help)
-}
-
-/// An argument with any number of values.
-fn values<'a>(alloc: Global, name: &'a str, help: &'a str) -> Arg<'a>
-    ensures { (rule_of result ≡ values_rule name.now) × (result.global ≡ false) }
-{
-    Arg::new(alloc, name).num_args(0..).help(help)
-}
-
-/// An option that has a value.
+/// Makes an option that has a value.
 fn option<'a>(alloc: Global, name: &'a str, value: &'a str, help: &'a str) -> Arg<'a>
     ensures { (rule_of result ≡ option_rule name.now) × (result.global ≡ false) }
 {
@@ -56,45 +48,26 @@ fn option<'a>(alloc: Global, name: &'a str, value: &'a str, help: &'a str) -> Ar
         .help(help)
 }
 
-/// An option whose value is a number of 32 bits.
-fn number_option<'a>(alloc: Global, name: &'a str, help: &'a str) -> Arg<'a>
-    ensures { (rule_of result ≡ number_rule name.now) × (result.global ≡ false) }
-{
-    option(alloc, name, "N", help).value_parser(value_parser!(u32))
-}
-
-/// An option whose value is a number of 64 bits.
-fn long_number_option<'a>(alloc: Global, name: &'a str, help: &'a str) -> Arg<'a>
-    ensures { (rule_of result ≡ long_number_rule name.now) × (result.global ≡ false) }
-{
-    option(alloc, name, "N", help).value_parser(value_parser!(u64))
-}
-
-/// An option without a value.
-fn flag<'a>(alloc: Global, name: &'a str, help: &'a str) -> Arg<'a>
-    ensures { (rule_of result ≡ flag_rule name.now) × (result.global ≡ false) }
-{
-    Arg::new(alloc, name)
-        .long(name)
-        .action(ArgAction::SetTrue)
-        .help(help)
-}
-
-/// The argument of a row.
+/// Makes the argument of a row.
 fn argument<'a>(alloc: Global, row: Row<'a>) -> Arg<'a>
     ensures { (rule_of result ≡ row_rule row.entry) × (result.global ≡ false) }
 {
-    match row.takes {
-        Takes::One => required(alloc, row.name, row.help),
-        Takes::Any => values(alloc, row.name, row.help),
-        Takes::Nothing => flag(alloc, row.name, row.help),
-        Takes::Number => number_option(alloc, row.name, row.help),
-        Takes::LongNumber => long_number_option(alloc, row.name, row.help),
-        Takes::Text(value) => option(alloc, row.name, value, row.help),
+    match row {
+        Row::Required(name, help) => Arg::new(alloc, name).required(true).help(help),
+        Row::Values(name, help) => Arg::new(alloc, name).num_args(0..).help(help),
+        Row::Flag(name, help) => Arg::new(alloc, name)
+            .long(name)
+            .action(ArgAction::SetTrue)
+            .help(help),
+        Row::Number(name, help) => option(alloc, name, "N", help).value_parser(value_parser!(u32)),
+        Row::LongNumber(name, help) => {
+            option(alloc, name, "N", help).value_parser(value_parser!(u64))
+        }
+        Row::Text(name, value, help) => option(alloc, name, value, help),
     }
 }
 
-/// The command with the arguments of these rows too, in order.
+/// Adds the arguments of these rows to a command, in order.
 pub fn with_rows<'a>(
     alloc: Global,
     command: Command<'a>,

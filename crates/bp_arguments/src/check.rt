@@ -2,28 +2,24 @@
 ghost use Rattle.clap.specs.Words.{found_of, rows_of};
 ghost use Rattle.bp_arguments.specs.CommandArguments.{IsCheckArgumentsOf};
 
-use crate::arguments::{Row, Takes};
+use crate::arguments::Row::Flag;
+use crate::arguments::Subcommand;
 use crate::files::explaining;
 use crate::values::{is_given, text};
 use bp_tasks::CheckTask;
 use clap::ArgMatches;
 
-/// What help says of the command first.
-pub const ABOUT: &str = "Check a program and print 'ok' and its numbers of procedures and globals";
-
-/// What `check --help` says after the arguments.
-pub const NOTES: &str = "\
+pub static CHECK: Subcommand<'static> = Subcommand {
+    name: "check",
+    about: "Check a program and print 'ok' and its numbers of procedures and globals",
+    notes: "\
     The first fault is one line on standard error, with the offset of its byte. With --json the\n\
     names of procedures and variables are printed, and a fault is an object too.\n\n\
     Example:\n  btrun check lock.bp\n\nExit status:\n  0  the program is lawful\n  \
-    2  it is refused, or the arguments were\n  3  memory, a device or the output failed";
-
-/// The arguments of the command after its file.
-pub static ROWS: [Row<'static>; 1] = [Row {
-    name: "json",
-    takes: Takes::Nothing,
-    help: "Print one JSON object, for programs",
-}];
+    2  it is refused, or the arguments were\n  3  memory, a device or the output failed",
+    rows: &[Flag("json", "Print one JSON object, for programs")],
+    advanced: &[],
+};
 
 /// What the arguments after `check` ask for.
 pub fn check_arguments<'a>(arguments: &ArgMatches<'a>) -> CheckTask<'a>

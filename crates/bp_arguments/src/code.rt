@@ -1,38 +1,36 @@
 //! The arguments of `code`.
 ghost use Rattle.clap.specs.Words.{found_of, rows_of};
-ghost use Rattle.bp_arguments.specs.CodeArguments.{IsCodeArgumentsOf, IsFormOf};
+ghost use Rattle.bp_arguments.specs.CommandArguments.{IsCodeArgumentsOf, IsFormOf};
 
-use crate::arguments::{Row, Takes};
+use crate::arguments::Row::Flag;
+use crate::arguments::Subcommand;
 use crate::files::explaining;
 use crate::values::{is_given, text};
 use bp_tasks::{CodeTask, ListingForm};
 use clap::ArgMatches;
 
-/// What help says of the command first.
-pub const ABOUT: &str = "Print the listing of a program's code";
-
-/// What `code --help` says after the arguments.
-pub const NOTES: &str = "\
+pub static CODE: Subcommand<'static> = Subcommand {
+    name: "code",
+    about: "Print the listing of a program's code",
+    notes: "\
     A procedure has a line 'proc NAME FORMALS LOCALS', and after it a line for each instruction,\n\
     with its number and those of its successors. With --json each line is a JSON object, and\n\
     so is a fault. The first fault is one line on standard error, with the offset of its byte.\n\n\
     Example:\n  btrun code lock.bp\n\n\
     Exit status:\n  0  the listing is printed\n  \
-    2  the program is refused, or the arguments were\n  3  memory, a device or the output failed";
-
-/// The arguments of the command after its file.
-pub static ROWS: [Row<'static>; 2] = [
-    Row {
-        name: "source",
-        takes: Takes::Nothing,
-        help: "Print the line, column and statement of each instruction after it",
-    },
-    Row {
-        name: "json",
-        takes: Takes::Nothing,
-        help: "Print JSON objects, for programs: each instruction with its statement",
-    },
-];
+    2  the program is refused, or the arguments were\n  3  memory, a device or the output failed",
+    rows: &[
+        Flag(
+            "source",
+            "Print the line, column and statement of each instruction after it",
+        ),
+        Flag(
+            "json",
+            "Print JSON objects, for programs: each instruction with its statement",
+        ),
+    ],
+    advanced: &[],
+};
 
 /// How the code is listed. JSON has the source of each instruction too.
 fn listing_form(arguments: &ArgMatches<'_>) -> ListingForm

@@ -114,20 +114,17 @@ pub(crate) fn task_of_arguments<'a>(
     Ok(task_of(alloc, &matches)?)
 }
 
+/// Makes an error of this kind with this message and the usage of the program.
+pub(crate) fn error_of(alloc: Global, kind: ErrorKind, message: &str) -> Result<Error, AllocError>
+    ensures { IfOk result (λ e. kind_of e ≡ kind) }
+{
+    command(alloc)?.error(kind, message)
+}
+
 /// The error of options that `clap` takes one by one.
 fn misuse_error(alloc: Global, misuse: Misuse) -> Result<Error, AllocError>
     ensures { IfOk result (λ e. kind_of e ≡ misuse_kind misuse) }
 {
     let text = misuse_text(alloc, misuse)?;
-    command(alloc)?.error(misuse_kind(misuse), text.as_str())
-}
-
-/// The error of a word that is no command.
-pub(crate) fn no_command(alloc: Global, message: &str) -> Result<Error, AllocError> {
-    command(alloc)?.error(ErrorKind::InvalidSubcommand, message)
-}
-
-/// The error of arguments that are not UTF-8.
-pub(crate) fn not_utf8_error(alloc: Global) -> Result<Error, AllocError> {
-    command(alloc)?.error(ErrorKind::InvalidValue, "a word is not UTF-8")
+    error_of(alloc, misuse_kind(misuse), text.as_str())
 }

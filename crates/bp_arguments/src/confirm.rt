@@ -1,23 +1,20 @@
 //! The arguments of `confirm`.
-ghost use Rattle.std.specs.Prelude.{IfOk};
+ghost use Rattle.std.specs.Prelude.{◌≡◌, IfOk};
 ghost use Rattle.clap.specs.Words.{found_of, rows_of};
-ghost use Rattle.bp_arguments.specs.CommandArguments.{IsBoundOf, IsConfirmOf};
+ghost use Rattle.bp_arguments.specs.CommandArguments.{bound_in, IsConfirmOf};
 
-use crate::arguments::{Row, Takes};
+use crate::arguments::Row::{Flag, Number, Required, Text};
+use crate::arguments::Subcommand;
 use crate::files::{CALLS, ENTRY, INIT, explaining};
-use crate::values::{entries, expected_verdict, given_number, init, is_given, named, number, text};
-use bp_machine::Start;
-use bp_machine::limits::{DEFAULT_CALLS, DEFAULT_CONTEXTS};
+use crate::values::{expected_verdict, given_number, is_given, named, start, text};
 use bp_tasks::{ConfirmTask, ContextBound};
 use clap::ArgMatches;
 use std::alloc::{AllocError, Global};
 
-/// What help says of the command first.
-pub const ABOUT: &str =
-    "Confirm the steps that a model checker reports and print the trace of the run";
-
-/// What `confirm --help` says after the arguments.
-pub const NOTES: &str = "\
+pub static CONFIRM: Subcommand<'static> = Subcommand {
+    name: "confirm",
+    about: "Confirm the steps that a model checker reports and print the trace of the run",
+    notes: "\
     A line of the steps is 'THREAD PLACE', and then any number of ' NAME=BIT'. The place is where\n\
     the thread stands before the step: 'LINE', 'LINE:COLUMN', or '-' for a procedure's end. The\n\
     values are those that the thread sees after the step; NAME may be that of a variable, or of a\n\
@@ -27,38 +24,32 @@ pub const NOTES: &str = "\
     Exit status:\n  0  the steps are a run, and no assertion failed; or it ends as expected\n  \
     1  an assertion failed at the last step, and nothing was expected\n  \
     2  an input was refused, or the arguments were\n  3  memory, a device or the output failed\n  \
-    4  a step is not taken, or the run does not end as expected";
+    4  a step is not taken, or the run does not end as expected",
+    rows: &[
+        Required("STEPS", "The file of the steps"),
+        ENTRY,
+        Number(
+            "contexts",
+            "Allow N contexts [default: as many as the steps use]",
+        ),
+        CALLS,
+        INIT,
+        Text(
+            "expect",
+            "END",
+            "End with status 0 if the run ends so: failure, deadlock or run; else with 4",
+        ),
+        Flag(
+            "json",
+            "Print the verdict or a fault as JSON objects, for programs",
+        ),
+    ],
+    advanced: &[],
+};
 
-/// The arguments of the command after its file.
-pub static ROWS: [Row<'static>; 7] = [
-    Row {
-        name: "STEPS",
-        takes: Takes::One,
-        help: "The file of the steps",
-    },
-    ENTRY,
-    Row {
-        name: "contexts",
-        takes: Takes::Number,
-        help: "Allow N contexts [default: as many as the steps use]",
-    },
-    CALLS,
-    INIT,
-    Row {
-        name: "expect",
-        takes: Takes::Text("END"),
-        help: "End with status 0 if the run ends so: failure, deadlock or run; else with 4",
-    },
-    Row {
-        name: "json",
-        takes: Takes::Nothing,
-        help: "Print the verdict or a fault as JSON objects, for programs",
-    },
-];
-
-/// How many contexts are allowed: as many as are used, unless a number is given.
+/// Tells how many contexts are allowed: as many as are used, unless a number is given.
 pub fn context_bound(arguments: &ArgMatches<'_>) -> ContextBound
-    ensures { IsBoundOf (rows_of (found_of arguments.now)) result }
+    ensures { result ≡ bound_in (rows_of (found_of arguments.now)) }
 {
     match given_number(arguments, "contexts") {
         Some(_) => ContextBound::Kept,
@@ -80,12 +71,7 @@ pub fn confirm_arguments<'a>(
         explain: explaining(arguments),
         bound: context_bound(arguments),
         expected: expected_verdict(arguments),
-        start: Start {
-            entries: entries(alloc, arguments)?,
-            init: init(alloc, arguments)?,
-            contexts: number(arguments, "contexts", DEFAULT_CONTEXTS),
-            calls: number(arguments, "calls", DEFAULT_CALLS),
-        },
+        start: start(alloc, arguments)?,
         named: named(alloc, arguments)?,
     })
 }

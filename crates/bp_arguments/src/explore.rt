@@ -3,7 +3,8 @@ ghost use Rattle.std.specs.Prelude.{IfOk};
 ghost use Rattle.clap.specs.Words.{found_of, rows_of};
 ghost use Rattle.bp_arguments.specs.CommandArguments.{IsExploreOf};
 
-use crate::arguments::{Row, Takes};
+use crate::arguments::Row::{Flag, LongNumber, Number, Text};
+use crate::arguments::Subcommand;
 use crate::confirm::context_bound;
 use crate::files::{ENTRY, INIT, explaining};
 use crate::values::{
@@ -16,12 +17,10 @@ use bp_tasks::{ExploreOptions, ExploreTask};
 use clap::ArgMatches;
 use std::alloc::{AllocError, Global};
 
-/// What help says of the command first.
-pub const ABOUT: &str =
-    "Look through all runs of a program and print the failing one with the fewest contexts";
-
-/// What `explore --help` says after the arguments.
-pub const NOTES: &str = "\
+pub static EXPLORE: Subcommand<'static> = Subcommand {
+    name: "explore",
+    about: "Look through all runs of a program and print the failing one with the fewest contexts",
+    notes: "\
     All runs within one context are looked through, with both values of each choice, then all\n\
     within two, and so on. If no run fails, that is proved: for this many contexts, or for any\n\
     number if the last one brought no new state. Else the trace of a failing run with the fewest\n\
@@ -36,43 +35,29 @@ pub const NOTES: &str = "\
     2  the program was refused, or the arguments were\n  \
     3  memory, a device or the output failed\n  \
     4  no run makes the listed steps\n  \
-    5  not all runs were looked through; none of those that were fails";
-
-/// The arguments of the command after its file.
-pub static ROWS: [Row<'static>; 8] = [
-    ENTRY,
-    Row {
-        name: "contexts",
-        takes: Takes::Number,
-        help: "Look through runs within N contexts [default: any number]",
-    },
-    INIT,
-    Row {
-        name: "states",
-        takes: Takes::LongNumber,
-        help: "Keep at most N states [default: 50000000]",
-    },
-    Row {
-        name: "time",
-        takes: Takes::LongNumber,
-        help: "Stop after N seconds",
-    },
-    Row {
-        name: "deadlock",
-        takes: Takes::Nothing,
-        help: "Also look for a run in which all threads that have not ended wait",
-    },
-    Row {
-        name: "through",
-        takes: Takes::Text("STEPS"),
-        help: "Look for a run that makes the steps of this file in their order",
-    },
-    Row {
-        name: "json",
-        takes: Takes::Nothing,
-        help: "Write the summary as a JSON object, for programs",
-    },
-];
+    5  not all runs were looked through; none of those that were fails",
+    rows: &[
+        ENTRY,
+        Number(
+            "contexts",
+            "Look through runs within N contexts [default: any number]",
+        ),
+        INIT,
+        LongNumber("states", "Keep at most N states [default: 50000000]"),
+        LongNumber("time", "Stop after N seconds"),
+        Flag(
+            "deadlock",
+            "Also look for a run in which all threads that have not ended wait",
+        ),
+        Text(
+            "through",
+            "STEPS",
+            "Look for a run that makes the steps of this file in their order",
+        ),
+        Flag("json", "Write the summary as a JSON object, for programs"),
+    ],
+    advanced: &[],
+};
 
 /// What the arguments after `explore` ask for.
 pub fn explore_arguments<'a>(

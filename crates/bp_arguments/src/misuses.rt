@@ -1,7 +1,7 @@
 //! What is wrong with options that `clap` takes one by one.
-ghost use Rattle.std.specs.Prelude.{◌≡◌};
+ghost use Rattle.std.specs.Prelude.{◌≡◌, find, option_copied};
 ghost use Rattle.clap.specs.Words.{found_of, kind_of, rows_of, subcommand_rows_of};
-ghost use Rattle.bp_arguments.specs.Misuses.{are_on_line, backwards_in, clash_in, descending, is_from_line, is_on_line, misuse_in, misuse_kind, misuse_of, option_name};
+ghost use Rattle.bp_arguments.specs.Misuses.{are_on_line, backwards_in, is_from_line, is_on_line, misuse_in, misuse_kind, misuse_of, option_name};
 
 use crate::values::{given_long_number, has_bad_init, has_bad_verdict};
 use clap::ArgMatches;
@@ -44,12 +44,9 @@ pub enum Misuse {
     Backwards(u64, u64),
 }
 
-/// How many pairs of options are refused.
-const PAIRS: usize = 31;
-
 /// The options that clash: beside the first of a pair, the second has no effect. Earlier pairs are
 /// reported first.
-pub const CLASHES: [(OptionName, OptionName); PAIRS] = [
+pub const CLASHES: [(OptionName, OptionName); 31] = [
     (OptionName::At, OptionName::Contexts),
     (OptionName::At, OptionName::Steps),
     (OptionName::At, OptionName::Thread),
@@ -128,37 +125,24 @@ fn are_on_line(arguments: &ArgMatches<'_>, pair: (OptionName, OptionName)) -> bo
     is_on_line(arguments, pair.0) && is_on_line(arguments, pair.1)
 }
 
-/// The first pair of options that clash.
-fn clash_in(arguments: &ArgMatches<'_>) -> Option<(OptionName, OptionName)>
-    ensures { result ≡ clash_in (rows_of (found_of arguments.now)) }
+/// Returns the first of these pairs whose options were both given, or None.
+fn first_given<'p>(
+    arguments: &ArgMatches<'_>,
+    pairs: &'p [(OptionName, OptionName)],
+) -> Option<&'p (OptionName, OptionName)>
+    ensures { let rows = rows_of (found_of arguments.now) in
+        option_copied result ≡ find (are_on_line rows) pairs.now }
 {
-    let all = CLASHES;
-    for pair in &all {
-        if are_on_line(arguments, *pair) {
-            return Some(*pair);
-        }
-    }
-    None
+    pairs.iter().find(|pair| are_on_line(arguments, **pair))
 }
 
-/// The numbers, where the first is the greater one.
-fn descending(from: Option<u64>, to: Option<u64>) -> Option<(u64, u64)>
-    ensures { result ≡ descending from to }
-{
-    match (from, to) {
-        (Some(from), Some(to)) => { if to < from { Some((from, to)) } else { None } }
-        _ => None,
-    }
-}
-
-/// The first and the last call that are to be shown, where the first comes after the last.
+/// Returns the first and the last call that are to be shown, if the first comes after the last.
 fn backwards_in(arguments: &ArgMatches<'_>) -> Option<(u64, u64)>
     ensures { result ≡ backwards_in (rows_of (found_of arguments.now)) }
 {
-    descending(
-        given_long_number(arguments, "from"),
-        given_long_number(arguments, "to"),
-    )
+    let from = given_long_number(arguments, "from")?;
+    let to = given_long_number(arguments, "to")?;
+    if to < from { Some((from, to)) } else { None }
 }
 
 /// What is wrong with the options of a command: the first that applies.
@@ -171,8 +155,8 @@ fn misuse_in(arguments: &ArgMatches<'_>) -> Option<Misuse>
     if has_bad_verdict(arguments) {
         return Some(Misuse::BadVerdict);
     }
-    if let Some((first, second)) = clash_in(arguments) {
-        return Some(Misuse::Together(first, second));
+    if let Some((first, second)) = first_given(arguments, &CLASHES) {
+        return Some(Misuse::Together(*first, *second));
     }
     let (from, to) = backwards_in(arguments)?;
     Some(Misuse::Backwards(from, to))

@@ -5,7 +5,7 @@ ghost use Rattle.clap.specs.Words.{kind_of, subcommand_of};
 ghost use Rattle.bp_arguments.specs.Commands.{btrun_app, arguments_fault, IsTaskOf};
 ghost use Rattle.bp_arguments.specs.NoTasks.{EndsBy, IsOfKind, IsPrinted, IsRefused};
 
-use crate::commands::{not_utf8_error, task_of_arguments};
+use crate::commands::{error_of, task_of_arguments};
 use crate::usages::{message_of, with_usage};
 use bp_tasks::Task;
 use clap::Error;
@@ -105,7 +105,7 @@ pub fn read_arguments<'a>(alloc: Global, arguments: &'a [String]) -> Result<Task
 pub fn not_utf8(alloc: Global) -> NoTask
     ensures { (result ≡ NoTask.Memory) ⊎ IsRefused result }
 {
-    match not_utf8_error(alloc) {
+    match error_of(alloc, ErrorKind::InvalidValue, "a word is not UTF-8") {
         Ok(error) => said_or_memory(refused(alloc, &error)),
         Err(_) => NoTask::Memory,
     }

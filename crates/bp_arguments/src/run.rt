@@ -3,61 +3,48 @@ ghost use Rattle.std.specs.Prelude.{IfOk};
 ghost use Rattle.clap.specs.Words.{found_of, rows_of};
 ghost use Rattle.bp_arguments.specs.CommandArguments.{IsRunOf};
 
-use crate::arguments::{Row, Takes};
+use crate::arguments::Row::{Flag, LongNumber, Number};
+use crate::arguments::Subcommand;
 use crate::files::{CALLS, CONTEXTS, ENTRY, INIT, explaining};
-use crate::values::{entries, init, is_given, long_number, named, number, text};
-use bp_machine::Start;
-use bp_machine::limits::{DEFAULT_CALLS, DEFAULT_CONTEXTS};
+use crate::values::{is_given, long_number, named, number, start, text};
 use bp_tasks::limits::{DEFAULT_RING, DEFAULT_SEED, DEFAULT_TURN};
 use bp_tasks::{RunOptions, RunTask};
 use clap::ArgMatches;
 use std::alloc::{AllocError, Global};
 
-/// What help says of the command first.
-pub const ABOUT: &str =
-    "Run a program by one worker for each thread and print the trace of the run";
-
-/// What `run --help` says after the arguments.
-pub const NOTES: &str = "\
+pub static RUN: Subcommand<'static> = Subcommand {
+    name: "run",
+    about: "Run a program by one worker for each thread and print the trace of the run",
+    notes: "\
     The machine's scheduler decides who takes the next turn, so two runs may differ. Each\n\
     trace is one of a run of the program, and 'btrun replay' takes it. It is printed while the\n\
     run goes on. The first fault is one line on standard error.\n\n\
     Example:\n  btrun run race.bp writer reader --contexts 4 --seed 7\n\n\
     Exit status:\n  0  done, and no assertion failed\n  1  an assertion failed\n  \
     2  the program was refused, or the arguments were\n  \
-    3  memory, a device, a thread or the output failed";
-
-/// The arguments of the command after its file.
-pub static ROWS: [Row<'static>; 5] = [
-    ENTRY,
-    Row {
-        name: "seed",
-        takes: Takes::LongNumber,
-        help: "Draw the choice bits by this seed [default: 42]",
-    },
-    CONTEXTS,
-    CALLS,
-    INIT,
-];
-
-/// The options under the heading 'Advanced'.
-pub static ADVANCED: [Row<'static>; 3] = [
-    Row {
-        name: "turn",
-        takes: Takes::Number,
-        help: "Let a worker make N calls in a turn, 1 to 64 [default: 1]",
-    },
-    Row {
-        name: "ring",
-        takes: Takes::Number,
-        help: "Let N calls wait to be printed, 1 to 65536 [default: 1024]",
-    },
-    Row {
-        name: "spread",
-        takes: Takes::Nothing,
-        help: "Start the workers together, and draw who takes each turn",
-    },
-];
+    3  memory, a device, a thread or the output failed",
+    rows: &[
+        ENTRY,
+        LongNumber("seed", "Draw the choice bits by this seed [default: 42]"),
+        CONTEXTS,
+        CALLS,
+        INIT,
+    ],
+    advanced: &[
+        Number(
+            "turn",
+            "Let a worker make N calls in a turn, 1 to 64 [default: 1]",
+        ),
+        Number(
+            "ring",
+            "Let N calls wait to be printed, 1 to 65536 [default: 1024]",
+        ),
+        Flag(
+            "spread",
+            "Start the workers together, and draw who takes each turn",
+        ),
+    ],
+};
 
 /// What the arguments after `run` ask for.
 pub fn run_arguments<'a>(
@@ -71,12 +58,7 @@ pub fn run_arguments<'a>(
         spread: is_given(arguments, "spread"),
         explain: explaining(arguments),
         options: RunOptions {
-            start: Start {
-                entries: entries(alloc, arguments)?,
-                init: init(alloc, arguments)?,
-                contexts: number(arguments, "contexts", DEFAULT_CONTEXTS),
-                calls: number(arguments, "calls", DEFAULT_CALLS),
-            },
+            start: start(alloc, arguments)?,
             turn: number(arguments, "turn", DEFAULT_TURN),
             seed: long_number(arguments, "seed", DEFAULT_SEED),
             ring: number(arguments, "ring", DEFAULT_RING),

@@ -2,17 +2,17 @@
 ghost use Rattle.clap.specs.Words.{found_of, rows_of};
 ghost use Rattle.bp_arguments.specs.CommandArguments.{IsShowOf, IsViewFormatOf, IsViewOf};
 
-use crate::arguments::{Row, Takes};
+use crate::arguments::Row::{Flag, LongNumber, Number, Text};
+use crate::arguments::Subcommand;
 use crate::files::{TRACE, explaining};
 use crate::values::{given_long_number, given_number, given_text, is_given, text};
 use bp_tasks::{ShowTask, ViewFormat, ViewOptions};
 use clap::ArgMatches;
 
-/// What help says of the command first.
-pub const ABOUT: &str = "Replay a trace and show what happened, call by call";
-
-/// What `show --help` says after the arguments.
-pub const NOTES: &str = "\
+pub static SHOW: Subcommand<'static> = Subcommand {
+    name: "show",
+    about: "Replay a trace and show what happened, call by call",
+    notes: "\
     The setup comes first. Then each call has a line: its number, the thread, the context that\n\
     its step is in, the line and column of the statement, the statement, the choice bit where\n\
     one was read, the reply where it is no step, and the variables that the step changed. A\n\
@@ -22,77 +22,41 @@ pub const NOTES: &str = "\
     error.\n\n\
     Example:\n  btrun show race.bp race.trace --last 20\n\n\
     Exit status:\n  0  done, and no assertion failed\n  1  an assertion failed\n  \
-    2  an input was refused, or the arguments were\n  3  memory, a device or the output failed";
-
-/// The arguments of the command after its file.
-pub static ROWS: [Row<'static>; 14] = [
-    TRACE,
-    Row {
-        name: "thread",
-        takes: Takes::Number,
-        help: "Show only the calls of thread N",
-    },
-    Row {
-        name: "last",
-        takes: Takes::LongNumber,
-        help: "Show only the last N calls",
-    },
-    Row {
-        name: "from",
-        takes: Takes::LongNumber,
-        help: "Show no call before call N",
-    },
-    Row {
-        name: "to",
-        takes: Takes::LongNumber,
-        help: "Show no call after call N",
-    },
-    Row {
-        name: "watch",
-        takes: Takes::Text("NAMES"),
-        help: "Show only the calls that change one of these variables, as x,y",
-    },
-    Row {
-        name: "fold",
-        takes: Takes::Nothing,
-        help: "Show more than three equal waits of a thread as one line",
-    },
-    Row {
-        name: "state",
-        takes: Takes::Nothing,
-        help: "Show the state after the last call too",
-    },
-    Row {
-        name: "brief",
-        takes: Takes::Nothing,
-        help: "Leave out the setup",
-    },
-    Row {
-        name: "valid",
-        takes: Takes::Nothing,
-        help: "Show the accepted calls of a trace that is refused",
-    },
-    Row {
-        name: "at",
-        takes: Takes::LongNumber,
-        help: "Show the state after call N in place of the calls",
-    },
-    Row {
-        name: "contexts",
-        takes: Takes::Nothing,
-        help: "Show one line for each context in place of the calls",
-    },
-    Row {
-        name: "steps",
-        takes: Takes::Nothing,
-        help: "Show only the steps, as 'confirm' takes them, in place of the calls",
-    },
-    Row {
-        name: "json",
-        takes: Takes::Nothing,
-        help: "Print one JSON object a line, for programs",
-    },
-];
+    2  an input was refused, or the arguments were\n  3  memory, a device or the output failed",
+    rows: &[
+        TRACE,
+        Number("thread", "Show only the calls of thread N"),
+        LongNumber("last", "Show only the last N calls"),
+        LongNumber("from", "Show no call before call N"),
+        LongNumber("to", "Show no call after call N"),
+        Text(
+            "watch",
+            "NAMES",
+            "Show only the calls that change one of these variables, as x,y",
+        ),
+        Flag(
+            "fold",
+            "Show more than three equal waits of a thread as one line",
+        ),
+        Flag("state", "Show the state after the last call too"),
+        Flag("brief", "Leave out the setup"),
+        Flag(
+            "valid",
+            "Show the accepted calls of a trace that is refused",
+        ),
+        LongNumber("at", "Show the state after call N in place of the calls"),
+        Flag(
+            "contexts",
+            "Show one line for each context in place of the calls",
+        ),
+        Flag(
+            "steps",
+            "Show only the steps, as 'confirm' takes them, in place of the calls",
+        ),
+        Flag("json", "Print one JSON object a line, for programs"),
+    ],
+    advanced: &[],
+};
 
 /// How what is shown is written.
 fn view_format(arguments: &ArgMatches<'_>) -> ViewFormat

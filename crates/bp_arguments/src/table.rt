@@ -2,13 +2,14 @@
 //! The commands by their names.
 ghost use Rattle.std.specs.Prelude.{◌≡◌, MatchOption, false, map, IfOk};
 ghost use Rattle.clap.specs.Words.{app_of};
+ghost use Rattle.clap.specs.Simple.{new_app};
 ghost use Rattle.clap.specs.declared.builder.command.Command.TheViews.{out-Command};
 ghost use Rattle.bp_arguments.specs.Values.{command_name};
 ghost use Rattle.bp_arguments.specs.declared.table.Named.{Named as Either};
-ghost use Rattle.bp_arguments.specs.Commands.{advanced_rules, command_app, command_rules, row_rule};
+ghost use Rattle.bp_arguments.specs.Commands.{advanced_rules, command_app, command_rules, file_rules, row_rule, with_rules};
 
-use crate::arguments::{Row, with_rows};
-use crate::files::file_command;
+use crate::arguments::{Subcommand, with_rows};
+use crate::files::FILE_ROWS;
 use crate::{check, code, confirm, drive, explore, run, show, test, trace};
 use clap::Command;
 use std::alloc::{AllocError, Global};
@@ -29,11 +30,8 @@ pub enum Named {
     Shrink,
 }
 
-/// How many commands have a name.
-const COMMANDS: usize = 11;
-
 /// The commands that have a name, in the order of the help.
-pub const NAMED: [Named; COMMANDS] = [
+pub const NAMED: [Named; 11] = [
     Named::Check,
     Named::Code,
     Named::Drive,
@@ -47,26 +45,28 @@ pub const NAMED: [Named; COMMANDS] = [
     Named::Shrink,
 ];
 
-/// The name of a command.
-pub fn name_of<'a>(command: Named) -> &'a str
-    ensures { result.now ≡ command_name command }
+/// Returns the name, the help and the arguments of a command.
+fn subcommand_of<'a>(command: Named) -> &'a Subcommand<'a>
+    ensures name { result.now.name.now ≡ command_name command }
+    ensures rules { map row_rule result.now.rows.now ≡ command_rules command }
+    ensures advanced { map row_rule result.now.advanced.now ≡ advanced_rules command }
 {
     match command {
-        Named::Check => "check",
-        Named::Code => "code",
-        Named::Drive => "drive",
-        Named::Confirm => "confirm",
-        Named::Run => "run",
-        Named::Test => "test",
-        Named::Explore => "explore",
-        Named::Replay => "replay",
-        Named::Show => "show",
-        Named::Migrate => "migrate",
-        Named::Shrink => "shrink",
+        Named::Check => &check::CHECK,
+        Named::Code => &code::CODE,
+        Named::Drive => &drive::DRIVE,
+        Named::Confirm => &confirm::CONFIRM,
+        Named::Run => &run::RUN,
+        Named::Test => &test::TEST,
+        Named::Explore => &explore::EXPLORE,
+        Named::Replay => &trace::REPLAY,
+        Named::Show => &show::SHOW,
+        Named::Migrate => &trace::MIGRATE,
+        Named::Shrink => &trace::SHRINK,
     }
 }
 
-/// The command of this name, where there is one.
+/// Returns the command of this name, if there is one.
 pub fn command_named(name: &str) -> Option<Named>
     ensures { MatchOption result
         ((other : Either) → name.now ≡ command_name other → ⊥)
@@ -74,77 +74,31 @@ pub fn command_named(name: &str) -> Option<Named>
 {
     let all = NAMED;
     for command in &all {
-        if name == name_of(*command) {
+        if name == subcommand_of(*command).name {
             return Some(*command);
         }
     }
     None
 }
 
-/// What help says of a command.
-#[derive(Clone, Copy)]
-struct Help<'a> {
-    /// What comes first, and beside the command's name in the help of the program.
-    about: &'a str,
-    /// What comes after the arguments.
-    notes: &'a str,
-}
-
-fn help_of<'a>(command: Named) -> Help<'a> {
-    let (about, notes) = match command {
-        Named::Check => (check::ABOUT, check::NOTES),
-        Named::Code => (code::ABOUT, code::NOTES),
-        Named::Drive => (drive::ABOUT, drive::NOTES),
-        Named::Confirm => (confirm::ABOUT, confirm::NOTES),
-        Named::Run => (run::ABOUT, run::NOTES),
-        Named::Test => (test::ABOUT, test::NOTES),
-        Named::Explore => (explore::ABOUT, explore::NOTES),
-        Named::Replay => (trace::REPLAY_ABOUT, trace::REPLAY_NOTES),
-        Named::Show => (show::ABOUT, show::NOTES),
-        Named::Migrate => (trace::MIGRATE_ABOUT, trace::MIGRATE_NOTES),
-        Named::Shrink => (trace::SHRINK_ABOUT, trace::SHRINK_NOTES),
-    };
-    Help { about, notes }
-}
-
-/// The arguments of a command after its file and the flags on explanations.
-fn rows_of<'a>(command: Named) -> &'a [Row<'a>]
-    ensures { map row_rule result.now ≡ command_rules command }
+/// Makes a command with this name and this help, and with what each command takes first.
+fn file_command<'a>(alloc: Global, row: &Subcommand<'a>) -> Result<Command<'a>, AllocError>
+    ensures { let app = with_rules (new_app row.now.name.now) file_rules in
+        IfOk result (λ c. (app_of c ≡ app) × ((out-Command c).has_globals ≡ false)) }
 {
-    match command {
-        Named::Check => &check::ROWS,
-        Named::Code => &code::ROWS,
-        Named::Drive => &drive::ROWS,
-        Named::Confirm => &confirm::ROWS,
-        Named::Run => &run::ROWS,
-        Named::Test => &test::ROWS,
-        Named::Explore => &explore::ROWS,
-        Named::Show => &show::ROWS,
-        Named::Replay | Named::Migrate | Named::Shrink => &trace::ROWS,
-    }
+    let command = Command::new(alloc, row.name)
+        .about(row.about)
+        .after_help(row.notes);
+    with_rows(alloc, command, &FILE_ROWS)
 }
 
-/// The options of a command under the heading 'Advanced'.
-fn advanced_rows_of<'a>(command: Named) -> &'a [Row<'a>]
-    ensures { map row_rule result.now ≡ advanced_rules command }
-{
-    match command {
-        Named::Run => &run::ADVANCED,
-        _ => &[],
-    }
-}
-
-/// The arguments, options and help of a command.
+/// Makes a command with all its arguments, its options and its help.
 pub fn with_help<'a>(alloc: Global, command: Named) -> Result<Command<'a>, AllocError>
     ensures { let app = command_app command in
         IfOk result (λ c. (app_of c ≡ app) × ((out-Command c).has_globals ≡ false)) }
 {
-    let help = help_of(command);
-    let file = file_command(alloc, name_of(command), help.about, help.notes)?;
-    let usual = with_rows(alloc, file, rows_of(command))?;
-    with_rows(
-        alloc,
-        usual.next_help_heading("Advanced"),
-        advanced_rows_of(command),
-    )
+    let row = subcommand_of(command);
+    let file = file_command(alloc, row)?;
+    let usual = with_rows(alloc, file, row.rows)?;
+    with_rows(alloc, usual.next_help_heading("Advanced"), row.advanced)
 }

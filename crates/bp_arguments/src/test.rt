@@ -3,7 +3,8 @@ ghost use Rattle.std.specs.Prelude.{◌≡◌, false, length, IfOk};
 ghost use Rattle.clap.specs.Words.{found_of, rows_of};
 ghost use Rattle.bp_arguments.specs.CommandArguments.{contexts_for, runs_within, IsTestOf};
 
-use crate::arguments::{Row, Takes};
+use crate::arguments::Row::{Flag, LongNumber, Number};
+use crate::arguments::Subcommand;
 use crate::files::{CALLS, ENTRY, INIT, explaining};
 use crate::values::{entries, given_long_number, init, is_given, long_number, named, number, text};
 use bp_machine::Start;
@@ -13,12 +14,10 @@ use bp_tasks::{TestOptions, TestTask};
 use clap::ArgMatches;
 use std::alloc::{AllocError, Global};
 
-/// What help says of the command first.
-pub const ABOUT: &str =
-    "Test a program by runs with drawn schedules and print the first that fails";
-
-/// What `test --help` says after the arguments.
-pub const NOTES: &str = "\
+pub static TEST: Subcommand<'static> = Subcommand {
+    name: "test",
+    about: "Test a program by runs with drawn schedules and print the first that fails",
+    notes: "\
     Each run switches between the threads at places that are drawn by its seed, within the\n\
     contexts that are allowed. The seed of run r, from 0, is r more than that of the first. A run\n\
     ends where an assertion failed, or where no thread can go on. The trace of the first run in\n\
@@ -31,54 +30,37 @@ pub const NOTES: &str = "\
     Exit status:\n  0  nothing was found in any run\n  \
     1  an assertion failed, or a run ended in a deadlock\n  \
     2  the program was refused, or the arguments were\n  \
-    3  memory, a device or the output failed";
-
-/// The arguments of the command after its file.
-pub static ROWS: [Row<'static>; 11] = [
-    ENTRY,
-    Row {
-        name: "seed",
-        takes: Takes::LongNumber,
-        help: "Begin with the run of this seed [default: 42]",
-    },
-    Row {
-        name: "contexts",
-        takes: Takes::Number,
-        help: "Allow N contexts [default: one more than there are threads]",
-    },
-    CALLS,
-    INIT,
-    Row {
-        name: "runs",
-        takes: Takes::LongNumber,
-        help: "Make at most N runs [default: 10000; no limit with --time]",
-    },
-    Row {
-        name: "time",
-        takes: Takes::LongNumber,
-        help: "Begin no run after N seconds",
-    },
-    Row {
-        name: "jobs",
-        takes: Takes::Number,
-        help: "Make N blocks of runs side by side, at most 64 [default: 1]",
-    },
-    Row {
-        name: "deadlock",
-        takes: Takes::Nothing,
-        help: "Also stop at a run in which all threads that have not ended wait",
-    },
-    Row {
-        name: "unreached",
-        takes: Takes::Nothing,
-        help: "List the statements that no run reached, on standard error",
-    },
-    Row {
-        name: "json",
-        takes: Takes::Nothing,
-        help: "Write the summary as JSON objects, for programs",
-    },
-];
+    3  memory, a device or the output failed",
+    rows: &[
+        ENTRY,
+        LongNumber("seed", "Begin with the run of this seed [default: 42]"),
+        Number(
+            "contexts",
+            "Allow N contexts [default: one more than there are threads]",
+        ),
+        CALLS,
+        INIT,
+        LongNumber(
+            "runs",
+            "Make at most N runs [default: 10000; no limit with --time]",
+        ),
+        LongNumber("time", "Begin no run after N seconds"),
+        Number(
+            "jobs",
+            "Make N blocks of runs side by side, at most 64 [default: 1]",
+        ),
+        Flag(
+            "deadlock",
+            "Also stop at a run in which all threads that have not ended wait",
+        ),
+        Flag(
+            "unreached",
+            "List the statements that no run reached, on standard error",
+        ),
+        Flag("json", "Write the summary as JSON objects, for programs"),
+    ],
+    advanced: &[],
+};
 
 /// How many contexts a test of these threads allows, where no other number is given: one more than
 /// there are threads, so that each may begin and one may go on.

@@ -2,39 +2,45 @@
 ghost use Rattle.clap.specs.Words.{found_of, rows_of};
 ghost use Rattle.bp_arguments.specs.CommandArguments.{IsTraceArgumentsOf};
 
-use crate::arguments::Row;
+use crate::arguments::Subcommand;
 use crate::files::{TRACE, explaining};
 use crate::values::text;
 use bp_tasks::TraceTask;
 use clap::ArgMatches;
 
-pub const REPLAY_ABOUT: &str = "Replay a trace and print what its steps printed, and the outcome";
-
-/// What `replay --help` says after the arguments.
-pub const REPLAY_NOTES: &str = "\
+pub static REPLAY: Subcommand<'static> = Subcommand {
+    name: "replay",
+    about: "Replay a trace and print what its steps printed, and the outcome",
+    notes: "\
     A step at a 'print' has a line 'print THREAD BITS'. The last line is 'outcome clean', or\n\
     'outcome failed THREAD' with the thread whose assertion failed. The first fault is one \
     line on\n\
     standard error.\n\n\
     Example:\n  btrun replay race.bp race.trace\n\n\
     Exit status:\n  0  done, and no assertion failed\n  1  an assertion failed\n  \
-    2  an input was refused, or the arguments were\n  3  memory, a device or the output failed";
+    2  an input was refused, or the arguments were\n  3  memory, a device or the output failed",
+    rows: &[TRACE],
+    advanced: &[],
+};
 
-pub const MIGRATE_ABOUT: &str = "Print a trace of either version in version 2";
-
-/// What `migrate --help` says after the arguments.
-pub const MIGRATE_NOTES: &str = "\
+pub static MIGRATE: Subcommand<'static> = Subcommand {
+    name: "migrate",
+    about: "Print a trace of either version in version 2",
+    notes: "\
     Version 2 has a line for each piece: the calls that a thread makes one after the other. \
     The trace\n\
     is replayed first. The first fault is one line on standard error.\n\n\
     Example:\n  btrun migrate race.bp race.trace\n\n\
     Exit status:\n  0  done, and no assertion failed\n  1  an assertion failed\n  \
-    2  an input was refused, or the arguments were\n  3  memory, a device or the output failed";
+    2  an input was refused, or the arguments were\n  3  memory, a device or the output failed",
+    rows: &[TRACE],
+    advanced: &[],
+};
 
-pub const SHRINK_ABOUT: &str = "Print a smaller trace with the same failure or deadlock";
-
-/// What `shrink --help` says after the arguments.
-pub const SHRINK_NOTES: &str = "\
+pub static SHRINK: Subcommand<'static> = Subcommand {
+    name: "shrink",
+    about: "Print a smaller trace with the same failure or deadlock",
+    notes: "\
     The trace is one that ends in a failed assertion or a deadlock. Contexts, loops and other\n\
     calls are left out, and what is left is driven again: the same assertion of the same thread\n\
     fails in it, or the same threads wait at the same assumptions, by no more calls and no more\n\
@@ -42,10 +48,10 @@ pub const SHRINK_NOTES: &str = "\
     Example:\n  btrun shrink race.bp race.trace\n\n\
     Exit status:\n  0  the trace of a deadlock is printed\n  \
     1  an assertion failed, and the trace is printed\n  \
-    2  an input was refused, or the arguments were\n  3  memory, a device or the output failed";
-
-/// The arguments of the command after its file.
-pub static ROWS: [Row<'static>; 1] = [TRACE];
+    2  an input was refused, or the arguments were\n  3  memory, a device or the output failed",
+    rows: &[TRACE],
+    advanced: &[],
+};
 
 /// What the arguments after `replay`, `migrate` or `shrink` ask for.
 pub fn trace_arguments<'a>(arguments: &ArgMatches<'a>) -> TraceTask<'a>

@@ -3,7 +3,7 @@
 ghost use Rattle.std.specs.Prelude.{◌≡◌, map, string_bytes};
 ghost use Rattle.bp_arguments.specs.NoTasks.{asks_for_json};
 
-use crate::commands::no_command;
+use crate::commands::error_of;
 use crate::table::{command_named, with_help};
 use bp_machine::limits::{MAX_CALLS, MAX_CONTEXTS};
 use bp_tasks::limits::MAX_JOBS;
@@ -78,25 +78,6 @@ fn same_with_usage(
     }
 }
 
-/// The error of an option whose value is a number below 0, where that is why the arguments are
-/// refused.
-fn error_of_number(alloc: Global, arguments: &[String]) -> Result<Option<Error>, AllocError> {
-    match of_number(alloc, arguments)? {
-        Some(said) => {
-            error_with_usage(alloc, arguments, ErrorKind::UnknownArgument, said.as_str())
-        }
-        None => Ok(None),
-    }
-}
-
-/// The error of a file where a command is due, where that is why the arguments are refused.
-fn error_of_file(alloc: Global, arguments: &[String]) -> Result<Option<Error>, AllocError> {
-    match of_file(alloc, arguments)? {
-        Some(said) => Ok(Some(no_command(alloc, said.as_str())?)),
-        None => Ok(None),
-    }
-}
-
 /// An error that says more than that of these arguments, where there is more to say.
 fn error_that_says_more(
     alloc: Global,
@@ -107,8 +88,14 @@ fn error_that_says_more(
         ErrorKind::InvalidValue | ErrorKind::ValueValidation | ErrorKind::ArgumentConflict => {
             same_with_usage(alloc, arguments, error)
         }
-        ErrorKind::UnknownArgument => error_of_number(alloc, arguments),
-        ErrorKind::InvalidSubcommand => error_of_file(alloc, arguments),
+        ErrorKind::UnknownArgument => match of_number(alloc, arguments)? {
+            Some(said) => error_with_usage(alloc, arguments, error.kind(), said.as_str()),
+            None => Ok(None),
+        },
+        ErrorKind::InvalidSubcommand => match of_file(alloc, arguments)? {
+            Some(said) => Ok(Some(error_of(alloc, error.kind(), said.as_str())?)),
+            None => Ok(None),
+        },
         _ => Ok(None),
     }
 }
@@ -130,13 +117,7 @@ const PROGRAM_ENDING: &str = ".bp";
 /// Whether the word is a number below 0.
 fn is_below_zero(word: &str) -> bool {
     match word.strip_prefix("-") {
-        Some(digits) => {
-            !digits.is_empty()
-                && digits
-                    .as_bytes()
-                    .iter()
-                    .all(|byte| matches!(byte, b'0'..=b'9'))
-        }
+        Some(digits) => !digits.is_empty() && digits.bytes().all(|byte| byte.is_ascii_digit()),
         None => false,
     }
 }

@@ -1,9 +1,11 @@
 //! The values of arguments.
 ghost use Rattle.std.specs.Prelude.{◌≡◌, codes, map, string_bytes, option_map, IfOk};
 ghost use Rattle.clap.specs.Words.{first_of, found_of, one_of, rows_of};
-ghost use Rattle.bp_arguments.specs.Values.{bits_given, bits_in, entries_in, expected_in, has_bad_init, has_bad_verdict, init_in, is_bits, is_init, named_in, names_given, value_of, verdict_named, IsFlagOf, IsNumberIn, IsNumberOf};
+ghost use Rattle.bp_machine.specs.declared.limits.TheConstants.{DEFAULT_CONTEXTS};
+ghost use Rattle.bp_arguments.specs.Values.{bits_given, bits_in, entries_in, expected_in, has_bad_init, has_bad_verdict, given_number, init_in, is_bits, is_init, named_in, names_given, number_or, start_in, value_of, verdict_named, IsFlagOf};
 
-use bp_machine::limits::DEFAULT_ENTRY;
+use bp_machine::Start;
+use bp_machine::limits::{DEFAULT_CALLS, DEFAULT_CONTEXTS, DEFAULT_ENTRY};
 use bp_tasks::{NamedBits, Verdict, are_named_bits, gives_names, named_bits};
 use clap::ArgMatches;
 use std::alloc::{AllocError, Global};
@@ -135,32 +137,45 @@ pub fn has_bad_verdict(arguments: &ArgMatches<'_>) -> bool
     }
 }
 
-/// The number of an option, of 32 bits, and the default where none is given.
+/// Reads the number of an option, of 32 bits. Returns the default if none is given.
 pub fn number(arguments: &ArgMatches<'_>, name: &str, default: u32) -> u32
-    ensures { IsNumberOf 32 default (one_of name.now (rows_of (found_of arguments.now))) result }
+    ensures { result ≡ number_or default 32 name.now (rows_of (found_of arguments.now)) }
 {
-    arguments.get_one(name).unwrap_or(default)
+    given_number(arguments, name).unwrap_or(default)
 }
 
-/// The number of an option, of 64 bits, and the default where none is given.
+/// Reads the number of an option, of 64 bits. Returns the default if none is given.
 pub fn long_number(arguments: &ArgMatches<'_>, name: &str, default: u64) -> u64
-    ensures { IsNumberOf 64 default (one_of name.now (rows_of (found_of arguments.now))) result }
+    ensures { result ≡ number_or default 64 name.now (rows_of (found_of arguments.now)) }
 {
-    arguments.get_one(name).unwrap_or(default)
+    given_long_number(arguments, name).unwrap_or(default)
 }
 
-/// The number of an option, of 32 bits, where one is given.
+/// Reads the number of an option, of 32 bits, if one is given.
 pub fn given_number(arguments: &ArgMatches<'_>, name: &str) -> Option<u32>
-    ensures { IsNumberIn 32 (one_of name.now (rows_of (found_of arguments.now))) result }
+    ensures { result ≡ given_number 32 name.now (rows_of (found_of arguments.now)) }
 {
     arguments.get_one(name)
 }
 
-/// The number of an option, of 64 bits, where one is given.
+/// Reads the number of an option, of 64 bits, if one is given.
 pub fn given_long_number(arguments: &ArgMatches<'_>, name: &str) -> Option<u64>
-    ensures { IsNumberIn 64 (one_of name.now (rows_of (found_of arguments.now))) result }
+    ensures { result ≡ given_number 64 name.now (rows_of (found_of arguments.now)) }
 {
     arguments.get_one(name)
+}
+
+/// Reads what a run starts from.
+pub fn start(alloc: Global, arguments: &ArgMatches<'_>) -> Result<Start, AllocError>
+    ensures { let start = start_in DEFAULT_CONTEXTS (rows_of (found_of arguments.now)) in
+        IfOk result (λ s. s ≡ start) }
+{
+    Ok(Start {
+        entries: entries(alloc, arguments)?,
+        init: init(alloc, arguments)?,
+        contexts: number(arguments, "contexts", DEFAULT_CONTEXTS),
+        calls: number(arguments, "calls", DEFAULT_CALLS),
+    })
 }
 
 pub fn is_given(arguments: &ArgMatches<'_>, name: &str) -> bool

@@ -144,4 +144,4 @@ procedures_code globals headings n (p ∷ ps) =
 abbrev pub flat_of : Program → Flat
 flat_of t =
     let headings = headings_from 0 t.procedures in
-    flat headings (length t.globals) (procedures_code t.globals headings 0 t.procedures)
+    flat headings (length t.globals) (procedures_code t.globals headings 0 t.procedures) t

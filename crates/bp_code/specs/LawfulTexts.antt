@@ -1,8 +1,6 @@
 -- The lawful program of a text and its code, and why a text has none.
 use Rattle.std.specs.Prelude.{ℕ, List, Option}
 use Rattle.bp_language.specs.Ast.{Program}
-use Rattle.bp_flat.specs.Flat.{Flat}
-use Rattle.bp_flat.specs.StandsFor.{StandsFor}
 use Rattle.bp_language.specs.Texts.{IsTextOf}
 use Rattle.bp_syntax.specs.Refusals.{IsRefusal as IsReadRefusal, read_fault_place}
 use Rattle.bp_language.specs.Faults.{IsLawful, check_fault_place}
@@ -21,12 +19,6 @@ pub record IsLawfulText (text : List ℕ) (t : Program) : Type 0 where
 abbrev pub IsProgramRefusal : List ℕ → ProgramFault → Type 0
 IsProgramRefusal text (Read f) = IsReadRefusal text f
 IsProgramRefusal text (Check f at) = (t : Program) × IsTextOf text t × IsRefusal t f at
-
--- the code stands for the lawful program of the text
-pub record IsProgramCode (text : List ℕ) (c : Flat) : Type 0 where
-  pub program : Program
-  pub of : IsLawfulText text program
-  pub stands : StandsFor c program
 
 -- why there is no code of the text
 abbrev pub IsCodeRefusal : List ℕ → CodeFault → Type 0

@@ -1,11 +1,8 @@
-//! Lawful trees.
 //! The least fault of a program.
 //! The least fault: by place, and at one place by number.
 //! A fault that was found, with its place.
-ghost use Rattle.std.specs.Prelude.{◌≡◌, ◌≤◌, MatchResult, IfOk};
-ghost use Rattle.bp_language.specs.Ast.{procedures_size};
-ghost use Rattle.bp_language.specs.Faults.{IsLawful, check_fault_number, check_fault_place, HasFewNames, HasDistinctNames, HasSoundStatements, IsFault};
-ghost use Rattle.bp_language.specs.declared.limits.TheConstants.{TEXT_LIMIT};
+ghost use Rattle.std.specs.Prelude.{◌≡◌, MatchResult, IfOk};
+ghost use Rattle.bp_language.specs.Faults.{IsLawful, check_fault_number, check_fault_place, IsFault};
 ghost use Rattle.bp_code.specs.Refusals.{IsRefusal};
 ghost use Rattle.bp_code.specs.Sets.{IsFaultOfProcedures, Finds, least_of};
 
@@ -14,69 +11,8 @@ use crate::tables::{NameTable, fault_of_names};
 use crate::uses::Callees;
 use bp_language::limits::{MAX_GLOBALS, MAX_PROCEDURES};
 use bp_language::{CheckFault, Name, Proc};
-use bp_syntax::Tree;
+use bp_syntax::{Checked, Tree};
 use std::alloc::{AllocError, Global};
-use std::marker::Model;
-
-/// A tree without faults.
-#[derive(Drop)]
-pub struct Checked {
-    tree: Tree,
-}
-
-impl Model for Checked {
-    ghost use Rattle.bp_language.specs.Ast.{Program};
-    ghost use Rattle.bp_language.specs.Codes.{coded_program};
-    ghost use Rattle.bp_language.specs.Faults.{IsLawful};
-
-    ghost Value = { Program };
-
-    ghost coded = { coded_program };
-
-    ghost view = { λ c. c.tree };
-
-    ghost invariant = { λ c. IsLawful c.tree };
-}
-
-impl Checked {
-    /// The tree, which has no fault.
-    pub fn tree(&self) -> &Tree
-        ensures value { result.now ≡ self.now }
-        ensures lawful { IsLawful self.now }
-    {
-        &self.tree
-    }
-
-    /// Law: procedures, globals, and the formals and locals of each procedure keep to their limits.
-    pub fn has_few_names(&self)
-        ensures { HasFewNames self.now }
-    {
-        let _ = &self.tree;
-    }
-
-    /// Law: no two globals, no two procedures, and in a procedure no two labels and no two formals
-    /// or locals are spelled alike.
-    pub fn has_distinct_names(&self)
-        ensures { HasDistinctNames self.now }
-    {
-        let _ = &self.tree;
-    }
-
-    /// Law: each variable, label and procedure that a statement names is declared, an assignment
-    /// has targets, and an assignment and a call have as many values as they need.
-    pub fn has_sound_statements(&self)
-        ensures { HasSoundStatements self.now }
-    {
-        self.tree.is_of_a_text();
-    }
-
-    /// Law: there are no more statements and procedures together than a text has bytes.
-    pub fn has_few_statements(&self)
-        ensures { procedures_size self.now.procedures ≤ TEXT_LIMIT }
-    {
-        self.tree.has_few_statements();
-    }
-}
 
 /// Why a tree is refused, with the tree.
 #[derive(Drop)]
@@ -115,7 +51,7 @@ pub fn check(alloc: Global, tree: Tree) -> Result<Checked, CheckRefusal>
         (λ r. (r.tree ≡ tree) × IsRefusal tree r.fault r.at) }
 {
     match program_fault(alloc, tree.globals(), tree.procs()) {
-        Ok(None) => Ok(Checked { tree }),
+        Ok(None) => Ok(Checked::new(tree)),
         Ok(Some(Found { fault, at })) => Err(CheckRefusal { fault, at, tree }),
         Err(_) => Err(CheckRefusal {
             fault: CheckFault::Memory,

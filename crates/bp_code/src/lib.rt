@@ -21,8 +21,9 @@ pub use bp_flat::{
     local_slot_of, local_value, slot_of, steps_alike,
 };
 pub use bp_language::CheckFault;
+pub use bp_syntax::Checked;
 pub use bp_text::{WriteFault, put};
-pub use checks::{CheckRefusal, Checked, check};
+pub use checks::{CheckRefusal, check};
 pub use laws::has_one_refusal;
 pub use listing::list;
 pub use programs::compile;

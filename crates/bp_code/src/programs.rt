@@ -7,9 +7,7 @@ ghost use Rattle.bp_code.specs.Compiled.{block_size, procedures_size, headings_f
 ghost use Rattle.bp_language.specs.Texts.{HasText};
 ghost use Rattle.bp_language.specs.Faults.{IsLawful};
 ghost use Rattle.bp_code.specs.Compilable.{IsCompilable, HaveFew};
-ghost use Rattle.bp_flat.specs.StandsFor.{StandsFor};
 
-use crate::checks::Checked;
 use crate::emit::{emit_block, push};
 use crate::environments::Environment;
 use crate::layout::{Layout, size_of_block};
@@ -19,6 +17,7 @@ use bp_flat::code::Code;
 use bp_flat::headings::Heading;
 use bp_flat::instrs::Instr;
 use bp_language::{Name, Proc};
+use bp_syntax::Checked;
 use std::alloc::{AllocError, Global};
 
 /// The headings of the procedures. The instructions of each begin where those of the one before it
@@ -75,26 +74,31 @@ fn emit_proc<'a>(
     push(out, Instr::new(Action::Return))
 }
 
-/// The code of a lawful tree: its instructions, which stands for it.
+/// Compiles a program. The code keeps the program, which it stands for.
 pub fn compile(alloc: Global, checked: &Checked) -> Result<Code, AllocError>
-    ensures stands { IfOk result (λ c. StandsFor c checked.now) }
+    ensures program { IfOk result (λ c. c.tree ≡ checked.now) }
     ensures compiled { IfOk result (λ c. c ≡ flat_of checked.now) }
 {
     let tree = checked.tree();
     checked.has_few_statements();
     checked.has_few_names();
     checked.has_sound_statements();
-    compile_program(alloc, tree.globals(), tree.procs())
+    let own = checked.try_copy()?;
+    compile_program(alloc, own, tree.globals(), tree.procs())
 }
 
-/// The code of the lawful program of some text.
-fn compile_program(alloc: Global, globals: &[Name], procs: &[Proc]) -> Result<Code, AllocError>
+/// Compiles a program of these globals and procedures.
+fn compile_program(
+    alloc: Global,
+    checked: Checked,
+    globals: &[Name],
+    procs: &[Proc],
+) -> Result<Code, AllocError>
+    requires parts { checked ≡ record { globals = globals.now; procedures = procs.now } }
     requires able { IsCompilable (record { globals = globals.now; procedures = procs.now }) }
     requires lawful { IsLawful (record { globals = globals.now; procedures = procs.now }) }
     requires of_text { HasText (record { globals = globals.now; procedures = procs.now }) }
-    ensures stands { let t : Program = record { globals = globals.now; procedures = procs.now } in
-        IfOk result (λ c. StandsFor c t) }
-    ensures compiled { let t : Program = record { globals = globals.now; procedures = procs.now } in
+    ensures { let t : Program = record { globals = globals.now; procedures = procs.now } in
         IfOk result (λ c. c ≡ flat_of t) }
 {
     let headings = headings_of(alloc, procs)?;
@@ -105,6 +109,6 @@ fn compile_program(alloc: Global, globals: &[Name], procs: &[Proc]) -> Result<Co
         let headings = headings.as_slice();
         emit_proc(&mut instrs, &global_names, &proc_names, headings, proc)?;
     }
-    let code = Code::new(alloc, headings, globals.len() as u32, instrs)?;
+    let code = Code::new(alloc, headings, globals.len() as u32, instrs, checked)?;
     Ok(code)
 }

@@ -3,8 +3,8 @@ ghost use Rattle.std.specs.Prelude.{◌≡◌, ◌++◌, IfOk, OnOk};
 ghost use Rattle.bp_language.specs.Blocks.{block_of, statement_of};
 ghost use Rattle.bp_flat.specs.StandsFor.{block_starts, inner_starts, starts_of};
 
-use crate::checks::Checked;
 use bp_language::{Form, Stmt};
+use bp_syntax::Checked;
 use std::alloc::{AllocError, Global};
 
 /// Notes where statements begin, and those inside them.

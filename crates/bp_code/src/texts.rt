@@ -1,12 +1,12 @@
 //! The lawful program of a text, and its code.
 ghost use Rattle.std.specs.Prelude.{MatchResult};
-ghost use Rattle.bp_code.specs.LawfulTexts.{IsCodeRefusal, IsLawfulText, IsProgramCode, IsProgramRefusal};
+ghost use Rattle.bp_code.specs.LawfulTexts.{IsCodeRefusal, IsLawfulText, IsProgramRefusal};
 
-use crate::checks::{Checked, check};
+use crate::checks::check;
 use crate::programs::compile;
 use bp_flat::code::Code;
 use bp_language::CheckFault;
-use bp_syntax::{ReadFault, read};
+use bp_syntax::{Checked, ReadFault, read};
 use std::alloc::{AllocError, Global};
 use std::error::Error;
 use std::fmt;
@@ -76,7 +76,7 @@ impl From<AllocError> for CodeFault {
 
 /// The code of the lawful program of a text.
 pub fn code_of(alloc: Global, text: &[u8]) -> Result<Code, CodeFault>
-    ensures { MatchResult result (IsProgramCode text.now) (IsCodeRefusal text.now) }
+    ensures { MatchResult result (λ c. IsLawfulText text.now c.tree) (IsCodeRefusal text.now) }
 {
     let checked = lawful_program(alloc, text)?;
     Ok(compile(alloc, &checked)?)

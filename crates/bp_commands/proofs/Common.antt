@@ -1,12 +1,12 @@
 -- What the proofs of this crate name of std, of the crates below and of its own definitions.
 pub use Rattle.bp_code.specs.LawfulTexts.{IsLawfulText, IsProgramRefusal}
-pub use Rattle.bp_commands.specs.Commands.{AnswersOf, Command, Inputs, IsDoneWith, IsNotDone, IsRefusedWith, Pair, bundle_alone, text_alone, text_alone_of}
+pub use Rattle.bp_commands.specs.Commands.{Answers, AnswersOf, Command, Inputs, IsDoneWith, IsNotDone, IsRefusedWith, Pair, bundle_alone, text_alone, text_alone_of}
 pub use Rattle.bp_commands.specs.Confirms.{IsOfSteps, choice_text, choices_text, confirmation_shown, confirms, line_as, verdict_word}
 pub use Rattle.bp_commands.specs.Explores.{bound_of, trace_of}
 pub use Rattle.bp_commands.specs.FaultReports.{AnswerRule, AreReadOr, ExplainsPair, ExplainsText, HasSummary, IsConcluded, IsEndOf, IsFileOfPair, IsFileOfText, IsObjectIn, IsObjectRead, IsObjectWith, IsReported, IsSaid, IsSaidFor, IsSaidOfRead, IsTextOf, IsTold, of_report, of_run}
-pub use Rattle.bp_commands.specs.Jobs.{IsFlushed, pair_of_files, rest_of}
-pub use Rattle.bp_commands.specs.Programs.{IsOpened, OfNames, by_names, checks, lists, start_asked}
-pub use Rattle.bp_commands.specs.Runs.{IsRunReport, runs, runs_by_names}
+pub use Rattle.bp_commands.specs.Jobs.{Held, IsFinished, IsFlushed, pair_of_files, rest_of}
+pub use Rattle.bp_commands.specs.Programs.{IsOpened, checks, lists, start_asked}
+pub use Rattle.bp_commands.specs.Runs.{IsRunReport, IsRunnable, runs, seeded}
 pub use Rattle.bp_commands.specs.Shows.{AreContextsOf, AreStepsOf, IsPart, IsShownWithLine, IsStateOf, IsViewText, OfPart, Refusal, last_line, on_screen, on_valid_calls, refusal_text, shows, shows_part}
 pub use Rattle.bp_commands.specs.Tests.{AreListed, IsTestable, tests}
 pub use Rattle.bp_commands.specs.Traces.{DeadlockAlike, FailAlike, HasNoFailure, HasNoSeparator, HasNoneBefore, IsEndRefusal, IsOfTrace, IsReplayText, IsScheduleRefused, IsSeparated, IsShrunkText, IsSplit, IsTraceOf, IsTraceReport, LacksMemory, TextRule, drives, ends_line, migrates, on_trace, shrinks}
@@ -19,9 +19,9 @@ pub use Rattle.bp_machine.specs.declared.calls.Report.{Report}
 pub use Rattle.bp_messages.specs.FaultObjects.{IsValueIn, ShownVerdict, fault_object, name_in, verdict_object}
 pub use Rattle.bp_messages.specs.FaultTable.{fault_of_migration, fault_of_run, fault_of_schedule, fault_of_setup, fault_of_test, fault_of_trace, fault_of_view}
 pub use Rattle.bp_messages.specs.declared.faults.Fault.{Fault}
-pub use Rattle.bp_messages.specs.declared.faults.Fault.TheVariants.{Early, Memory, Write}
+pub use Rattle.bp_messages.specs.declared.faults.Fault.TheVariants.{Memory, Write}
 pub use Rattle.bp_tasks.specs.NamedBits.{NamedBitOf, start_by_names}
-pub use Rattle.bp_tasks.specs.RunOptions.{OptionsOf, options_of}
+pub use Rattle.bp_tasks.specs.RunOptions.{OptionsOf}
 pub use Rattle.bp_tasks.specs.declared.limits.TheConstants.{MAX_JOBS}
 pub use Rattle.bp_test.specs.Shrinks.{IsEnd, IsShrunk, budgeted}
 pub use Rattle.bp_test.specs.Tests.{IsDeadlock, IsFound, IsTest, IsTestRefusal, setup_of_run}

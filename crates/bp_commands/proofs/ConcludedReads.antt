@@ -1,5 +1,5 @@
 -- What a run tells of a fault is of the inputs that were read, or of why they were not.
-use Rattle.bp_commands.proofs.Common.{◌≡◌, ℕ, List, Option, Result, Ok, Err, inl, inr, true, None, Some, IfOk, Vec, ◌∙◌, subst, arith, Writes, Fault, AnswerRule, IsEndOf, AreReadOr, IsSaid, IsSaidOfRead, IsTold, IsConcluded, IsObjectRead, IsReported, IsSaidFor, IsTextOf, IsFlushed, Inputs}
+use Rattle.bp_commands.proofs.Common.{◌≡◌, ℕ, List, Option, Result, Ok, Err, inl, inr, true, None, Some, IfOk, Vec, ◌∙◌, subst, arith, Writes, Fault, AnswerRule, IsEndOf, AreReadOr, IsSaid, IsSaidOfRead, IsTold, IsConcluded, IsObjectRead, IsReported, IsSaidFor, IsTextOf, IsFlushed, Inputs, Held, IsFinished}
 use Rattle.std.specs.declared.alloc.AllocError.{AllocError}
 use Rattle.std.specs.declared.alloc.Global.{Global}
 use Rattle.bp_advice.specs.declared.explanations.Explanation.{Explanation}
@@ -16,13 +16,23 @@ module _ {X R : Type 0} (inputs : Inputs X) (given : X) where
         → IsTold kind (λ f. IsSaid (Explains given f)) final e old new → IsTold kind (IsSaidOfRead inputs Explains) final e old new
     tells kind done final held now e old new given1 given2 given3 = grind (arith)
 
-  -- so a run ends as it is concluded of what was read
-  pub concluded_read : (IsObject : X → Explained → Fault → List ℕ → Type 0) (Explains : X → Fault → Explanation → Type 0)
+  concluded_read : (IsObject : X → Explained → Fault → List ℕ → Type 0) (Explains : X → Fault → Explanation → Type 0)
       (rule : AnswerRule R) (kind : FaultFormat) (done final : Result R Fault) (held now : Option (List ℕ)) (e : RunEnd) (old new : Option (List ℕ))
       → AreReadOr inputs given done → IsFlushed done held final now
       → IsConcluded rule kind (IsObject given) (λ f. IsSaid (Explains given f)) final e old new
       → IsConcluded rule kind (IsObjectRead inputs IsObject) (IsSaidOfRead inputs Explains) final e old new
   concluded_read IsObject Explains rule kind done final held now e old new given1 given2 given3 = grind (arith)
+
+  -- so a run is finished as it is of what was read
+  pub finished_read : (IsObject : X → Explained → Fault → List ℕ → Type 0) (Explains : X → Fault → Explanation → Type 0)
+      (rule : AnswerRule R) (kind : FaultFormat) (done : Result R Fault) (before after : Held) (e : RunEnd) → AreReadOr inputs given done
+      → IsFinished rule kind (IsObject given) (λ f. IsSaid (Explains given f)) done before after e
+      → IsFinished rule kind (IsObjectRead inputs IsObject) (IsSaidOfRead inputs Explains) done before after e
+  finished_read IsObject Explains rule kind done before after e read end = record {
+    final = end.final;
+    flushed = end.flushed;
+    concluded = concluded_read IsObject Explains rule kind done end.final _ _ e _ _ read end.flushed end.concluded;
+  }
 
 -- What is told of a fault explains it.
 

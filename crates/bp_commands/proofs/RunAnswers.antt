@@ -1,22 +1,24 @@
--- What a run of a text says of the command `run`.
-use Rattle.bp_commands.proofs.Common.{◌≡◌, refl, sym, subst, inl, inr, List, ℕ, Option, arith, Keeps, Keeps-refl, OptionsOf, trace_text, IsDoneWith, IsRefusedWith, fault_of_run, Early, runs, IsRunReport}
+-- What a run of a code says of the command `run`.
+use Rattle.bp_commands.proofs.Common.{◌≡◌, refl, sym, subst, inl, inr, List, ℕ, Option, true, false, Keeps, Keeps-refl, Program, SetupOf, NamedBitOf, OptionsOf, trace_text, IsDoneWith, IsOpened, IsRefusedWith, fault_of_run, fault_of_setup, runs, seeded, IsRunnable, IsRunReport}
+use Rattle.bp_machine.specs.declared.setup_faults.SetupFault.TheVariants.{OutOfRange}
 use Rattle.bp_run.specs.declared.answers.RunReport.{RunReport}
 use Rattle.bp_run.specs.declared.answers.RunFault.{RunFault}
 use Rattle.bp_run.specs.declared.answers.RunFault.TheVariants as run
-use Rattle.bp_run.specs.Options.{setup_under}
-use Rattle.bp_run.specs.Runs.{IsTracedRun, IsRunRefusal}
+use Rattle.bp_run.specs.Options.{has_bad_turn_or_ring}
+use Rattle.bp_run.specs.Runs.{IsPlayedBy, IsPlayRefusal}
 
-module _ (o : OptionsOf) (text : List ℕ) (old new : Option (List ℕ)) where
-  pub done : (r : RunReport) → IsTracedRun o text old new r → IsDoneWith (runs o) old new text r
-  done r is =
-      let from = is.has.played in
-      let played = from.played in
-      let written = trace_text (setup_under o is.program) played.history in
-      let reports : IsRunReport o text written r = record {
-        program = is.program;
-        of = is.of;
-        has = record {
-          fine = is.has.fine;
+-- the program takes this setup
+module _ (o : OptionsOf) (named : List NamedBitOf) (text : List ℕ) (t : Program) (s : SetupOf) (opened : IsOpened o.start named text t s) where
+  module _ (fine : has_bad_turn_or_ring o ≡ false) (old new : Option (List ℕ)) where
+    abbrev runnable : IsRunnable o named text
+    runnable = record { program = t; setup = s; opened = opened; in_range = fine }
+
+    pub done : (r : RunReport) → IsPlayedBy t (seeded o s) old new r → IsDoneWith (runs o named) old new text r
+    done r from =
+        let played = from.played in
+        let written = trace_text (seeded o s) played.history in
+        let reports : IsRunReport o named text written r = record {
+          runnable = runnable;
           played = record {
             played = record {
               history = played.history;
@@ -34,32 +36,38 @@ module _ (o : OptionsOf) (text : List ℕ) (old new : Option (List ℕ)) where
             left = from.left;
             agreement = from.agreement;
           };
-        };
-      } in
-      record { text = written; reports = reports; written = record { grown = played.written } }
+        } in
+        record { text = written; reports = reports; written = record { grown = played.written } }
 
-  kept : new ≡ old → Keeps old new
-  kept same = subst (Keeps old) (sym same) (Keeps-refl old)
+    kept : new ≡ old → Keeps old new
+    kept same = subst (Keeps old) (sym same) (Keeps-refl old)
 
-  pub refused : (f : RunFault) → IsRunRefusal o text old new f → IsRefusedWith (runs o) old new text (fault_of_run f)
-  refused (run.Program f) found = inl (kept found.0, inl (record { cause = f; why = found.1; is = refl }))
-  refused (run.Setup f) found = grind (arith)
-  refused run.Memory found = inl (kept found.0, inr (inr (inl (refl, found.1))))
-  refused run.Start found = grind (arith)
-  refused (run.Early i) found = grind (arith)
-  refused run.Write found =
-      let cut = found.has.refused in
-      inr (inl (
-        refl,
-        record {
-          text = trace_text (setup_under o found.program) cut.history;
-          writes = record {
-            runnable = record { program = found.program; of = found.of; has = found.has.fine };
-            history = cut.history;
-            legal = cut.legal;
-            seeded = cut.seeded;
+    pub refused : (f : RunFault) → IsPlayRefusal t (seeded o s) old new f → IsRefusedWith (runs o named) old new text (fault_of_run f)
+    refused (run.Program f) found = absurd found
+    refused (run.Setup f) found = absurd found
+    refused run.Memory same = inl (kept same, inr (inr (inl refl, runnable)))
+    refused run.Start same = inl (kept same, inr (inr (inr refl, runnable)))
+    refused (run.Early i) early =
+        inr (inr (record {
+          text = trace_text (seeded o s) early.history;
+          spoils = record {
+            runnable = runnable;
+            thread = i;
+            early = record { history = early.history; legal = early.legal; seeded = early.seeded; written = refl; early = early.early };
             is = refl;
           };
-          written = cut.written;
-        },
-      ))
+          written = record { grown = early.written };
+        }))
+    refused run.Write cut =
+        inr (inl (
+          refl,
+          record {
+            text = trace_text (seeded o s) cut.history;
+            writes = record { runnable = runnable; history = cut.history; legal = cut.legal; bits = cut.seeded; is = refl };
+            written = cut.written;
+          },
+        ))
+
+  -- the turn or the ring is out of range
+  pub bad_numbers : (out : Option (List ℕ)) → has_bad_turn_or_ring o ≡ true → IsRefusedWith (runs o named) out out text (fault_of_setup OutOfRange)
+  bad_numbers out bad = inl (Keeps-refl out, inr (inl (record { program = t; setup = s; opened = opened; out_of_range = bad; is = refl })))

@@ -7,6 +7,7 @@ use Rattle.bp_messages.specs.declared.faults.Fault.{Fault}
 use Rattle.bp_messages.specs.declared.faults.Fault.TheVariants.{Write}
 use Rattle.bp_commands.specs.Commands.{text_and, Inputs, Pair, Command, Answers, bundle_alone, text_alone}
 use Rattle.bp_commands.specs.Traces.{bundles}
+use Rattle.bp_commands.specs.declared.run_ends.Explained.{Explained}
 use Rattle.bp_commands.specs.declared.run_ends.RunEnd.{RunEnd}
 use Rattle.bp_commands.specs.declared.explanations.SecondInput.{SecondInput}
 use Rattle.bp_commands.specs.FaultReports.{of_report, AnswerRule, IsSaidOfRead, FaultReport, on_bytes, on_pair, on_text, IsConcluded, IsObjectRead}
@@ -60,20 +61,29 @@ pub record Held : Type 0 where
 abbrev pub held : (output errors : Option (List ℕ)) → Held
 held output errors = record { output = output; errors = errors }
 
--- The streams held this before and after the job was done: its command answered of the inputs; the
--- output took what it wrote, or not all of its end; and standard error has its summary, or its
--- refusal, which names the inputs read.
+-- The streams held this before and after a run was ended by this answer: the output took what the
+-- command wrote, or not all of its end; and standard error has its summary, or its refusal.
+module _
+    {R : Type 0} (rule : AnswerRule R) (format : FaultFormat)
+    (IsObject : Explained → Fault → List ℕ → Type 0)
+    (IsSaid : Fault → Explained → List ℕ → Type 0) where
+  pub record IsFinished (done : Result R Fault) (before after : Held) (end : RunEnd) : Type 0 where
+    pub final : Result R Fault
+    pub flushed : IsFlushed done before.output final after.output
+    pub concluded : IsConcluded rule format IsObject IsSaid final end before.errors after.errors
+
+-- The streams held this before and after the job was done: its command answered of the inputs, and
+-- the run was ended by that answer; a refusal names the inputs read.
 pub record IsRun (job : Job) (before after : Held) (end : RunEnd) : Type 0 where
   pub left : job.Left
   pub buffered : Option (List ℕ)
   pub done : Result job.Answer Fault
   pub answers : Answers job.command (job.inputs left) before.output buffered done
-  pub final : Result job.Answer Fault
-  pub flushed : IsFlushed done buffered final after.output
-  pub concluded :
+  pub finished :
       let IsObject = IsObjectRead (job.inputs left) job.report.IsObject in
       let IsSaid = IsSaidOfRead (job.inputs left) job.report.Explains in
-      IsConcluded job.rule job.format IsObject IsSaid final end before.errors after.errors
+      let wrote = held buffered before.errors in
+      IsFinished job.rule job.format IsObject IsSaid done wrote after end
 
 module _ (bytes : List ℕ → Option (List ℕ)) (format : FaultFormat) where
   -- a command on the program of a file

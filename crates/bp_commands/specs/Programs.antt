@@ -1,5 +1,5 @@
--- The commands `check` and `code`, and starts whose globals have bits by name.
-use Rattle.std.specs.Prelude.{if◌then◌else◌, ◌≡◌, ℕ, Bool, List, [], ◌∷◌, length, codes, decimal, ◌≢◌, ◌⊎◌, Option, None, Some}
+-- The commands `check` and `code`, and programs that take a setup whose globals have bits by name.
+use Rattle.std.specs.Prelude.{if◌then◌else◌, ◌≡◌, ℕ, Bool, List, [], ◌∷◌, length, codes, decimal, ◌⊎◌, None}
 use Rattle.std.specs.List.{concat}
 use Rattle.bp_language.specs.Ast.{Program}
 use Rattle.bp_machine.specs.declared.setup_faults.SetupFault.{SetupFault}
@@ -133,38 +133,3 @@ module _ (start : StartOf) (named : List NamedBitOf) (text : List ℕ) where
   -- why there is no such setup
   abbrev pub IsNotOpened : Fault → Type 0
   IsNotOpened f = HasNoCode text f ⊎ (HasNoGlobal f ⊎ (IsSetupRefused f ⊎ LacksMemory f))
-
-  -- What the command `run` needs, which reads the program itself.
-
-  -- the text is that of a lawful program that has these globals, and this holds of the start with
-  -- their bits
-  pub record OfNames (Holds : StartOf → Type 0) : Type 0 where
-    pub program : Program
-    pub of : IsProgramWith program
-    pub holds : Holds (start_by_names start named program)
-
-  -- why there is no start with these bits
-  abbrev pub AreNamesRefused : Fault → Type 0
-  AreNamesRefused f = IsUnlawful text f ⊎ (HasNoGlobal f ⊎ LacksMemory f)
-
-  -- A device: what comes of looking the names up is this start, and none where there are none.
-  abbrev pub IsStartFound : Option StartOf → Type 0
-  IsStartFound None = named ≡ []
-  IsStartFound (Some s) = (named ≢ []) × OfNames (λ found. s ≡ found)
-
--- a command from the start, or else, where globals are named, from that with their bits
-abbrev pub by_names
-    : {R : Type 0} → StartOf → List NamedBitOf → (StartOf → Command (List ℕ) R) → Command (List ℕ) R
-by_names start [] command = command start
-by_names start (n ∷ ns) command =
-    let named = n ∷ ns in
-    record {
-      Writes = λ text written. OfNames start named text (λ s. (command s).Writes text written);
-      Reports = λ text written r.
-          OfNames start named text (λ s. (command s).Reports text written r);
-      Refuses = λ text f.
-          AreNamesRefused start named text f
-          ⊎ OfNames start named text (λ s. (command s).Refuses text f);
-      Spoils = λ text written f.
-          OfNames start named text (λ s. (command s).Spoils text written f);
-    }

@@ -1,77 +1,80 @@
 -- The command `run`.
-use Rattle.std.specs.Prelude.{◌≡◌, ◌⊎◌, ℕ, List, [], None, Some}
+use Rattle.std.specs.Prelude.{◌≡◌, ◌⊎◌, ℕ, List, [], Some, true, false}
+use Rattle.bp_language.specs.Ast.{Program}
 use Rattle.bp_machine.specs.declared.calls.Call.{Call}
-use Rattle.bp_machine.specs.declared.setup_faults.SetupFault.{SetupFault}
+use Rattle.bp_machine.specs.declared.setup_faults.SetupFault.TheVariants.{OutOfRange}
 use Rattle.bp_machine.specs.Histories.{IsLegal, HasSeededBits}
+use Rattle.bp_machine.specs.Setups.{SetupOf}
 use Rattle.bp_run.specs.declared.answers.RunReport.{RunReport}
-use Rattle.bp_run.specs.declared.answers.RunFault.TheVariants as run
 use Rattle.bp_tasks.specs.NamedBits.{NamedBitOf}
-use Rattle.bp_tasks.specs.RunOptions.{OptionsOf, options_of}
-use Rattle.bp_run.specs.Options.{setup_under, options_fault, IsOptionsRefusal}
-use Rattle.bp_run.specs.Runs.{OfProgram, IsTracedRun, IsRefusedInPlay}
+use Rattle.bp_tasks.specs.RunOptions.{OptionsOf}
+use Rattle.bp_run.specs.Options.{has_bad_turn_or_ring}
+use Rattle.bp_run.specs.Runs.{IsPlayedBy, IsEarly}
 use Rattle.bp_trace.specs.TraceText.{trace_text}
 use Rattle.bp_messages.specs.declared.faults.Fault.{Fault}
 use Rattle.bp_messages.specs.declared.faults.Fault.TheVariants.{Start, Early, Memory}
-use Rattle.bp_commands.specs.Programs.{IsUnlawful, by_names}
-use Rattle.bp_commands.specs.Commands.{Command}
 use Rattle.bp_messages.specs.FaultTable.{fault_of_setup}
+use Rattle.bp_commands.specs.Commands.{Command}
+use Rattle.bp_commands.specs.Programs.{IsNotOpened, IsOpened}
 
--- The program of a text is run by real threads, under these options.
-module _ (o : OptionsOf) (text : List ℕ) where
-  -- the options have no fault for the program of the text
-  abbrev pub IsRunnable : Type 0
-  IsRunnable = OfProgram text (λ t. options_fault o t ≡ None)
+-- the setup with the seed of the options
+abbrev pub seeded : OptionsOf → SetupOf → SetupOf
+seeded o s = record s { seed = Some o.seed }
+
+-- The program of a text is run by real threads, under these options, in whose start these globals
+-- have their bits by name.
+module _ (o : OptionsOf) (named : List NamedBitOf) (text : List ℕ) where
+  -- the program takes the setup, and the turn and the ring are in range
+  pub record IsRunnable : Type 0 where
+    pub program : Program
+    pub setup : SetupOf
+    pub opened : IsOpened o.start named text program setup
+    pub in_range : has_bad_turn_or_ring o ≡ false
 
   -- the trace of a legal history, with the bits of the seed
   pub record IsOfRun (written : List ℕ) : Type 0 where
     pub runnable : IsRunnable
     pub history : List Call
-    pub legal : IsLegal runnable.program (setup_under o runnable.program) history
-    pub seeded : HasSeededBits (setup_under o runnable.program) history
-    pub is : written ≡ trace_text (setup_under o runnable.program) history
+    pub legal : IsLegal runnable.program (seeded o runnable.setup) history
+    pub bits : HasSeededBits (seeded o runnable.setup) history
+    pub is : written ≡ trace_text (seeded o runnable.setup) history
 
-  -- what an empty output has after a run with this report
-  abbrev pub IsRunReport : List ℕ → RunReport → Type 0
-  IsRunReport written report = IsTracedRun o text (Some []) (Some written) report
-
-  -- the options are refused for the program of the text
-  pub record AreOptionsRefused (f : Fault) : Type 0 where
-    pub cause : SetupFault
-    pub why : OfProgram text (λ t. IsOptionsRefusal o t cause)
-    pub is : f ≡ fault_of_setup cause
-
-  -- the text is that of a lawful program, and memory was refused before a worker was started
-  abbrev pub LacksMemory : Fault → Type 0
-  LacksMemory f = (f ≡ Memory) × OfProgram text (λ _. Unit {0})
-
-  -- a worker could not be started
-  pub record IsNotStarted (f : Fault) : Type 0 where
+  -- what an empty output has after a run by the workers of this report
+  pub record IsRunReport (written : List ℕ) (report : RunReport) : Type 0 where
     pub runnable : IsRunnable
-    pub is : f ≡ Start
+    pub played :
+        let setup = seeded o runnable.setup in
+        IsPlayedBy runnable.program setup (Some []) (Some written) report
 
   -- what an empty output has after a run in which a worker stopped early: the trace of a history
-  pub record IsEarly (written : List ℕ) (f : Fault) : Type 0 where
+  pub record IsStoppedEarly (written : List ℕ) (f : Fault) : Type 0 where
+    pub runnable : IsRunnable
     pub thread : ℕ
-    pub stopped : IsRefusedInPlay o text (Some []) (Some written) (run.Early thread)
+    pub early :
+        let setup = seeded o runnable.setup in
+        IsEarly runnable.program setup (Some []) (Some written) thread
     pub is : f ≡ Early thread
 
+  -- the program takes the setup, but the turn or the ring is out of range
+  pub record HasBadNumbers (f : Fault) : Type 0 where
+    pub program : Program
+    pub setup : SetupOf
+    pub opened : IsOpened o.start named text program setup
+    pub out_of_range : has_bad_turn_or_ring o ≡ true
+    pub is : f ≡ fault_of_setup OutOfRange
+
+  -- memory was refused before a worker was started, or a worker could not be started
+  abbrev pub IsNotStarted : Fault → Type 0
+  IsNotStarted f = ((f ≡ Memory) ⊎ (f ≡ Start)) × IsRunnable
+
   abbrev pub IsRunRefused : Fault → Type 0
-  IsRunRefused f =
-      IsUnlawful text f
-      ⊎ (AreOptionsRefused f
-      ⊎ (LacksMemory f
-      ⊎ IsNotStarted f))
+  IsRunRefused f = IsNotOpened o.start named text f ⊎ (HasBadNumbers f ⊎ IsNotStarted f)
 
 -- it writes the trace of the history that the workers make
-abbrev pub runs : OptionsOf → Command (List ℕ) RunReport
-runs o = record {
-  Writes = IsOfRun o;
-  Reports = IsRunReport o;
-  Refuses = IsRunRefused o;
-  Spoils = IsEarly o;
+abbrev pub runs : OptionsOf → List NamedBitOf → Command (List ℕ) RunReport
+runs o named = record {
+  Writes = IsOfRun o named;
+  Reports = IsRunReport o named;
+  Refuses = IsRunRefused o named;
+  Spoils = IsStoppedEarly o named;
 }
-
--- the same under options in whose start these globals have their bits by name
-abbrev pub runs_by_names : OptionsOf → List NamedBitOf → Command (List ℕ) RunReport
-runs_by_names o named =
-    by_names o.start named (λ s. runs (options_of s o.turn o.seed o.ring))

@@ -94,14 +94,13 @@ replays = on_trace IsReplayText
 abbrev pub migrates : Command Pair Report
 migrates = on_trace IsMigrationText
 
--- a command on a trace of each program of this code is answered so
+-- a command on a trace of the program of this code is answered so
 abbrev pub AnswersByCode
     : Command Pair Report → Flat → (trace : List ℕ) → Option (List ℕ) → Option (List ℕ)
     → Result Report Fault → Type 0
 AnswersByCode command code trace old new r =
-    (text : List ℕ) (t : Program)
-    → IsLawfulText text t
-    → StandsFor code t
+    (text : List ℕ)
+    → IsLawfulText text code.tree
     → AnswersOf command (record { text = text; input = trace }) old new r
 
 -- The parts of a bundle: a program text, a line that is exactly `%`, and a schedule.

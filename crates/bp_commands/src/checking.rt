@@ -2,7 +2,6 @@
 //! The command `code`.
 ghost use Rattle.std.specs.Prelude.{◌≡◌, IfOk};
 ghost use Rattle.bp_text.specs.Writing.{Writes};
-ghost use Rattle.bp_flat.specs.StandsFor.{StandsFor};
 ghost use Rattle.bp_code.specs.Compiled.{flat_of};
 ghost use Rattle.bp_code.specs.Listing.{listing_text};
 ghost use Rattle.bp_source.specs.Listings.{IsSourcedListing};
@@ -72,17 +71,12 @@ fn plain(alloc: Global, code: &Code) -> Result<Vec<u8>, AllocError>
 }
 
 /// The same with the source of each instruction.
-fn sourced(
-    alloc: Global,
-    text: &[u8],
-    checked: &Checked,
-    code: &Code,
-) -> Result<Vec<u8>, AllocError>
+fn sourced(alloc: Global, text: &[u8], code: &Code) -> Result<Vec<u8>, AllocError>
     ensures { let listing = listing_text code.now in
-        IfOk result (λ v. IsSourcedListing text.now checked.now listing v.items) }
+        IfOk result (λ v. IsSourcedListing text.now code.now.tree listing v.items) }
 {
     let listing = plain(alloc, code)?;
-    sourced_listing(alloc, text, checked, &listing)
+    sourced_listing(alloc, text, code.checked(), &listing)
 }
 
 /// The listing of a program's code in this form.
@@ -90,17 +84,15 @@ fn listing_in(
     alloc: Global,
     form: ListingForm,
     text: &[u8],
-    checked: &Checked,
     code: &Code,
 ) -> Result<Vec<u8>, AllocError>
-    requires stands { StandsFor code.now checked.now }
-    requires compiled { code.now ≡ flat_of checked.now }
-    ensures { IfOk result (λ v. IsListingText form text.now checked.now v.items) }
+    requires { code.now ≡ flat_of code.now.tree }
+    ensures { IfOk result (λ v. IsListingText form text.now code.now.tree v.items) }
 {
     match form {
         ListingForm::Lines => plain(alloc, code),
-        ListingForm::Sourced => sourced(alloc, text, checked, code),
-        ListingForm::Json => code_objects(alloc, text, checked, code),
+        ListingForm::Sourced => sourced(alloc, text, code),
+        ListingForm::Json => code_objects(alloc, text, code),
     }
 }
 
@@ -117,7 +109,7 @@ impl ProgramCommand for CodeTask<'_> {
     fn apply<W: Write>(&self, alloc: Global, text: &[u8], out: &mut W) -> Result<(), Fault> {
         let checked = lawful_program(alloc, text)?;
         let code = compile(alloc, &checked)?;
-        let listing = listing_in(alloc, self.form, text, &checked, &code)?;
+        let listing = listing_in(alloc, self.form, text, &code)?;
         put(out, &listing)?;
         Ok(())
     }

@@ -5,6 +5,7 @@ ghost use Rattle.bp_commands.specs.declared.explanations.SecondInput.{SecondInpu
 ghost use Rattle.bp_commands.specs.FaultReports.{AreReadOr};
 
 use crate::explanations::SecondInput;
+use crate::fault_contexts::OptionNumbers;
 use crate::inputs::{Source, read_pair, read_text};
 use crate::run_ends::CommandAnswer;
 use bp_messages::Fault;
@@ -37,9 +38,9 @@ pub trait ProgramCommand {
         None
     }
 
-    /// How many jobs make the runs of a test, if it is one.
-    fn jobs(&self) -> Option<u32> {
-        None
+    /// The numbers among its options that have a range, beside those of its start.
+    fn numbers(&self) -> OptionNumbers {
+        OptionNumbers::NONE
     }
 }
 

@@ -1,7 +1,6 @@
 //! The command `confirm`.
 ghost use Rattle.std.specs.Prelude.{◌≡◌, ◌++◌, IfOk, OnOk};
 ghost use Rattle.bp_view.specs.FootFacts.{foot_in};
-ghost use Rattle.bp_flat.specs.StandsFor.{StandsFor};
 ghost use Rattle.bp_machine.specs.Sessions.{Stands};
 ghost use Rattle.bp_commands.specs.Confirms.{choice_text, choices_text, deadlock_lead, deadlock_line, of_confirm, status_of_verdict, verdict_line, verdict_of, verdict_word, IsConfirmation};
 ghost use Rattle.bp_text.specs.Writing.{Writes};
@@ -10,7 +9,6 @@ use crate::commands::PairCommand;
 use crate::explanations::SecondInput;
 use crate::programs::open;
 use crate::run_ends::CommandAnswer;
-use bp_code::Checked;
 use bp_confirm::{Confirmed, LastChoice, confirm};
 use bp_machine::Report;
 use bp_messages::{Fault, VerdictFacts, exit_status, put_verdict};
@@ -193,17 +191,17 @@ impl CommandAnswer for Confirmation {
 fn confirmation_of(
     alloc: Global,
     text: &[u8],
-    checked: &Checked,
     confirmed: &Confirmed,
     task: &ConfirmTask<'_>,
 ) -> Result<Confirmation, AllocError>
-    requires { StandsFor confirmed.now.session.code checked.now }
-    ensures { Stands checked.now confirmed.now.session confirmed.now.history.items
+    ensures { let t = confirmed.now.session.code.tree in
+        Stands t confirmed.now.session confirmed.now.history.items
         → let setup = confirmed.now.session.setup in
         let history = confirmed.now.history.items in
         let choices = confirmed.now.choices.items in
-        IfOk result (IsConfirmation text.now checked.now setup history choices task.now) }
+        IfOk result (IsConfirmation text.now t setup history choices task.now) }
 {
+    let checked = confirmed.session.code().checked();
     let statements = source_statements_of(alloc, text, checked)?;
     let program = facts_of_program(statements.as_slice(), checked);
     let report = confirmed.session.report();
@@ -249,9 +247,9 @@ impl PairCommand for ConfirmTask<'_> {
         out: &mut W,
     ) -> Result<Confirmation, Fault> {
         let opened = open(alloc, text, &self.start, &self.named)?;
-        let (checked, code, setup) = (&opened.checked, &opened.code, &opened.setup);
-        let confirmed = confirm(alloc, text, checked, code, setup, self.bound, steps)?;
-        let answer = confirmation_of(alloc, text, checked, &confirmed, self)?;
+        let (code, setup) = (&opened.code, &opened.setup);
+        let confirmed = confirm(alloc, text, code, setup, self.bound, steps)?;
+        let answer = confirmation_of(alloc, text, &confirmed, self)?;
         let (setup, left_open) = (confirmed.session.setup(), answer.report.left_open);
         write_with_open_lines(Version::One, setup, &confirmed.history, left_open, out)?;
         Ok(answer)

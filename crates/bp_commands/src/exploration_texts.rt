@@ -1,7 +1,7 @@
 //! What is said of an exploration on standard error: lines for people, or one JSON object.
 ghost use Rattle.std.specs.Prelude.{◌≡◌, option_map};
 ghost use Rattle.bp_text.specs.Writing.{Given, Writes};
-ghost use Rattle.bp_commands.specs.ExplorationTexts.{anywhere_by, anywhere_text, below_text, count_of, cut_text, digit, end_text, ending_by, exploration_lines, exploration_object, exploration_text, finding_text, first_text, found_text, found_word, grouped, it_text, last_members, last_three, less_by, made_end, missed_text, of_program, plural, reason_text, reason_word, run_by, sought_text, steps_text, traceless_by, unfinished_text, unmade_text, were_text, within_text};
+ghost use Rattle.bp_commands.specs.ExplorationTexts.{anywhere_by, anywhere_text, below_text, count_of, cut_text, digit, end_text, ending_by, exploration_lines, exploration_object, exploration_text, finding_text, first_text, found_text, found_word, grouped, it_text, last_members, last_three, less_by, made_end, missed_text, of_program, plural, reason_text, reason_word, run_by, sought_text, steps_text, traceless_by, unfinished_text, were_text, within_text};
 
 use crate::exploration_ends::{Exploration, FoundKind, ListedSteps};
 use bp_explore::Reason;

@@ -1,7 +1,6 @@
 //! The command `explore`.
 ghost use Rattle.std.specs.Prelude.{◌≡◌, List, IfOk};
 ghost use Rattle.bp_text.specs.Writing.{Writes};
-ghost use Rattle.bp_flat.specs.StandsFor.{StandsFor};
 ghost use Rattle.bp_machine.specs.declared.calls.Call.{Call};
 ghost use Rattle.bp_machine.specs.Sessions.{Stands};
 ghost use Rattle.bp_commands.specs.FaultReports.{report_failed};
@@ -14,7 +13,7 @@ use crate::exploration_ends::{Exploration, facts_of_ending, status_found};
 use crate::exploration_texts::put_exploration;
 use crate::programs::open;
 use crate::run_ends::CommandAnswer;
-use bp_code::Checked;
+use bp_code::Code;
 use bp_explore::{Ending, Watcher, explore};
 use bp_machine::{Outcome, Report, Session};
 use bp_messages::Fault;
@@ -86,17 +85,16 @@ fn has_failed(report: Report) -> bool
 pub(crate) fn texts_of_run(
     alloc: Global,
     text: &[u8],
-    checked: &Checked,
     task: &ExploreTask<'_>,
     session: &Session,
 ) -> Result<EndTexts, AllocError>
-    requires { StandsFor session.now.code checked.now }
-    ensures { (h : List Call)
-        → Stands checked.now session.now h
+    ensures { let t = session.now.code.tree in (h : List Call)
+        → Stands t session.now h
         → IfOk result (λ x.
-        IsEndSaid text.now checked.now task.now x.outcome.items x.waits.items
+        IsEndSaid text.now t task.now x.outcome.items x.waits.items
         session.now.setup h x.failed) }
 {
+    let checked = session.code().checked();
     let statements = source_statements_of(alloc, text, checked)?;
     let program = facts_of_program(statements.as_slice(), checked);
     let report = session.report();
@@ -128,19 +126,19 @@ pub(crate) fn no_texts(alloc: Global, task: &ExploreTask<'_>) -> Result<EndTexts
 fn finding_texts(
     alloc: Global,
     text: &[u8],
-    checked: &Checked,
+    code: &Code,
     task: &ExploreTask<'_>,
     ending: &Ending,
 ) -> Result<EndTexts, AllocError>
     requires { (r : FoundRun)
         → ending.now ≡ endings.Found r
-        → StandsFor r.session.code checked.now × Stands checked.now r.session r.history.items }
+        → (r.session.code ≡ code.now) × Stands code.now.tree r.session r.history.items }
     ensures { IfOk result (λ x.
-        IsFindingSaid text.now checked.now task.now x.outcome.items x.waits.items x.failed
+        IsFindingSaid text.now code.now.tree task.now x.outcome.items x.waits.items x.failed
         ending.now) }
 {
     if let Ending::Found(run) = ending {
-        return texts_of_run(alloc, text, checked, task, &run.session);
+        return texts_of_run(alloc, text, task, &run.session);
     }
     no_texts(alloc, task)
 }
@@ -172,6 +170,7 @@ impl<'a, P: Watcher> ProgramCommand for Explore<'a, P> {
     ) -> Result<Exploration<'a>, Fault> {
         let task = self.task;
         let opened = open(alloc, text, &task.start, &task.named)?;
+        opened.code.is_of_a_program();
         let options = task.options;
         let bound = bound_of(options.bound, opened.setup.contexts());
         let states = usize::try_from(options.states).unwrap_or(usize::MAX);
@@ -184,7 +183,7 @@ impl<'a, P: Watcher> ProgramCommand for Explore<'a, P> {
             options.with_deadlock,
             self.watcher,
         )?;
-        let said = finding_texts(alloc, text, &opened.checked, task, &explored.ending)?;
+        let said = finding_texts(alloc, text, &opened.code, task, &explored.ending)?;
         write_found(&explored.ending, out)?;
         Ok(Exploration {
             task,

@@ -10,51 +10,49 @@ use bp_messages::Fault;
 use bp_run::limits::{MAX_RING, MAX_TURN};
 use bp_syntax::ReadFault;
 use bp_tasks::limits::MAX_JOBS;
-use bp_tasks::{NamedStart, RunOptions};
+use bp_tasks::{NamedStart, RunOptions, TestOptions};
 use bp_text::push_displayed;
 use bp_view::watched_names;
 use std::alloc::{AllocError, Global};
 
-/// The numbers among the options of a command that have a range.
+/// The numbers among the options of a command that have a range, beside those of its start.
 #[derive(Clone, Copy, PartialEq, Eq)]
-pub(crate) struct OptionNumbers {
-    contexts: u32,
-    calls: u32,
+pub struct OptionNumbers {
     turn: Option<u32>,
     ring: Option<u32>,
     jobs: Option<u32>,
 }
 
 impl OptionNumbers {
-    pub(crate) fn of_start(start: &Start, jobs: Option<u32>) -> OptionNumbers {
-        OptionNumbers {
-            contexts: start.contexts,
-            calls: start.calls,
-            turn: None,
-            ring: None,
-            jobs,
-        }
-    }
+    /// There are none.
+    pub(crate) const NONE: OptionNumbers = OptionNumbers {
+        turn: None,
+        ring: None,
+        jobs: None,
+    };
 
     pub(crate) fn of_run(options: &RunOptions) -> OptionNumbers {
         OptionNumbers {
             turn: Some(options.turn),
             ring: Some(options.ring),
-            ..OptionNumbers::of_start(&options.start, None)
+            jobs: None,
+        }
+    }
+
+    pub(crate) fn of_test(options: &TestOptions) -> OptionNumbers {
+        OptionNumbers {
+            turn: None,
+            ring: None,
+            jobs: Some(options.jobs),
         }
     }
 }
 
 /// The option whose number is out of its range, and that range.
-fn of_numbers(alloc: Global, numbers: Option<OptionNumbers>) -> Option<String> {
-    let OptionNumbers {
-        contexts,
-        calls,
-        turn,
-        ring,
-        jobs,
-    } = numbers?;
-    let (turn, ring, jobs) = (turn.unwrap_or(1), ring.unwrap_or(1), jobs.unwrap_or(0));
+fn of_numbers(alloc: Global, start: &Start, numbers: OptionNumbers) -> Option<String> {
+    let (contexts, calls) = (start.contexts, start.calls);
+    let (turn, ring) = (numbers.turn.unwrap_or(1), numbers.ring.unwrap_or(1));
+    let jobs = numbers.jobs.unwrap_or(0);
     let sentence = if contexts > MAX_CONTEXTS {
         format!(in alloc; "--contexts {contexts}: at most {MAX_CONTEXTS} are allowed")
     } else if calls == 0 || calls > MAX_CALLS {
@@ -153,7 +151,7 @@ const EMPTY_BUNDLE: &str = "standard input has no program; without a command btr
 #[derive(Clone, Copy)]
 pub(crate) struct FaultContext<'a, 't> {
     pub(crate) unread: Option<FailedFile<'a>>,
-    pub(crate) numbers: Option<OptionNumbers>,
+    pub(crate) numbers: OptionNumbers,
     pub(crate) asked: Asked<'a, 't>,
     /// The file of the program, and that of the input beside it.
     pub(crate) program: &'a str,
@@ -180,7 +178,9 @@ impl FaultContext<'_, '_> {
                 of_limit(alloc, Limited { name, limit })
             }
             Fault::TooLong => of_limit(alloc, self.input?),
-            Fault::Setup(SetupFault::OutOfRange) => of_numbers(alloc, self.numbers),
+            Fault::Setup(SetupFault::OutOfRange) => {
+                of_numbers(alloc, self.asked.start?.start, self.numbers)
+            }
             _ => None,
         }
     }

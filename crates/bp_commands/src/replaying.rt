@@ -1,7 +1,5 @@
 //! The commands `replay`, `migrate` and `shrink`.
 ghost use Rattle.std.specs.Prelude.{◌≡◌, List, MatchResult};
-ghost use Rattle.bp_language.specs.Ast.{Program};
-ghost use Rattle.bp_flat.specs.StandsFor.{StandsFor};
 ghost use Rattle.bp_machine.specs.declared.calls.Call.{Call as Answered};
 ghost use Rattle.bp_machine.specs.Sessions.{Stands};
 ghost use Rattle.bp_test.specs.Shrinks.{EndsIn};
@@ -48,8 +46,7 @@ fn kept_end(alloc: Global, session: &Session) -> Result<HistoryEnd, Fault>
     ensures { MatchResult result
         (λ end. EndsIn session.now end × (end ≡ HistoryEnd.Other → ⊥))
         (λ f.
-        (t : Program) (h : List Answered)
-        → StandsFor session.now.code t
+        let t = session.now.code.tree in (h : List Answered)
         → Stands t session.now h
         → IsEndRefusal t session.now.setup h f) }
 {

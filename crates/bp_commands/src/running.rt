@@ -2,13 +2,14 @@
 //! known in its workers as a function's own parameters alone.
 ghost use Rattle.bp_commands.specs.Commands.{Answers, AnswersOf, text_alone};
 ghost use Rattle.bp_commands.specs.FaultReports.{AreReadOr};
-ghost use Rattle.bp_commands.specs.Runs.{runs, runs_by_names};
+ghost use Rattle.bp_commands.specs.Runs.{runs};
 
 use crate::inputs::{Source, read_text};
-use crate::programs::start_by_names;
+use crate::programs::{Opened, open};
+use bp_machine::SetupFault;
 use bp_messages::Fault;
-use bp_run::{Gate, RunReport, run};
-use bp_tasks::{NamedStart, RunOptions, RunTask};
+use bp_run::{Gate, RunReport, Turns, has_bad_turn_or_ring, run_code};
+use bp_tasks::RunTask;
 use std::alloc::Global;
 use std::io::{Read, Write};
 use std::sync::Wait;
@@ -25,21 +26,6 @@ pub struct Run<'a, T, G> {
     pub task: &'a RunTask<'a>,
 }
 
-/// Runs the program of a text under these options, and writes the trace of the history that the
-/// workers make, while it grows.
-fn run_under<T: Threads + Wait + Clock + Sync, G: Gate, W: Write>(
-    alloc: Global,
-    asked: &Run<'_, T, G>,
-    options: &RunOptions,
-    text: &[u8],
-    out: &mut W,
-) -> Result<RunReport, Fault>
-    ensures { AnswersOf (runs options.now) text.now
-        (W.contents out.old) (W.contents out.new) result }
-{
-    Ok(run(asked.threads, alloc, text, options, asked.gate, out)?)
-}
-
 /// Runs the program of a text as it is asked. The trace of the history that the workers make is
 /// written while it grows.
 fn run_text<T: Threads + Wait + Clock + Sync, G: Gate, W: Write>(
@@ -48,25 +34,29 @@ fn run_text<T: Threads + Wait + Clock + Sync, G: Gate, W: Write>(
     text: &[u8],
     out: &mut W,
 ) -> Result<RunReport, Fault>
-    ensures { AnswersOf (runs_by_names asked.now.task.now.options asked.now.task.now.named) text.now
+    ensures { let task = asked.now.task.now in
+        AnswersOf (runs task.options task.named) text.now
         (W.contents out.old) (W.contents out.new) result }
 {
     let (options, named) = (&asked.task.options, &asked.task.named);
-    let start = &options.start;
-    let found = start_by_names(alloc, text, NamedStart { start, named })?;
-    match found {
-        Some(start) => {
-            let (turn, seed, ring) = (options.turn, options.seed, options.ring);
-            let options = RunOptions {
-                start,
-                turn,
-                seed,
-                ring,
-            };
-            run_under(alloc, asked, &options, text, out)
-        }
-        None => run_under(alloc, asked, options, text, out),
+    let opened = open(alloc, text, &options.start, named)?;
+    if has_bad_turn_or_ring(options) {
+        return Err(Fault::Setup(SetupFault::OutOfRange));
     }
+    let Opened { code, setup } = opened;
+    let setup = setup.with_seed(Some(options.seed));
+    let (calls, gate) = (options.turn, asked.gate);
+    let turns = Turns { calls, gate };
+    let report = run_code(
+        asked.threads,
+        alloc,
+        &code,
+        &setup,
+        turns,
+        options.ring,
+        out,
+    )?;
+    Ok(report)
 }
 
 /// Reads a program text, and runs its program as `run_text` does. At most 65,537 bytes are read.
@@ -78,7 +68,8 @@ pub fn run_program<T: Threads + Wait + Clock + Sync, G: Gate, R: Read, W: Write>
 ) -> Result<RunReport, Fault>
     ensures answers { let inputs = text_alone
         (R.remaining program.old.reader) (R.remaining program.new.reader) in
-        Answers (runs_by_names asked.now.task.now.options asked.now.task.now.named) inputs
+        let task = asked.now.task.now in
+        Answers (runs task.options task.named) inputs
         (W.contents out.old) (W.contents out.new) result }
     ensures holds { let inputs = text_alone
         (R.remaining program.old.reader) (R.remaining program.new.reader) in

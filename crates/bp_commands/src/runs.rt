@@ -1,18 +1,19 @@
 //! Runs of the commands, from the paths of their files to the exit status.
 ghost use Rattle.std.specs.Io.Buffered.{writer_contents};
-ghost use Rattle.bp_commands.specs.FaultReports.{of_run};
-ghost use Rattle.bp_commands.specs.Jobs.{held, on_bundle, on_file, on_files, IsRun};
-ghost use Rattle.bp_commands.specs.Runs.{runs_by_names};
+ghost use Rattle.bp_commands.specs.FaultReports.{of_run, IsObjectIn, IsSaid};
+ghost use Rattle.bp_commands.specs.Jobs.{held, on_bundle, on_file, on_files, IsFinished, IsRun};
+ghost use Rattle.bp_commands.specs.Runs.{runs};
 
 use crate::commands::{PairCommand, ProgramCommand, do_on_pair, do_on_program};
 use crate::driving::{drive_bundle, parts};
 use crate::explanations::NamedText;
 use crate::fault_contexts::{Asked, FailedFile, FaultContext, Limited, OptionNumbers};
-use crate::fault_reports::{NamedPair, ReadBundle, conclude};
+use crate::fault_reports::{NamedPair, ReadBundle, Texts, conclude};
 use crate::inputs::{Files, InputFile, Source};
 use crate::limits::MAX_BUNDLE;
-use crate::run_ends::{RunEnd, flushed};
+use crate::run_ends::{CommandAnswer, RunEnd, flushed};
 use crate::running::{Run, run_program};
+use bp_messages::Fault;
 use bp_run::Gate;
 use bp_tasks::{FaultFormat, NamedStart};
 use std::alloc::Global;
@@ -36,17 +37,34 @@ pub struct Streams<O: Write + Drop, E: Write + Drop> {
     pub errors: E,
 }
 
-/// The numbers of what a run starts from, if there is such a start, and of a test's jobs.
-fn numbers_of(asked: Option<NamedStart<'_>>, jobs: Option<u32>) -> Option<OptionNumbers> {
-    let asked = asked?;
-    Some(OptionNumbers::of_start(asked.start, jobs))
+/// Flushes the output after a command's answer, and ends the run by it.
+fn finish<G: Texts, T: CommandAnswer + Drop, W: Write + Drop, E: Write + Drop>(
+    alloc: Global,
+    format: FaultFormat,
+    given: &G,
+    done: Result<T, Fault>,
+    context: FaultContext<'_, '_>,
+    streams: Streams<BufWriter<W>, E>,
+) -> (RunEnd, Streams<W, E>)
+    ensures { let before =
+        held (writer_contents W.contents streams.output) (E.contents streams.errors) in
+        let after = held (W.contents result.1.output) (E.contents result.1.errors) in
+        let IsObject =
+        IsObjectIn (G.is_in given.now) (G.given given.now) (G.explains given.now) in
+        let Explains = G.explains given.now in
+        IsFinished T.rule format IsObject (λ f. IsSaid (Explains f)) done before after result.0 }
+{
+    let Streams { output, mut errors } = streams;
+    let (done, output) = flushed(done, output);
+    let end = conclude(alloc, format, given, &done, context, &mut errors);
+    (end, Streams { output, errors })
 }
 
 /// What is known of the command line of a run on a program alone.
-fn hints_on<'a>(
+fn context_of<'a>(
     program: NamedText<'a>,
     unread: Option<FailedFile<'a>>,
-    numbers: Option<OptionNumbers>,
+    numbers: OptionNumbers,
     start: Option<NamedStart<'a>>,
 ) -> FaultContext<'a, 'a> {
     FaultContext {
@@ -68,7 +86,7 @@ pub fn run_on_program<'a, C: ProgramCommand, F: Files, W: Write + Drop, E: Write
     io: Io<'a, F>,
     command: &'a C,
     path: &'a str,
-    streams: Streams<BufWriter<W>, E>,
+    mut streams: Streams<BufWriter<W>, E>,
 ) -> (RunEnd, Streams<W, E>)
     requires { C.allowed command.now }
     ensures { let before =
@@ -78,22 +96,15 @@ pub fn run_on_program<'a, C: ProgramCommand, F: Files, W: Write + Drop, E: Write
         C.Answer.rule path.now in
         IsRun job before after result.0 }
 {
-    let Streams {
-        output: mut out,
-        mut errors,
-    } = streams;
     let mut program = InputFile::source(io.alloc, io.files, path);
-    let done = do_on_program(io.alloc, command, &mut program, &mut out);
-    let (done, output) = flushed(done, out);
-    let unread = program.reader.unread();
+    let done = do_on_program(io.alloc, command, &mut program, &mut streams.output);
     let given = NamedText {
         name: path,
         text: &program.bytes,
     };
-    let start = command.start();
-    let context = hints_on(given, unread, numbers_of(start, command.jobs()), start);
-    let end = conclude(io.alloc, io.format, &given, &done, context, &mut errors);
-    (end, Streams { output, errors })
+    let unread = program.reader.unread();
+    let context = context_of(given, unread, command.numbers(), command.start());
+    finish(io.alloc, io.format, &given, done, context, streams)
 }
 
 /// Runs the program of a file by real workers, and answers how it ends and the streams.
@@ -108,34 +119,28 @@ pub fn run_by_workers<
     io: Io<'a, F>,
     asked: &Run<'a, T, G>,
     path: &'a str,
-    streams: Streams<BufWriter<W>, E>,
+    mut streams: Streams<BufWriter<W>, E>,
 ) -> (RunEnd, Streams<W, E>)
     ensures { let before =
         held (writer_contents W.contents streams.output) (E.contents streams.errors) in
         let after = held (W.contents result.1.output) (E.contents result.1.errors) in
         let task = asked.now.task.now in
-        let command = runs_by_names task.options task.named in
-        let job = on_file (F.bytes io.entry.files.now) io.entry.format command of_run path.now in
+        let job = on_file (F.bytes io.entry.files.now) io.entry.format
+        (runs task.options task.named) of_run path.now in
         IsRun job before after result.0 }
 {
-    let Streams {
-        output: mut out,
-        mut errors,
-    } = streams;
     let mut program = InputFile::source(io.alloc, io.files, path);
-    let done = run_program(io.alloc, asked, &mut program, &mut out);
-    let (done, output) = flushed(done, out);
-    let unread = program.reader.unread();
+    let done = run_program(io.alloc, asked, &mut program, &mut streams.output);
     let given = NamedText {
         name: path,
         text: &program.bytes,
     };
+    let unread = program.reader.unread();
     let (options, named) = (&asked.task.options, &asked.task.named);
     let start = &options.start;
     let start = Some(NamedStart { start, named });
-    let context = hints_on(given, unread, Some(OptionNumbers::of_run(options)), start);
-    let end = conclude(io.alloc, io.format, &given, &done, context, &mut errors);
-    (end, Streams { output, errors })
+    let context = context_of(given, unread, OptionNumbers::of_run(options), start);
+    finish(io.alloc, io.format, &given, done, context, streams)
 }
 
 /// Does a command on the program of a file and the input that another file has, and answers how
@@ -145,7 +150,7 @@ pub fn run_on_pair<'a, C: PairCommand, F: Files, W: Write + Drop, E: Write + Dro
     command: &'a C,
     path: &'a str,
     input_path: &'a str,
-    streams: Streams<BufWriter<W>, E>,
+    mut streams: Streams<BufWriter<W>, E>,
 ) -> (RunEnd, Streams<W, E>)
     ensures { let before =
         held (writer_contents W.contents streams.output) (E.contents streams.errors) in
@@ -155,14 +160,15 @@ pub fn run_on_pair<'a, C: PairCommand, F: Files, W: Write + Drop, E: Write + Dro
         path.now input_path.now in
         IsRun job before after result.0 }
 {
-    let Streams {
-        output: mut out,
-        mut errors,
-    } = streams;
     let mut program = InputFile::source(io.alloc, io.files, path);
     let mut input = InputFile::source(io.alloc, io.files, input_path);
-    let done = do_on_pair(io.alloc, command, &mut program, &mut input, &mut out);
-    let (done, output) = flushed(done, out);
+    let done = do_on_pair(
+        io.alloc,
+        command,
+        &mut program,
+        &mut input,
+        &mut streams.output,
+    );
     let unread = program.reader.unread().or(input.reader.unread());
     let given = NamedPair {
         program: NamedText {
@@ -178,7 +184,7 @@ pub fn run_on_pair<'a, C: PairCommand, F: Files, W: Write + Drop, E: Write + Dro
     };
     let context = FaultContext {
         unread,
-        numbers: numbers_of(command.start(), None),
+        numbers: OptionNumbers::NONE,
         asked: Asked {
             program: given.program.text,
             start: command.start(),
@@ -191,20 +197,35 @@ pub fn run_on_pair<'a, C: PairCommand, F: Files, W: Write + Drop, E: Write + Dro
         }),
         is_bundle: false,
     };
-    let end = conclude(io.alloc, io.format, &given, &done, context, &mut errors);
-    (end, Streams { output, errors })
+    finish(io.alloc, io.format, &given, done, context, streams)
 }
 
 /// What a sentence calls the input of a bundle.
 const STANDARD_INPUT: &str = "standard input";
 
-/// What is known of the command line of a run on a bundle.
-fn hints_on_bundle(bytes: &[u8]) -> FaultContext<'_, '_> {
-    FaultContext {
+/// Drives the bundle of a reader, with a refusal in this format, and answers how it ends and the
+/// streams.
+pub fn run_on_bundle<R: Read + Drop, W: Write + Drop, E: Write + Drop>(
+    alloc: Global,
+    format: FaultFormat,
+    reader: R,
+    mut streams: Streams<BufWriter<W>, E>,
+) -> (RunEnd, Streams<W, E>)
+    ensures { let before =
+        held (writer_contents W.contents streams.output) (E.contents streams.errors) in
+        let after = held (W.contents result.1.output) (E.contents result.1.errors) in
+        IsRun (on_bundle format (R.remaining reader)) before after result.0 }
+{
+    let mut bundle = Source::new(alloc, reader);
+    let done = drive_bundle(alloc, &mut bundle, &mut streams.output);
+    let given = ReadBundle {
+        bytes: &bundle.bytes,
+    };
+    let context = FaultContext {
         unread: None,
-        numbers: None,
+        numbers: OptionNumbers::NONE,
         asked: Asked {
-            program: parts(bytes).0,
+            program: parts(given.bytes).0,
             start: None,
             watch: None,
         },
@@ -214,33 +235,6 @@ fn hints_on_bundle(bytes: &[u8]) -> FaultContext<'_, '_> {
             limit: MAX_BUNDLE,
         }),
         is_bundle: true,
-    }
-}
-
-/// Drives the bundle of a reader, with a refusal in this format, and answers how it ends and the
-/// streams.
-pub fn run_on_bundle<R: Read + Drop, W: Write + Drop, E: Write + Drop>(
-    alloc: Global,
-    format: FaultFormat,
-    reader: R,
-    streams: Streams<BufWriter<W>, E>,
-) -> (RunEnd, Streams<W, E>)
-    ensures { let before =
-        held (writer_contents W.contents streams.output) (E.contents streams.errors) in
-        let after = held (W.contents result.1.output) (E.contents result.1.errors) in
-        IsRun (on_bundle format (R.remaining reader)) before after result.0 }
-{
-    let Streams {
-        output: mut out,
-        mut errors,
-    } = streams;
-    let mut bundle = Source::new(alloc, reader);
-    let done = drive_bundle(alloc, &mut bundle, &mut out);
-    let (done, output) = flushed(done, out);
-    let given = ReadBundle {
-        bytes: &bundle.bytes,
     };
-    let context = hints_on_bundle(&bundle.bytes);
-    let end = conclude(alloc, format, &given, &done, context, &mut errors);
-    (end, Streams { output, errors })
+    finish(alloc, format, &given, done, context, streams)
 }

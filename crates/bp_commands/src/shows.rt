@@ -2,12 +2,10 @@
 //! accepted calls of a trace that is refused.
 ghost use Rattle.std.specs.Prelude.{◌≡◌};
 ghost use Rattle.bp_text.specs.Writing.{Writes};
-ghost use Rattle.bp_flat.specs.StandsFor.{StandsFor};
 ghost use Rattle.bp_code.specs.LawfulTexts.{IsLawfulText};
 ghost use Rattle.bp_commands.specs.Commands.{AnswersOf, Pair};
 ghost use Rattle.bp_commands.specs.Shows.{lists_contexts, lists_steps, on_screen, refusal_text, shows_part, shows_task, states};
 
-use bp_code::Checked;
 use bp_confirm::{own_steps, put_steps};
 use bp_flat::Code;
 use bp_machine::Report;
@@ -52,19 +50,17 @@ fn on_screen<'a>(options: ViewOptions<'a>, screen: Screen) -> ViewOptions<'a>
 fn show_state<W: Write>(
     alloc: Global,
     text: &[u8],
-    checked: &Checked,
     code: &Code,
     trace: &[u8],
     format: ViewFormat,
     number: u64,
     out: &mut W,
 ) -> Result<Report, Fault>
-    requires lawful { IsLawfulText text.now checked.now }
-    requires stands { StandsFor code.now checked.now }
+    requires { IsLawfulText text.now code.now.tree }
     ensures { let given : Pair = record { text = text.now; input = trace.now } in
         AnswersOf (states format number) given (W.contents out.old) (W.contents out.new) result }
 {
-    let (state, report) = state_at(alloc, text, checked, code, trace, format, number)?;
+    let (state, report) = state_at(alloc, text, code, trace, format, number)?;
     put(out, &state)?;
     Ok(report)
 }
@@ -74,18 +70,16 @@ fn show_state<W: Write>(
 fn show_contexts<W: Write>(
     alloc: Global,
     text: &[u8],
-    checked: &Checked,
     code: &Code,
     trace: &[u8],
     format: ViewFormat,
     out: &mut W,
 ) -> Result<Report, Fault>
-    requires lawful { IsLawfulText text.now checked.now }
-    requires stands { StandsFor code.now checked.now }
+    requires { IsLawfulText text.now code.now.tree }
     ensures { let given : Pair = record { text = text.now; input = trace.now } in
         AnswersOf (lists_contexts format) given (W.contents out.old) (W.contents out.new) result }
 {
-    let (lines, report) = contexts_of(alloc, text, checked, code, trace, format)?;
+    let (lines, report) = contexts_of(alloc, text, code, trace, format)?;
     put(out, &lines)?;
     Ok(report)
 }
@@ -95,17 +89,15 @@ fn show_contexts<W: Write>(
 fn show_steps<W: Write>(
     alloc: Global,
     text: &[u8],
-    checked: &Checked,
     code: &Code,
     trace: &[u8],
     out: &mut W,
 ) -> Result<Report, Fault>
-    requires lawful { IsLawfulText text.now checked.now }
-    requires stands { StandsFor code.now checked.now }
+    requires { IsLawfulText text.now code.now.tree }
     ensures { let given : Pair = record { text = text.now; input = trace.now } in
         AnswersOf lists_steps given (W.contents out.old) (W.contents out.new) result }
 {
-    let found = own_steps(alloc, text, checked, code, trace)?;
+    let found = own_steps(alloc, text, code, trace)?;
     put_steps(found.steps.as_slice(), out)?;
     Ok(found.report)
 }
@@ -115,14 +107,12 @@ fn show_steps<W: Write>(
 fn show_part<W: Write>(
     alloc: Global,
     text: &[u8],
-    checked: &Checked,
     code: &Code,
     trace: &[u8],
     asked: Show<'_>,
     out: &mut W,
 ) -> Result<Report, Fault>
-    requires lawful { IsLawfulText text.now checked.now }
-    requires stands { StandsFor code.now checked.now }
+    requires { IsLawfulText text.now code.now.tree }
     ensures { let given : Pair = record { text = text.now; input = trace.now } in
         let command = shows_part asked.entry.task.now asked.entry.screen in
         AnswersOf command given (W.contents out.old) (W.contents out.new) result }
@@ -130,25 +120,16 @@ fn show_part<W: Write>(
     let task = asked.task;
     let format = task.options.format;
     if let Some(number) = task.at {
-        return show_state(alloc, text, checked, code, trace, format, number, out);
+        return show_state(alloc, text, code, trace, format, number, out);
     }
     if task.contexts {
-        return show_contexts(alloc, text, checked, code, trace, format, out);
+        return show_contexts(alloc, text, code, trace, format, out);
     }
     if task.steps {
-        return show_steps(alloc, text, checked, code, trace, out);
+        return show_steps(alloc, text, code, trace, out);
     }
     let options = on_screen(task.options, asked.screen);
-    let report = view(
-        alloc,
-        text,
-        checked,
-        code,
-        trace,
-        options,
-        task.program,
-        out,
-    )?;
+    let report = view(alloc, text, code, trace, options, task.program, out)?;
     Ok(report)
 }
 
@@ -182,26 +163,24 @@ fn put_refusal<W: Write>(format: ViewFormat, calls: u64, out: &mut W) -> Result<
 pub(crate) fn show_trace<W: Write>(
     alloc: Global,
     text: &[u8],
-    checked: &Checked,
     code: &Code,
     trace: &[u8],
     asked: Show<'_>,
     out: &mut W,
 ) -> Result<Report, Fault>
-    requires lawful { IsLawfulText text.now checked.now }
-    requires stands { StandsFor code.now checked.now }
+    requires { IsLawfulText text.now code.now.tree }
     ensures { let given : Pair = record { text = text.now; input = trace.now } in
         let command = shows_task asked.entry.task.now asked.entry.screen in
         AnswersOf command given (W.contents out.old) (W.contents out.new) result }
 {
     if !asked.task.valid {
-        return show_part(alloc, text, checked, code, trace, asked, out);
+        return show_part(alloc, text, code, trace, asked, out);
     }
     let Some(accepted) = accepted_trace(alloc, code, trace)? else {
-        return show_part(alloc, text, checked, code, trace, asked, out);
+        return show_part(alloc, text, code, trace, asked, out);
     };
     let valid = accepted.trace.as_slice();
-    show_part(alloc, text, checked, code, valid, asked, out)?;
+    show_part(alloc, text, code, valid, asked, out)?;
     put_refusal(asked.task.options.format, accepted.calls, out)?;
     Err(Fault::from(accepted.fault))
 }

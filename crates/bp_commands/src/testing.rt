@@ -3,9 +3,10 @@ ghost use Rattle.std.specs.Prelude.{◌≡◌, map, IfOk};
 ghost use Rattle.bp_commands.specs.Tests.{AreListed};
 
 use crate::commands::ProgramCommand;
+use crate::fault_contexts::OptionNumbers;
 use crate::programs::{Opened, open};
 use crate::run_ends::CommandAnswer;
-use bp_code::Checked;
+use bp_code::Code;
 use bp_machine::SetupFault;
 use bp_messages::{Fault, TestReport, exit_status, put_summary, put_summary_objects};
 use bp_source::{statement_lines, statement_positions, statement_texts, unreached_objects};
@@ -53,15 +54,15 @@ fn lines_of(
     alloc: Global,
     task: &TestTask<'_>,
     text: &[u8],
-    checked: &Checked,
+    code: &Code,
 ) -> Result<Vec<Vec<u8>>, AllocError>
     ensures { IfOk result (λ v.
-        AreListed task.now text.now checked.now (map (λ line. line.items) v.items)) }
+        AreListed task.now text.now code.now.tree (map (λ line. line.items) v.items)) }
 {
     match (task.unreached, task.json) {
         (false, _) => Ok(Vec::new(alloc)),
-        (true, false) => statement_lines(alloc, task.program, text, checked),
-        (true, true) => unreached_objects(alloc, task.program, text, checked),
+        (true, false) => statement_lines(alloc, task.program, text, code.checked()),
+        (true, true) => unreached_objects(alloc, task.program, text, code.checked()),
     }
 }
 
@@ -87,15 +88,12 @@ impl<R: Threads + Sync, P: Progress> ProgramCommand for Test<'_, R, P> {
         if options.jobs > MAX_JOBS {
             return Err(Fault::Setup(SetupFault::OutOfRange));
         }
-        let Opened {
-            checked,
-            code,
-            setup,
-        } = opened;
+        let Opened { code, setup } = opened;
         let file = Vec::from_slice(alloc, task.program.as_bytes())?;
-        let lines = lines_of(alloc, task, text, &checked)?;
-        let positions = statement_positions(alloc, text, &checked)?;
-        let statements = statement_texts(alloc, text, &checked)?;
+        let lines = lines_of(alloc, task, text, &code)?;
+        let checked = code.checked();
+        let positions = statement_positions(alloc, text, checked)?;
+        let statements = statement_texts(alloc, text, checked)?;
         let runtimes = Runtimes {
             threads: self.threads,
             clock: self.clock,
@@ -134,7 +132,7 @@ impl<R: Threads + Sync, P: Progress> ProgramCommand for Test<'_, R, P> {
         })
     }
 
-    fn jobs(&self) -> Option<u32> {
-        Some(self.task.options.jobs)
+    fn numbers(&self) -> OptionNumbers {
+        OptionNumbers::of_test(&self.task.options)
     }
 }

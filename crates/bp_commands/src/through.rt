@@ -3,7 +3,6 @@ ghost use Rattle.std.specs.Prelude.{◌≡◌, IfOk};
 ghost use Rattle.bp_text.specs.Writing.{Writes};
 ghost use Rattle.bp_explore.specs.declared.explorations.RunThrough.{RunThrough};
 ghost use Rattle.bp_explore.specs.declared.explorations.ThroughEnding.TheVariants as endings;
-ghost use Rattle.bp_flat.specs.StandsFor.{StandsFor};
 ghost use Rattle.bp_machine.specs.Sessions.{Stands};
 ghost use Rattle.bp_commands.specs.Throughs.{trace_through, IsRunSaid};
 
@@ -12,7 +11,7 @@ use crate::explanations::SecondInput;
 use crate::exploration_ends::{Exploration, ListedSteps, facts_through, made_through};
 use crate::exploring::{EndTexts, Explore, bound_of, no_texts, texts_of_run};
 use crate::programs::open;
-use bp_code::Checked;
+use bp_code::Code;
 use bp_confirm::read_listed_lines;
 use bp_explore::{Observer, ThroughEnding, Watcher, explore_through};
 use bp_messages::Fault;
@@ -27,19 +26,19 @@ use std::io::Write;
 fn run_texts(
     alloc: Global,
     text: &[u8],
-    checked: &Checked,
+    code: &Code,
     task: &ExploreTask<'_>,
     ending: &ThroughEnding,
 ) -> Result<EndTexts, AllocError>
     requires { (r : RunThrough)
         → ending.now ≡ endings.Found r
-        → StandsFor r.session.code checked.now × Stands checked.now r.session r.history.items }
+        → (r.session.code ≡ code.now) × Stands code.now.tree r.session r.history.items }
     ensures { IfOk result (λ x.
-        IsRunSaid text.now checked.now task.now x.outcome.items x.waits.items x.failed
+        IsRunSaid text.now code.now.tree task.now x.outcome.items x.waits.items x.failed
         ending.now) }
 {
     if let ThroughEnding::Found(run) = ending {
-        return texts_of_run(alloc, text, checked, task, &run.session);
+        return texts_of_run(alloc, text, task, &run.session);
     }
     no_texts(alloc, task)
 }
@@ -80,13 +79,13 @@ impl<'a, P: Watcher> PairCommand for Explore<'a, P> {
     ) -> Result<Exploration<'a>, Fault> {
         let task = self.task;
         let opened = open(alloc, text, &task.start, &task.named)?;
-        let (checked, setup) = (&opened.checked, &opened.setup);
-        let lines = read_listed_lines(alloc, text, checked, setup, steps)?;
+        let (code, setup) = (&opened.code, &opened.setup);
+        code.is_of_a_program();
+        let lines = read_listed_lines(alloc, text, code.checked(), setup, steps)?;
         let bound = bound_of(task.options.bound, setup.contexts());
         let states = usize::try_from(task.options.states).unwrap_or(usize::MAX);
-        let code = &opened.code;
         let explored = explore_through(alloc, code, setup, &lines, bound, states, self.watcher)?;
-        let said = run_texts(alloc, text, checked, task, &explored.ending)?;
+        let said = run_texts(alloc, text, code, task, &explored.ending)?;
         write_through(&explored.ending, out)?;
         let count = lines.count();
         let made = made_through(count, &explored.ending);

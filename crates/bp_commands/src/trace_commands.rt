@@ -3,9 +3,9 @@ ghost use Rattle.bp_commands.specs.Shows.{trace_command};
 
 use crate::commands::PairCommand;
 use crate::explanations::SecondInput;
-use crate::programs::program_of;
 use crate::replaying::{migrate_trace, replay_trace, shrink_trace};
 use crate::shows::{Show, show_trace};
+use bp_code::code_of;
 use bp_machine::Report;
 use bp_messages::Fault;
 use bp_trace::limits::MAX_TRACE;
@@ -44,14 +44,12 @@ impl PairCommand for TraceCommand<'_> {
         trace: &[u8],
         out: &mut W,
     ) -> Result<Report, Fault> {
-        let (checked, code) = program_of(alloc, text)?;
+        let code = code_of(alloc, text)?;
         match self {
             TraceCommand::Replay => replay_trace(alloc, &code, trace, out),
             TraceCommand::Migrate => migrate_trace(alloc, &code, trace, out),
             TraceCommand::Shrink => shrink_trace(alloc, &code, trace, out),
-            TraceCommand::Show(asked) => {
-                show_trace(alloc, text, &checked, &code, trace, *asked, out)
-            }
+            TraceCommand::Show(asked) => { show_trace(alloc, text, &code, trace, *asked, out) }
         }
     }
 

@@ -1,8 +1,7 @@
 //! Confirming a text of reported steps.
 //! Why reported steps are not taken.
 ghost use Rattle.std.specs.Prelude.{◌≡◌, ◌<◌, ◌^◌, None, length, IfOk, MatchResult};
-ghost use Rattle.bp_flat.specs.StandsFor.{StandsFor};
-ghost use Rattle.bp_machine.specs.Setups.{FitsCode};
+ghost use Rattle.bp_machine.specs.Setups.{Fits};
 ghost use Rattle.bp_confirm.specs.ConfirmedTexts.{AreTold, ConfirmsTo, IsStepsRefusal, IsUntold, fault_of_stray};
 
 use crate::declared::{Stray, check_lines, setup_for};
@@ -90,27 +89,25 @@ pub(crate) fn told_lines<'a>(
 pub fn confirm(
     alloc: Global,
     text: &[u8],
-    checked: &Checked,
     code: &Code,
     setup: &Setup,
     bound: ContextBound,
     steps: &[u8],
 ) -> Result<Confirmed, ConfirmFault>
-    requires code { StandsFor code.now checked.now }
-    requires fits { FitsCode code.now setup.now }
+    requires fits { Fits code.now.tree setup.now }
     requires unseeded { setup.now.seed ≡ None }
     ensures answer { MatchResult result
-        (ConfirmsTo checked.now setup.now steps.now text.now bound)
-        (IsStepsRefusal checked.now setup.now steps.now text.now bound) }
+        (ConfirmsTo code.now.tree setup.now steps.now text.now bound)
+        (IsStepsRefusal code.now.tree setup.now steps.now text.now bound) }
     ensures code { IfOk result (λ x. x.session.code ≡ code.now) }
 {
-    let lines = told_lines(alloc, checked, setup, steps)?;
+    let lines = told_lines(alloc, code.checked(), setup, steps)?;
     let setup = match setup_for(alloc, code, setup, bound, &lines) {
         Ok(setup) => setup,
         // It fits, since the given one does.
         Err(_) => return Err(ConfirmFault::Memory),
     };
-    match confirm_lines(alloc, text, checked, code, &setup, &lines) {
+    match confirm_lines(alloc, text, code, &setup, &lines) {
         Ok(confirmed) => Ok(confirmed),
         Err(StepFault::Refusal(refusal)) => Err(ConfirmFault::Step(refusal)),
         Err(StepFault::Memory) => Err(ConfirmFault::Memory),

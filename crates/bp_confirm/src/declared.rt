@@ -1,7 +1,6 @@
 //! The first line of a thread or a variable that is not declared.
 //! The bound of contexts of the trace that is written.
 ghost use Rattle.std.specs.Prelude.{◌≡◌, ◌<◌, ◌^◌, length, IsTrue, MatchOption, MatchResult, ◌≤◌, map, IfOk};
-ghost use Rattle.bp_flat.specs.StandsFor.{InEach};
 ghost use Rattle.bp_machine.specs.Setups.{threads};
 ghost use Rattle.bp_machine.specs.declared.limits.TheConstants.{MAX_CONTEXTS};
 ghost use Rattle.bp_machine.specs.Histories.{IsLeastWithin};
@@ -198,8 +197,8 @@ fn with_contexts(
     setup: &Setup,
     contexts: u32,
 ) -> Result<Setup, SetupFault>
-    ensures { InEach code.now (λ t.
-        IfOk result (λ s. s ≡ record setup.now { contexts = contexts })) }
+    ensures { let t = code.now.tree in
+        IfOk result (λ s. s ≡ record setup.now { contexts = contexts }) }
 {
     let entries = entries_of(alloc, setup)?;
     let bits = bits_of(alloc, setup)?;
@@ -223,7 +222,7 @@ pub(crate) fn setup_for(
     bound: ContextBound,
     lines: &StepLines,
 ) -> Result<Setup, SetupFault>
-    ensures { InEach code.now (λ t. IfOk result (IsSetupFor setup.now lines.now bound)) }
+    ensures { let t = code.now.tree in IfOk result (IsSetupFor setup.now lines.now bound) }
 {
     match bound {
         ContextBound::Kept => Ok(setup.try_copy()?),

@@ -1,10 +1,8 @@
 //! Following reported steps.
-ghost use Rattle.std.specs.Prelude.{◌≡◌, ◌<◌, ◌≤◌, ◌+◌, ◌^◌, ◌++◌, ◌∷◌, [], List, ℕ, None, length, map, true, false, option_map, IfOk, IfErr, OnOk, MatchOption, MatchResult};
-ghost use Rattle.bp_language.specs.Ast.{Program};
-ghost use Rattle.bp_flat.specs.StandsFor.{StandsFor};
+ghost use Rattle.std.specs.Prelude.{◌≡◌, ◌<◌, ◌≤◌, ◌+◌, ◌^◌, ◌++◌, ◌∷◌, [], List, ℕ, None, length, map, true, false, IfOk, IfErr, OnOk, MatchOption, MatchResult};
 ghost use Rattle.bp_machine.specs.declared.calls.Call.{Call as Answered};
 ghost use Rattle.bp_machine.specs.Histories.{stack_of, configuration_after, IsAllowed, is_granted};
-ghost use Rattle.bp_machine.specs.Setups.{threads, FitsCode};
+ghost use Rattle.bp_machine.specs.Setups.{threads, Fits};
 ghost use Rattle.bp_machine.specs.Sessions.{Stands, AfterEach};
 ghost use Rattle.bp_machine.specs.Runs.{IsTop};
 ghost use Rattle.bp_trace.specs.Replays.{IsPlayable};
@@ -63,8 +61,7 @@ fn top_at(
     thread: u32,
     location: Location,
 ) -> Result<Top, Option<u32>>
-    ensures { (text : List ℕ) (t : Program) (h : List Answered)
-        → StandsFor session.now.code t
+    ensures { let t = session.now.code.tree in (text : List ℕ) (h : List Answered)
         → points.now ≡ source_points_of text t
         → Stands t session.now h
         → let now = configuration_after t session.now.setup h in
@@ -92,9 +89,8 @@ fn bit_at(
     lines: &StepLines,
     next: Next,
 ) -> Inferred
-    ensures { (text : List ℕ) (t : Program) (h : List Answered) (last : LastBits) (x : StepOf)
-        (later : List StepOf)
-        → StandsFor session.now.code t
+    ensures { let t = session.now.code.tree in (text : List ℕ) (h : List Answered)
+        (last : LastBits) (x : StepOf) (later : List StepOf)
         → points.now ≡ source_points_of text t
         → TellsNext text last x later lines.now next
         → let now = configuration_after t session.now.setup h in
@@ -102,7 +98,9 @@ fn bit_at(
         → IsInferredOn t last x.thread later (stack_of now x.thread) result }
 {
     let is_clear = true;
-    let Some(instr) = session.code().get(top.number) else {
+    let code = session.code();
+    code.is_of_a_program();
+    let Some(instr) = code.get(top.number) else {
         let bit = false;
         return Inferred { bit, is_clear };
     };
@@ -168,8 +166,8 @@ fn first_difference(
     history: &[Call],
     line: &StepLine,
 ) -> Result<Option<Difference>, AllocError>
-    requires code { StandsFor session.now.code checked.now }
-    requires fits { FitsCode session.now.code session.now.setup }
+    requires code { session.now.code.tree ≡ checked.now }
+    requires fits { Fits session.now.code.tree session.now.setup }
     requires playable { IsPlayable checked.now session.now.setup history.now }
     requires short { length history.now + 1 < 2 ^ 32 }
     ensures { (text : List ℕ) (call : Answered)
@@ -207,8 +205,8 @@ fn take_step(
     lines: &StepLines,
     next: Next,
 ) -> Result<Call, StepFault>
-    requires code { StandsFor session.old.code checked.now }
-    requires fits { FitsCode session.old.code session.old.setup }
+    requires code { session.old.code.tree ≡ checked.now }
+    requires fits { Fits session.old.code.tree session.old.setup }
     requires thread { line.now.thread < threads session.old.setup }
     requires unseeded { session.old.setup.seed ≡ None }
     requires stands { Stands checked.now session.old history.now }
@@ -266,7 +264,9 @@ fn is_at_fork(session: &Session, thread: u32) -> bool
     let Some(top) = session.top(thread) else {
         return false;
     };
-    let Some(instr) = session.code().get(top.number) else {
+    let code = session.code();
+    code.is_of_a_program();
+    let Some(instr) = code.get(top.number) else {
         return false;
     };
     is_fork(instr)
@@ -307,8 +307,8 @@ pub(crate) fn take_steps(
     lines: &StepLines,
     last: GivenBits<'_>,
 ) -> Result<Followed, StepFault>
-    requires code { StandsFor session.old.code checked.now }
-    requires fits { FitsCode session.old.code session.old.setup }
+    requires code { session.old.code.tree ≡ checked.now }
+    requires fits { Fits session.old.code.tree session.old.setup }
     requires nexts { map (location_in lines.now) nexts.now ≡ next_locations lines.now }
     requires threads { AreOfThreads session.old.setup lines.now }
     requires unseeded { session.old.setup.seed ≡ None }

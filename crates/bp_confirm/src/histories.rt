@@ -1,10 +1,9 @@
 //! The history that takes the steps of lines.
 ghost use Rattle.std.specs.Prelude.{◌≡◌, ◌<◌, ◌^◌, None, List, ℕ, false, length, map, IfErr, IfOk, IfSome, IsSome, MatchResult};
 ghost use Rattle.bp_code.specs.LawfulTexts.{IsLawfulText};
-ghost use Rattle.bp_flat.specs.StandsFor.{StandsFor};
 ghost use Rattle.bp_machine.specs.declared.calls.Call.{Call as Answered};
 ghost use Rattle.bp_machine.specs.Sessions.{Stands};
-ghost use Rattle.bp_machine.specs.Setups.{FitsCode};
+ghost use Rattle.bp_machine.specs.Setups.{Fits};
 ghost use Rattle.bp_confirm.specs.Confirms.{AreOfThreads, IsNotFollowed};
 ghost use Rattle.bp_confirm.specs.Inferred.{zeros, IsFollowed, LastBits as AnyBits, IsConfirmed, IsTaken};
 ghost use Rattle.bp_confirm.specs.FollowedSteps.{last_bits, source_points_of};
@@ -16,7 +15,6 @@ use crate::following::take_steps;
 use crate::kept_lines::StepLines;
 use crate::source_points::{SourcePoint, source_points_of};
 use crate::step_lines::next_steps;
-use bp_code::Checked;
 use bp_flat::Code;
 use bp_machine::{Call, Session, Setup};
 use std::alloc::{AllocError, Global};
@@ -42,7 +40,6 @@ struct Taken {
 /// Takes the steps of these lines in the program, with these last bits.
 fn take_with(
     alloc: Global,
-    checked: &Checked,
     code: &Code,
     setup: &Setup,
     points: &[SourcePoint],
@@ -50,31 +47,39 @@ fn take_with(
     lines: &StepLines,
     last: LastBits<'_>,
 ) -> Result<Taken, StepFault>
-    requires code { StandsFor code.now checked.now }
-    requires fits { FitsCode code.now setup.now }
+    requires fits { Fits code.now.tree setup.now }
     requires nexts { map (location_in lines.now) nexts.now ≡ next_locations lines.now }
     requires threads { AreOfThreads setup.now lines.now }
     requires unseeded { setup.now.seed ≡ None }
     requires short { length lines.now < 2 ^ 32 }
     ensures followed { (text : List ℕ)
-        → points.now ≡ source_points_of text checked.now
+        → points.now ≡ source_points_of text code.now.tree
         → let steps = steps_of text lines.now in
         IfOk result (λ f.
-        IsFollowed checked.now setup.now (last_bits last.entry) steps f.history.items) }
+        IsFollowed code.now.tree setup.now (last_bits last.entry) steps f.history.items) }
     ensures unasked { (text : List ℕ) (other : AnyBits)
-        → points.now ≡ source_points_of text checked.now
+        → points.now ≡ source_points_of text code.now.tree
         → let steps = steps_of text lines.now in
         IfOk result (λ f.
-        f.asks ≡ false → IsFollowed checked.now setup.now other steps f.history.items) }
+        f.asks ≡ false → IsFollowed code.now.tree setup.now other steps f.history.items) }
     ensures refused { (text : List ℕ)
-        → points.now ≡ source_points_of text checked.now
-        → IfErr result (IsNotFollowed text checked.now setup.now (last_bits last.entry) lines.now) }
-    ensures stands { IfOk result (λ f. Stands checked.now f.session f.history.items) }
+        → points.now ≡ source_points_of text code.now.tree
+        → let t = code.now.tree in
+        IfErr result (IsNotFollowed text t setup.now (last_bits last.entry) lines.now) }
+    ensures stands { IfOk result (λ f. Stands code.now.tree f.session f.history.items) }
     ensures kept { IfOk result
         (λ f. (f.session.code ≡ code.now) × (f.session.setup ≡ setup.now)) }
 {
     let mut session = Session::new(alloc, code, setup)?;
-    let followed = take_steps(alloc, checked, points, nexts, &mut session, lines, last)?;
+    let followed = take_steps(
+        alloc,
+        code.checked(),
+        points,
+        nexts,
+        &mut session,
+        lines,
+        last,
+    )?;
     Ok(Taken {
         history: followed.history,
         session,
@@ -86,7 +91,6 @@ fn take_with(
 /// lawful text comes to.
 fn take_again(
     alloc: Global,
-    checked: &Checked,
     code: &Code,
     setup: &Setup,
     points: &[SourcePoint],
@@ -94,28 +98,27 @@ fn take_again(
     lines: &StepLines,
     last: LastBits<'_>,
 ) -> Result<Option<Taken>, AllocError>
-    requires code { StandsFor code.now checked.now }
-    requires fits { FitsCode code.now setup.now }
+    requires fits { Fits code.now.tree setup.now }
     requires nexts { map (location_in lines.now) nexts.now ≡ next_locations lines.now }
     requires threads { AreOfThreads setup.now lines.now }
     requires unseeded { setup.now.seed ≡ None }
     requires short { length lines.now < 2 ^ 32 }
     ensures followed { (text : List ℕ)
-        → points.now ≡ source_points_of text checked.now
+        → points.now ≡ source_points_of text code.now.tree
         → let steps = steps_of text lines.now in
         IfOk result (λ found. IfSome found (λ f.
-        IsFollowed checked.now setup.now (last_bits last.entry) steps f.history.items)) }
+        IsFollowed code.now.tree setup.now (last_bits last.entry) steps f.history.items)) }
     ensures refused { (text : List ℕ) (other : AnyBits) (h : List Answered)
-        → points.now ≡ source_points_of text checked.now
-        → IsLawfulText text checked.now
-        → IsFollowed checked.now setup.now other (steps_of text lines.now) h
+        → points.now ≡ source_points_of text code.now.tree
+        → IsLawfulText text code.now.tree
+        → IsFollowed code.now.tree setup.now other (steps_of text lines.now) h
         → IfOk result IsSome }
     ensures stands { IfOk result (λ found.
-        IfSome found (λ f. Stands checked.now f.session f.history.items)) }
+        IfSome found (λ f. Stands code.now.tree f.session f.history.items)) }
     ensures kept { IfOk result (λ found.
         IfSome found (λ f. (f.session.code ≡ code.now) × (f.session.setup ≡ setup.now))) }
 {
-    match take_with(alloc, checked, code, setup, points, nexts, lines, last) {
+    match take_with(alloc, code, setup, points, nexts, lines, last) {
         Ok(taken) => Ok(Some(taken)),
         Err(StepFault::Refusal(_)) => Ok(None),
         Err(StepFault::Memory) => Err(AllocError),
@@ -141,45 +144,43 @@ fn confirmed_with(taken: Taken, choices: Vec<LastChoice>) -> Confirmed
 pub(crate) fn confirm_lines(
     alloc: Global,
     text: &[u8],
-    checked: &Checked,
     code: &Code,
     setup: &Setup,
     lines: &StepLines,
 ) -> Result<Confirmed, StepFault>
-    requires code { StandsFor code.now checked.now }
-    requires fits { FitsCode code.now setup.now }
+    requires fits { Fits code.now.tree setup.now }
     requires threads { AreOfThreads setup.now lines.now }
     requires unseeded { setup.now.seed ≡ None }
     requires short { length lines.now < 2 ^ 32 }
     ensures answer { MatchResult result
-        (λ f. IsTaken checked.now setup.now (steps_of text.now lines.now) f.history.items)
-        (IsNotFollowed text.now checked.now setup.now zeros lines.now) }
-    ensures confirmed { IsLawfulText text.now checked.now
+        (λ f. IsTaken code.now.tree setup.now (steps_of text.now lines.now) f.history.items)
+        (IsNotFollowed text.now code.now.tree setup.now zeros lines.now) }
+    ensures confirmed { IsLawfulText text.now code.now.tree
         → IfOk result (λ f.
-        IsConfirmed checked.now setup.now (steps_of text.now lines.now)
+        IsConfirmed code.now.tree setup.now (steps_of text.now lines.now)
         f.history.items f.choices.items) }
-    ensures stands { IfOk result (λ f. Stands checked.now f.session f.history.items) }
+    ensures stands { IfOk result (λ f. Stands code.now.tree f.session f.history.items) }
     ensures kept { IfOk result
         (λ f. (f.session.code ≡ code.now) × (f.session.setup ≡ setup.now)) }
 {
     setup.is_in_range();
-    let points = source_points_of(alloc, text, checked)?;
+    let points = source_points_of(alloc, text, code.checked())?;
     let points = points.as_slice();
     let nexts = next_steps(alloc, lines)?;
     let nexts = nexts.as_slice();
     let bits = LastBits::Each(false);
-    let zeroed = take_with(alloc, checked, code, setup, points, nexts, lines, bits)?;
+    let zeroed = take_with(alloc, code, setup, points, nexts, lines, bits)?;
     if !zeroed.asks {
         return Ok(confirmed_with(zeroed, Vec::new(alloc)));
     }
     let after_0 = waits_of(alloc, &zeroed.session)?;
     let bits = LastBits::Each(true);
-    let Some(oned) = take_again(alloc, checked, code, setup, points, nexts, lines, bits)? else {
+    let Some(oned) = take_again(alloc, code, setup, points, nexts, lines, bits)? else {
         return Ok(confirmed_with(zeroed, Vec::new(alloc)));
     };
     let after_1 = waits_of(alloc, &oned.session)?;
     let bits = LastBits::Waiting(after_0.as_slice());
-    let Some(waiting) = take_again(alloc, checked, code, setup, points, nexts, lines, bits)? else {
+    let Some(waiting) = take_again(alloc, code, setup, points, nexts, lines, bits)? else {
         return Ok(confirmed_with(zeroed, Vec::new(alloc)));
     };
     if !waiting.session.is_deadlocked() {

@@ -3,8 +3,6 @@
 ghost use Rattle.std.specs.Prelude.{◌≡◌, ◌++◌, ◌∷◌, [], List, ℕ, option_map, MatchResult, OnOk};
 ghost use Rattle.bp_text.specs.Lines.{position_at};
 ghost use Rattle.bp_text.specs.Writing.{Writes};
-ghost use Rattle.bp_language.specs.Ast.{Program};
-ghost use Rattle.bp_flat.specs.StandsFor.{StandsFor};
 ghost use Rattle.bp_machine.specs.declared.calls.Call.{Call as Answered};
 ghost use Rattle.bp_machine.specs.Histories.{stack_of, configuration_after, is_granted};
 ghost use Rattle.bp_machine.specs.Sessions.{Stands};
@@ -13,7 +11,6 @@ ghost use Rattle.bp_confirm.specs.OwnSteps.{next_start, AreStepsOfTrace, own_lin
 ghost use Rattle.bp_confirm.specs.FollowedSteps.{source_points_of};
 
 use crate::source_points::{SourcePoint, point_of, source_points_of};
-use bp_code::Checked;
 use bp_flat::Code;
 use bp_machine::{AskFault, Call, Reply, Report, Session, Setup};
 use bp_text::Piece::{Bytes, Number};
@@ -49,8 +46,7 @@ pub(crate) fn is_granted(reply: Reply) -> bool
 
 /// Where the next statement of a thread begins.
 fn position_of(session: &Session, points: &[SourcePoint], thread: u32) -> Option<Position>
-    ensures { (text : List ℕ) (t : Program) (h : List Answered)
-        → StandsFor session.now.code t
+    ensures { let t = session.now.code.tree in (text : List ℕ) (h : List Answered)
         → points.now ≡ source_points_of text t
         → Stands t session.now h
         → let now = configuration_after t session.now.setup h in
@@ -111,20 +107,18 @@ impl Watcher for StepWatcher<'_> {
 pub fn own_steps(
     alloc: Global,
     text: &[u8],
-    checked: &Checked,
     code: &Code,
     trace: &[u8],
 ) -> Result<OwnSteps, ReplayFault>
-    requires { StandsFor code.now checked.now }
     ensures { MatchResult result
         (λ found.
-        AreStepsOfTrace text.now checked.now trace.now found.steps.items found.report)
-        (IsReplayRefusal checked.now trace.now) }
+        AreStepsOfTrace text.now code.now.tree trace.now found.steps.items found.report)
+        (IsReplayRefusal code.now.tree trace.now) }
 {
     if trace.len() > MAX_TRACE {
         return Err(ReplayFault::TooLong);
     }
-    let points = source_points_of(alloc, text, checked)?;
+    let points = source_points_of(alloc, text, code.checked())?;
     let watcher = StepWatcher {
         points: points.as_slice(),
         steps: Vec::new(alloc),

@@ -3,12 +3,12 @@
 ghost use Rattle.std.specs.Prelude.{◌≡◌, ◌↔◌, IsTrue, Some, [], ℕ, List, IfSome, MatchOption, ◌<◌, ◌+◌, ◌^◌, Bool, Option, length, IfOk};
 ghost use Rattle.bp_flat.specs.Moves.{Configuration};
 ghost use Rattle.bp_flat.specs.InstrEffects.{bits_of};
-ghost use Rattle.bp_flat.specs.StandsFor.{valuation_of, variables, StandsFor};
+ghost use Rattle.bp_flat.specs.StandsFor.{valuation_of, variables};
 ghost use Rattle.bp_machine.specs.declared.calls.Call.{Call as Answered};
 ghost use Rattle.bp_machine.specs.Histories.{stack_of, configuration_after};
 ghost use Rattle.bp_machine.specs.Sessions.{Stands};
 ghost use Rattle.bp_machine.specs.Runs.{IsTop};
-ghost use Rattle.bp_machine.specs.Setups.{FitsCode};
+ghost use Rattle.bp_machine.specs.Setups.{Fits};
 ghost use Rattle.bp_trace.specs.Replays.{IsPlayable};
 ghost use Rattle.bp_confirm.specs.FollowedSteps.{source_points_of};
 ghost use Rattle.bp_confirm.specs.OwnSteps.{AreShown};
@@ -93,7 +93,7 @@ pub(crate) fn value_seen(
     name: &[u8],
 ) -> Option<bool>
     ensures { (text : List ℕ) (h : List Answered)
-        → StandsFor session.now.code checked.now
+        → session.now.code.tree ≡ checked.now
         → points.now ≡ source_points_of text checked.now
         → Stands checked.now session.now h
         → let c = configuration_after checked.now session.now.setup h in
@@ -196,8 +196,8 @@ pub(crate) fn sight_of(
     thread: u32,
     name: &[u8],
 ) -> Result<Sight, AllocError>
-    requires code { StandsFor session.now.code checked.now }
-    requires fits { FitsCode session.now.code session.now.setup }
+    requires code { session.now.code.tree ≡ checked.now }
+    requires fits { Fits session.now.code.tree session.now.setup }
     requires playable { IsPlayable checked.now session.now.setup history.now }
     requires short { length history.now < 2 ^ 32 }
     ensures { (text : List ℕ)

@@ -1,9 +1,9 @@
 //! The head of a trace, and the line of it that a fault of its setup is about.
 //! Sentences on a line of a trace that is not as expected.
-ghost use Rattle.std.specs.Prelude.{◌≡◌, ◌<◌, ◌+◌, ◌^◌, nat_lt, IfOk};
+ghost use Rattle.std.specs.Prelude.{◌≡◌, ◌<◌, ◌^◌, nat_lt, IfOk};
 ghost use Rattle.bp_machine.specs.declared.limits.TheConstants.{MAX_CONTEXTS};
 ghost use Rattle.bp_machine.specs.Setups.{threads};
-ghost use Rattle.bp_explain.specs.Explained.{BeginsWithHead, IsReadHead, IsSetupLine, init_line_number, threads_line_number};
+ghost use Rattle.bp_explain.specs.Explained.{BeginsWithHead, IsReadHead, IsSetupLine};
 
 use crate::traces::RefusedLine;
 use bp_advice::{
@@ -38,48 +38,18 @@ pub(crate) fn head_of(alloc: Global, trace: &[u8]) -> Result<Option<Head<'_>>, A
     }
 }
 
-/// How many threads the head of a trace says.
-fn thread_count(trace: &[u8], head: &Option<Head<'_>>) -> usize
+/// Returns how many threads the head of a trace says, and whether its contexts are too many.
+fn numbers_of(trace: &[u8], head: &Option<Head<'_>>) -> (usize, bool)
     requires { IsReadHead trace.now head.now }
-    ensures is { (b : BeginsWithHead trace.now) → result ≡ threads b.setup }
-    ensures few { result < 2 ^ 63 }
+    ensures threads { (b : BeginsWithHead trace.now) → result.0 ≡ threads b.setup }
+    ensures contexts { (b : BeginsWithHead trace.now)
+        → result.1 ≡ nat_lt MAX_CONTEXTS b.setup.contexts }
+    ensures few { result.0 < 2 ^ 63 }
 {
     match head {
-        Some(head) => head.entries.len(),
-        None => 0,
+        Some(head) => (head.entries.len(), head.contexts > u64::from(MAX_CONTEXTS)),
+        None => (0, false),
     }
-}
-
-/// Whether the contexts that the head of a trace says are too many.
-fn has_many_contexts(trace: &[u8], head: &Option<Head<'_>>) -> bool
-    requires { IsReadHead trace.now head.now }
-    ensures { (b : BeginsWithHead trace.now) → result ≡ nat_lt MAX_CONTEXTS b.setup.contexts }
-{
-    match head {
-        Some(head) => head.contexts > u64::from(MAX_CONTEXTS),
-        None => false,
-    }
-}
-
-/// The line of the first entry that is not there, or is one too many.
-fn line_of_threads(trace: &[u8], head: &Option<Head<'_>>) -> usize
-    requires { IsReadHead trace.now head.now }
-    ensures { (b : BeginsWithHead trace.now) → result ≡ threads_line_number b.setup }
-{
-    if thread_count(trace, head) == 0 {
-        FIRST_ENTRY
-    } else {
-        FIRST_ENTRY + MAX_THREADS
-    }
-}
-
-/// The number of the line on which the initial bits are due.
-fn init_line(trace: &[u8], head: &Option<Head<'_>>) -> usize
-    requires { IsReadHead trace.now head.now }
-    ensures is { (b : BeginsWithHead trace.now) → result ≡ init_line_number b.setup }
-    ensures few { result < 2 ^ 63 + FIRST_ENTRY }
-{
-    thread_count(trace, head) + FIRST_ENTRY
 }
 
 /// The line of a trace with this head that a fault of its setup is about.
@@ -87,14 +57,16 @@ pub(crate) fn line_of_setup(trace: &[u8], head: &Option<Head<'_>>, fault: SetupF
     requires { IsReadHead trace.now head.now }
     ensures { IsSetupLine trace.now fault result }
 {
+    let (threads, has_many_contexts) = numbers_of(trace, head);
     match fault {
-        SetupFault::Threads | SetupFault::Memory => line_of_threads(trace, head),
+        SetupFault::Threads | SetupFault::Memory if threads == 0 => FIRST_ENTRY,
+        SetupFault::Threads | SetupFault::Memory => FIRST_ENTRY + MAX_THREADS,
         SetupFault::UnknownEntry(thread) | SetupFault::EntryHasFormals(thread) => {
             FIRST_ENTRY + thread as usize
         }
-        SetupFault::InitLength => init_line(trace, head),
-        SetupFault::OutOfRange if has_many_contexts(trace, head) => init_line(trace, head) + 1,
-        SetupFault::OutOfRange => init_line(trace, head) + 2,
+        SetupFault::InitLength => FIRST_ENTRY + threads,
+        SetupFault::OutOfRange if has_many_contexts => FIRST_ENTRY + threads + 1,
+        SetupFault::OutOfRange => FIRST_ENTRY + threads + 2,
     }
 }
 

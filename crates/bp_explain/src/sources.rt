@@ -2,10 +2,10 @@
 //! Names of files as words of a command for a shell.
 //! Words for the places at which threads stand.
 ghost use Rattle.std.specs.Prelude.{◌≡◌, None, IfOk, IfSome};
-ghost use Rattle.bp_machine.specs.Setups.{FitsCode};
+ghost use Rattle.bp_machine.specs.Setups.{Fits};
 
 use bp_advice::{Named, Plain, Quoted};
-use bp_code::{Checked, ProgramFault, compile, lawful_program};
+use bp_code::{CodeFault, ProgramFault, code_of};
 use bp_confirm::{Location, Stand};
 use bp_flat::{Code, global_value, local_value};
 use bp_language::{CheckFault, Proc};
@@ -16,11 +16,10 @@ use bp_text::{Position, line_of, part_before, part_from, text_from_line};
 use std::alloc::{AllocError, Global};
 use std::fmt;
 
-/// A lawful program with its text, its code, and what is shown of its statements.
+/// The code of a lawful program with its text, and what is shown of its statements.
 #[derive(Drop)]
 pub(crate) struct Source<'a> {
     pub(crate) text: &'a [u8],
-    pub(crate) checked: Checked,
     pub(crate) code: Code,
     /// By the numbers of their instructions.
     pub(crate) statements: Vec<SourceStatement>,
@@ -28,17 +27,18 @@ pub(crate) struct Source<'a> {
 
 /// The lawful program of a text, if it has one.
 pub(crate) fn source_of(alloc: Global, text: &[u8]) -> Result<Option<Source<'_>>, AllocError> {
-    let checked = match lawful_program(alloc, text) {
-        Ok(checked) => checked,
-        Err(ProgramFault::Read(ReadFault::Memory))
-        | Err(ProgramFault::Check(CheckFault::Memory, _)) => return Err(AllocError),
+    let code = match code_of(alloc, text) {
+        Ok(code) => code,
+        Err(CodeFault::Memory)
+        | Err(CodeFault::Program(ProgramFault::Read(ReadFault::Memory)))
+        | Err(CodeFault::Program(ProgramFault::Check(CheckFault::Memory, _))) => {
+            return Err(AllocError);
+        }
         Err(_) => return Ok(None),
     };
-    let code = compile(alloc, &checked)?;
-    let statements = source_statements_of(alloc, text, &checked)?;
+    let statements = source_statements_of(alloc, text, code.checked())?;
     Ok(Some(Source {
         text,
-        checked,
         code,
         statements,
     }))
@@ -50,7 +50,7 @@ pub(crate) fn setup_of(
     code: &Code,
     start: &Start,
 ) -> Result<Option<Setup>, AllocError>
-    ensures { IfOk result (λ o. IfSome o (λ s. FitsCode code.now s × (s.seed ≡ None))) }
+    ensures { IfOk result (λ o. IfSome o (λ s. Fits code.now.tree s × (s.seed ≡ None))) }
 {
     match start.setup(alloc, code, None) {
         Ok(setup) => Ok(Some(setup)),
@@ -92,7 +92,7 @@ fn local_of<'a>(
     name: &'a [u8],
 ) -> Option<Seen<'a>> {
     let top = session.top(thread)?;
-    let procs = source.checked.tree().procs();
+    let procs = source.code.checked().tree().procs();
     let proc = procedure_at(source.statements.as_slice(), procs, top.number)?;
     Some(Seen {
         owner: Some(proc),
@@ -111,7 +111,7 @@ pub(crate) fn variable_of<'a>(
     if let Some(local) = local_of(source, session, thread, name) {
         return Some(local);
     }
-    let globals = source.checked.tree().globals();
+    let globals = source.code.checked().tree().globals();
     Some(Seen {
         owner: None,
         name,

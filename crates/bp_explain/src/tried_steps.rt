@@ -2,7 +2,6 @@
 //! The threads and the contexts of a list of steps.
 use crate::sources::{Source, lines_before, setup_of};
 use bp_advice::number_at_front;
-use bp_code::compile;
 use bp_confirm::{ConfirmFault, StepRefusal, confirm};
 use bp_machine::{Call, Setup, Start};
 use bp_tasks::ContextBound;
@@ -50,12 +49,11 @@ impl<'a> RefusedStep<'a> {
     /// Tries these steps in place of the reported ones, in as many contexts as they use.
     pub(crate) fn try_steps(&self, steps: &[u8]) -> Result<Tried, AllocError> {
         let (alloc, source, bound) = (self.alloc, self.source, ContextBound::AsUsed);
-        let checked = &source.checked;
-        let code = compile(alloc, checked)?;
-        let Some(setup) = setup_of(alloc, &code, self.start)? else {
+        let code = &source.code;
+        let Some(setup) = setup_of(alloc, code, self.start)? else {
             return Ok(Tried::Unread);
         };
-        match confirm(alloc, source.text, checked, &code, &setup, bound, steps) {
+        match confirm(alloc, source.text, code, &setup, bound, steps) {
             Ok(confirmed) => traced(alloc, confirmed.session.setup(), &confirmed.history),
             Err(ConfirmFault::Step(refusal)) => Ok(Tried::Refused(refusal)),
             Err(ConfirmFault::NoSteps) => traced(alloc, &setup, &[]),

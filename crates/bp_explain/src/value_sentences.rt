@@ -17,7 +17,7 @@ fn names_read<'a>(
     let Some(top) = session.top(thread) else {
         return Ok(Vec::new(alloc));
     };
-    match decider_at(alloc, source.checked.tree().procs(), top.number)? {
+    match decider_at(alloc, source.code.checked().tree().procs(), top.number)? {
         Some(decider) => variables_read(alloc, decider),
         None => Ok(Vec::new(alloc)),
     }

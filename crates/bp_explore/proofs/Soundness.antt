@@ -93,8 +93,8 @@ module _ (c : Flat) (t : Program) (s : SetupOf) (o : ListedSteps) (own : o.is_of
       let enough = there.enough in
       omega (arith, less, enough)
 
-  pub explored_is_live : StandsFor c t → AreLiveFrom c nodes 0 → (d : Configuration) → IsReachable t s k d → d.failed ≡ false → IsDeadlocked t d → ⊥
-  explored_is_live stands live d reached going dead =
+  pub explored_is_live : AreLiveFrom t nodes 0 → (d : Configuration) → IsReachable t s k d → d.failed ≡ false → IsDeadlocked t d → ⊥
+  explored_is_live live d reached going dead =
       let run : CanMake t s o k 0 = record {
         steps = reached.steps;
         end = d;
@@ -105,5 +105,5 @@ module _ (c : Flat) (t : Program) (s : SetupOf) (o : ListedSteps) (own : o.is_of
       let there = shown 0 run in
       elim there.ends [
         | inl failed ↦ absurd (let no : false ≡ true = sym going ∙ failed in cc)
-        | inr at ↦ live there.at there.node (omega arith) there.is t d stands at dead
+        | inr at ↦ live there.at there.node (omega arith) there.is d at dead
       ]

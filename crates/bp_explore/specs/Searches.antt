@@ -3,7 +3,7 @@ use Rattle.std.specs.Prelude.{◌≡◌, ℕ, [], Option, MatchOption, if◌then
 use Rattle.bp_language.specs.Ast.{Program}
 use Rattle.bp_flat.specs.InstrEffects.{bits_of}
 use Rattle.bp_flat.specs.Moves.{Configuration}
-use Rattle.bp_flat.specs.StandsFor.{valuation_of, StepsAlike, StandsFor}
+use Rattle.bp_flat.specs.StandsFor.{valuation_of, StepsAlike}
 use Rattle.bp_flat.specs.Flat.{Instruction, Flat}
 use Rattle.bp_machine.specs.declared.tops.Top.{Top}
 use Rattle.bp_machine.specs.Histories.{stack_of, configuration_after, granted_calls}
@@ -248,7 +248,7 @@ pub record IsReplay
 pub record BeginsAt (c : Flat) (s : SetupOf) (nodes : List Node) : Type 0 where
   pub state : StateOf
   pub is : nodes ≡ record { state = state; made = 0; last = None; level = 0 } ∷ []
-  pub shows : (t : Program) → StandsFor c t → Shows t state (start t s)
+  pub shows : Shows c.tree state (start c.tree s)
 
 -- the nodes that have not made all listed steps have made fewer than n
 abbrev pub HaveFewer : ListedSteps → List Node → ℕ → Type 0

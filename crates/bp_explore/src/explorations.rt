@@ -1,9 +1,7 @@
 //! Exploring all that a program reaches.
 //! What an exploration answers.
 ghost use Rattle.std.specs.Prelude.{◌<◌, Bool, ℕ, false, IfOk, Option};
-ghost use Rattle.bp_language.specs.Ast.{Program};
-ghost use Rattle.bp_flat.specs.StandsFor.{StandsFor, InEach};
-ghost use Rattle.bp_machine.specs.Setups.{FitsCode};
+ghost use Rattle.bp_machine.specs.Setups.{Fits};
 ghost use Rattle.bp_explore.specs.Searches.{failures, IsSearchEnd};
 ghost use Rattle.bp_explore.specs.Explorations.{IsExploration};
 ghost use Rattle.bp_explore.specs.ThroughExplorations.{IsThrough};
@@ -25,9 +23,8 @@ fn ending_of(
     space: &Space,
     end: SearchEnd,
 ) -> Result<Ending, AllocError>
-    requires { FitsCode code.now setup.now }
-    ensures { (t : Program) (bound : Option ℕ) (with_deadlock : Bool)
-        → StandsFor code.now t
+    requires { Fits code.now.tree setup.now }
+    ensures { let t = code.now.tree in (bound : Option ℕ) (with_deadlock : Bool)
         → IsSearchEnd t setup.now failures bound with_deadlock space.now.nodes.items end
         → IfOk result (IsExploration code.now t setup.now bound with_deadlock) }
 {
@@ -64,10 +61,11 @@ pub fn explore<P: Watcher>(
     with_deadlock: bool,
     watcher: &P,
 ) -> Result<Explored, AllocError>
-    requires { FitsCode code.now setup.now }
-    ensures { InEach code.now (λ t.
-        IfOk result (λ x. IsExploration code.now t setup.now contexts with_deadlock x.ending)) }
+    requires { Fits code.now.tree setup.now }
+    ensures { let t = code.now.tree in
+        IfOk result (λ x. IsExploration code.now t setup.now contexts with_deadlock x.ending) }
 {
+    code.is_of_a_program();
     let first = State::first(alloc, code, setup)?;
     let mut space = Space::new(alloc, first, states)?;
     let end = search(
@@ -97,11 +95,10 @@ fn through_ending_of<O: Observer>(
     space: &Space,
     end: SearchEnd,
 ) -> Result<ThroughEnding, AllocError>
-    requires fits { FitsCode code.now setup.now }
+    requires fits { Fits code.now.tree setup.now }
     requires some { 0 < (O.listed observer.now).count }
     ensures { let o = O.listed observer.now in
-        (t : Program) (bound : Option ℕ)
-        → StandsFor code.now t
+        let t = code.now.tree in (bound : Option ℕ)
         → o.is_of t
         → IsSearchEnd t setup.now o bound false space.now.nodes.items end
         → IfOk result (IsThrough code.now t setup.now o bound) }
@@ -147,12 +144,13 @@ pub fn explore_through<O: Observer, P: Watcher>(
     states: usize,
     watcher: &P,
 ) -> Result<ExploredThrough, AllocError>
-    requires fits { FitsCode code.now setup.now }
+    requires fits { Fits code.now.tree setup.now }
     requires some { 0 < (O.listed observer.now).count }
     ensures { let o = O.listed observer.now in
-        InEach code.now (λ t. o.is_of t
-        → IfOk result (λ x. IsThrough code.now t setup.now o contexts x.ending)) }
+        let t = code.now.tree in o.is_of t
+        → IfOk result (λ x. IsThrough code.now t setup.now o contexts x.ending) }
 {
+    code.is_of_a_program();
     let first = State::first(alloc, code, setup)?;
     let mut space = Space::new(alloc, first, states)?;
     let end = search(&mut space, code, setup, observer, contexts, false, watcher);

@@ -1,12 +1,10 @@
 //! Playing the run that an exploration found, on a session.
 //! Playing a run on a session.
 //! Playing the run that makes listed steps, on a session.
-ghost use Rattle.std.specs.Prelude.{◌≡◌, IsTrue, List, IfOk, ◌<◌, ◌≤◌, true, [], IfSome, length};
-ghost use Rattle.bp_flat.specs.StandsFor.{InEach};
-ghost use Rattle.bp_machine.specs.declared.calls.Call.{Call as Answered};
+ghost use Rattle.std.specs.Prelude.{◌≡◌, IsTrue, IfOk, ◌<◌, ◌≤◌, true, [], IfSome, length};
 ghost use Rattle.bp_machine.specs.Histories.{configuration_after, calls_of_thread, granted_calls, is_granted};
 ghost use Rattle.bp_machine.specs.Sessions.{Stands, AfterEach};
-ghost use Rattle.bp_machine.specs.Setups.{FitsCode, threads};
+ghost use Rattle.bp_machine.specs.Setups.{Fits, threads};
 ghost use Rattle.bp_machine.specs.declared.limits.TheConstants.{MAX_CALLS, MAX_CONTEXTS};
 ghost use Rattle.bp_explore.specs.Explorations.{IsFinding, IsPlayed, most_calls};
 ghost use Rattle.bp_explore.specs.Searches.{IsPlayedTo, IsReplay};
@@ -39,8 +37,8 @@ pub(crate) fn played(
     contexts: u32,
     finding: Finding,
 ) -> Result<Ending, AllocError>
-    requires { FitsCode code.now setup.now }
-    ensures { InEach code.now (λ t. IfOk result (IsPlayed code.now t setup.now contexts finding)) }
+    requires { Fits code.now.tree setup.now }
+    ensures { IfOk result (IsPlayed code.now code.now.tree setup.now contexts finding) }
 {
     let calls = most_calls(setup.threads(), history.as_slice());
     if contexts > MAX_CONTEXTS || calls > MAX_CALLS as usize {
@@ -115,13 +113,13 @@ fn is_same_step(made: Reply, reply: Reply) -> bool
 /// Makes these calls on a session, and returns how many listed steps they make. None if they are
 /// not the machine's own, each a granted step, or go on once all listed steps are made.
 fn play<O: Observer>(session: &mut Session, observer: &O, calls: &[Call]) -> Option<u32>
-    requires stands { InEach session.old.code (λ t. Stands t session.old []) }
+    requires stands { Stands session.old.code.tree session.old [] }
     requires some { 0 < (O.listed observer.now).count }
     ensures played { let o = O.listed observer.now in
         let s = session.new in
         IfSome result (λ made.
-        InEach s.code (λ t.
-        Stands t s calls.now × (o.is_of t → IsPlayedTo t s.setup o calls.now made))) }
+        let t = s.code.tree in
+        Stands t s calls.now × (o.is_of t → IsPlayedTo t s.setup o calls.now made)) }
     ensures granted { IfSome result (λ made. granted_calls calls.now ≡ calls.now) }
     ensures kept { (session.new.code ≡ session.old.code) × (session.new.setup ≡ session.old.setup) }
 {
@@ -160,12 +158,13 @@ pub(crate) fn replay_of<O: Observer>(
     contexts: u32,
     calls: usize,
 ) -> Result<Replay, AllocError>
-    requires fits { FitsCode code.now setup.now }
+    requires fits { Fits code.now.tree setup.now }
     requires some { 0 < (O.listed observer.now).count }
     requires contexts { contexts ≤ MAX_CONTEXTS }
     requires calls { (calls ≤ MAX_CALLS) × (calls ≡ most_calls (threads setup.now) history.now) }
     ensures { let o = O.listed observer.now in
-        InEach code.now (λ t. IfOk result (IsReplay code.now t setup.now o contexts history.now)) }
+        let t = code.now.tree in
+        IfOk result (IsReplay code.now t setup.now o contexts history.now) }
 {
     let allowed = DEFAULT_CALLS.max(calls as u32);
     let own = setup
@@ -188,11 +187,11 @@ pub(crate) fn played_through<O: Observer>(
     history: Vec<Call>,
     contexts: u32,
 ) -> Result<ThroughEnding, AllocError>
-    requires fits { FitsCode code.now setup.now }
+    requires fits { Fits code.now.tree setup.now }
     requires some { 0 < (O.listed observer.now).count }
     ensures { let o = O.listed observer.now in
-        InEach code.now (λ t. o.is_of t
-        → IfOk result (IsPlayedThrough code.now t setup.now o contexts)) }
+        let t = code.now.tree in o.is_of t
+        → IfOk result (IsPlayedThrough code.now t setup.now o contexts) }
 {
     let calls = most_calls(setup.threads(), history.as_slice());
     if contexts > MAX_CONTEXTS || calls > MAX_CALLS as usize {

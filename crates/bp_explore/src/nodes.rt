@@ -1,5 +1,5 @@
 //! The nodes of an exploration, in cells.
-ghost use Rattle.std.specs.Prelude.{◌≡◌, ◌<◌, ◌/◌, ◌%◌, ◌^◌, ◌++◌, ◌∷◌, [], true, IsTrue, List, Option, None, Some, IfOk, OnOk, drop, length, slice_get};
+ghost use Rattle.std.specs.Prelude.{◌≡◌, ◌<◌, ◌/◌, ◌%◌, ◌^◌, ◌++◌, ◌∷◌, [], true, IsTrue, List, Option, None, Some, IfOk, OnOk, length, slice_get};
 ghost use Rattle.bp_language.specs.Ast.{Program};
 ghost use Rattle.bp_flat.specs.Moves.{Configuration};
 ghost use Rattle.bp_machine.specs.declared.stacks.ActivationRecord.{ActivationRecord};
@@ -252,7 +252,7 @@ impl Nodes {
 
     /// Whether the threads are not deadlocked in the spare state.
     pub(crate) fn is_live(&self, code: &Code) -> bool
-        ensures { IsTrue result → IsLive code.now self.now.spare }
+        ensures { IsTrue result → IsLive code.now.tree self.now.spare }
     {
         self.spare.is_live(code)
     }

@@ -1,6 +1,5 @@
 //! Searching a space, layer by layer.
 ghost use Rattle.std.specs.Prelude.{◌≡◌, ◌<◌, ◌∷◌, []};
-ghost use Rattle.bp_flat.specs.StandsFor.{InEach};
 ghost use Rattle.bp_explore.specs.Searches.{BeginsAt, IsSearchEnd};
 
 use crate::explorations::Reason;
@@ -54,8 +53,8 @@ pub(crate) fn search<O: Observer, P: Watcher>(
     requires some { 0 < (O.listed observer.now).count }
     ensures { let o = O.listed observer.now in
         let nodes = space.new.nodes.items in
-        InEach code.now (λ t. o.is_of t
-        → IsSearchEnd t setup.now o contexts with_deadlock nodes result) }
+        let t = code.now.tree in o.is_of t
+        → IsSearchEnd t setup.now o contexts with_deadlock nodes result }
 {
     steps_alike(code);
     match space.first_dead(code, 0, with_deadlock) {

@@ -1,8 +1,7 @@
 //! The space of an exploration: the nodes that were found, in order of their contexts.
 ghost use Rattle.std.specs.Prelude.{◌≡◌, ◌≢◌, ◌<◌, ◌≤◌, ◌+◌, ◌++◌, ◌∷◌, [], ℕ, IsTrue, IsSome, None, Some, IfOk, OnOk, length, slice_get};
-ghost use Rattle.bp_explore.specs.Explorations.{ListedSteps};
 ghost use Rattle.bp_explore.specs.States.{HasKey, NodeOf, node_of, AreLiveFrom};
-ghost use Rattle.bp_explore.specs.Searches.{IsTaken, MayAdd, StayReached, node_with, IsMostMade, level_with, Holds, Has, IsSeen, IsExpanded, IsClosed, AreLayered, AreAtMost, IsGrown, IsExplored, IsFollowed, Step as StepOf};
+ghost use Rattle.bp_explore.specs.Searches.{IsTaken, MayAdd, StayReached, node_with, IsMostMade, level_with, Has, IsSeen, IsExpanded, IsClosed, AreLayered, AreAtMost, IsGrown, IsExplored, IsFollowed, Step as StepOf};
 
 use crate::explorations::Reason;
 use crate::limits::{MAX_STATES, STATES_BETWEEN};
@@ -520,7 +519,7 @@ impl Space {
         ensures live { IfOk result (λ dead.
             dead ≡ None
             → IsTrue with_deadlock
-            → AreLiveFrom code.now self.old.nodes.items from) }
+            → AreLiveFrom code.now.tree self.old.nodes.items from) }
         ensures looked { IfOk result (λ dead. IsSome dead → IsTrue with_deadlock) }
         ensures nodes { self.new.nodes.items ≡ self.old.nodes.items }
     {

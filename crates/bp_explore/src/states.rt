@@ -201,7 +201,7 @@ impl State {
 
     /// Whether the threads are not deadlocked: some thread can go on, or each has ended.
     pub(crate) fn is_live(&self, code: &Code) -> bool
-        ensures { IsTrue result → IsLive code.now self.now }
+        ensures { IsTrue result → IsLive code.now.tree self.now }
     {
         steps_alike(code);
         let mut is_left = false;

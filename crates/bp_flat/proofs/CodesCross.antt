@@ -1,6 +1,7 @@
 -- That codes may be sent to other threads and shared among them, in steps that `search` can take.
 use denote.Param.Send.{IsSend, IsSync, sendable}
 use Rattle.std.proofs.Crossing.{crosses}
+use Rattle.bp_syntax.proofs.TreesCross.{checked_send, checked_sync}
 use Rattle.bp_flat.proofs.exprs.SlotSub.TheLaws.TheKnot.{send-SlotSub, send-SlotExpr, sync-SlotSub, sync-SlotExpr}
 use Rattle.bp_flat.specs.contracts.expr_lists.SlotExprs as SlotExprs
 use Rattle.bp_flat.specs.contracts.expr_lists.Arguments as Arguments
@@ -41,10 +42,10 @@ heading_sync : IsSync Heading.the_row
 heading_sync = search (sendable, crosses) depth 40
 
 parts_send : IsSend Parts.the_row
-parts_send = search (sendable, crosses, instr_send, heading_send) depth 40
+parts_send = search (sendable, crosses, instr_send, heading_send, checked_send) depth 40
 
 parts_sync : IsSync Parts.the_row
-parts_sync = search (sendable, crosses, instr_sync, heading_sync) depth 40
+parts_sync = search (sendable, crosses, instr_sync, heading_sync, checked_sync) depth 40
 
 pub code_send : IsSend Code.the_row
 code_send = search (sendable, crosses, parts_send, parts_sync) depth 40

@@ -1,8 +1,8 @@
 -- Encodings of the data of Flat, for the models of types in src/. No contract names them.
 use Rattle.std.specs.Coded.{Coded, code_by, coded×, coded⊎, coded_ℕ, coded_bool, coded_list, coded_option}
 use Rattle.std.proofs.Common.{ap, inl, inr, ◌≡◌, ℕ, ◌+◌, max, List, [], ◌∷◌, refl, if◌then◌else◌, ◌⊎◌, zero, suc, Bool, true, false, Option}
-use Rattle.bp_language.specs.Ast.{Name, Expression, Constant, Variable, Negation, Operation}
-use Rattle.bp_language.specs.Codes.{coded_expression}
+use Rattle.bp_language.specs.Ast.{Program, Name, Expression, Constant, Variable, Negation, Operation}
+use Rattle.bp_language.specs.Codes.{coded_expression, coded_program}
 use Rattle.bp_flat.specs.declared.slots.Slot.{Slot}
 use Rattle.bp_flat.specs.declared.slots.Slot.TheVariants.{Global, Local}
 use Rattle.bp_flat.specs.Flat.{Formula, Bit, At, Inverse, Joined, Instruction, Skip, Goto, Return, Assign, If, While, Assert, Assume, Print, Call, Heading, Flat}
@@ -149,8 +149,9 @@ coded_instruction =
 
 abbrev pub coded_flat : Coded Flat
 coded_flat =
-    code_by ((List Heading × ℕ) × List Instruction)
-    (coded× (coded× (coded_list coded_heading) coded_ℕ) (coded_list coded_instruction))
-    (λ c. ((c.headings, c.globals), c.instructions))
-    (λ p. record { headings = p.0.0; globals = p.0.1; instructions = p.1 })
+    code_by ((List Heading × ℕ) × (List Instruction × Program))
+    (coded× (coded× (coded_list coded_heading) coded_ℕ)
+    (coded× (coded_list coded_instruction) coded_program))
+    (λ c. ((c.headings, c.globals), (c.instructions, c.tree)))
+    (λ p. record { headings = p.0.0; globals = p.0.1; instructions = p.1.0; tree = p.1.1 })
     (λ _. refl)

@@ -2,6 +2,7 @@
 -- successors by number.
 use Rattle.std.specs.Prelude.{ℕ, Bool, List, Option, bytes_eq, None, Some}
 use Rattle.std.specs.List.{find}
+use Rattle.bp_language.specs.Ast.{Program}
 use Rattle.bp_language.specs.declared.exprs.Op.{Op}
 use Rattle.bp_flat.specs.declared.slots.Slot.{Slot}
 use Rattle.bp_flat.specs.declared.instrs.Kind.{Kind}
@@ -40,15 +41,16 @@ abbrev pub heading : List ℕ → ℕ → ℕ → ℕ → Heading
 heading name formals locals entry =
     record { name = name; formals = formals; locals = locals; entry = entry }
 
--- a whole code, with the number of its globals
+-- a whole code, with the number of its globals and the program that it was compiled from
 pub record Flat : Type 0 where
   pub headings : List Heading
   pub globals : ℕ
   pub instructions : List Instruction
+  pub tree : Program
 
-abbrev pub flat : List Heading → ℕ → List Instruction → Flat
-flat headings globals instructions =
-    record { headings = headings; globals = globals; instructions = instructions }
+abbrev pub flat : List Heading → ℕ → List Instruction → Program → Flat
+flat headings globals instructions tree =
+    record { headings = headings; globals = globals; instructions = instructions; tree = tree }
 
 -- Headings by their names.
 

@@ -182,10 +182,6 @@ pub record StandsFor (c : Flat) (t : Program) : Type 0 where
       → (i : Instruction) × (slice_get c.instructions n ≡ Some i)
       × Does t (places_of t.procedures) p r i
 
--- what holds in each program that the code stands for
-abbrev pub InEach : Flat → (Program → Type 0) → Type 0
-InEach c P = (t : Program) → StandsFor c t → P t
-
 -- the instruction of this number is where the found procedure begins
 pub record IsEntryOf (t : Program) (found : Option Procedure) (n : ℕ) : Type 0 where
   pub procedure : Procedure
@@ -214,11 +210,11 @@ abbrev mutual
   inner_starts (Loops d a) = block_starts a
   inner_starts s = []
 
--- Codes that stand for a program.
-
--- the code stands for the lawful program of some text
-abbrev pub IsOfProgram : Flat → Type 0
-IsOfProgram c = ∥ ((t : Program) × IsLawful t × HasText t × StandsFor c t) ∥₁
+-- the code stands for its tree, which is the lawful program of some text
+pub record IsOfProgram (c : Flat) : Type 0 where
+  pub lawful : IsLawful c.tree
+  pub of_text : HasText c.tree
+  pub stands : StandsFor c c.tree
 
 -- Code and program step alike.
 

@@ -3,17 +3,18 @@ ghost use Rattle.std.specs.Prelude.{◌≡◌, None, IfOk, length, option_map, s
 ghost use Rattle.std.specs.Option.{option_copied};
 ghost use Rattle.bp_flat.specs.Moves.{procedure_named};
 ghost use Rattle.bp_flat.specs.Flat.{flat, heading_named};
-ghost use Rattle.bp_flat.specs.StandsFor.{IsEntryOf, IsOfProgram, InEach};
+ghost use Rattle.bp_flat.specs.StandsFor.{IsEntryOf, IsOfProgram};
 
 use crate::headings::{Heading, find_heading};
 use crate::instrs::Instr;
+use bp_syntax::Checked;
 use std::alloc::{AllocError, Global};
 use std::marker::Model;
 use std::sync::Arc;
 
 /// A program as flat code: one instruction for each statement, numbered from 0 in text order over
 /// all procedures, and one return after each procedure's statements. Each instruction names its
-/// successors. Every code stands for the lawful program of some text. Copies of a code share it.
+/// successors. A code has the lawful program that it stands for. Copies of a code share it.
 #[derive(Drop)]
 pub struct Code {
     parts: Arc<Parts, Global>,
@@ -25,6 +26,7 @@ struct Parts {
     headings: Vec<Heading>,
     globals: u32,
     instrs: Vec<Instr>,
+    checked: Checked,
 }
 
 impl Model for Code {
@@ -39,27 +41,30 @@ impl Model for Code {
     ghost use Rattle.std.specs.Arc.{arc_value};
 
     ghost view = { λ c. let p = arc_value c.parts in
-        flat p.headings.items p.globals p.instrs.items };
+        flat p.headings.items p.globals p.instrs.items p.checked };
 
     ghost invariant = { λ c. let p = arc_value c.parts in
-        IsOfProgram (flat p.headings.items p.globals p.instrs.items) };
+        IsOfProgram (flat p.headings.items p.globals p.instrs.items p.checked) };
 }
 
 impl Code {
-    /// The code with these headings, globals and instructions. Fails only if memory is refused.
+    /// The code of a program with these headings, globals and instructions. Fails only if memory is
+    /// refused.
     pub fn new(
         alloc: Global,
         headings: Vec<Heading>,
         globals: u32,
         instrs: Vec<Instr>,
+        checked: Checked,
     ) -> Result<Code, AllocError>
-        requires { IsOfProgram (flat headings.items globals instrs.items) }
-        ensures { IfOk result (λ c. c ≡ flat headings.items globals instrs.items) }
+        requires { IsOfProgram (flat headings.items globals instrs.items checked) }
+        ensures { IfOk result (λ c. c ≡ flat headings.items globals instrs.items checked) }
     {
         let parts = Parts {
             headings,
             globals,
             instrs,
+            checked,
         };
         let parts = Arc::new(alloc, parts)?;
         Ok(Code { parts })
@@ -68,7 +73,7 @@ impl Code {
     #[inline(always)]
     fn parts(&self) -> &Parts
         ensures { let p = result.now in
-            self.now ≡ flat p.headings.items p.globals p.instrs.items }
+            self.now ≡ flat p.headings.items p.globals p.instrs.items p.checked }
     {
         &self.parts
     }
@@ -90,9 +95,10 @@ impl Code {
     /// The heading of the first procedure of this name, which may be any bytes.
     pub fn heading_of(&self, name: &[u8]) -> Option<&Heading>
         ensures heading { option_copied result ≡ heading_named self.now.headings name.now }
-        ensures program { InEach self.now (λ t. let found = procedure_named t.procedures name.now in
-            option_map (λ h. h.now.formals) result ≡ option_map (λ p. length p.formals) found) }
+        ensures program { let found = procedure_named self.now.tree.procedures name.now in
+            option_map (λ h. h.now.formals) result ≡ option_map (λ p. length p.formals) found }
     {
+        self.is_of_a_program();
         find_heading(self.parts().headings.as_slice(), name)
     }
 
@@ -100,9 +106,10 @@ impl Code {
     pub fn entry(&self, name: &str) -> Option<u32>
         ensures heading { result
             ≡ option_map (λ h. h.entry) (heading_named self.now.headings name.now) }
-        ensures program { InEach self.now (λ t. let found = procedure_named t.procedures name.now in
-            MatchOption result (found ≡ None) (IsEntryOf t found)) }
+        ensures program { let found = procedure_named self.now.tree.procedures name.now in
+            MatchOption result (found ≡ None) (IsEntryOf self.now.tree found) }
     {
+        self.is_of_a_program();
         match find_heading(self.parts().headings.as_slice(), name.as_bytes()) {
             Some(heading) => Some(heading.entry()),
             None => None,
@@ -113,9 +120,10 @@ impl Code {
     pub fn formals(&self, name: &str) -> Option<u32>
         ensures heading { result
             ≡ option_map (λ h. h.formals) (heading_named self.now.headings name.now) }
-        ensures program { InEach self.now (λ t. let found = procedure_named t.procedures name.now in
-            result ≡ option_map (λ p. length p.formals) found) }
+        ensures program { let found = procedure_named self.now.tree.procedures name.now in
+            result ≡ option_map (λ p. length p.formals) found }
     {
+        self.is_of_a_program();
         match find_heading(self.parts().headings.as_slice(), name.as_bytes()) {
             Some(heading) => Some(heading.formals()),
             None => None,
@@ -124,8 +132,10 @@ impl Code {
 
     /// How many globals there are.
     pub fn globals(&self) -> u32
-        ensures { result ≡ self.now.globals }
+        ensures value { result ≡ self.now.globals }
+        ensures program { result ≡ length self.now.tree.globals }
     {
+        self.is_of_a_program();
         self.parts().globals
     }
 
@@ -143,7 +153,14 @@ impl Code {
         self.parts().instrs.as_slice()
     }
 
-    /// The law that every code stands for the lawful program of some text.
+    /// The program that the code stands for.
+    pub fn checked(&self) -> &Checked
+        ensures { result.now ≡ self.now.tree }
+    {
+        &self.parts().checked
+    }
+
+    /// The law that a code stands for its program, which is the lawful program of some text.
     pub fn is_of_a_program(&self)
         ensures { IsOfProgram self.now }
     {

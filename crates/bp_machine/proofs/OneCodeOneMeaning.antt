@@ -1,6 +1,6 @@
 -- Programs for which one code stands have the same legal histories and printed rows: each of them
 -- does what the code does.
-use Rattle.bp_machine.proofs.Common.{◌≡◌, ◌≢◌, ℕ, zero, suc, ◌+◌, ◌<◌, ◌==◌, ◌&&◌, nat_le, not, Bool, true, false, cond, List, [], ◌∷◌, ◌++◌, length, map, get_or, Option, None, Some, refl, ap, sym, ◌∙◌, subst, arith, inl, inr, slice_get, slice_set, option_map, unwrap_or, rules, option_to_list, get_or-set_same, get_or-set_other, get_or_past, cases_lt, nat_tests, Block, Procedure, Program, Frame, Configuration, is_call, first_stack, procedure_named, StatementEffect, Leaves, Blocks, Misses, effect, after_effect, Flat, Instruction, Bits, Activation, InstructionEffect, bits_from, step, StandsFor, Does, valuation_of, places_of, ShowsStack, SameEffect, Reply, Stopped, Ended, NoContexts, Full, Blocked, Failed, Stepped, MAX_FRAMES, is_granted, stack_of, reply_to_effect, reply_on_stack, reply_of, configuration_after_step, configuration_after_call, configuration_after, IsLegalAfter, IsLegal, first_thread, activations, SetupOf, start, entries_fault, entry_fault, Fits, FitsCode, rows_of_call, rows_after, printed_rows}
+use Rattle.bp_machine.proofs.Common.{◌≡◌, ◌≢◌, ℕ, zero, suc, ◌+◌, ◌<◌, ◌==◌, ◌&&◌, nat_le, not, Bool, true, false, cond, List, [], ◌∷◌, ◌++◌, length, map, get_or, Option, None, Some, refl, ap, sym, ◌∙◌, subst, arith, inl, inr, slice_get, slice_set, option_map, unwrap_or, rules, option_to_list, get_or-set_same, get_or-set_other, get_or_past, cases_lt, nat_tests, Block, Procedure, Program, Frame, Configuration, is_call, first_stack, procedure_named, StatementEffect, Leaves, Blocks, Misses, effect, after_effect, Flat, Instruction, Bits, Activation, InstructionEffect, bits_from, step, StandsFor, Does, valuation_of, places_of, ShowsStack, SameEffect, Reply, Stopped, Ended, NoContexts, Full, Blocked, Failed, Stepped, MAX_FRAMES, is_granted, stack_of, reply_to_effect, reply_on_stack, reply_of, configuration_after_step, configuration_after_call, configuration_after, IsLegalAfter, IsLegal, first_thread, activations, SetupOf, start, entries_fault, entry_fault, Fits, rows_of_call, rows_after, printed_rows}
 use Rattle.bp_flat.specs.Moves.{Fails}
 use Rattle.bp_flat.specs.Flat.{Call}
 use Rattle.bp_flat.proofs.StandsForStepsAlike.{steps_alike}
@@ -199,7 +199,7 @@ module _ (c : Flat) (t u : Program) (st : StandsFor c t) (su : StandsFor c u) (s
       let later = same_rows (state_after_call c.instructions z x) _ _ xs (shows_after c t st z k one x) (shows_after c u su z l two x) in
       λ j. here j ++ later j
 
-  pub one_meaning : FitsCode c s → (h : List calls.Call) → IsLegal t s h → IsLegal u s h × (printed_rows t s h ≡ printed_rows u s h)
+  pub one_meaning : ((v : Program) → StandsFor c v → Fits v s) → (h : List calls.Call) → IsLegal t s h → IsLegal u s h × (printed_rows t s h ≡ printed_rows u s h)
   one_meaning fits h legal =
       let one = shows_start c t s st (fits t st) in
       let two = shows_start c u s su (fits u su) in

@@ -131,7 +131,7 @@ same_thread_count x i guest v = search (rules, length-set)
 pub still_in_order : (x y : SessionOf) (i : ℕ) (guest : GuestThreadOf) (v : Transition)
     → y.code ≡ x.code → y.setup ≡ x.setup → y.machine.state ≡ state_after x.machine.state i guest v → length y.choices ≡ length x.choices
     → IsInOrder x
-    → ((t : Program) (h : List Call) → StandsFor x.code t → Stands t x h → (g : List Call) × Stands t y g)
+    → ((h : List Call) → Stands x.code.tree x h → (g : List Call) × Stands x.code.tree y g)
     → IsInOrder y
 still_in_order x y i guest v code setup made count order goes_on = record {
   range = subst IsInRange (sym setup) order.range;
@@ -140,8 +140,8 @@ still_in_order x y i guest v code setup made count order goes_on = record {
   stands = ∥∥₁_map order.stands next;
 }
   where
-    next : (t : Program) × (h : List Call) × StandsFor x.code t × Stands t x h → (t : Program) × (h : List Call) × StandsFor y.code t × Stands t y h
-    next (t, h, is, stands) = let later = goes_on t h is stands in (t, later.0, subst (λ c. StandsFor c t) (sym code) is, later.1)
+    next : (h : List Call) × Stands x.code.tree x h → (h : List Call) × Stands y.code.tree y h
+    next (h, stands) = let later = goes_on h stands in (later.0, subst (λ c. Stands c.tree y later.0) (sym code) later.1)
 
 -- one more line of those that were counted
 pub count_more : (t : Program) (s : SetupOf) (x : State) (h : List Call) (stands : StandsAfter t s x h) (i : ℕ)
@@ -212,7 +212,7 @@ module _ (c : Flat) (s : SetupOf) (machine later : MachineOf) (same : later.stat
     pub made_stands : (t : Program) (h : List Call) → StepsAlike c t → Stands t (session_of c s machine choices) h → Stands t y (h ++ p.call ∷ [])
     made_stands t h alike stands = stands_from t h alike (still_stands c s machine later same choices t h stands)
 
-    pub made_in_order : ((t : Program) → StandsFor c t → StepsAlike c t) → IsInOrder y
+    pub made_in_order : StepsAlike c c.tree → IsInOrder y
     made_in_order alike =
         still_in_order x y p.call.thread now_judged.transition.guest p.transition refl refl made_is drawn_are.count
-        in_order (λ t h is stands. (_, stands_from t h (alike t is) stands))
+        in_order (λ h stands. (_, stands_from c.tree h alike stands))

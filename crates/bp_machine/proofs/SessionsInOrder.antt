@@ -1,5 +1,5 @@
 -- A session that is new is in order, and one that makes room for a call stays so; a call that was judged may be made.
-use Rattle.bp_machine.proofs.Common.{◌≡◌, ℕ, zero, suc, ◌+◌, ◌==◌, Bool, false, List, [], ◌∷◌, ◌++◌, length, map, Option, None, Some, refl, ap, sym, ◌∙◌, subst, ◌<◌, ◌^◌, nat_le, true, arith, ◌⊎◌, ◌-◌, drop, reverse, inl, inr, slice_get, option_map, slice_set, rules, option_or, length-map, reverse-append, slice_get-map, get_or_from_slice_get, ∥∥₁_map, set-append_seam, Name, Procedure, Program, regrouped, bits_of, binding, procedure_named, first_stack, Flat, Heading, heading_named, Instruction, bits_from, StandsFor, valuation_of, places_of, ShowsStack, IsOfProgram, SameHeading, heading_of_procedure, SetupFault, IsCountOf, State, activations, ShowsThread, StandsAfter, GuestThreadOf, first_thread, used_with, MachineOf, SessionOf, Stands, IsInOrder, top_of, with_top, entered_top, SetupOf, start, entry_fault, entries_fault, Fits, IsInRange, FitsCode, Clean, is_failure, ChoicesOf, Call, Judged, ActivationRecord, is_over, session_of, AreFirstChoices, IsJudged}
+use Rattle.bp_machine.proofs.Common.{◌≡◌, ℕ, zero, suc, ◌+◌, ◌==◌, Bool, false, List, [], ◌∷◌, ◌++◌, length, map, Option, None, Some, refl, ap, sym, ◌∙◌, subst, ◌<◌, ◌^◌, nat_le, true, arith, ◌⊎◌, ◌-◌, drop, reverse, inl, inr, slice_get, option_map, slice_set, rules, option_or, length-map, reverse-append, slice_get-map, get_or_from_slice_get, ∥∥₁_map, set-append_seam, Name, Procedure, Program, regrouped, bits_of, binding, procedure_named, first_stack, Flat, Heading, heading_named, Instruction, bits_from, StandsFor, valuation_of, places_of, ShowsStack, IsOfProgram, SameHeading, heading_of_procedure, SetupFault, IsCountOf, State, activations, ShowsThread, StandsAfter, GuestThreadOf, first_thread, used_with, MachineOf, SessionOf, Stands, IsInOrder, top_of, with_top, entered_top, SetupOf, start, entry_fault, entries_fault, Fits, IsInRange, Clean, is_failure, ChoicesOf, Call, Judged, ActivationRecord, is_over, session_of, AreFirstChoices, IsJudged}
 use Rattle.std.proofs.Math.Path.{fun_ext}
 use Rattle.std.proofs.lemmas.List.{length-append}
 use Rattle.std.proofs.lemmas.Nat.Bits.{bit_at-zero}
@@ -82,14 +82,14 @@ module _ (c : Flat) (t : Program) (s : SetupOf) (is : StandsFor c t) where
 -- a new session
 module _ (c : Flat) (s : SetupOf) (machine : MachineOf) (choices : List ChoicesOf) (word : ℕ) (gs : List GuestThreadOf)
     (is : machine.state ≡ record { globals = word; threads = gs; contexts = record { used = 0; last = None }; outcome = Clean })
-    (bits : bits_of word ≡ bits_from s.init) (threads_are : gs ≡ map (first_thread c) s.entries) (fits : FitsCode c s) (first : AreFirstChoices s choices) where
+    (bits : bits_of word ≡ bits_from s.init) (threads_are : gs ≡ map (first_thread c) s.entries) (fits : Fits c.tree s) (first : AreFirstChoices s choices) where
   abbrev x : SessionOf
   x = session_of c s machine choices
 
-  pub stands_at_start : (t : Program) → StandsFor c t → Stands t x []
-  stands_at_start t stands_for = record {
+  pub stands_at_start : StandsFor c c.tree → Stands c.tree x []
+  stands_at_start stands_for = record {
     state =
-        starts c t s stands_for machine.state (fits t stands_for) (ap (λ z. bits_of z.globals) is ∙ bits)
+        starts c c.tree s stands_for machine.state fits (ap (λ z. bits_of z.globals) is ∙ bits)
         (ap (λ z. z.threads) is ∙ threads_are) (ap (λ z. z.contexts) is) (ap (λ z. z.outcome) is);
     seeded = λ seed e. λ i n y at. cc;
     choices = first.each;
@@ -100,12 +100,12 @@ module _ (c : Flat) (s : SetupOf) (machine : MachineOf) (choices : List ChoicesO
     range = range;
     thread_count = ap (λ z. length z.threads) is ∙ ap length threads_are ∙ length-map s.entries (first_thread c);
     choice_count = first.count;
-    stands = ∥∥₁_map of_some (λ p. (p.0, [], p.3, stands_at_start p.0 p.3));
+    stands = ∣ ([], stands_at_start of_some.stands) ∣₁;
   }
 
 -- the same setup with another seed, or with none
-pub fits_anew : (c : Flat) (s z : SetupOf) (seed : Option ℕ) → z ≡ record s { seed = seed } → FitsCode c s → FitsCode c z
-fits_anew c s z seed e fits = subst (FitsCode c) (sym e) (λ t is. record { entries = (fits t is).entries; init = (fits t is).init })
+pub fits_anew : (t : Program) (s z : SetupOf) (seed : Option ℕ) → z ≡ record s { seed = seed } → Fits t s → Fits t z
+fits_anew t s z seed e fits = subst (Fits t) (sym e) (record { entries = fits.entries; init = fits.init })
 
 pub in_range_anew : (s z : SetupOf) (seed : Option ℕ) → z ≡ record s { seed = seed } → IsInRange s → IsInRange z
 in_range_anew s z seed given1 given2 = grind (arith)
@@ -126,7 +126,7 @@ module _ (c : Flat) (s : SetupOf) (machine later : MachineOf) (same : later.stat
     range = order.range;
     thread_count = ap (λ z. length z.threads) same ∙ order.thread_count;
     choice_count = order.choice_count;
-    stands = ∥∥₁_map order.stands (λ p. (p.0, p.1, p.2, still_stands p.0 p.1 p.3));
+    stands = ∥∥₁_map order.stands (λ p. (p.0, still_stands c.tree p.0 p.1));
   }
 
   pub still_judged : (i : ℕ) (given : Option Bool) (p : Judged) → IsJudged before i given p → IsJudged after p.call.thread given p

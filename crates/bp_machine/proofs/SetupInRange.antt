@@ -1,5 +1,5 @@
 -- A setup without a fault fits its program, and its numbers are within their limits, since a program has few globals.
-use Rattle.bp_machine.proofs.Common.{◌≡◌, ℕ, Bool, true, false, List, refl, sym, ◌<◌, ◌≤◌, ◌==◌, ◌||◌, nat_lt, not, length, [], ◌∷◌, Option, None, Some, arith, ◌≢◌, ◌+◌, cond, All, ◌∙◌, subst, bytes_eq, zero, suc, ap, option_map, map, get_or, take, ◌++◌, Bor, String, Global, string_bytes, if◌then◌else◌, drop, add-one, replicate, slice_get, is_some, rules, false≢true, ∥∥₁_map, ∥∥₁_elim, ℕ_set, option_or, option_copied, nat_tests, AllByRecursion, map-append, take_more, take-replicate, slice_get-map, slice_get-get_or, Program, Procedure, Flat, Heading, heading_named, StandsFor, IsOfProgram, procedure_named, formals_of_procedure, Call, open_lines, SessionOf, Stands, StandsForAll, SetupFault, MAX_THREADS, MAX_CALLS, SetupOf, threads, entries_fault, fault_if, first_of, has_bad_threads, is_out_of_range, setup_fault, Fits, IsInRange, entry_fault, IsSetupRefusal, initial_bits}
+use Rattle.bp_machine.proofs.Common.{◌≡◌, ℕ, Bool, true, false, List, refl, sym, ◌<◌, ◌≤◌, ◌==◌, ◌||◌, nat_lt, not, length, [], ◌∷◌, Option, None, Some, arith, ◌≢◌, ◌+◌, cond, All, ◌∙◌, subst, bytes_eq, zero, suc, ap, option_map, map, get_or, take, ◌++◌, Bor, String, Global, string_bytes, if◌then◌else◌, drop, add-one, replicate, slice_get, is_some, rules, false≢true, ∥∥₁_map, ∥∥₁_elim, ℕ_set, option_or, option_copied, nat_tests, AllByRecursion, map-append, take_more, take-replicate, slice_get-map, slice_get-get_or, Program, Procedure, Flat, Heading, heading_named, StandsFor, IsOfProgram, procedure_named, formals_of_procedure, Call, open_lines, SessionOf, Stands, SetupFault, MAX_THREADS, MAX_CALLS, SetupOf, threads, entries_fault, fault_if, first_of, has_bad_threads, is_out_of_range, setup_fault, Fits, IsInRange, entry_fault, IsSetupRefusal, initial_bits}
 use Rattle.std.specs.Coded.{le_prop}
 use Rattle.std.proofs.lemmas.List.Elements.{All-nil, All-cons}
 use Rattle.std.proofs.lemmas.Slice.Eq.{bytes_eq-Decides}
@@ -13,34 +13,16 @@ use Rattle.bp_language.proofs.SpelledNames.{on_one_line, spelled_names}
 use Rattle.bp_flat.specs.declared.headings.Heading as kept
 use Rattle.bp_machine.specs.declared.setup_faults.SetupFault.TheVariants.{Threads, InitLength, OutOfRange, EntryHasFormals, Memory}
 
--- What holds for every program that a code stands for, where it stands for one.
+-- a code by another name stands for its program
+pub stands_for_own : {c d : Flat} → d ≡ c → IsOfProgram d → StandsFor c c.tree
+stands_for_own e of = (subst IsOfProgram e of).stands
 
-pub for_one : (c : Flat) (P : Type 0) → IsOfProgram c → ((t : Program) → StandsFor c t → P) → ∥ P ∥₁
-for_one c P of_some each = ∥∥₁_map of_some (λ p. each p.0 p.3)
-
-pub same_number : (c : Flat) (m n : ℕ) → IsOfProgram c → ((t : Program) → StandsFor c t → m ≡ n) → m ≡ n
-same_number c m n of_some each = ∥∥₁_elim (for_one c (m ≡ n) of_some each) (ℕ_set m n) (λ e. e)
-
-pub is_true : (c : Flat) (b : Bool) → IsOfProgram c → ((t : Program) → StandsFor c t → b ≡ true) → b ≡ true
-is_true c true of_some each = refl
-is_true c false of_some each = absurd (∥∥₁_elim (for_one c ⊥ of_some (λ t is. false≢true (each t is))) (λ x y. absurd x) (λ e. e))
-
-pub is_untrue : (c : Flat) (b : Bool) → IsOfProgram c → ((t : Program) → StandsFor c t → b ≡ false) → b ≡ false
-is_untrue c false of_some each = refl
-is_untrue c true of_some each = absurd (∥∥₁_elim (for_one c ⊥ of_some (λ t is. false≢true (sym (each t is)))) (λ x y. absurd x) (λ e. e))
-
-pub is_false : (c : Flat) (P : Type 0) → IsOfProgram c → ((t : Program) → StandsFor c t → P → ⊥) → P → ⊥
-is_false c P of_some each p = ∥∥₁_elim (for_one c ⊥ of_some (λ t is. each t is p)) (λ x y. absurd x) (λ e. e)
-
-module _ (x : SessionOf) (h : List Call) (of_some : IsOfProgram x.code) (stands : StandsForAll x h) where
-  pub same_open : (n : ℕ) → ((t : Program) (g : List Call) → Stands t x g → n ≡ open_lines x.setup g) → n ≡ open_lines x.setup h
-  same_open n counted = same_number x.code n (open_lines x.setup h) of_some (λ t is. counted t h (stands t is))
+-- a session that stands after a history of the program of a code does so by another name of the code
+pub stands_of : {c d : Flat} {x : SessionOf} {h : List Call} → c ≡ d → Stands c.tree x h → Stands d.tree x h
+stands_of {x = x} {h = h} e stands = subst (λ (k : Flat). Stands k.tree x h) e stands
 
 pub few_globals : (c : Flat) → IsOfProgram c → c.globals ≤ MAX_GLOBALS
-few_globals c of_some = ∥∥₁_elim of_some le_prop few
-  where
-    few : (t : Program) × IsLawful t × HasText t × StandsFor c t → c.globals ≤ MAX_GLOBALS
-    few (t, is_lawful, of_text, is) = omega (arith, (few_names t is_lawful).globals, is.globals)
+few_globals c of_some = omega (arith, (few_names c.tree of_some.lawful).globals, of_some.stands.globals)
 
 pub neither : {X : Type 0} (a b : Option X) → option_or a b ≡ None → (a ≡ None) × (b ≡ None)
 neither given1 = grind (arith)
@@ -87,20 +69,6 @@ module _ (t : Program) (s : SetupOf) (none : setup_fault t s ≡ None) where
 
   pub range_of : IsLawful t → IsInRange s
   range_of is_lawful = range_by s threads_fine numbers_fine (omega (arith, (few_names t is_lawful).globals, fits.init))
-
--- a setup without a fault for the programs that a code stands for
-module _ (c : Flat) (s : SetupOf) (of_some : IsOfProgram c) (none : (t : Program) → StandsFor c t → setup_fault t s ≡ None) where
-  few_bits : length s.init ≤ MAX_GLOBALS
-  few_bits = ∥∥₁_elim of_some le_prop few
-    where
-      few : (t : Program) × IsLawful t × HasText t × StandsFor c t → length s.init ≤ MAX_GLOBALS
-      few (t, is_lawful, of_text, is) = omega (arith, (few_names t is_lawful).globals, (fits t s (none t is)).init)
-
-  pub in_range : IsInRange s
-  in_range =
-      let good_threads = is_untrue c (has_bad_threads s) of_some (λ t is. threads_fine t s (none t is)) in
-      let numbers = is_untrue c (is_out_of_range s) of_some (λ t is. numbers_fine t s (none t is)) in
-      range_by s good_threads numbers few_bits
 
 -- The entries of a setup without a fault are names of the program, and have what each of its names has.
 
@@ -158,9 +126,9 @@ module _ (c : Flat) (t : Program) (is : StandsFor c t) where
   each_found (e ∷ es) k zero name none at = search (rules, neither, some_heading, formals_of_procedure)
   each_found (e ∷ es) k (suc i) name none at = search (rules, (each_found es (k + 1) i name (neither (entry_fault k (procedure_named t.procedures e)) (entries_fault t (k + 1) es) none).1 at), neither)
 
-pub names_found : (c : Flat) (es : List (List ℕ)) → IsOfProgram c → ((t : Program) → StandsFor c t → entries_fault t 0 es ≡ None)
+pub names_found : (c : Flat) (es : List (List ℕ)) → IsOfProgram c → entries_fault c.tree 0 es ≡ None
     → (i : ℕ) (name : List ℕ) → slice_get es i ≡ Some name → is_some (heading_named c.headings name) ≡ true
-names_found c es of_some none i name at = is_true c (is_some (heading_named c.headings name)) of_some (λ t is. each_found c t is es 0 i name (none t is) at)
+names_found c es of_some none i name at = each_found c c.tree of_some.stands es 0 i name none at
 
 -- what a search answers
 pub found_somewhere : (o : Option (Bor kept.Heading)) (h : Option Heading) → option_copied o ≡ h → is_some h ≡ true → ((x : Bor Heading) → o ≡ Some x → ⊥) → ⊥

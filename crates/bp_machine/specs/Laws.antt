@@ -10,7 +10,7 @@ use Rattle.bp_machine.specs.declared.calls.Reply.{Reply}
 use Rattle.bp_machine.specs.declared.calls.Outcome.TheVariants.{Failed}
 use Rattle.bp_machine.specs.Histories.{reply_of, IsWithin, is_granted, configuration_after, granted_threads, granted_calls, IsLegal, IsRun, outcome_of, IsRealFailure}
 use Rattle.bp_machine.specs.Runs.{IsBoundedRun, history_of_run, IsHistoryOfSteps, HasBoundedRun, IsDeadlocked, printed_rows}
-use Rattle.bp_machine.specs.Setups.{SetupOf, start, threads, Fits, FitsCode}
+use Rattle.bp_machine.specs.Setups.{SetupOf, start, threads, Fits}
 
 -- the granted steps of a legal history are moves, one after the other, from the start
 abbrev pub StepsAreARun : Type 0
@@ -88,6 +88,6 @@ OneCodeOneMeaning =
     (c : Flat) (t u : Program) (s : SetupOf) (h : List Call)
     → StandsFor c t
     → StandsFor c u
-    → FitsCode c s
+    → ((v : Program) → StandsFor c v → Fits v s)
     → IsLegal t s h
     → IsLegal u s h × (printed_rows t s h ≡ printed_rows u s h)

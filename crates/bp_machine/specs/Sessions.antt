@@ -5,7 +5,7 @@ use Rattle.bp_flat.specs.Flat.{Flat, heading_named}
 use Rattle.bp_flat.specs.Moves.{Configuration, Frame, is_call}
 use Rattle.bp_flat.specs.InstrEffects.{bits_of}
 use Rattle.bp_flat.specs.Steps.{Activation}
-use Rattle.bp_flat.specs.StandsFor.{valuation_of, ShowsStack, StandsFor}
+use Rattle.bp_flat.specs.StandsFor.{valuation_of, ShowsStack}
 use Rattle.bp_machine.specs.declared.contexts.ContextCount.{ContextCount}
 use Rattle.bp_machine.specs.Histories.{IsLeastWithin, stack_of, configuration_after, granted_threads, calls_of_thread, ends_with_last, IsLegal, outcome_of, is_failure, ChoicesOf, IsAt, HasSeededBits, IsBitOfCall, Answers, is_finished, IsAllowed}
 use Rattle.bp_machine.specs.declared.stacks.ActivationRecord.{ActivationRecord}
@@ -153,25 +153,20 @@ pub record Stands (t : Program) (x : SessionOf) (h : List Call) : Type 0 where
       → slice_get x.choices i ≡ Some c
       → IsAt c seed i (length (calls_of_thread i h))
 
--- what holds in each program that the session's code stands for, after each history after which
--- the session stands
+-- what holds in the session's program after each history after which the session stands
 abbrev pub AfterEach : SessionOf → (Program → List Call → Type 0) → Type 0
-AfterEach x P = (t : Program) (h : List Call) → StandsFor x.code t → Stands t x h → P t h
-
--- the session stands after the history of every program that its code stands for
-abbrev pub StandsForAll : SessionOf → List Call → Type 0
-StandsForAll x h = (t : Program) → StandsFor x.code t → Stands t x h
+AfterEach x P = (h : List Call) → Stands x.code.tree x h → P x.code.tree h
 
 -- where the session has choices, they are those of its threads
 abbrev pub choices_of : SetupOf → ℕ
 choices_of s = if is_some s.seed then threads s else 0
 
--- the session stands after some legal history of some program that its code stands for
+-- the session stands after some legal history of its program
 pub record IsInOrder (x : SessionOf) : Type 0 where
   pub range : IsInRange x.setup
   pub thread_count : length x.machine.state.threads ≡ threads x.setup
   pub choice_count : length x.choices ≡ choices_of x.setup
-  pub stands : ∥ ((t : Program) × (h : List Call) × StandsFor x.code t × Stands t x h) ∥₁
+  pub stands : ∥ ((h : List Call) × Stands x.code.tree x h) ∥₁
 
 -- the machine would grant the next step of thread i, which is a call
 pub record IsCallStep (t : Program) (s : SetupOf) (h : List Call) (i : ℕ) (bit : Bool)

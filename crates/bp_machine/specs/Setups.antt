@@ -5,7 +5,6 @@ use Rattle.bp_language.specs.Ast.{Procedure, Program}
 use Rattle.bp_language.specs.declared.limits.TheConstants.{MAX_GLOBALS}
 use Rattle.bp_flat.specs.Moves.{Configuration, procedure_named, start_of}
 use Rattle.bp_flat.specs.Flat.{Flat}
-use Rattle.bp_flat.specs.StandsFor.{StandsFor}
 use Rattle.bp_machine.specs.declared.limits.TheConstants.{MAX_THREADS, MAX_CONTEXTS, MAX_CALLS, DEFAULT_CONTEXTS, DEFAULT_CALLS}
 use Rattle.bp_machine.specs.declared.setup_faults.SetupFault.{SetupFault}
 use Rattle.bp_machine.specs.declared.setup_faults.SetupFault.TheVariants.{Threads, UnknownEntry, EntryHasFormals, InitLength, OutOfRange, Memory}
@@ -90,10 +89,6 @@ IsSetupRefusal t s f = setup_fault t s ≡ Some f
 pub record Fits (t : Program) (s : SetupOf) : Type 0 where
   pub entries : entries_fault t 0 s.entries ≡ None
   pub init : length s.init ≡ length t.globals
-
--- the setup fits each program that the code stands for
-abbrev pub FitsCode : Flat → SetupOf → Type 0
-FitsCode c s = (t : Program) → StandsFor c t → Fits t s
 
 -- the numbers are within their limits, and there are no more bits than a program may have globals
 pub record IsInRange (s : SetupOf) : Type 0 where

@@ -1,7 +1,6 @@
 //! Sessions: the sequential machine, one call at a time.
 ghost use Rattle.std.specs.Prelude.{◌≡◌, ◌++◌, ◌∷◌, [], None, Some, IfOk, IsOk, OnOk, OnErr, MatchResult};
-ghost use Rattle.bp_flat.specs.StandsFor.{InEach};
-ghost use Rattle.bp_machine.specs.Setups.{FitsCode};
+ghost use Rattle.bp_machine.specs.Setups.{Fits};
 ghost use Rattle.bp_machine.specs.Sessions.{Stands, IsNextCall, IsAskRefusal, given_bit, AfterEach};
 ghost use Rattle.bp_machine.specs.Transitions.{AreFirstChoices, AreDrawn, IsGiven};
 
@@ -102,8 +101,8 @@ pub(crate) fn draw(choices: &mut Vec<Choices>, thread: usize)
 impl Session {
     /// A session of a code in a setup that fits it, before any call.
     pub fn new(alloc: Global, code: &Code, setup: &Setup) -> Result<Session, AllocError>
-        requires { FitsCode code.now setup.now }
-        ensures stands { IfOk result (λ x. InEach code.now (λ t. Stands t x [])) }
+        requires { Fits code.now.tree setup.now }
+        ensures stands { IfOk result (λ x. Stands code.now.tree x []) }
         ensures kept { IfOk result (λ x. (x.code ≡ code.now) × (x.setup ≡ setup.now)) }
     {
         code.is_of_a_program();

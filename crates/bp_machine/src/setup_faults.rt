@@ -1,7 +1,6 @@
 //! Why a setup is refused.
 ghost use Rattle.std.specs.Prelude.{◌≡◌, ◌≤◌, [], None, map, length, string_bytes};
 ghost use Rattle.bp_flat.specs.Moves.{procedure_named};
-ghost use Rattle.bp_flat.specs.StandsFor.{InEach};
 ghost use Rattle.bp_machine.specs.declared.limits.TheConstants.{MAX_THREADS};
 ghost use Rattle.bp_machine.specs.Setups.{setup_of, entries_fault, entry_fault, first_of, number_faults, setup_fault};
 
@@ -35,8 +34,8 @@ pub enum SetupFault {
 
 /// The fault of the entry of a thread.
 pub(crate) fn fault_of_entry(code: &Code, thread: u32, name: &[u8]) -> Option<SetupFault>
-    ensures { InEach code.now (λ t.
-        result ≡ entry_fault thread (procedure_named t.procedures name.now)) }
+    ensures { let t = code.now.tree in
+        result ≡ entry_fault thread (procedure_named t.procedures name.now) }
 {
     match code.heading_of(name) {
         None => Some(SetupFault::UnknownEntry(thread)),
@@ -48,7 +47,7 @@ pub(crate) fn fault_of_entry(code: &Code, thread: u32, name: &[u8]) -> Option<Se
 /// The first fault of the entries.
 pub(crate) fn fault_of_entries(code: &Code, entries: &[String]) -> Option<SetupFault>
     requires { length entries.now ≤ MAX_THREADS }
-    ensures { InEach code.now (λ t. result ≡ entries_fault t 0 (map string_bytes entries.now)) }
+    ensures { result ≡ entries_fault code.now.tree 0 (map string_bytes entries.now) }
 {
     for (thread, name) in entries.iter().enumerate() {
         let fault = fault_of_entry(code, thread as u32, name.as_bytes());
@@ -67,7 +66,7 @@ pub(crate) fn fault_of_numbers(
     calls: u64,
 ) -> Option<SetupFault>
     ensures { let given = setup_of [] init.now contexts calls None in
-        InEach code.now (λ t. result ≡ first_of (number_faults t given)) }
+        result ≡ first_of (number_faults code.now.tree given) }
 {
     if init.len() != code.globals() as usize {
         return Some(SetupFault::InitLength);
@@ -87,7 +86,7 @@ pub(crate) fn fault_of_setup(
     calls: u32,
 ) -> Option<SetupFault>
     ensures { let given = setup_of (map string_bytes entries.now) init.now contexts calls None in
-        InEach code.now (λ t. result ≡ setup_fault t given) }
+        result ≡ setup_fault code.now.tree given }
 {
     if entries.is_empty() || entries.len() > MAX_THREADS {
         return Some(SetupFault::Threads);

@@ -1,7 +1,6 @@
 //! What a session starts from.
 ghost use Rattle.std.specs.Prelude.{◌≡◌, ◌↔◌, IsTrue, None, map, slice_get, string_bytes, MatchResult, IfOk, option_map};
-ghost use Rattle.bp_flat.specs.StandsFor.{InEach};
-ghost use Rattle.bp_machine.specs.Setups.{setup_of, threads, setup_fault, IsSetupRefusal, Fits, FitsCode, IsInRange};
+ghost use Rattle.bp_machine.specs.Setups.{setup_of, threads, setup_fault, IsSetupRefusal, Fits, IsInRange};
 
 use crate::setup_faults::{SetupFault, fault_of_entries, fault_of_setup};
 use bp_flat::Code;
@@ -101,10 +100,10 @@ impl Setup {
     ) -> Result<Setup, SetupFault>
         ensures answer { let names = map string_bytes entries.now in
             let given = setup_of names init.now contexts calls seed in
-            InEach code.now (λ t. MatchResult result
+            let t = code.now.tree in MatchResult result
             (λ s. (s ≡ given) × (setup_fault t given ≡ None))
-            (IsSetupRefusal t given)) }
-        ensures taken { IfOk result (λ s. FitsCode code.now s × IsInRange s × (s.seed ≡ seed)) }
+            (IsSetupRefusal t given) }
+        ensures taken { IfOk result (λ s. Fits code.now.tree s × IsInRange s × (s.seed ≡ seed)) }
     {
         code.is_of_a_program();
         match fault_of_setup(code, entries, init, contexts, calls) {
@@ -211,7 +210,7 @@ impl Setup {
     /// Whether each entry is a procedure of this code without formals, and there is one bit for
     /// each of its globals.
     pub fn fits(&self, code: &Code) -> bool
-        ensures { InEach code.now (λ t. IsTrue result ↔ Fits t self.now) }
+        ensures { IsTrue result ↔ Fits code.now.tree self.now }
     {
         fault_of_entries(code, self.entries.as_slice()).is_none()
             && self.init.len() == code.globals() as usize

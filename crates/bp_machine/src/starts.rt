@@ -2,9 +2,8 @@
 //! Setups as a text says them: names may be any bytes, and numbers may be too large.
 ghost use Rattle.std.specs.Prelude.{◌≡◌, ◌≤◌, None, MatchResult, IfOk, ℕ, true, List, Some, map, length, slice_get, is_some, string_bytes};
 ghost use Rattle.bp_language.specs.declared.limits.TheConstants.{MAX_GLOBALS};
-ghost use Rattle.bp_flat.specs.StandsFor.{InEach};
 ghost use Rattle.bp_flat.specs.Flat.{heading_named};
-ghost use Rattle.bp_machine.specs.Setups.{setup_fault, IsSetupRefusal, FitsCode, IsInRange, default_start, setup_from, setup_of, entries_fault};
+ghost use Rattle.bp_machine.specs.Setups.{setup_fault, IsSetupRefusal, Fits, IsInRange, default_start, setup_from, setup_of, entries_fault};
 ghost use Rattle.bp_machine.specs.declared.limits.TheConstants.{MAX_THREADS};
 
 use crate::limits::{DEFAULT_CALLS, DEFAULT_CONTEXTS, DEFAULT_ENTRY, MAX_THREADS};
@@ -63,11 +62,11 @@ impl Start {
 
     /// The setup of the program of this code, with this seed or with none.
     pub fn setup(&self, alloc: Global, code: &Code, seed: Option<u64>) -> Result<Setup, SetupFault>
-        ensures answer { InEach code.now (λ t. let given = setup_from self.now seed t in
+        ensures answer { let t = code.now.tree in let given = setup_from self.now seed t in
             MatchResult result
             (λ s. (s ≡ given) × (setup_fault t given ≡ None))
-            (IsSetupRefusal t given)) }
-        ensures taken { IfOk result (λ s. FitsCode code.now s × IsInRange s × (s.seed ≡ seed)) }
+            (IsSetupRefusal t given) }
+        ensures taken { IfOk result (λ s. Fits code.now.tree s × IsInRange s × (s.seed ≡ seed)) }
     {
         has_few_globals(code);
         let zeros = [false; MAX_GLOBALS];
@@ -83,7 +82,7 @@ impl Start {
 /// The first fault of the entries.
 fn fault_of_names(code: &Code, entries: &[&[u8]]) -> Option<SetupFault>
     requires { length entries.now ≤ MAX_THREADS }
-    ensures { InEach code.now (λ t. result ≡ entries_fault t 0 (map (λ n. n.now) entries.now)) }
+    ensures { result ≡ entries_fault code.now.tree 0 (map (λ n. n.now) entries.now) }
 {
     for (thread, name) in entries.iter().enumerate() {
         let fault = fault_of_entry(code, thread as u32, name);
@@ -103,7 +102,7 @@ fn fault_of_named(
     calls: u64,
 ) -> Option<SetupFault>
     ensures { let given = setup_of (map (λ n. n.now) entries.now) init.now contexts calls None in
-        InEach code.now (λ t. result ≡ setup_fault t given) }
+        result ≡ setup_fault code.now.tree given }
 {
     if entries.is_empty() || entries.len() > MAX_THREADS {
         return Some(SetupFault::Threads);
@@ -145,10 +144,10 @@ impl Setup {
     ) -> Result<Setup, SetupFault>
         ensures answer { let names = map (λ n. n.now) entries.now in
             let given = setup_of names init.now contexts calls seed in
-            InEach code.now (λ t. MatchResult result
+            let t = code.now.tree in MatchResult result
             (λ s. (s ≡ given) × (setup_fault t given ≡ None))
-            (IsSetupRefusal t given)) }
-        ensures taken { IfOk result (λ s. FitsCode code.now s × IsInRange s × (s.seed ≡ seed)) }
+            (IsSetupRefusal t given) }
+        ensures taken { IfOk result (λ s. Fits code.now.tree s × IsInRange s × (s.seed ≡ seed)) }
     {
         code.is_of_a_program();
         if let Some(fault) = fault_of_named(code, entries, init, contexts, calls) {

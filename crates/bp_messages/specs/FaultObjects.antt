@@ -4,6 +4,7 @@ use Rattle.std.specs.List.{concat}
 use Rattle.std.specs.Borrow.{Bor}
 use Rattle.bp_text.specs.Pieces.{bit_or_null, key_text, number_or_null, string_or_null, truth_text, string_text, list_text}
 use Rattle.bp_text.specs.Lines.{position_at}
+use Rattle.bp_text.specs.declared.lines.Position.{Position}
 use Rattle.bp_machine.specs.Histories.{letter_of}
 use Rattle.bp_confirm.specs.declared.confirming.StepReason.{StepReason}
 use Rattle.bp_confirm.specs.declared.confirming.StepReason.TheVariants.{Refused, Differs}
@@ -22,23 +23,15 @@ use Rattle.bp_messages.specs.FaultTable.{fault_row, RowOf}
 -- What the object of a fault says of a step that is not taken.
 
 -- the line and the column that a location names: neither is named by the end of a procedure
-abbrev pub line_named : Location → Option ℕ
-line_named location.End = None
-line_named (location.Line n) = Some n
-line_named (location.Column n m) = Some n
+abbrev pub place_named : Location → Option ℕ × Option ℕ
+place_named location.End = (None, None)
+place_named (location.Line n) = (Some n, None)
+place_named (location.Column n m) = (Some n, Some m)
 
-abbrev pub column_named : Location → Option ℕ
-column_named (location.Column n m) = Some m
-column_named other = None
-
--- the line and the column of the statement at which a thread stands
-abbrev pub line_at : Stand → Option ℕ
-line_at (stand.Statement position) = Some position.line
-line_at other = None
-
-abbrev pub column_at : Stand → Option ℕ
-column_at (stand.Statement position) = Some position.column
-column_at other = None
+-- the position of the statement at which a thread stands
+abbrev pub position_of_stand : Stand → Option Position
+position_of_stand (stand.Statement position) = Some position
+position_of_stand other = None
 
 abbrev pub has_ended : Stand → Bool
 has_ended stand.Ended = true
@@ -80,12 +73,13 @@ IsValueIn steps d value = value ≡ None
 -- thread stands, and the reply or the value that refuses it
 abbrev pub step_object : StepRefusal → Option (List ℕ × Bool) → List ℕ
 step_object r value =
+    let named = place_named r.location in
+    let position = position_of_stand r.stand in
     concat (
-    codes ",\"step\":{\"expected\":{\"line\":"
-    ∷ number_or_null (line_named r.location)
-    ∷ key_text (codes "column") ∷ number_or_null (column_named r.location)
-    ∷ codes "},\"stands\":{\"line\":" ∷ number_or_null (line_at r.stand)
-    ∷ key_text (codes "column") ∷ number_or_null (column_at r.stand)
+    codes ",\"step\":{\"expected\":{\"line\":" ∷ number_or_null named.0
+    ∷ key_text (codes "column") ∷ number_or_null named.1
+    ∷ codes "},\"stands\":{\"line\":" ∷ number_or_null (option_map (λ p. p.line) position)
+    ∷ key_text (codes "column") ∷ number_or_null (option_map (λ p. p.column) position)
     ∷ key_text (codes "ended") ∷ truth_text (has_ended r.stand)
     ∷ codes "},\"reply\":" ∷ string_or_null (reply_text r.reason)
     ∷ key_text (codes "variable") ∷ string_or_null (name_of_value value)
@@ -94,19 +88,10 @@ step_object r value =
     ∷ key_text (codes "changed") ∷ number_or_null (changed_in r.reason)
     ∷ codes "}" ∷ [])
 
--- the step that a fault names
-abbrev pub step_of : Detail → Option StepRefusal
-step_of (Step r) = Some r
-step_of d = None
-
--- the member of a step; null where there is none
-abbrev pub step_member : Option StepRefusal → Option (List ℕ × Bool) → List ℕ
-step_member None value = codes ",\"step\":null"
-step_member (Some r) value = step_object r value
-
--- the member of the step that a fault names
+-- the member of the step that a fault names; null if it names none
 abbrev pub step_text : Detail → Option (List ℕ × Bool) → List ℕ
-step_text d value = step_member (step_of d) value
+step_text (Step r) value = step_object r value
+step_text d value = codes ",\"step\":null"
 
 -- The object of the verdict on reported steps.
 
@@ -160,20 +145,15 @@ abbrev pub byte_of : Detail → Option ℕ
 byte_of (Byte at) = Some at
 byte_of d = None
 
--- the line that a fault names: that of its byte in this text, or that of a schedule, of steps or of
--- a trace
-abbrev pub line_in : (text : List ℕ) → Detail → Option ℕ
-line_in text (Byte at) = Some (position_at text at).line
-line_in text (Line n) = Some n
-line_in text (ThreadOn n k) = Some n
-line_in text (Step r) = Some r.line
-line_in text (Wanted n r) = Some n
-line_in text d = None
-
--- the column of the byte that a fault names
-abbrev pub column_in : (text : List ℕ) → Detail → Option ℕ
-column_in text (Byte at) = Some (position_at text at).column
-column_in text d = None
+-- the line and the column that a fault names: those of its byte in this text, or the line of a
+-- schedule, of steps or of a trace
+abbrev pub place_in : (text : List ℕ) → Detail → Option ℕ × Option ℕ
+place_in text (Byte at) = let p = position_at text at in (Some p.line, Some p.column)
+place_in text (Line n) = (Some n, None)
+place_in text (ThreadOn n k) = (Some n, None)
+place_in text (Step r) = (Some r.line, None)
+place_in text (Wanted n r) = (Some n, None)
+place_in text d = (None, None)
 
 -- the guest thread that a fault names
 abbrev pub thread_of : Detail → Option ℕ
@@ -195,14 +175,15 @@ name_in name = option_map (λ text. text.now) name
 -- program text
 abbrev pub facts_text : RowOf → Option (List ℕ) → (text : List ℕ) → List ℕ
 facts_text r file text =
+    let place = place_in text r.detail in
     concat (
     codes "{\"kind\":\"fault\",\"version\":1"
     ∷ key_text (codes "number") ∷ decimal r.number
     ∷ key_text (codes "name") ∷ string_text r.name
     ∷ key_text (codes "file") ∷ string_or_null file
     ∷ key_text (codes "offset") ∷ number_or_null (byte_of r.detail)
-    ∷ key_text (codes "line") ∷ number_or_null (line_in text r.detail)
-    ∷ key_text (codes "column") ∷ number_or_null (column_in text r.detail)
+    ∷ key_text (codes "line") ∷ number_or_null place.0
+    ∷ key_text (codes "column") ∷ number_or_null place.1
     ∷ key_text (codes "thread") ∷ number_or_null (thread_of r.detail)
     ∷ key_text (codes "wanted") ∷ string_or_null (letter_text r.detail)
     ∷ [])

@@ -6,7 +6,6 @@ use Rattle.bp_language.specs.declared.faults.CheckFault.TheVariants as check
 use Rattle.bp_language.specs.declared.faults.CheckFault.{CheckFault}
 use Rattle.bp_machine.specs.declared.setup_faults.SetupFault.{SetupFault}
 use Rattle.bp_machine.specs.declared.setup_faults.SetupFault.TheVariants as setup
-use Rattle.bp_machine.specs.declared.calls.Reply.{Reply}
 use Rattle.bp_machine.specs.Histories.{letter_of}
 use Rattle.bp_trace.specs.declared.faults.DriveFault.{DriveFault}
 use Rattle.bp_trace.specs.declared.faults.DriveFault.TheVariants as drive
@@ -177,20 +176,13 @@ trace_row (replay.NoEnd counts) = row 45 (codes "NoEnd") Nothing
 trace_row (replay.EndCount n counts) = row 46 (codes "EndCount") Nothing
 trace_row replay.Memory = memory_row
 
--- the number and the name of the faults of steps that are not taken for this reason
-abbrev pub step_number : StepReason → ℕ
-step_number Elsewhere = 58
-step_number Ambiguous = 59
-step_number Finished = 60
-step_number (Refused r) = 61
-step_number (Differs d) = 62
-
-abbrev pub step_name : StepReason → List ℕ
-step_name Elsewhere = codes "Elsewhere"
-step_name Ambiguous = codes "Ambiguous"
-step_name Finished = codes "Finished"
-step_name (Refused r) = codes "Refused"
-step_name (Differs d) = codes "Differs"
+-- a step that is not taken for this reason
+abbrev pub step_row : StepReason → Detail → RowOf
+step_row Elsewhere step = row 58 (codes "Elsewhere") step
+step_row Ambiguous step = row 59 (codes "Ambiguous") step
+step_row Finished step = row 60 (codes "Finished") step
+step_row (Refused reply) step = row 61 (codes "Refused") step
+step_row (Differs found) step = row 62 (codes "Differs") step
 
 abbrev pub steps_row : ConfirmFault → RowOf
 steps_row confirm.TooLong = long_row
@@ -198,7 +190,7 @@ steps_row confirm.NoSteps = row 63 (codes "NoSteps") Nothing
 steps_row (confirm.Line n) = row 42 (codes "Line") (Line n)
 steps_row (confirm.NoThread n k) = row 36 (codes "NoThread") (ThreadOn n k)
 steps_row (confirm.NoVariable n value) = row 57 (codes "NoVariable") (Line n)
-steps_row (confirm.Step r) = row (step_number r.reason) (step_name r.reason) (Step r)
+steps_row (confirm.Step r) = step_row r.reason (Step r)
 steps_row confirm.Memory = memory_row
 
 abbrev pub fault_row : Fault → RowOf
@@ -237,26 +229,6 @@ exit_status false None = 0
 -- the exit status of a run that the fault ended
 abbrev pub status_of : Fault → ℕ
 status_of f = exit_status false (Some (fault_row f).number)
-
--- the byte, thread or line that a fault names, and the reply that it wants
-abbrev pub detail_place : Detail → Option ℕ
-detail_place Nothing = None
-detail_place (Byte n) = Some n
-detail_place (Thread n) = Some n
-detail_place (Line n) = Some n
-detail_place (ThreadOn n k) = Some n
-detail_place (Step r) = Some r.line
-detail_place (Wanted n r) = Some n
-
-abbrev pub detail_wanted : Detail → Option Reply
-detail_wanted (Wanted n r) = Some r
-detail_wanted d = None
-
-abbrev pub place_of : Fault → Option ℕ
-place_of f = let r = fault_row f in detail_place r.detail
-
-abbrev pub wanted_of : Fault → Option Reply
-wanted_of f = let r = fault_row f in detail_wanted r.detail
 
 abbrev pub fault_head : ℕ → List ℕ → List ℕ
 fault_head n name = concat (codes "btrun: " ∷ decimal n ∷ codes " " ∷ name ∷ [])

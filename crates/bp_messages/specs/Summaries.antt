@@ -1,5 +1,5 @@
 -- What a user reads of a test on standard error.
-use Rattle.std.specs.Prelude.{if◌then◌else◌, ◌==◌, ℕ, Bool, not, List, [], Option, None, Some, codes, decimal, true, false, ◌∷◌, ◌++◌, flat_map, map, option_map, slice_index_or, Vec, slice_get}
+use Rattle.std.specs.Prelude.{if◌then◌else◌, ◌==◌, ℕ, Bool, not, List, [], Option, None, Some, codes, decimal, true, false, ◌∷◌, ◌++◌, flat_map, option_map, slice_index_or, Vec, slice_get}
 use Rattle.std.specs.List.{concat}
 use Rattle.std.specs.declared.alloc.Global.{Global}
 use Rattle.bp_text.specs.Pieces.{string_text, displayed, bit_text, key_text, number_or_null, truth_text}
@@ -105,10 +105,6 @@ asked_member x =
 abbrev pub position_of : List (Option Position) → (number : ℕ) → Option Position
 position_of positions number = slice_index_or positions number None
 
--- that of the statement at which a thread waits
-abbrev pub position_of_wait : List (Option Position) → Waiting → Option Position
-position_of_wait positions x = position_of positions x.number
-
 -- a thread that waits, after these words, and where in a file
 abbrev pub wait_text : (file before verb : List ℕ) → (thread : ℕ) → Option Position → List ℕ
 wait_text file before verb i None = concat (before ∷ decimal i ∷ [])
@@ -129,7 +125,7 @@ abbrev pub waits_after
     : (file before verb : List ℕ) → List (Option Position) → List Waiting → List ℕ
 waits_after file before verb positions [] = []
 waits_after file before verb positions (x ∷ xs) =
-    wait_text file before verb x.thread (position_of_wait positions x)
+    wait_text file before verb x.thread (position_of positions x.number)
     ++ waits_after file (codes ", thread ") (codes " at ") positions xs
 
 abbrev pub waits_text : (file : List ℕ) → List (Option Position) → List Waiting → List ℕ
@@ -149,7 +145,7 @@ wait_object before i position =
 abbrev pub wait_objects : (before : List ℕ) → List (Option Position) → List Waiting → List ℕ
 wait_objects before positions [] = []
 wait_objects before positions (x ∷ xs) =
-    wait_object before x.thread (position_of_wait positions x)
+    wait_object before x.thread (position_of positions x.number)
     ++ wait_objects (codes ",") positions xs
 
 -- the member of an object with the threads that wait
@@ -220,14 +216,11 @@ failure_member (Some x) statement =
     ∷ key_text (codes "statement") ∷ string_text statement
     ∷ codes "}" ∷ [])
 
-abbrev pub found_phrase : List ℕ → (run runs : ℕ) → List ℕ
-found_phrase phrase run runs =
-    concat (phrase ∷ codes " in run " ∷ decimal run ∷ of_word runs ∷ limit_text runs ∷ [])
-
 -- a deadlock in a run of this test, and where its threads wait
 abbrev pub deadlock_text : TestReport → (run : ℕ) → List ℕ
 deadlock_text x run =
-    found_phrase (codes "deadlock") run x.options.runs
+    let runs = x.options.runs in
+    concat (codes "deadlock in run " ∷ decimal run ∷ of_word runs ∷ limit_text runs ∷ [])
     ++ (waits_text x.file.items x.positions.items x.waiting.items ++ codes "\n")
 
 -- nothing was found in the runs that were made, within k contexts; if they are not all, the time

@@ -2,7 +2,7 @@
 //! Which threads wait at the end of a run, and where. They are written without memory.
 ghost use Rattle.std.specs.Prelude.{◌≡◌, [], codes, option_map};
 ghost use Rattle.bp_text.specs.Writing.{Given};
-ghost use Rattle.bp_messages.specs.Summaries.{failure_member, failed_assertion, failure_text, statement_of, position_of, position_of_wait, wait_object, wait_objects, wait_text, waits_member, waits_text};
+ghost use Rattle.bp_messages.specs.Summaries.{failure_member, failed_assertion, failure_text, statement_of, position_of, wait_object, wait_objects, wait_text, waits_member, waits_text};
 
 use crate::summaries::{TestReport, limit_piece, of_word};
 use bp_machine::Outcome;
@@ -127,13 +127,6 @@ pub(crate) fn position_of(positions: &[Option<Position>], number: u32) -> Option
     }
 }
 
-/// Where the statement begins at which a thread waits.
-fn position_of_wait(positions: &[Option<Position>], wait: Waiting) -> Option<Position>
-    ensures { result ≡ position_of_wait positions.now wait }
-{
-    position_of(positions, wait.number)
-}
-
 /// Writes a thread that waits, after these words, and where in a file.
 fn put_wait<'a, W: Write>(
     file: &'a [u8],
@@ -175,7 +168,7 @@ pub(crate) fn put_waits<W: Write>(
     let mut verb: &[u8] = b" waits at ";
     let mut waiting = waiting;
     while let Some((wait, more)) = waiting.split_first() {
-        let position = position_of_wait(positions, *wait);
+        let position = position_of(positions, wait.number);
         put_wait(file, before, verb, wait.thread, position, sink);
         before = b", thread ";
         verb = b" at ";
@@ -183,16 +176,16 @@ pub(crate) fn put_waits<W: Write>(
     }
 }
 
-/// The line of a position.
-fn line_of(position: Option<Position>) -> Option<u64>
+/// Returns the line of a position.
+pub(crate) fn line_of(position: Option<Position>) -> Option<u64>
     ensures { result ≡ option_map (λ p. p.line) position }
 {
     let position = position?;
     Some(position.line as u64)
 }
 
-/// The column of a position.
-fn column_of(position: Option<Position>) -> Option<u64>
+/// Returns the column of a position.
+pub(crate) fn column_of(position: Option<Position>) -> Option<u64>
     ensures { result ≡ option_map (λ p. p.column) position }
 {
     let position = position?;
@@ -232,12 +225,8 @@ fn put_wait_objects<W: Write>(
     let mut before: &[u8] = b"";
     let mut waiting = waiting;
     while let Some((wait, more)) = waiting.split_first() {
-        put_wait_object(
-            before,
-            wait.thread,
-            position_of_wait(positions, *wait),
-            sink,
-        );
+        let position = position_of(positions, wait.number);
+        put_wait_object(before, wait.thread, position, sink);
         before = b",";
         waiting = more;
     }

@@ -3,7 +3,7 @@ ghost use Rattle.std.specs.Prelude.{◌≡◌, option_map};
 ghost use Rattle.bp_text.specs.Writing.{Writes, Given};
 ghost use Rattle.bp_text.specs.Pieces.{piece_text, string_or_null};
 ghost use Rattle.bp_confirm.specs.Steps.{value_of};
-ghost use Rattle.bp_messages.specs.FaultObjects.{byte_of, column_in, facts_text, fault_object, letter_text, line_in, message_text, name_in, refutation_text, thread_of};
+ghost use Rattle.bp_messages.specs.FaultObjects.{byte_of, facts_text, fault_object, letter_text, message_text, name_in, place_in, refutation_text, thread_of};
 ghost use Rattle.bp_messages.specs.FaultTable.{row_of};
 
 use crate::fault_table::{Detail, Row};
@@ -35,27 +35,21 @@ fn thread_of(detail: Detail) -> Option<u64>
     }
 }
 
-/// The line that a fault names: that of its byte, or that of a schedule, of steps or of a trace.
-fn line_in(text: &[u8], detail: Detail) -> Option<u64>
-    ensures { result ≡ line_in text.now detail }
+/// Returns the line and the column that a fault names: those of its byte, or the line of a
+/// schedule, of steps or of a trace.
+fn place_in(text: &[u8], detail: Detail) -> (Option<u64>, Option<u64>)
+    ensures { result ≡ place_in text.now detail }
 {
     match detail {
-        Detail::Byte(at) => Some(position_of(text, at as usize).line as u64),
-        Detail::Line(line) | Detail::ThreadOn(line, _) | Detail::Wanted(line, _) => {
-            Some(u64::from(line))
+        Detail::Byte(at) => {
+            let position = position_of(text, at as usize);
+            (Some(position.line as u64), Some(position.column as u64))
         }
-        Detail::Step(refusal) => Some(u64::from(refusal.line)),
-        _ => None,
-    }
-}
-
-/// The column of the byte of the program text that a fault names.
-fn column_in(text: &[u8], detail: Detail) -> Option<u64>
-    ensures { result ≡ column_in text.now detail }
-{
-    match detail {
-        Detail::Byte(at) => Some(position_of(text, at as usize).column as u64),
-        _ => None,
+        Detail::Line(line) | Detail::ThreadOn(line, _) | Detail::Wanted(line, _) => {
+            (Some(u64::from(line)), None)
+        }
+        Detail::Step(refusal) => (Some(u64::from(refusal.line)), None),
+        _ => (None, None),
     }
 }
 
@@ -85,6 +79,7 @@ fn put_facts<'a, W: Write>(row: Row, file: Option<&'a str>, text: &[u8], sink: &
         Given W.contents sink.old sink.new facts }
 {
     let detail = row.detail;
+    let (line, column) = place_in(text, detail);
     sink.put_pieces(&[
         Bytes(b"{\"kind\":\"fault\",\"version\":1"),
         Key(b"number"),
@@ -96,9 +91,9 @@ fn put_facts<'a, W: Write>(row: Row, file: Option<&'a str>, text: &[u8], sink: &
         Key(b"offset"),
         NumberOrNull(byte_of(detail)),
         Key(b"line"),
-        NumberOrNull(line_in(text, detail)),
+        NumberOrNull(line),
         Key(b"column"),
-        NumberOrNull(column_in(text, detail)),
+        NumberOrNull(column),
         Key(b"thread"),
         NumberOrNull(thread_of(detail)),
         Key(b"wanted"),

@@ -1,6 +1,7 @@
 //! The table of the faults: the number, the name, and what the fault names.
 ghost use Rattle.std.specs.Prelude.{◌≡◌};
-ghost use Rattle.bp_messages.specs.FaultTable.{check_row, exit_status, fault_row, long_row, memory_row, place_of, read_row, row_of, schedule_row, setup_row, status_of, step_name, step_number, steps_row, trace_row, wanted_of, write_row};
+ghost use Rattle.bp_messages.specs.FaultTable.{check_row, exit_status, fault_row, long_row, memory_row, read_row, row_of, schedule_row, setup_row, status_of, step_row, steps_row, trace_row, write_row};
+ghost use Rattle.bp_messages.specs.declared.fault_table.Detail.TheVariants.{Step};
 
 use crate::faults::Fault;
 use bp_code::ProgramFault;
@@ -162,29 +163,16 @@ fn trace_row(fault: &ReplayFault) -> Row
     }
 }
 
-/// The number of the faults of steps that are not taken for this reason.
-fn step_number(reason: StepReason) -> u32
-    ensures { result ≡ step_number reason }
+fn step_row(refusal: StepRefusal) -> Row
+    ensures { row_of result ≡ step_row refusal.reason (Step refusal) }
 {
-    match reason {
-        StepReason::Elsewhere => 58,
-        StepReason::Ambiguous => 59,
-        StepReason::Finished => 60,
-        StepReason::Refused(_) => 61,
-        StepReason::Differs(_) => 62,
-    }
-}
-
-/// The name of these faults.
-fn step_name(reason: StepReason) -> &'static [u8]
-    ensures { result.now ≡ step_name reason }
-{
-    match reason {
-        StepReason::Elsewhere => b"Elsewhere",
-        StepReason::Ambiguous => b"Ambiguous",
-        StepReason::Finished => b"Finished",
-        StepReason::Refused(_) => b"Refused",
-        StepReason::Differs(_) => b"Differs",
+    let step = Detail::Step(refusal);
+    match refusal.reason {
+        StepReason::Elsewhere => new_row(58, b"Elsewhere", step),
+        StepReason::Ambiguous => new_row(59, b"Ambiguous", step),
+        StepReason::Finished => new_row(60, b"Finished", step),
+        StepReason::Refused(_) => new_row(61, b"Refused", step),
+        StepReason::Differs(_) => new_row(62, b"Differs", step),
     }
 }
 
@@ -201,11 +189,7 @@ fn steps_row(fault: &ConfirmFault) -> Row
             Detail::ThreadOn(*line, *thread),
         ),
         ConfirmFault::NoVariable(line, _) => new_row(57, b"NoVariable", Detail::Line(*line)),
-        ConfirmFault::Step(refusal) => new_row(
-            step_number(refusal.reason),
-            step_name(refusal.reason),
-            Detail::Step(*refusal),
-        ),
+        ConfirmFault::Step(refusal) => step_row(*refusal),
         ConfirmFault::Memory => memory_row(),
     }
 }
@@ -246,27 +230,5 @@ impl Fault {
         ensures { result ≡ status_of self.now }
     {
         exit_status(false, Some(self.number()))
-    }
-
-    /// The byte, line or thread that the fault names, where it names one.
-    pub fn place(&self) -> Option<u32>
-        ensures { result ≡ place_of self.now }
-    {
-        match self.row().detail {
-            Detail::Nothing => None,
-            Detail::Byte(n) | Detail::Thread(n) | Detail::Line(n) | Detail::Wanted(n, _) => Some(n),
-            Detail::ThreadOn(n, _) => Some(n),
-            Detail::Step(refusal) => Some(refusal.line),
-        }
-    }
-
-    /// The reply that was wanted, where the fault is that of a reply.
-    pub fn wanted(&self) -> Option<Reply>
-        ensures { result ≡ wanted_of self.now }
-    {
-        match self.row().detail {
-            Detail::Wanted(_, reply) => Some(reply),
-            _ => None,
-        }
     }
 }

@@ -1,4 +1,8 @@
 //! Why a command is refused.
+ghost use Rattle.std.specs.Prelude.{◌≡◌};
+ghost use Rattle.bp_messages.specs.FaultTable.{fault_of_code, fault_of_input, fault_of_migration, fault_of_program, fault_of_run, fault_of_schedule, fault_of_setup, fault_of_steps, fault_of_test, fault_of_trace, fault_of_view};
+ghost use Rattle.bp_messages.specs.declared.faults.Fault.TheVariants.{Memory, Write};
+
 use crate::fault_lines::InputFault;
 use bp_code::{CodeFault, ProgramFault};
 use bp_confirm::ConfirmFault;
@@ -63,10 +67,7 @@ pub enum Fault {
 }
 
 impl From<AllocError> for Fault {
-    ghost use Rattle.bp_messages.specs.declared.faults.Fault.{Fault};
-    ghost use Rattle.std.specs.Prelude.{◌≡◌};
-
-    ghost from_gives = { λ _ e. e ≡ Fault.Memory };
+    ghost from_gives = { λ _ e. e ≡ Memory };
 
     fn from(_: AllocError) -> Fault {
         Fault::Memory
@@ -74,10 +75,7 @@ impl From<AllocError> for Fault {
 }
 
 impl From<WriteFault> for Fault {
-    ghost use Rattle.bp_messages.specs.declared.faults.Fault.{Fault};
-    ghost use Rattle.std.specs.Prelude.{◌≡◌};
-
-    ghost from_gives = { λ _ e. e ≡ Fault.Write };
+    ghost from_gives = { λ _ e. e ≡ Write };
 
     fn from(_: WriteFault) -> Fault {
         Fault::Write
@@ -85,9 +83,6 @@ impl From<WriteFault> for Fault {
 }
 
 impl From<InputFault> for Fault {
-    ghost use Rattle.bp_messages.specs.FaultTable.{fault_of_input};
-    ghost use Rattle.std.specs.Prelude.{◌≡◌};
-
     ghost from_gives = { λ f e. e ≡ fault_of_input f };
 
     fn from(fault: InputFault) -> Fault {
@@ -100,9 +95,6 @@ impl From<InputFault> for Fault {
 }
 
 impl From<ProgramFault> for Fault {
-    ghost use Rattle.bp_messages.specs.FaultTable.{fault_of_program};
-    ghost use Rattle.std.specs.Prelude.{◌≡◌};
-
     ghost from_gives = { λ f e. e ≡ fault_of_program f };
 
     fn from(fault: ProgramFault) -> Fault {
@@ -115,9 +107,6 @@ impl From<ProgramFault> for Fault {
 }
 
 impl From<CodeFault> for Fault {
-    ghost use Rattle.bp_messages.specs.FaultTable.{fault_of_code};
-    ghost use Rattle.std.specs.Prelude.{◌≡◌};
-
     ghost from_gives = { λ f e. e ≡ fault_of_code f };
 
     fn from(fault: CodeFault) -> Fault {
@@ -129,9 +118,6 @@ impl From<CodeFault> for Fault {
 }
 
 impl From<SetupFault> for Fault {
-    ghost use Rattle.bp_messages.specs.FaultTable.{fault_of_setup};
-    ghost use Rattle.std.specs.Prelude.{◌≡◌};
-
     ghost from_gives = { λ f e. e ≡ fault_of_setup f };
 
     fn from(fault: SetupFault) -> Fault {
@@ -143,9 +129,6 @@ impl From<SetupFault> for Fault {
 }
 
 impl From<DriveFault> for Fault {
-    ghost use Rattle.bp_messages.specs.FaultTable.{fault_of_schedule};
-    ghost use Rattle.std.specs.Prelude.{◌≡◌};
-
     ghost from_gives = { λ f e. e ≡ fault_of_schedule f };
 
     fn from(fault: DriveFault) -> Fault {
@@ -159,9 +142,6 @@ impl From<DriveFault> for Fault {
 }
 
 impl From<ReplayFault> for Fault {
-    ghost use Rattle.bp_messages.specs.FaultTable.{fault_of_trace};
-    ghost use Rattle.std.specs.Prelude.{◌≡◌};
-
     ghost from_gives = { λ f e. e ≡ fault_of_trace f };
 
     fn from(fault: ReplayFault) -> Fault {
@@ -175,9 +155,6 @@ impl From<ReplayFault> for Fault {
 }
 
 impl From<ConfirmFault> for Fault {
-    ghost use Rattle.bp_messages.specs.FaultTable.{fault_of_steps};
-    ghost use Rattle.std.specs.Prelude.{◌≡◌};
-
     ghost from_gives = { λ f e. e ≡ fault_of_steps f };
 
     fn from(fault: ConfirmFault) -> Fault {
@@ -190,9 +167,6 @@ impl From<ConfirmFault> for Fault {
 }
 
 impl From<MigrateFault> for Fault {
-    ghost use Rattle.bp_messages.specs.FaultTable.{fault_of_migration};
-    ghost use Rattle.std.specs.Prelude.{◌≡◌};
-
     ghost from_gives = { λ f e. e ≡ fault_of_migration f };
 
     fn from(fault: MigrateFault) -> Fault {
@@ -204,9 +178,6 @@ impl From<MigrateFault> for Fault {
 }
 
 impl From<ViewFault> for Fault {
-    ghost use Rattle.bp_messages.specs.FaultTable.{fault_of_view};
-    ghost use Rattle.std.specs.Prelude.{◌≡◌};
-
     ghost from_gives = { λ f e. e ≡ fault_of_view f };
 
     fn from(fault: ViewFault) -> Fault {
@@ -221,9 +192,6 @@ impl From<ViewFault> for Fault {
 }
 
 impl From<RunFault> for Fault {
-    ghost use Rattle.bp_messages.specs.FaultTable.{fault_of_run};
-    ghost use Rattle.std.specs.Prelude.{◌≡◌};
-
     ghost from_gives = { λ f e. e ≡ fault_of_run f };
 
     fn from(fault: RunFault) -> Fault {
@@ -239,9 +207,6 @@ impl From<RunFault> for Fault {
 }
 
 impl From<TestFault> for Fault {
-    ghost use Rattle.bp_messages.specs.FaultTable.{fault_of_test};
-    ghost use Rattle.std.specs.Prelude.{◌≡◌};
-
     ghost from_gives = { λ f e. e ≡ fault_of_test f };
 
     fn from(fault: TestFault) -> Fault {

@@ -4,52 +4,34 @@ ghost use Rattle.std.specs.Prelude.{◌≡◌, option_map, flat_map};
 ghost use Rattle.bp_text.specs.Pieces.{piece_text, string_or_null};
 ghost use Rattle.bp_text.specs.Writing.{Given, Writes};
 ghost use Rattle.bp_confirm.specs.Steps.{value_of};
-ghost use Rattle.bp_messages.specs.FaultObjects.{bit_in, changed_in, column_at, column_named, has_ended, line_at, line_named, name_of_value, reply_text, seen_in, step_object, step_of, step_text, IsValueIn, refuted_after, shown_verdict, verdict_object};
+ghost use Rattle.bp_messages.specs.FaultObjects.{bit_in, changed_in, has_ended, name_of_value, place_named, position_of_stand, reply_text, seen_in, step_object, step_text, IsValueIn, refuted_after, shown_verdict, verdict_object};
 
+use crate::failures::{column_of, line_of};
 use crate::fault_table::Detail;
 use bp_confirm::{Difference, Location, SeenValue, Stand, StepReason, StepRefusal, value_on_line};
 use bp_text::Piece::{
     BitOrNull, Bytes, Key, Letter, List, Number, NumberOrNull, Text, TextOrNull, Truth,
 };
-use bp_text::{Piece, Sink, WriteFault, put_pieces};
+use bp_text::{Piece, Position, Sink, WriteFault, put_pieces};
 use std::io::Write;
 
-/// The line that a location names; none for the end of a procedure.
-fn line_named(location: Location) -> Option<u64>
-    ensures { result ≡ line_named location }
+/// Returns the line and the column that a location names; neither for the end of a procedure.
+fn place_named(location: Location) -> (Option<u64>, Option<u64>)
+    ensures { result ≡ place_named location }
 {
     match location {
-        Location::End => None,
-        Location::Line(line) | Location::Column(line, _) => Some(u64::from(line)),
+        Location::End => (None, None),
+        Location::Line(line) => (Some(u64::from(line)), None),
+        Location::Column(line, column) => (Some(u64::from(line)), Some(u64::from(column))),
     }
 }
 
-/// The column that a location names, where it names one.
-fn column_named(location: Location) -> Option<u64>
-    ensures { result ≡ column_named location }
-{
-    match location {
-        Location::Column(_, column) => Some(u64::from(column)),
-        _ => None,
-    }
-}
-
-/// The line of the statement at which a thread stands.
-fn line_at(stand: Stand) -> Option<u64>
-    ensures { result ≡ line_at stand }
+/// Returns the position of the statement at which a thread stands.
+fn position_of_stand(stand: Stand) -> Option<Position>
+    ensures { result ≡ position_of_stand stand }
 {
     match stand {
-        Stand::Statement(position) => Some(position.line as u64),
-        _ => None,
-    }
-}
-
-/// The column of the statement at which a thread stands.
-fn column_at(stand: Stand) -> Option<u64>
-    ensures { result ≡ column_at stand }
-{
-    match stand {
-        Stand::Statement(position) => Some(position.column as u64),
+        Stand::Statement(position) => Some(position),
         _ => None,
     }
 }
@@ -117,16 +99,6 @@ fn bit_in(value: Option<SeenValue<'_>>) -> Option<bool>
     }
 }
 
-/// The step that a fault names.
-fn step_of(detail: Detail) -> Option<StepRefusal>
-    ensures { result ≡ step_of detail }
-{
-    match detail {
-        Detail::Step(refusal) => Some(refusal),
-        _ => None,
-    }
-}
-
 /// The value on a line of the steps that a fault names, where it names one.
 pub fn value_in<'a>(steps: &'a [u8], detail: Detail) -> Option<SeenValue<'a>>
     ensures { IsValueIn steps.now detail (option_map value_of result) }
@@ -151,15 +123,17 @@ fn put_refusal<W: Write>(refusal: StepRefusal, value: Option<SeenValue<'_>>, sin
         reason,
         ..
     } = refusal;
+    let (line, column) = place_named(location);
+    let position = position_of_stand(stand);
     sink.put_pieces(&[
         Bytes(b",\"step\":{\"expected\":{\"line\":"),
-        NumberOrNull(line_named(location)),
+        NumberOrNull(line),
         Key(b"column"),
-        NumberOrNull(column_named(location)),
+        NumberOrNull(column),
         Bytes(b"},\"stands\":{\"line\":"),
-        NumberOrNull(line_at(stand)),
+        NumberOrNull(line_of(position)),
         Key(b"column"),
-        NumberOrNull(column_at(stand)),
+        NumberOrNull(column_of(position)),
         Key(b"ended"),
         Truth(has_ended(stand)),
         Bytes(b"},\"reply\":"),
@@ -176,9 +150,6 @@ fn put_refusal<W: Write>(refusal: StepRefusal, value: Option<SeenValue<'_>>, sin
     ])
 }
 
-/// The member where a fault names no step.
-const NO_STEP: &[u8] = b",\"step\":null";
-
 /// Writes the member of the step that a fault names; null where it names none.
 pub(crate) fn put_step<W: Write>(
     detail: Detail,
@@ -188,9 +159,9 @@ pub(crate) fn put_step<W: Write>(
     ensures { let text = step_text detail (option_map value_of value.entry) in
         Given W.contents sink.old sink.new text }
 {
-    match step_of(detail) {
-        Some(refusal) => put_refusal(refusal, value, sink),
-        None => sink.put(NO_STEP),
+    match detail {
+        Detail::Step(refusal) => put_refusal(refusal, value, sink),
+        _ => sink.put(b",\"step\":null"),
     }
 }
 

@@ -4,7 +4,7 @@
 ghost use Rattle.std.specs.Prelude.{◌≡◌};
 ghost use Rattle.bp_text.specs.Writing.{Writes, Given};
 ghost use Rattle.bp_text.specs.Pieces.{piece_text};
-ghost use Rattle.bp_messages.specs.Summaries.{counts_text, deadlock_text, distinct_text, finding_text, found_phrase, line_unless, nothing_text, nothing_phrase, summary_text, unreached_text, is_limit, limit_of, limit_text, of_word};
+ghost use Rattle.bp_messages.specs.Summaries.{counts_text, deadlock_text, distinct_text, finding_text, line_unless, nothing_text, nothing_phrase, summary_text, unreached_text, is_limit, limit_of, limit_text, of_word};
 ghost use Rattle.bp_messages.specs.Notes.{has_found};
 
 use crate::asked_tests::put_asked_line;
@@ -18,24 +18,17 @@ use bp_text::Piece::{Bytes, Number};
 use bp_text::{Piece, Position, Sink, WriteFault};
 use std::io::Write;
 
-/// Writes what was found in one of the runs.
-fn put_found<W: Write>(phrase: &[u8], run: u64, runs: u64, sink: &mut Sink<'_, W>)
-    ensures { Given W.contents sink.old sink.new (found_phrase phrase.now run runs) }
-{
-    sink.put_pieces(&[
-        Bytes(phrase),
-        Bytes(b" in run "),
-        Number(run),
-        of_word(runs),
-        limit_piece(runs),
-    ])
-}
-
 /// Writes that a deadlock was found in a run of this test, and where its threads wait.
 fn put_deadlock<W: Write>(tested: &TestReport, run: u64, sink: &mut Sink<'_, W>)
     ensures { Given W.contents sink.old sink.new (deadlock_text tested.now run) }
 {
-    put_found(b"deadlock", run, tested.options.runs, sink);
+    let runs = tested.options.runs;
+    sink.put_pieces(&[
+        Bytes(b"deadlock in run "),
+        Number(run),
+        of_word(runs),
+        limit_piece(runs),
+    ]);
     let (file, positions) = (tested.file.as_slice(), tested.positions.as_slice());
     put_waits(file, positions, tested.waiting.as_slice(), sink);
     sink.put(b"\n")

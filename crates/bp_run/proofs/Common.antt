@@ -1,11 +1,9 @@
 -- What the proofs of this crate name of std, of the crates below and of its own definitions.
-pub use Rattle.bp_flat.specs.StandsFor.{IsOfProgram, StandsFor}
 pub use Rattle.bp_language.specs.Ast.{Program}
 pub use Rattle.bp_machine.proofs.HistoryWithCall.{last_finishes, open_at_start, open_lines-append}
-pub use Rattle.bp_machine.proofs.SetupInRange.{for_one, is_false, is_true, is_untrue, same_number}
 pub use Rattle.bp_machine.specs.Histories.{HasSeededBits, IsLegal, IsReport, finished_by, is_finished, is_last, open_lines}
-pub use Rattle.bp_machine.specs.Sessions.{IsNextCall, SessionOf, Stands, StandsForAll}
-pub use Rattle.bp_machine.specs.Setups.{FitsCode, IsInRange, SetupOf, threads}
+pub use Rattle.bp_machine.specs.Sessions.{IsNextCall, SessionOf, Stands}
+pub use Rattle.bp_machine.specs.Setups.{Fits, IsInRange, SetupOf, threads}
 pub use Rattle.bp_machine.specs.declared.calls.Call.{Call}
 pub use Rattle.bp_machine.specs.declared.calls.Report.{Report}
 pub use Rattle.bp_run.specs.Desks.{AreNewSeats, DeskOf, IsInBooks, IsLegalDesk, IsTakenOf, SeatOf, TapOf, desk_of, new_seat, open_amount, seat_of}

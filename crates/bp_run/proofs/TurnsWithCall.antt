@@ -1,5 +1,6 @@
 -- Turns grow by one call, and are cut short before one.
-use Rattle.bp_run.proofs.Common.{◌≡◌, ◌≢◌, ℕ, ◌+◌, true, ◌++◌, Result, Ok, Err, MatchResult, refl, sym, ◌∙◌, ap, subst, arith, inl, inr, ◌⊎◌, ◌<◌, ◌≤◌, Bool, false, List, None, is_some, IfErr, rules, false≢true, Program, IsOfProgram, StandsFor, is_finished, is_last, Call, SessionOf, IsNextCall, SetupOf, threads, last_finishes, is_true, is_untrue, is_false, DeskOf, SeatOf, desk_of, seat_of, IsLegalDesk, IsDeskRefusal, IsTurn, IsCutTurn, IsSeatTurn, IsCutSeatTurn, IsDeskFault, IsSendRefusal, TellsOfRefusal}
+use Rattle.bp_run.proofs.Common.{[], ◌∷◌, length, length-append, not, AreSteps, ◌≡◌, ◌≢◌, ℕ, ◌+◌, true, ◌++◌, Result, Ok, Err, MatchResult, refl, sym, ◌∙◌, ap, subst, arith, inl, inr, ◌⊎◌, ◌<◌, ◌≤◌, Bool, false, List, None, is_some, IfErr, rules, false≢true, is_finished, is_last, Call, SessionOf, IsNextCall, SetupOf, threads, last_finishes, DeskOf, SeatOf, desk_of, seat_of, IsLegalDesk, IsDeskRefusal, IsTurn, IsCutTurn, IsSeatTurn, IsCutSeatTurn, IsDeskFault, IsSendRefusal, TellsOfRefusal}
+use Rattle.bp_run.specs.Turns.{IsUnchanged}
 use Rattle.bp_language.proofs.GrownLists.{regrouped}
 use Rattle.bp_machine.specs.declared.calls.Reply.{Reply}
 use Rattle.bp_machine.specs.declared.calls.Reply.TheVariants.{Stepped}
@@ -41,47 +42,41 @@ Shut s h i is_open = (is_open ≡ false) ⊎ (is_finished s h i ≡ true)
 abbrev FinishedWhereShut : SetupOf → List Call → ℕ → Bool → Result Reply AskFault → Type 0
 FinishedWhereShut s h i is_open r = (r ≡ Err Finished → Shut s h i is_open) × (Shut s h i is_open → r ≡ Err Finished)
 
-module _ (x : SessionOf) (h : List Call) (i : ℕ) (of_some : IsOfProgram x.code) (within : i < threads x.setup) where
-  refused_when_finished : (f : AskFault) → is_finished x.setup h i ≡ true → ((t : Program) → StandsFor x.code t → IsSendRefusal t x.setup h i f) → f ≡ Finished
-  refused_when_finished NoThread e each =
-      absurd (is_false x.code (Unit {0}) of_some
-      (λ t is u. let few : threads x.setup ≤ i = each t is in absurd (omega (arith, few, within))) tt)
-  refused_when_finished Finished e each = refl
-  refused_when_finished Seeded e each = absurd (is_false x.code (Unit {0}) of_some (λ t is u. absurd (false≢true (sym (each t is).0.1 ∙ e))) tt)
-  refused_when_finished Unseeded e each = absurd (is_false x.code (Unit {0}) of_some (λ t is u. absurd (false≢true (sym (each t is).0.1 ∙ e))) tt)
-  refused_when_finished Memory e each = absurd (is_false x.code (Unit {0}) of_some (λ t is u. absurd (false≢true (sym (each t is).0.1 ∙ e))) tt)
-  refused_when_finished Busy e each = absurd (is_false x.code (Unit {0}) of_some (λ t is u. absurd (false≢true (sym (each t is).1 ∙ e))) tt)
+module _ (x : SessionOf) (h : List Call) (i : ℕ) (within : i < threads x.setup) where
+  abbrev IsRefused : AskFault → Type 0
+  IsRefused f = IsSendRefusal x.code.tree x.setup h i f
 
-  finished_when_refused : (f : AskFault) → f ≡ Finished → ((t : Program) → StandsFor x.code t → IsSendRefusal t x.setup h i f) → is_finished x.setup h i ≡ true
-  finished_when_refused f e each = is_true x.code (is_finished x.setup h i) of_some (λ t is. (subst (IsSendRefusal t x.setup h i) e (each t is)).1)
+  refused_when_finished : (f : AskFault) → is_finished x.setup h i ≡ true → IsRefused f → f ≡ Finished
+  refused_when_finished NoThread e few = absurd (omega (arith, few, within))
+  refused_when_finished Finished e refused = refl
+  refused_when_finished Seeded e refused = absurd (false≢true (sym refused.0.1 ∙ e))
+  refused_when_finished Unseeded e refused = absurd (false≢true (sym refused.0.1 ∙ e))
+  refused_when_finished Memory e refused = absurd (false≢true (sym refused.0.1 ∙ e))
+  refused_when_finished Busy e refused = absurd (false≢true (sym refused.1 ∙ e))
 
-  pub unfinished : (call : Call) → ((t : Program) → StandsFor x.code t → IsNextCall t x.setup h i None call) → is_finished x.setup h i ≡ false
-  unfinished call next =
-      is_untrue x.code (is_finished x.setup h i) of_some
-      (λ t is. subst (λ j. is_finished x.setup h j ≡ false) (next t is).thread (next t is).allowed.unfinished)
+  finished_when_refused : (f : AskFault) → f ≡ Finished → IsRefused f → is_finished x.setup h i ≡ true
+  finished_when_refused f e refused = (subst IsRefused e refused).1
+
+  pub unfinished : (call : Call) → IsNextCall x.code.tree x.setup h i None call → is_finished x.setup h i ≡ false
+  unfinished call next = subst (λ j. is_finished x.setup h j ≡ false) next.thread next.allowed.unfinished
 
   -- the refusals of a call that was not sent, with a seed, as those of a desk
   pub desk_refusal : (free calls : ℕ) (is_open : Bool) → is_open ≡ true → is_some x.setup.seed ≡ true → (f : AskFault)
-      → (f ≡ Busy → free ≡ 0) → ((t : Program) → StandsFor x.code t → IsSendRefusal t x.setup h i f)
-      → IsDeskRefusal (desk_of x h free) (seat_of i calls is_open) f
-  desk_refusal free calls is_open e seed NoThread full each =
-      absurd (is_false x.code (Unit {0}) of_some
-      (λ t is u. let few : threads x.setup ≤ i = each t is in absurd (omega (arith, few, within))) tt)
-  desk_refusal free calls is_open e seed Finished full each = inr (finished_when_refused Finished refl each)
-  desk_refusal free calls is_open e seed Seeded full each = absurd (is_false x.code (Unit {0}) of_some (λ t is u. absurd (false≢true (each t is).1)) tt)
-  desk_refusal free calls is_open e seed Unseeded full each =
-      absurd (is_false x.code (Unit {0}) of_some (λ t is u. absurd (false≢true (sym (ap is_some (each t is).2) ∙ seed))) tt)
-  desk_refusal free calls is_open e seed Memory full each = ((e, is_untrue x.code (is_finished x.setup h i) of_some (λ t is. (each t is).0.1)), each)
-  desk_refusal free calls is_open e seed Busy full each = ((e, is_untrue x.code (is_finished x.setup h i) of_some (λ t is. (each t is).1)), full refl)
+      → (f ≡ Busy → free ≡ 0) → IsRefused f → IsDeskRefusal (desk_of x h free) (seat_of i calls is_open) f
+  desk_refusal free calls is_open e seed NoThread full few = absurd (omega (arith, few, within))
+  desk_refusal free calls is_open e seed Finished full refused = inr refused.1
+  desk_refusal free calls is_open e seed Seeded full refused = absurd (false≢true refused.1)
+  desk_refusal free calls is_open e seed Unseeded full refused = absurd (false≢true (sym (ap is_some refused.2) ∙ seed))
+  desk_refusal free calls is_open e seed Memory full refused = ((e, refused.0.1), refused)
+  desk_refusal free calls is_open e seed Busy full refused = ((e, refused.1), full refl)
 
-  pub refused_where_shut : (is_open : Bool) → is_open ≡ true → (f : AskFault)
-      → ((t : Program) → StandsFor x.code t → IsSendRefusal t x.setup h i f) → (r : Result Reply AskFault) → r ≡ Err f
-      → FinishedWhereShut x.setup h i is_open r
-  refused_where_shut is_open e f each r is = (
-    (λ finished. inr (finished_when_refused f (same f r is finished) each)),
+  pub refused_where_shut : (is_open : Bool) → is_open ≡ true → (f : AskFault) → IsRefused f
+      → (r : Result Reply AskFault) → r ≡ Err f → FinishedWhereShut x.setup h i is_open r
+  refused_where_shut is_open e f refused r is = (
+    (λ finished. inr (finished_when_refused f (same f r is finished) refused)),
     (λ shut. elim shut [
       | inl a ↦ absurd (false≢true (sym a ∙ e))
-      | inr b ↦ is ∙ ap (λ k. Err k) (refused_when_finished f b each)
+      | inr b ↦ is ∙ ap (λ k. Err k) (refused_when_finished f b refused)
     ]),
   )
     where
@@ -96,11 +91,48 @@ module _ (x : SessionOf) (h : List Call) (i : ℕ) (of_some : IsOfProgram x.code
       → is_finished x.setup h i ≡ false → FinishedWhereShut x.setup h i is_open r
   not_shut is_open given1 r given2 given3 = grind (arith)
 
+-- A turn that is cut short before one more call.
+
+steps_more : (i : ℕ) (steps : List Call) (last : Call) → AreSteps i steps → last.thread ≡ i → last.reply ≡ Stepped → AreSteps i (steps ++ last ∷ [])
+steps_more i [] last stepped thread reply = ((thread, reply), tt)
+steps_more i (x ∷ xs) last stepped thread reply = (stepped.0, steps_more i xs last stepped.1 thread reply)
+
+module _ (old now new : DeskOf) (seat at after : SeatOf) (n made : ℕ) (steps : List Call) (last : Call) (f : AskFault) where
+  -- the seat is still open, and so is its line
+  not_finished : at.thread ≡ seat.thread → at.is_open ≡ true → at.is_open ≡ not (is_finished now.setup now.history seat.thread)
+      → new ≡ record now { free = new.free } → after ≡ at → IsDeskRefusal new after fault.Finished → ⊥
+  not_finished own is_open line same stays (inl shut) = absurd (false≢true (sym shut ∙ ap (λ (x : SeatOf). x.is_open) stays ∙ is_open))
+  not_finished own is_open line same stays (inr finished) =
+      let there : is_finished now.setup now.history seat.thread ≡ true =
+      sym (ap (λ (d : DeskOf). is_finished d.setup d.history seat.thread) same)
+      ∙ ap (is_finished new.setup new.history) (sym (ap (λ (x : SeatOf). x.thread) stays ∙ own)) ∙ finished in
+      absurd (false≢true (sym (line ∙ ap not there) ∙ is_open))
+
+  pub cut_after : now.history ≡ old.history ++ (steps ++ last ∷ []) → old.free ≤ now.free + made → AreSteps seat.thread steps
+      → last.thread ≡ seat.thread → last.reply ≡ Stepped → length steps + 1 ≡ made → made < n → at.calls ≡ seat.calls + made
+      → at.thread ≡ seat.thread → at.is_open ≡ true → at.is_open ≡ not (is_finished now.setup now.history seat.thread)
+      → IsUnchanged now new × (after ≡ at) → IsDeskRefusal new after f → IsCutTurn old new seat after n f
+  cut_after sent room stepped thread reply many fewer counted own is_open line same refused =
+      let more = length-append steps (last ∷ []) in
+      let free = same.0.1 in
+      let calls = ap (λ (x : SeatOf). x.calls) same.1 in
+      record {
+        steps = steps ++ last ∷ [];
+        sent = ap (λ (d : DeskOf). d.history) same.0.0 ∙ sent;
+        room = omega (arith, room, free, more, many);
+        stepped = steps_more seat.thread steps last stepped thread reply;
+        fewer = omega (arith, more, many, fewer);
+        none = λ e. absurd (not_finished own is_open line same.0.0 same.1 (subst (IsDeskRefusal new after) e refused));
+        refused = refused;
+        own = ap (λ (x : SeatOf). x.thread) same.1 ∙ own;
+        counted = omega (arith, calls, counted, more, many);
+      }
+
 -- What a refused turn says of the machine at that moment.
 
-module _ (t : Program) (old new : DeskOf) (seat after : SeatOf) (n : ℕ) (legal : IsLegalDesk t new) (is : StandsFor new.code t)
+module _ (old new : DeskOf) (seat after : SeatOf) (n : ℕ) (legal : IsLegalDesk new)
     (is_open : seat.is_open ≡ true) where
   pub told : (s : SetupOf) → new.setup ≡ s → (r : Result Reply AskFault)
       → MatchResult r (IsTurn old new seat after n) (IsCutTurn old new seat after n)
-      → IfErr r (TellsOfRefusal t s seat.thread)
+      → IfErr r (TellsOfRefusal new.code.tree s seat.thread)
   told s given1 r given2 = grind (arith)

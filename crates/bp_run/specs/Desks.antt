@@ -14,11 +14,11 @@ use Rattle.std.specs.Option.{option_map}
 use Rattle.bp_language.specs.Ast.{Program}
 use Rattle.bp_flat.specs.Flat.{Flat, flat}
 use Rattle.bp_flat.specs.Codes.{coded_flat}
-use Rattle.bp_machine.specs.Setups.{SetupOf, setup_of, FitsCode}
+use Rattle.bp_machine.specs.Setups.{SetupOf, setup_of, Fits}
 use Rattle.bp_machine.specs.declared.calls.Call.{Call}
 use Rattle.bp_machine.specs.declared.limits.TheConstants.{MAX_THREADS}
 use Rattle.bp_machine.specs.Histories.{open_lines, IsLegal, HasSeededBits}
-use Rattle.bp_machine.specs.Sessions.{SessionOf, StandsForAll}
+use Rattle.bp_machine.specs.Sessions.{SessionOf, Stands}
 use Rattle.bp_machine.specs.SessionCodes.{coded_setup, coded_call}
 
 -- Which ring an end is of.
@@ -48,7 +48,7 @@ no_ring = record {
 }
 
 abbrev pub no_code : Flat
-no_code = flat [] 0 []
+no_code = flat [] 0 [] (record { globals = []; procedures = [] })
 
 abbrev pub no_setup : SetupOf
 no_setup = setup_of [] [] 0 0 None
@@ -106,20 +106,20 @@ pub record DeskOf : Type 0 where
 abbrev pub desk_of : SessionOf → List Call → ℕ → DeskOf
 desk_of x h free = record { code = x.code; setup = x.setup; history = h; free = free }
 
--- What a desk of the program t is whenever nobody is at work on it: its setup fits the code and has
--- a seed, and its history is legal and has the bits of that seed.
-pub record IsLegalDesk (t : Program) (d : DeskOf) : Type 0 where
-  pub fits : FitsCode d.code d.setup
+-- What a desk is whenever nobody is at work on it: its setup fits the code's program and has a
+-- seed, and its history is legal and has the bits of that seed.
+pub record IsLegalDesk (d : DeskOf) : Type 0 where
+  pub fits : Fits d.code.tree d.setup
   pub has_seed : is_some d.setup.seed ≡ true
-  pub legal : IsLegal t d.setup d.history
+  pub legal : IsLegal d.code.tree d.setup d.history
   pub seeded : HasSeededBits d.setup d.history
 
--- The session stands after the history for each program of its code, and the books count the calls
--- of the history and the lines that are open after it.
+-- The session stands after the history, and the books count the calls of the history and the lines
+-- that are open after it.
 pub record IsInBooks (x : SessionOf) (h : List Call) (made lines : ℕ) : Type 0 where
-  pub fits : FitsCode x.code x.setup
+  pub fits : Fits x.code.tree x.setup
   pub has_seed : is_some x.setup.seed ≡ true
-  pub stands : StandsForAll x h
+  pub stands : Stands x.code.tree x h
   pub made_is : made ≡ length h
   pub lines_are : lines ≡ open_lines x.setup h
 

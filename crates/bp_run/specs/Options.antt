@@ -4,7 +4,7 @@ use Rattle.bp_language.specs.Ast.{Program}
 use Rattle.bp_flat.specs.Flat.{Flat}
 use Rattle.bp_machine.specs.declared.setup_faults.SetupFault.{SetupFault}
 use Rattle.bp_machine.specs.declared.setup_faults.SetupFault.TheVariants.{OutOfRange, Memory}
-use Rattle.bp_machine.specs.Setups.{SetupOf, setup_fault, fault_if, first_of, FitsCode, setup_from}
+use Rattle.bp_machine.specs.Setups.{SetupOf, setup_fault, fault_if, first_of, Fits, setup_from}
 use Rattle.bp_tasks.specs.RunOptions.{OptionsOf}
 use Rattle.bp_run.specs.declared.limits.TheConstants.{MAX_TURN, MAX_RING}
 
@@ -36,7 +36,7 @@ pub record IsSetupUnder (o : OptionsOf) (t : Program) (s : SetupOf) : Type 0 whe
 
 -- the setup fits the code and has a seed, and the turn and the ring of the options are in range
 pub record FitsOptions (o : OptionsOf) (c : Flat) (s : SetupOf) : Type 0 where
-  pub fits : FitsCode c s
+  pub fits : Fits c.tree s
   pub has_seed : is_some s.seed ≡ true
   pub turn_some : 0 < o.turn
   pub turn_few : o.turn ≤ MAX_TURN

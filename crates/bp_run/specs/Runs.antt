@@ -57,6 +57,10 @@ module _ (t : Program) (s : SetupOf) (old new : Option (List ℕ)) where
     pub left : open_seats seats ≡ r.left_open
     pub agreement : IsTrue agree ↔ AreSeatsOf s played.history seats
 
+  -- the same by these workers, and this is the report
+  abbrev pub IsPlayedBy : RunReport → Type 0
+  IsPlayedBy r = IsPlayedFrom (map seat_of_worker r.workers.items) r.counts_agree r.report
+
   -- The trace of one legal history was written, with the bits of the seed. In it the line of this
   -- thread is open, although its next step is no call.
   pub record IsEarly (thread : ℕ) : Type 0 where
@@ -93,8 +97,7 @@ module _ (o : OptionsOf) (text : List ℕ) (old new : Option (List ℕ)) where
   -- the trace of a history was written, and the report is of that history
   pub record IsTraced (r : RunReport) (t : Program) : Type 0 where
     pub fine : options_fault o t ≡ None
-    pub played : let seats = map seat_of_worker r.workers.items in
-        IsPlayedFrom t (setup_under o t) old new seats r.counts_agree r.report
+    pub played : IsPlayedBy t (setup_under o t) old new r
 
   -- the program has no fault under the options, and playing it was refused
   pub record IsNotPlayed (f : RunFault) (t : Program) : Type 0 where

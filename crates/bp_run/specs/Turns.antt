@@ -2,7 +2,6 @@
 use Rattle.std.specs.Prelude.{◌≡◌, ◌⊎◌, ℕ, ◌≤◌, ◌+◌, false, true, List, [], ◌∷◌, ◌++◌, None, length, not, ◌≢◌, ◌<◌, ⊤}
 use Rattle.std.specs.List.{AllByRecursion}
 use Rattle.bp_language.specs.Ast.{Program}
-use Rattle.bp_flat.specs.StandsFor.{StandsFor}
 use Rattle.bp_machine.specs.declared.calls.Call.{Call}
 use Rattle.bp_machine.specs.declared.calls.Reply.{Reply}
 use Rattle.bp_machine.specs.declared.calls.AskFault.{AskFault}
@@ -30,9 +29,7 @@ IsUnchanged old new = (new ≡ record old { free = new.free }) × (old.free ≤ 
 -- line is; it has counted no more calls than were sent.
 pub record IsAsked (old new : DeskOf) (seat after : SeatOf) (reply : Reply) : Type 0 where
   pub call : Call
-  pub next : (t : Program)
-      → StandsFor old.code t
-      → IsNextCall t old.setup old.history seat.thread None call
+  pub next : IsNextCall old.code.tree old.setup old.history seat.thread None call
   pub sent : new.history ≡ old.history ++ call ∷ []
   pub room : old.free ≤ new.free + 1
   pub thread : call.thread ≡ seat.thread
@@ -53,9 +50,7 @@ IsOpen d seat = (seat.is_open ≡ true) × (is_finished d.setup d.history seat.t
 -- the next step of the seat's thread may take memory
 abbrev pub MayLackMemory : DeskOf → SeatOf → Type 0
 MayLackMemory d seat =
-    (t : Program)
-    → StandsFor d.code t
-    → IsAskRefusal t d.setup d.history seat.thread None fault.Memory
+    IsAskRefusal d.code.tree d.setup d.history seat.thread None fault.Memory
 
 -- Why a call is refused: the line is finished, or the seat says so; else memory may be refused
 -- where its step is a call; and the ring may be full where no place is known to be free.

@@ -5,7 +5,6 @@ use Rattle.bp_text.specs.declared.sinks.Sink.{Sink}
 use Rattle.bp_text.specs.Writing.{Given}
 use Rattle.bp_language.specs.Ast.{Program}
 use Rattle.bp_flat.specs.Flat.{Flat}
-use Rattle.bp_flat.specs.StandsFor.{StandsFor}
 use Rattle.bp_machine.specs.declared.calls.Call.{Call}
 use Rattle.bp_machine.specs.Setups.{SetupOf}
 use Rattle.bp_machine.specs.declared.calls.AskFault.TheVariants as fault
@@ -67,7 +66,7 @@ pub record IsWorked
     : Type 0 where
   pub own : seat.thread ≡ thread
   pub ended : MatchResult done (λ _. seat.is_open ≡ false) (λ _. seat.is_open ≡ true)
-  pub stopped : (t : Program) → StandsFor code t → IfErr done (TellsOfStop t s thread)
+  pub stopped : IfErr done (TellsOfStop code.tree s thread)
 
 -- it says whether all of the seats are shut
 abbrev pub TellsShut : Bool → List SeatOf → Type 0

@@ -1,12 +1,10 @@
 //! What a run answers: its report, and what each worker counted.
 //! Why a run gives no report.
 //! The setup of a program under the options of a run.
-ghost use Rattle.std.specs.Prelude.{◌≡◌, ◌≤◌, map, vec_len, vec_capacity, ◌<◌, None, Some, IfOk, MatchResult};
+ghost use Rattle.std.specs.Prelude.{◌≡◌, ◌≤◌, map, vec_len, vec_capacity, ◌<◌, Some, IfOk, MatchResult};
 ghost use Rattle.bp_language.specs.Ast.{Program};
-ghost use Rattle.bp_flat.specs.StandsFor.{InEach};
-ghost use Rattle.bp_machine.specs.Setups.{FitsCode};
 ghost use Rattle.bp_run.specs.Runs.{seat_of_worker};
-ghost use Rattle.bp_run.specs.Options.{setup_under, options_fault, IsOptionsRefusal, IsSetupUnder, FitsOptions, has_bad_turn_or_ring};
+ghost use Rattle.bp_run.specs.Options.{setup_under, IsOptionsRefusal, IsSetupUnder, FitsOptions, has_bad_turn_or_ring};
 
 use crate::boards::Calls;
 use crate::limits::{MAX_RING, MAX_TURN};
@@ -128,7 +126,7 @@ impl From<CodeFault> for RunFault {
 }
 
 /// Whether a turn has no call or more than 64, or the ring holds no call or more than 65,536.
-fn has_bad_turn_or_ring(options: &RunOptions) -> bool
+pub fn has_bad_turn_or_ring(options: &RunOptions) -> bool
     ensures { result ≡ has_bad_turn_or_ring options.now }
 {
     let (turn, ring) = (options.turn, options.ring);
@@ -142,8 +140,8 @@ pub(crate) fn setup_under(
     options: &RunOptions,
     code: &Code,
 ) -> Result<Setup, SetupFault>
-    ensures answer { InEach code.now (λ t.
-        MatchResult result (IsSetupUnder options.now t) (IsOptionsRefusal options.now t)) }
+    ensures answer { let t = code.now.tree in
+        MatchResult result (IsSetupUnder options.now t) (IsOptionsRefusal options.now t) }
     ensures taken { IfOk result (FitsOptions options.now code.now) }
 {
     let made = options.start.setup(alloc, code, Some(options.seed));

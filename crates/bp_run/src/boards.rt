@@ -2,8 +2,7 @@
 //! What a board is made of.
 //! What names the ledgers and the ring of a board.
 ghost use Rattle.std.specs.Prelude.{◌≡◌, ◌≤◌, ◌<◌, [], true, false, None, is_some, IfOk, IfErr, MatchResult};
-ghost use Rattle.bp_flat.specs.StandsFor.{InEach};
-ghost use Rattle.bp_machine.specs.Setups.{threads, FitsCode};
+ghost use Rattle.bp_machine.specs.Setups.{threads, Fits};
 ghost use Rattle.bp_machine.specs.declared.limits.TheConstants.{MAX_THREADS};
 ghost use Rattle.bp_run.specs.declared.limits.TheConstants.{MAX_TURN, MAX_RING};
 ghost use Rattle.bp_run.specs.Desks.{IsNamed, AreNewSeats};
@@ -39,7 +38,7 @@ impl<C: Calls, O: Ledger> Board<C, O> {
         requires code { code.now ≡ C.code }
         requires setup { setup.now ≡ C.setup }
         requires threads { kit.threads ≡ threads setup.now }
-        requires fits { FitsCode code.now setup.now }
+        requires fits { Fits code.now.tree setup.now }
         requires seeded { is_some setup.now.seed ≡ true }
         ensures seats { IfOk result (λ r. AreNewSeats (threads setup.now) r.1.items) }
         ensures tap { IfOk result (λ r. (r.2.taken ≡ []) × (r.2.rest ≡ None)) }
@@ -59,8 +58,8 @@ impl<C: Calls, O: Ledger> Board<C, O> {
         ensures answer { MatchResult result
             (IsSeatTurn seat.old seat.new n)
             (IsCutSeatTurn seat.old seat.new n) }
-        ensures refused { InEach C.code (λ t. seat.old.is_open ≡ true
-            → IfErr result (TellsOfRefusal t C.setup seat.old.thread)) }
+        ensures refused { let t = C.code.tree in seat.old.is_open ≡ true
+            → IfErr result (TellsOfRefusal t C.setup seat.old.thread) }
     {
         let mut desk = self.desk.lock(rt);
         let answer = desk.turn(seat, n);

@@ -1,12 +1,10 @@
 //! The desk: the machine, and the end of the ring to which its history is sent.
 //! A call is made and sent, or neither.
 //! Whether a session has stopped: its open lines stand before calls.
-ghost use Rattle.std.specs.Prelude.{◌≡◌, ◌≤◌, ◌<◌, ◌↔◌, [], true, None, is_some, IfOk, OnErr, MatchResult, ◌+◌, ◌∷◌, ◌++◌, List};
+ghost use Rattle.std.specs.Prelude.{◌≡◌, ◌≤◌, ◌<◌, ◌↔◌, [], true, None, is_some, IfOk, OnErr, MatchResult, ◌+◌, ◌∷◌, ◌++◌};
 ghost use Rattle.rtrb.specs.Ring.{sent, known_free, SameProducer};
-ghost use Rattle.bp_flat.specs.StandsFor.{InEach};
-ghost use Rattle.bp_machine.specs.Setups.{threads, FitsCode};
+ghost use Rattle.bp_machine.specs.Setups.{threads, Fits};
 ghost use Rattle.bp_machine.specs.Sessions.{Stands, IsNextCall, AfterEach};
-ghost use Rattle.bp_machine.specs.declared.calls.Call.{Call as Answered};
 ghost use Rattle.bp_run.specs.declared.limits.TheConstants.{MAX_TURN};
 ghost use Rattle.bp_run.specs.Turns.{IsAsked, IsShut, IsDeskRefusal, IsUnchanged, IsTurn, IsCutTurn, IsSendRefusal};
 ghost use Rattle.bp_run.specs.Desks.{IsLegalDesk, IsNewDesk, IsNamed, AreNewSeats};
@@ -67,7 +65,7 @@ impl<C: Calls, O: Ledger> Desk<C, O> {
         requires code { code.now ≡ C.code }
         requires setup { setup.now ≡ C.setup }
         requires threads { kit.threads ≡ threads setup.now }
-        requires fits { FitsCode code.now setup.now }
+        requires fits { Fits code.now.tree setup.now }
         requires seeded { is_some setup.now.seed ≡ true }
         ensures desk { IfOk result (λ r. IsNewDesk code.now setup.now kit.free r.0) }
         ensures seats { IfOk result (λ r. AreNewSeats (threads setup.now) r.1.items) }
@@ -98,7 +96,7 @@ impl<C: Calls, O: Ledger> Desk<C, O> {
     /// States what a desk is at each moment: its history is a legal one of its board's code and
     /// setup, with the seed's bits.
     pub fn is_legal(&self)
-        ensures legal { InEach self.now.code (λ t. IsLegalDesk t self.now) }
+        ensures legal { IsLegalDesk self.now }
         ensures own { (self.now.code ≡ C.code) × (self.now.setup ≡ C.setup) }
     {
         let _ = &self.session;
@@ -115,7 +113,6 @@ impl<C: Calls, O: Ledger> Desk<C, O> {
         ensures same { OnErr result (IsUnchanged self.old self.new × (seat.new ≡ seat.old)) }
         ensures kept { (self.new.code ≡ self.old.code) × (self.new.setup ≡ self.old.setup) }
     {
-        self.session.code().is_of_a_program();
         self.session.setup().is_in_range();
         if !seat.is_open {
             return Err(AskFault::Finished);
@@ -163,13 +160,13 @@ pub(crate) fn send(
     thread: u32,
 ) -> Result<Call, AskFault>
     requires { thread < threads session.old.setup }
-    ensures answer { InEach session.old.code (λ t. Stands t session.old (sent to.old)
+    ensures answer { let t = session.old.code.tree in Stands t session.old (sent to.old)
         → MatchResult result
         (IsNextCall t session.old.setup (sent to.old) thread None)
-        (IsSendRefusal t session.old.setup (sent to.old) thread)) }
+        (IsSendRefusal t session.old.setup (sent to.old) thread) }
     ensures asked { IfOk result (λ c. c.thread ≡ thread) }
-    ensures stands { InEach session.old.code (λ t. Stands t session.old (sent to.old)
-        → IfOk result (λ c. Stands t session.new (sent to.old ++ c ∷ []))) }
+    ensures stands { let t = session.old.code.tree in Stands t session.old (sent to.old)
+        → IfOk result (λ c. Stands t session.new (sent to.old ++ c ∷ [])) }
     ensures kept { (session.new.code ≡ session.old.code) × (session.new.setup ≡ session.old.setup) }
     ensures same { OnErr result (session.new ≡ session.old) }
     ensures ring { SameProducer to.old to.new }
@@ -177,9 +174,9 @@ pub(crate) fn send(
         (sent to.new ≡ sent to.old ++ c ∷ []) × (known_free to.old ≤ known_free to.new + 1)) }
     ensures unsent { OnErr result
         ((sent to.new ≡ sent to.old) × (known_free to.old ≤ known_free to.new)) }
-    ensures full { InEach session.old.code (λ t. Stands t session.old (sent to.old)
+    ensures full { let t = session.old.code.tree in Stands t session.old (sent to.old)
         → result ≡ Err AskFault.Busy
-        → known_free to.new ≡ 0) }
+        → known_free to.new ≡ 0 }
 {
     if to.is_full() {
         return Err(if session.is_finished(thread) {
@@ -200,7 +197,9 @@ fn is_at_call(session: &Session, thread: u32) -> bool
     let Some(top) = session.top(thread) else {
         return false;
     };
-    let Some(instr) = session.code().get(top.number) else {
+    let code = session.code();
+    code.is_of_a_program();
+    let Some(instr) = code.get(top.number) else {
         return false;
     };
     match instr.kind() {

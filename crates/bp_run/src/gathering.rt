@@ -2,8 +2,6 @@
 //! Whether the seats of a board agree with its machine.
 ghost use Rattle.std.specs.Prelude.{◌≡◌, ◌+◌, ◌↔◌, IsTrue, vec_len, vec_capacity, List};
 ghost use Rattle.bp_language.specs.Ast.{Program};
-ghost use Rattle.bp_flat.specs.StandsFor.{InEach};
-ghost use Rattle.bp_machine.specs.declared.limits.TheConstants.{MAX_THREADS};
 ghost use Rattle.bp_machine.specs.declared.calls.Call.{Call as Answered};
 ghost use Rattle.bp_machine.specs.Sessions.{Stands};
 ghost use Rattle.bp_machine.specs.Setups.{threads};
@@ -112,8 +110,8 @@ fn joined<C: Calls, O: Ledger>(
     requires { AreOnePerThread (threads C.setup) seats.items }
     ensures seats { result.seats.items ≡ seats.items }
     ensures gathered { let r = result in
-        InEach C.code (λ t.
-        IsGathered t C.setup tap.taken seats.items r.tap r.report r.early r.agree) }
+        let t = C.code.tree in
+        IsGathered t C.setup tap.taken seats.items r.tap r.report r.early r.agree }
 {
     let Desk {
         session,
@@ -121,7 +119,6 @@ fn joined<C: Calls, O: Ledger>(
         mut made,
         mut lines,
     } = desk;
-    session.code().is_of_a_program();
     session.setup().is_in_range();
     let Some(seat) = seats.pop() else {
         unreachable!()
@@ -180,8 +177,8 @@ pub fn gather<C: Calls, O: Ledger>(
     requires { AreOnePerThread (threads C.setup) seats.items }
     ensures seats { result.seats.items ≡ seats.items }
     ensures gathered { let r = result in
-        InEach C.code (λ t.
-        IsGathered t C.setup tap.taken seats.items r.tap r.report r.early r.agree) }
+        let t = C.code.tree in
+        IsGathered t C.setup tap.taken seats.items r.tap r.report r.early r.agree }
 {
     let Board { desk } = board;
     let desk = desk.into_inner();

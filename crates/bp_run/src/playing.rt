@@ -1,6 +1,5 @@
 //! Playing a board: one worker for each seat, and a scribe.
-ghost use Rattle.std.specs.Prelude.{◌≡◌, ◌≤◌, ◌<◌, [], true, false, is_some, OnOk, MatchResult};
-ghost use Rattle.bp_flat.specs.StandsFor.{InEach};
+ghost use Rattle.std.specs.Prelude.{◌≡◌, ◌≤◌, ◌<◌, [], false, OnOk, MatchResult};
 ghost use Rattle.bp_machine.specs.Laws.{StepsAreARun, StepsAreWithin, FailuresAreReal};
 ghost use Rattle.bp_machine.specs.Setups.{threads};
 ghost use Rattle.bp_run.specs.declared.limits.TheConstants.{MAX_TURN};
@@ -107,9 +106,9 @@ fn play_with<
     ensures answer { let setup = opened.entry.setup.now in
         let old = W.contents pen.entry.sink.out.now in
         let new = W.contents result.pen.sink.out.now in
-        InEach opened.entry.code.now (λ t. MatchResult result.answer
+        let t = opened.entry.code.now.tree in MatchResult result.answer
         (IsPlayedFrom t setup old new back.new.items result.agree)
-        (IsPlayRefusal t setup old new)) }
+        (IsPlayRefusal t setup old new) }
     ensures seats { OnOk result.answer
         (AreOnePerThread (threads opened.entry.setup.now) back.new.items) }
     ensures done { OnOk result.answer (TellsShut result.all_done back.new.items) }
@@ -122,7 +121,6 @@ fn play_with<
         seats,
         tap,
     } = opened;
-    code.is_of_a_program();
     setup.is_in_range();
     let (Ok(room), Ok(handles)) = (
         Vec::with_capacity(alloc, seats.len()),
@@ -198,9 +196,9 @@ pub fn play<
     ensures answer { let setup = opened.entry.setup.now in
         let old = W.contents out.old in
         let new = W.contents out.new in
-        InEach opened.entry.code.now (λ t. MatchResult result.answer
+        let t = opened.entry.code.now.tree in MatchResult result.answer
         (IsPlayedFrom t setup old new result.seats.items result.agree)
-        (IsPlayRefusal t setup old new)) }
+        (IsPlayRefusal t setup old new) }
     ensures seats { OnOk result.answer
         (AreOnePerThread (threads opened.entry.setup.now) result.seats.items) }
     ensures done { OnOk result.answer (TellsShut result.all_done result.seats.items) }

@@ -1,6 +1,5 @@
 //! Workers: each makes the calls of one guest thread.
 ghost use Rattle.std.specs.Prelude.{◌≡◌, ◌≤◌, ◌<◌, false, true, IfErr, OnOk, OnErr};
-ghost use Rattle.bp_flat.specs.StandsFor.{InEach};
 ghost use Rattle.bp_run.specs.declared.limits.TheConstants.{MAX_TURN};
 ghost use Rattle.bp_run.specs.Works.{IsWorked, TellsOfStop};
 
@@ -24,53 +23,10 @@ pub enum Unfinished {
     Halted,
 }
 
-/// Takes turns of at most `turn` calls from this seat, until its line is finished. Where the ring
-/// is full it waits for room, and takes a turn again.
-fn take_turns<C: Calls, O: Ledger, G: Gate, R: Wait + Clock>(
-    rt: &R,
-    board: &Board<C, O>,
-    seat: &mut Seat<C, O>,
-    turn: u32,
-    gate: &G,
-    signals: &Signals,
-) -> Result<(), Unfinished>
-    requires some { 0 < turn }
-    requires few { turn ≤ MAX_TURN }
-    ensures ok { OnOk result (seat.new.is_open ≡ false) }
-    ensures refused { OnErr result (seat.new.is_open ≡ true) }
-    ensures stopped { InEach C.code (λ t. IfErr result (TellsOfStop t C.setup seat.old.thread)) }
-    ensures thread { seat.new.thread ≡ seat.old.thread }
-    ensures calls { seat.old.calls ≤ seat.new.calls }
-{
-    let mut idle = Idle::new(&signals.room, 0);
-    for _ in rt.forever() {
-        if !seat.is_open() {
-            return Ok(());
-        }
-        if signals.is_halted() {
-            return Err(Unfinished::Halted);
-        }
-        gate.before(rt, seat.thread(), seat.calls());
-        match board.turn(rt, seat, turn) {
-            Ok(reply) => {
-                signals.calls.ring(1);
-                idle = Idle::new(&signals.room, 0);
-                gate.after(seat.thread(), reply);
-            }
-            Err(AskFault::Busy) => {
-                signals.calls.ring_loudly();
-                idle.rest(rt);
-            }
-            Err(AskFault::Memory) => return Err(Unfinished::Memory),
-            Err(_) => return Err(Unfinished::Finished),
-        }
-    }
-    unreachable!()
-}
-
 /// Takes turns of at most `turn` calls from this seat, until its line is finished, and tells the
-/// gate. It stops where memory is refused, where the line was finished already though the seat is
-/// open, or where the signals tell it to.
+/// gate. Where the ring is full it waits for room, and takes a turn again. It stops where memory is
+/// refused, where the line was finished already though the seat is open, or where the signals tell
+/// it to.
 pub fn work<C: Calls, O: Ledger, G: Gate, R: Wait + Clock>(
     rt: &R,
     board: &Board<C, O>,
@@ -83,11 +39,41 @@ pub fn work<C: Calls, O: Ledger, G: Gate, R: Wait + Clock>(
     requires few { turn ≤ MAX_TURN }
     ensures ok { OnOk result (seat.new.is_open ≡ false) }
     ensures refused { OnErr result (seat.new.is_open ≡ true) }
-    ensures stopped { InEach C.code (λ t. IfErr result (TellsOfStop t C.setup seat.old.thread)) }
+    ensures stopped { IfErr result (TellsOfStop C.code.tree C.setup seat.old.thread) }
     ensures thread { seat.new.thread ≡ seat.old.thread }
     ensures calls { seat.old.calls ≤ seat.new.calls }
 {
-    let done = take_turns(rt, board, seat, turn, gate, signals);
+    let mut idle = Idle::new(&signals.room, 0);
+    let mut done = Ok(());
+    for _ in rt.forever() {
+        if !seat.is_open() {
+            break;
+        }
+        if signals.is_halted() {
+            done = Err(Unfinished::Halted);
+            break;
+        }
+        gate.before(rt, seat.thread(), seat.calls());
+        match board.turn(rt, seat, turn) {
+            Ok(reply) => {
+                signals.calls.ring(1);
+                idle = Idle::new(&signals.room, 0);
+                gate.after(seat.thread(), reply);
+            }
+            Err(AskFault::Busy) => {
+                signals.calls.ring_loudly();
+                idle.rest(rt);
+            }
+            Err(AskFault::Memory) => {
+                done = Err(Unfinished::Memory);
+                break;
+            }
+            Err(_) => {
+                done = Err(Unfinished::Finished);
+                break;
+            }
+        }
+    }
     gate.finished(seat.thread());
     done
 }

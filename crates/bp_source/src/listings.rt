@@ -2,7 +2,6 @@
 //! The code of a program in JSON: its procedures, and its instructions with their source.
 //! The line and the column of a place, as objects of JSON have them.
 ghost use Rattle.std.specs.Prelude.{◌≡◌, ◌++◌, IfOk, OnOk, ◌<◌, ◌^◌, flat_map, length};
-ghost use Rattle.bp_flat.specs.StandsFor.{StandsFor};
 ghost use Rattle.bp_source.specs.Listings.{is_heading, line_with, plain_line, statements_after, sourced_line, IsSourcedListing, code_object, heading_item, instruction_object, instruction_objects, operation_name, IsCodeInJson, column_of, line_of};
 
 use crate::names::name_at;
@@ -231,15 +230,11 @@ fn push_instructions(
 
 /// The code of a lawful program, an object a line: that of the code with its procedures, and one
 /// for each instruction, with the place and the statement that `show` prints of it.
-pub fn code_objects(
-    alloc: Global,
-    text: &[u8],
-    checked: &Checked,
-    code: &Code,
-) -> Result<Vec<u8>, AllocError>
-    ensures { StandsFor code.now checked.now
-        → IfOk result (λ v. IsCodeInJson text.now checked.now code.now v.items) }
+pub fn code_objects(alloc: Global, text: &[u8], code: &Code) -> Result<Vec<u8>, AllocError>
+    ensures { IfOk result (λ v. IsCodeInJson text.now code.now.tree code.now v.items) }
 {
+    code.is_of_a_program();
+    let checked = code.checked();
     checked.has_few_statements();
     let statements = source_statements_of(alloc, text, checked)?;
     let procs = checked.tree().procs();

@@ -158,5 +158,6 @@ pub fn read(alloc: Global, text: &[u8]) -> Result<Tree, ReadFault>
         return Err(ReadFault::TooManyTokens(at));
     }
     let (globals, procs) = parse(alloc, tokens, text.len() as u32)?;
-    Ok(Tree { globals, procs })
+    let tree = Tree::new(alloc, globals, procs)?;
+    Ok(tree)
 }

@@ -1,6 +1,7 @@
 //! Reads program texts: the lexer cuts a text into tokens, and the parser makes a tree of them.
 #![tactic(auto)]
 
+mod checked;
 mod faults;
 mod laws;
 mod lexemes;
@@ -13,6 +14,7 @@ pub use bp_language::{
     Block, Decider, Expr, Exprs, Form, LexemeKind, Name, Names, Op, Proc, Procs, Stmt, Sub,
     TokenKind, limits,
 };
+pub use checked::Checked;
 pub use faults::ReadFault;
 pub use laws::{has_names_on_one_line, has_one_cut, has_one_refusal, has_one_tree};
 pub use lexemes::{Lexeme, take_lexeme};

@@ -1,18 +1,26 @@
 //! Programs as trees.
-ghost use Rattle.std.specs.Prelude.{◌≡◌, ◌≤◌};
+ghost use Rattle.std.specs.Prelude.{◌≡◌, ◌≤◌, IfOk};
 ghost use Rattle.bp_language.specs.Ast.{procedures_size};
 ghost use Rattle.bp_language.specs.Texts.{HasText};
 ghost use Rattle.bp_language.specs.NamesIn.{HasShortNames, HasSpelledNames};
 
 use bp_language::limits::TEXT_LIMIT;
 use bp_language::{Name, Names, Proc, Procs};
+use std::alloc::{AllocError, Global};
 use std::marker::Model;
+use std::sync::Arc;
 
-/// The tree of a program text that was read.
+/// The tree of a program text that was read. Copies of a tree share it.
 #[derive(Drop)]
 pub struct Tree {
-    pub(crate) globals: Names,
-    pub(crate) procs: Procs,
+    parts: Arc<Parts, Global>,
+}
+
+/// The parts of a tree.
+#[derive(Drop)]
+struct Parts {
+    globals: Names,
+    procs: Procs,
 }
 
 impl Model for Tree {
@@ -24,19 +32,39 @@ impl Model for Tree {
     ghost coded = { coded_program };
 
     ghost use Rattle.bp_language.specs.Texts.{HasText};
+    ghost use Rattle.std.specs.Arc.{arc_value};
 
-    ghost view = { λ t. record { globals = t.globals; procedures = t.procs } };
+    ghost view = { λ t. let p = arc_value t.parts in
+        record { globals = p.globals; procedures = p.procs } };
 
-    ghost invariant = { λ t. HasText (record { globals = t.globals; procedures = t.procs }) };
+    ghost invariant = { λ t. let p = arc_value t.parts in
+        HasText (record { globals = p.globals; procedures = p.procs }) };
 }
 
 impl Tree {
+    /// The tree of these globals and procedures. Fails only if memory is refused.
+    pub(crate) fn new(alloc: Global, globals: Names, procs: Procs) -> Result<Tree, AllocError>
+        requires { HasText (record { globals = globals; procedures = procs }) }
+        ensures { IfOk result (λ t. t ≡ record { globals = globals; procedures = procs }) }
+    {
+        let parts = Arc::new(alloc, Parts { globals, procs })?;
+        Ok(Tree { parts })
+    }
+
+    /// Returns a copy, which shares the tree. Fails only if too many share it.
+    pub fn try_copy(&self) -> Result<Tree, AllocError>
+        ensures { IfOk result (λ t. t ≡ self.now) }
+    {
+        let parts = Arc::try_clone(&self.parts)?;
+        Ok(Tree { parts })
+    }
+
     /// The declared variables, in order of declaration.
     pub fn globals(&self) -> &[Name]
         ensures value { result.now ≡ self.now.globals }
         ensures of_text { HasText self.now }
     {
-        self.globals.as_slice()
+        self.parts.globals.as_slice()
     }
 
     /// The procedures, in order of their text.
@@ -44,21 +72,21 @@ impl Tree {
         ensures value { result.now ≡ self.now.procedures }
         ensures of_text { HasText self.now }
     {
-        self.procs.as_slice()
+        self.parts.procs.as_slice()
     }
 
     /// Law: a program has no more statements and procedures together than a text has bytes.
     pub fn has_few_statements(&self)
         ensures { procedures_size self.now.procedures ≤ TEXT_LIMIT }
     {
-        let _ = &self.globals;
+        let _ = &self.parts;
     }
 
     /// Law: no name in a program is longer than a text.
     pub fn has_short_names(&self)
         ensures { HasShortNames TEXT_LIMIT self.now }
     {
-        let _ = &self.globals;
+        let _ = &self.parts;
     }
 
     /// Law: each name in a program is an identifier that is not reserved, or a braced name. So it
@@ -66,13 +94,13 @@ impl Tree {
     pub fn has_spelled_names(&self)
         ensures { HasSpelledNames self.now }
     {
-        let _ = &self.globals;
+        let _ = &self.parts;
     }
 
     /// Law: each tree is that of some text.
     pub fn is_of_a_text(&self)
         ensures { HasText self.now }
     {
-        let _ = &self.globals;
+        let _ = &self.parts;
     }
 }

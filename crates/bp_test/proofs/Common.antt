@@ -1,15 +1,14 @@
 -- What the proofs of this crate name of std, of the crates below and of its own definitions.
 pub use Rattle.bp_flat.specs.Flat.{Flat}
-pub use Rattle.bp_flat.specs.StandsFor.{IsOfProgram, Place, StandsFor, places_of}
+pub use Rattle.bp_flat.specs.StandsFor.{Place, places_of}
 pub use Rattle.bp_language.specs.Ast.{Program}
 pub use Rattle.bp_machine.proofs.HistoryWithCall.{same_or_not}
-pub use Rattle.bp_machine.proofs.SetupInRange.{for_one, is_true}
 pub use Rattle.bp_machine.proofs.StandsAfterTransition.{at_end}
 pub use Rattle.bp_machine.specs.Histories.{IsAtFalseAssertion, IsLeastWithin, IsLegal, IsLegalAfter, IsRealFailure, IsReport, IsWithin, configuration_after, configuration_after_call, configuration_after_calls, configuration_after_step, granted_calls, granted_threads, is_failure, is_finished, is_granted, open_below, open_lines, outcome_of, outcome_or, stack_of}
 pub use Rattle.bp_machine.specs.Laws.{FailuresAreReal, HistoriesAreRuns, RunsAreHistories}
 pub use Rattle.bp_machine.specs.Runs.{HasBoundedRun, IsBoundedRun, IsDeadlocked, IsHistoryOfSteps, waits}
-pub use Rattle.bp_machine.specs.Sessions.{SessionOf, Stands, StandsForAll}
-pub use Rattle.bp_machine.specs.Setups.{Fits, FitsCode, IsInRange, SetupOf, setup_fault, threads}
+pub use Rattle.bp_machine.specs.Sessions.{SessionOf, Stands}
+pub use Rattle.bp_machine.specs.Setups.{Fits, IsInRange, SetupOf, setup_fault, threads}
 pub use Rattle.bp_machine.specs.declared.calls.Call.{Call}
 pub use Rattle.bp_machine.specs.declared.calls.Outcome.{Outcome}
 pub use Rattle.bp_machine.specs.declared.calls.Outcome.TheVariants.{Clean}

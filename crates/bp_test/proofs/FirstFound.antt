@@ -1,5 +1,5 @@
 -- What the first found run of some runs says of more of them, and of a test.
-use Rattle.bp_test.proofs.Common.{◌≡◌, ℕ, suc, ◌+◌, ◌<◌, ◌≤◌, ◌^◌, Bool, true, List, [], ◌∷◌, ◌++◌, length, Option, None, Some, refl, ap, sym, ◌∙◌, subst, arith, ◌-◌, false, append-nil, Result, Ok, MatchOption, max, slice_index_or, is_some, IfSome, rules, length_push, Program, Flat, StandsFor, Call, Outcome, Clean, SetupOf, outcome_of, is_failure, FailsAt, setup_of_run, found_by, found_in, IsCleanRun, AreCleanRuns, IsFirstFound, IsFoundRun, IsWrittenRun, IsFound, IsCutRun, HasFailed, start_of_block, IsBlock, AreBlocks, IsTalliedAfter, IsTallied, MadeRun, IsTally, Plan, Tally}
+use Rattle.bp_test.proofs.Common.{◌≡◌, ℕ, suc, ◌+◌, ◌<◌, ◌≤◌, ◌^◌, Bool, true, List, [], ◌∷◌, ◌++◌, length, Option, None, Some, refl, ap, sym, ◌∙◌, subst, arith, ◌-◌, false, append-nil, Result, Ok, MatchOption, max, slice_index_or, is_some, IfSome, rules, length_push, Program, Flat, Call, Outcome, Clean, SetupOf, outcome_of, is_failure, FailsAt, setup_of_run, found_by, found_in, IsCleanRun, AreCleanRuns, IsFirstFound, IsFoundRun, IsWrittenRun, IsFound, IsCutRun, HasFailed, start_of_block, IsBlock, AreBlocks, IsTalliedAfter, IsTallied, MadeRun, IsTally, Plan, Tally}
 use Rattle.std.proofs.Common.{length-append}
 use Rattle.std.proofs.Math.Nat.{mul-le-mul_right}
 use Rattle.bp_text.specs.Writing.{AppendsAll, AppendsPart}
@@ -135,20 +135,20 @@ some_of o given1 given2 = grind (arith)
 abbrev pub Adds : Tally → Tally → Tally → Type 0
 Adds old other new = (t : Program) (s : SetupOf) (runs more : List MadeRun) → IsTally t s runs old → IsTally t s more other → IsTally t s (runs ++ more) new
 
-module _ {E : Type 0} (k : Flat) (s : SetupOf) (p : Plan) (from size runs : ℕ) (t : Program) (is : StandsFor k t) (earlier : List MadeRun) where
+module _ {E : Type 0} (c : Flat) (t : Program) (program : t ≡ c.tree) (s : SetupOf) (p : Plan) (from size runs : ℕ) (earlier : List MadeRun) where
   -- the runs of the blocks before these, which are the rest of all, are not looked for, and are
   -- counted; the last of them is before this one
   pub record IsBefore (all rest : List (Result Block E)) (end : ℕ) (tally : Tally) : Type 0 where
     pub before : ℕ
     pub count : before + length rest ≡ length all
-    pub blocks : AreBlocks k s p from size runs before rest
+    pub blocks : AreBlocks c s p from size runs before rest
     pub made : List MadeRun
     pub number : start_of_block from size 0 runs + length made ≡ end
     pub ends : IsEnd p.deadline (start_of_block from size 0 runs) (start_of_block from size before runs) None end
     pub clean : AreCleanRuns t s p.with_deadlock p.seed (start_of_block from size 0 runs) made
     pub tallied : IsTally t s (earlier ++ made) tally
 
-  pub before_all : (all : List (Result Block E)) (tally : Tally) → AreBlocks k s p from size runs 0 all → (end : ℕ)
+  pub before_all : (all : List (Result Block E)) (tally : Tally) → AreBlocks c s p from size runs 0 all → (end : ℕ)
       → end ≡ start_of_block from size 0 runs → IsTally t s earlier tally → IsBefore all all end tally
   before_all all tally are end same tallied = record {
     before = 0;
@@ -172,10 +172,10 @@ module _ {E : Type 0} (k : Flat) (s : SetupOf) (p : Plan) (from size runs : ℕ)
   ends_all all rest end tally given1 given2 = grind (arith)
 
   module _ (all rest : List (Result Block E)) (block : Block) (end : ℕ) (old : Tally) (was : IsBefore all (Ok block ∷ rest) end old) where
-    this : IsBlock {E = E} k s p from size runs was.before (Ok block)
+    this : IsBlock {E = E} c s p from size runs was.before (Ok block)
     this =
         let same : was.before + 0 ≡ was.before = omega arith in
-        subst (λ n. IsBlock {E = E} k s p from size runs n (Ok block)) same (was.blocks 0 (Ok block) (omega arith))
+        subst (λ n. IsBlock {E = E} c s p from size runs n (Ok block)) same (was.blocks 0 (Ok block) (omega arith))
 
     rise : start_of_block from size 0 runs ≤ start_of_block from size was.before runs
     rise = starts_rise from size 0 was.before runs (omega arith)
@@ -200,7 +200,7 @@ module _ {E : Type 0} (k : Flat) (s : SetupOf) (p : Plan) (from size runs : ℕ)
 
     module _ (new : Tally) (adds : Adds old block.tally new) (here : block.from ≡ end) where
       tallied : IsTallied t s p.with_deadlock p.seed end block.end block.found block.tally
-      tallied = subst (λ n. IsTallied t s p.with_deadlock p.seed n block.end block.found block.tally) (sym this.0 ∙ here) (this.2 t is)
+      tallied = subst (λ n. IsTallied t s p.with_deadlock p.seed n block.end block.found block.tally) (sym this.0 ∙ here) (this.2 t program)
 
       abbrev both : List MadeRun
       both = was.made ++ tallied.runs
@@ -238,7 +238,7 @@ module _ {E : Type 0} (k : Flat) (s : SetupOf) (p : Plan) (from size runs : ℕ)
             count = let e = was.count in omega (arith, e);
             blocks = λ n d l.
                 let more : was.before + suc n ≡ was.before + 1 + n = omega arith in
-                subst (λ m. IsBlock {E = E} k s p from size runs m (slice_index_or rest n d)) more
+                subst (λ m. IsBlock {E = E} c s p from size runs m (slice_index_or rest n d)) more
                 (was.blocks (suc n) d (omega (arith, l)));
             made = both;
             number = let low = was.ends.0 in let many = none.0 in omega (arith, low, below, many);

@@ -1,5 +1,5 @@
 -- What holds of a history with one more call: a failed one is its outcome, and it is short.
-use Rattle.bp_test.proofs.Common.{◌≡◌, ◌+◌, ◌*◌, ◌-◌, ◌<◌, ◌≤◌, true, nat_le, List, [], ◌∷◌, ◌++◌, length, refl, ap, arith, ℕ, ◌||◌, Bool, false, cond, sym, ◌∙◌, add-one, count_by, unwrap_or, rules, nat_tests, sum_by-append, map-append, Program, IsOfProgram, Call, Reply, Outcome, outcome_or, outcome_of, is_failure, stack_of, configuration_after_step, configuration_after_call, configuration_after_calls, configuration_after, granted_threads, IsLegal, is_granted, IsAtFalseAssertion, IsRealFailure, threads, SetupOf, SessionOf, StandsForAll, waits, FailuresAreReal, is_true, has_refusal, refuses_context, waiting_below, IsNext, AreWaiting, IsWait, Waiting}
+use Rattle.bp_test.proofs.Common.{◌≡◌, ◌+◌, ◌*◌, ◌-◌, ◌<◌, ◌≤◌, true, nat_le, List, [], ◌∷◌, ◌++◌, length, refl, ap, arith, ℕ, ◌||◌, Bool, false, cond, sym, ◌∙◌, add-one, count_by, unwrap_or, rules, nat_tests, sum_by-append, map-append, Program, Call, Reply, Outcome, outcome_or, outcome_of, is_failure, stack_of, configuration_after_step, configuration_after_call, configuration_after_calls, configuration_after, granted_threads, IsLegal, is_granted, IsAtFalseAssertion, IsRealFailure, threads, SetupOf, SessionOf, Stands, waits, FailuresAreReal, has_refusal, refuses_context, waiting_below, IsNext, AreWaiting, IsWait, Waiting}
 use Rattle.std.proofs.lemmas.List.Elements.{All-push}
 use Rattle.bp_flat.specs.Moves.{Configuration}
 use Rattle.bp_machine.specs.declared.calls.Reply.TheVariants as reply
@@ -16,15 +16,12 @@ failure_of [] x e = ap (λ r. is_failure (outcome_or x r outcome.Clean)) e
 failure_of (y ∷ ys) x e = fails_after y y.reply (outcome_of (ys ++ x ∷ [])) (failure_of ys x e)
 
 -- a session's history is short
-bounded : (x : SessionOf) (h : List Call) → IsOfProgram x.code → StandsForAll x h → length h ≤ threads x.setup * x.setup.calls
-bounded x h of_some stands =
-    let decided = is_true x.code (nat_le (length h) (threads x.setup * x.setup.calls)) of_some
-    (λ t is. let few = legal_length t x.setup h (stands t is).state.legal in grind (arith, nat_tests, few)) in
-    grind (arith, nat_tests, decided)
+bounded : (x : SessionOf) (h : List Call) → Stands x.code.tree x h → length h ≤ threads x.setup * x.setup.calls
+bounded x h stands = legal_length x.code.tree x.setup h stands.state.legal
 
-pub smaller : (old new : SessionOf) (g h : List Call) → new.setup ≡ old.setup → IsOfProgram new.code → StandsForAll new h → length h ≡ length g + 1
+pub smaller : (old new : SessionOf) (g h : List Call) → new.setup ≡ old.setup → Stands new.code.tree new h → length h ≡ length g + 1
     → threads new.setup * new.setup.calls - length h < threads old.setup * old.setup.calls - length g
-smaller old new g h given1 given2 given3 given4 = search (rules, bounded)
+smaller old new g h given1 given2 given3 = search (rules, bounded)
 
 -- Whether a history with one more call has one that was refused a context.
 

@@ -1,5 +1,5 @@
 -- What a search for a smaller history ends with.
-use Rattle.bp_test.proofs.Common.{◌≡◌, ◌≤◌, ◌==◌, ℕ, false, length, refl, arith, Bool, true, cond, List, [], ◌∷◌, ap, sym, ◌∙◌, subst, ◌&&◌, zero, suc, ◌+◌, ◌++◌, None, map, rules, Program, Flat, StandsFor, SetupOf, setup_fault, Fits, IsInRange, FitsCode, Call, Reply, IsBoundedRun, IsHistoryOfSteps, HasBoundedRun, IsWithin, configuration_after, granted_threads, granted_calls, IsLegal, is_granted, outcome_or, outcome_of, IsReport, is_finished, open_below, IsLegalAfter, RunsAreHistories, HistoriesAreRuns, Report, Waiting, Wait, IsEnd, budgeted, DeadlocksAt, unseeded, IsDriven, IsNoMore, IsShrunk, IsShrunkOf, IsSearch, GoesOn}
+use Rattle.bp_test.proofs.Common.{◌≡◌, ◌≤◌, ◌==◌, ℕ, false, length, refl, arith, Bool, true, cond, List, [], ◌∷◌, ap, sym, ◌∙◌, subst, ◌&&◌, zero, suc, ◌+◌, ◌++◌, None, map, rules, Program, Flat, SetupOf, setup_fault, Fits, IsInRange, Call, Reply, IsBoundedRun, IsHistoryOfSteps, HasBoundedRun, IsWithin, configuration_after, granted_threads, granted_calls, IsLegal, is_granted, outcome_or, outcome_of, IsReport, is_finished, open_below, IsLegalAfter, RunsAreHistories, HistoriesAreRuns, Report, Waiting, Wait, IsEnd, budgeted, DeadlocksAt, unseeded, IsDriven, IsNoMore, IsShrunk, IsShrunkOf, IsSearch, GoesOn}
 use Rattle.std.specs.Bool.{Decides}
 use Rattle.bp_test.specs.declared.shrinking.HistoryEnd.{HistoryEnd}
 use Rattle.bp_test.specs.declared.searches.Search.{Search}
@@ -104,8 +104,8 @@ module _ (t : Program) (s : SetupOf) (h : List Call) (r : Report) (end : History
 
 -- What is said of a setup but for its seed holds without one.
 
-pub fits_unseeded : (c : Flat) (s : SetupOf) → FitsCode c s → FitsCode c (unseeded s)
-fits_unseeded c s fits = λ t is. record { entries = (fits t is).entries; init = (fits t is).init }
+pub fits_unseeded : (t : Program) (s : SetupOf) → Fits t s → Fits t (unseeded s)
+fits_unseeded t s fits = record { entries = fits.entries; init = fits.init }
 
 legal_after : (t : Program) (s : SetupOf) (p xs : List Call) → IsLegalAfter t s p xs → IsLegalAfter t (unseeded s) p xs
 legal_after t s p [] legal = tt
@@ -127,27 +127,21 @@ end_unseeded t s h end given1 = grind (arith)
 -- Where the search for a smaller history starts, and where it leads.
 
 module _ (c : Flat) (s : SetupOf) (x : Search) (code : x.session.code ≡ c) (setup : x.session.setup ≡ unseeded s) where
-  of_code : (t : Program) → StandsFor x.session.code t → StandsFor c t
-  of_code t is = subst (λ d. StandsFor d t) code is
-
-  module _ (h : List Call) (items : x.best.history.items ≡ h) (fits : FitsCode c s)
-      (legal : (t : Program) → StandsFor c t → IsLegal t s h)
-      (report : (t : Program) → StandsFor c t → IsReport s h x.best.report)
-      (ends : (t : Program) → StandsFor c t → IsEnd t s h x.end) where
-    pub starts : IsSearch x
-    starts = record {
-      fits = subst (λ d. FitsCode d x.session.setup) (sym code) (subst (FitsCode c) (sym setup) (fits_unseeded c s fits));
-      unseeded_is = ap (λ (y : SetupOf). y.seed) setup;
-      driven = λ t is. record {
-        legal = subst (λ g. IsLegal t x.session.setup g) (sym items) (subst (λ y. IsLegal t y h) (sym setup) (legal_unseeded t s h (legal t (of_code t is))));
-        report =
-            subst (λ g. IsReport x.session.setup g x.best.report) (sym items)
-            (subst (λ y. IsReport y h x.best.report) (sym setup) (report_unseeded s h x.best.report (report t (of_code t is))));
-        ends =
-            subst (λ g. IsEnd t x.session.setup g x.end) (sym items)
-            (subst (λ y. IsEnd t y h x.end) (sym setup) (end_unseeded t s h x.end (ends t (of_code t is))));
-      };
+  module _ (h : List Call) (items : x.best.history.items ≡ h) (fits : Fits c.tree s) (legal : IsLegal c.tree s h)
+      (report : IsReport s h x.best.report) (ends : IsEnd c.tree s h x.end) where
+    driven : IsDriven c.tree (unseeded s) x.end x.best
+    driven = record {
+      legal = subst (λ g. IsLegal c.tree (unseeded s) g) (sym items) (legal_unseeded c.tree s h legal);
+      report = subst (λ g. IsReport (unseeded s) g x.best.report) (sym items) (report_unseeded s h x.best.report report);
+      ends = subst (λ g. IsEnd c.tree (unseeded s) g x.end) (sym items) (end_unseeded c.tree s h x.end ends);
     }
 
-  pub leads_to : (y : Search) → GoesOn x y → (t : Program) → StandsFor c t → IsDriven t (unseeded s) y.end y.best
-  leads_to y given1 t given2 = grind (arith)
+    pub starts : IsSearch x
+    starts = record {
+      fits = rw (code, setup) (fits_unseeded c.tree s fits);
+      unseeded_is = ap (λ (y : SetupOf). y.seed) setup;
+      driven = rw (code, setup) driven;
+    }
+
+  pub leads_to : (y : Search) → GoesOn x y → IsDriven c.tree (unseeded s) y.end y.best
+  leads_to y given1 = grind (arith)

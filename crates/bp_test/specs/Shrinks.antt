@@ -1,13 +1,12 @@
 -- Histories that end as another one does, and are no longer.
 use Rattle.std.specs.Prelude.{◌≡◌, List, ◌≤◌, ℕ, None, length}
 use Rattle.bp_language.specs.Ast.{Program}
-use Rattle.bp_flat.specs.StandsFor.{StandsFor}
 use Rattle.bp_machine.specs.declared.calls.Call.{Call}
 use Rattle.bp_machine.specs.declared.calls.Outcome.TheVariants.{Clean}
 use Rattle.bp_machine.specs.Runs.{IsDeadlocked}
 use Rattle.bp_machine.specs.Histories.{configuration_after, outcome_of, IsLeastWithin, granted_calls, granted_threads, IsLegal, IsReport}
 use Rattle.bp_machine.specs.Sessions.{SessionOf, Stands}
-use Rattle.bp_machine.specs.Setups.{SetupOf, setup_fault, FitsCode}
+use Rattle.bp_machine.specs.Setups.{SetupOf, setup_fault, Fits}
 use Rattle.bp_machine.specs.declared.calls.Report.{Report}
 use Rattle.bp_test.specs.declared.waiting.Waiting.{Waiting}
 use Rattle.bp_test.specs.Tests.{FailsAt, IsDeadlock, Wait}
@@ -37,11 +36,7 @@ IsEnd t s h Other = IsOtherEnd t s h
 
 -- so ends the history at which the session stands
 abbrev pub EndsIn : SessionOf → HistoryEnd → Type 0
-EndsIn x end =
-    (t : Program) (h : List Call)
-    → StandsFor x.code t
-    → Stands t x h
-    → IsEnd t x.setup h end
+EndsIn x end = (h : List Call) → Stands x.code.tree x h → IsEnd x.code.tree x.setup h end
 
 -- the same setup without a seed
 abbrev pub unseeded : SetupOf → SetupOf
@@ -81,11 +76,9 @@ pub record IsNoMore (d : Driven) (report : Report) : Type 0 where
 
 -- the best history of a search is driven in the setup of its session, which has no seed
 pub record IsSearch (x : Search) : Type 0 where
-  pub fits : FitsCode x.session.code x.session.setup
+  pub fits : Fits x.session.code.tree x.session.setup
   pub unseeded_is : x.session.setup.seed ≡ None
-  pub driven : (t : Program)
-      → StandsFor x.session.code t
-      → IsDriven t x.session.setup x.end x.best
+  pub driven : IsDriven x.session.code.tree x.session.setup x.end x.best
 
 -- g is what the best history of a search is shrunk to at the end
 abbrev pub IsShrunkOf : Program → SetupOf → Search → Shrunk → Type 0

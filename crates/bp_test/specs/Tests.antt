@@ -3,7 +3,6 @@ use Rattle.std.specs.Prelude.{◌≡◌, ℕ, List, ◌⊎◌, ◌<◌, true, []
 use Rattle.bp_text.specs.Writing.{AppendsAll, AppendsPart}
 use Rattle.bp_language.specs.Ast.{Program}
 use Rattle.bp_flat.specs.Moves.{Configuration}
-use Rattle.bp_flat.specs.StandsFor.{StandsFor}
 use Rattle.bp_flat.specs.Flat.{Flat}
 use Rattle.bp_machine.specs.declared.calls.Call.{Call}
 use Rattle.bp_machine.specs.declared.calls.Outcome.TheVariants.{Failed, Clean}
@@ -59,11 +58,7 @@ IsOver t s h = (is_failure (outcome_of h) ≡ true) ⊎ EachRests t s h
 
 -- thread i of the session rests
 abbrev pub RestsIn : SessionOf → ℕ → Type 0
-RestsIn x i =
-    (t : Program) (h : List Call)
-    → StandsFor x.code t
-    → Stands t x h
-    → Rests t x.setup h i
+RestsIn x i = (h : List Call) → Stands x.code.tree x h → Rests x.code.tree x.setup h i
 
 -- how many jobs make the runs: as many as are asked for, and at least one
 abbrev pub jobs_of : TestOptions → ℕ
@@ -258,7 +253,7 @@ IsEnd deadline from to found end =
     × (deadline ≡ None → found ≡ None → end ≡ max from to)
     × IfSome found (λ f. end ≡ f.run + 1)
 
-module _ {E : Type 0} (k : Flat) (s : SetupOf) (p : Plan) (from size runs : ℕ) where
+module _ {E : Type 0} (c : Flat) (s : SetupOf) (p : Plan) (from size runs : ℕ) where
   -- what block n of a wave came to
   abbrev pub IsBlock : ℕ → Result Block E → Type 0
   IsBlock n r =
@@ -268,7 +263,7 @@ module _ {E : Type 0} (k : Flat) (s : SetupOf) (p : Plan) (from size runs : ℕ)
       (block.from ≡ start)
       × IsEnd p.deadline start end block.found block.end
       × ((t : Program)
-      → StandsFor k t
+      → t ≡ c.tree
       → IsTallied t s p.with_deadlock p.seed start block.end block.found block.tally))
 
   -- the blocks of a wave, from block m on

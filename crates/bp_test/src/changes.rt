@@ -1,7 +1,7 @@
 //! Changes of a history.
 //! Leaving out loops of a history.
 ghost use Rattle.std.specs.Prelude.{◌≡◌, IfOk};
-ghost use Rattle.bp_machine.specs.Setups.{FitsCode};
+ghost use Rattle.bp_machine.specs.Setups.{Fits};
 ghost use Rattle.bp_test.specs.Shrinks.{unseeded};
 
 use bp_machine::{AskFault, Call, Reply, Session, Top};
@@ -172,7 +172,7 @@ pub(crate) fn without_loops(
     history: &[Call],
     lines: &mut Vec<Call>,
 ) -> Result<Session, AllocError>
-    requires { FitsCode session.code session.setup }
+    requires { Fits session.code.tree session.setup }
     ensures code { IfOk result (λ x. x.code ≡ session.code) }
     ensures setup { IfOk result (λ x. x.setup ≡ unseeded session.setup) }
 {

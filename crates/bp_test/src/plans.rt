@@ -1,6 +1,6 @@
 //! What the runs of a test are made from.
 ghost use Rattle.std.specs.Prelude.{◌≡◌, IfOk};
-ghost use Rattle.bp_machine.specs.Setups.{FitsCode};
+ghost use Rattle.bp_machine.specs.Setups.{Fits};
 
 use crate::runs::{next_number, run_once};
 use crate::tallies::is_step;
@@ -79,7 +79,7 @@ impl Plan {
         with_deadlock: bool,
         deadline: Option<u64>,
     ) -> Result<Plan, AllocError>
-        requires { FitsCode code.now setup.now }
+        requires { Fits code.now.tree setup.now }
         ensures seed { IfOk result (λ p. p.seed ≡ seed) }
         ensures deadlock { IfOk result (λ p. p.with_deadlock ≡ with_deadlock) }
         ensures deadline { IfOk result (λ p. p.deadline ≡ deadline) }

@@ -1,11 +1,10 @@
 //! Runs: histories of a seed and of the schedule that is drawn by it.
 //! Keys of runs, by which runs with the same steps are told.
 ghost use Rattle.std.specs.Prelude.{◌≡◌, ◌<◌, ◌+◌, ◌++◌, ◌∷◌, ◌||◌, [], ℕ, List, true, length, Some, IfOk, OnOk, take};
-ghost use Rattle.bp_flat.specs.StandsFor.{IsOfProgram, InEach};
 ghost use Rattle.bp_machine.specs.declared.calls.Call.{Call as Answered};
 ghost use Rattle.bp_machine.specs.Histories.{configuration_after, outcome_of, is_failure};
-ghost use Rattle.bp_machine.specs.Sessions.{StandsForAll, AfterEach};
-ghost use Rattle.bp_machine.specs.Setups.{threads, FitsCode};
+ghost use Rattle.bp_machine.specs.Sessions.{Stands, AfterEach};
+ghost use Rattle.bp_machine.specs.Setups.{threads, Fits};
 ghost use Rattle.bp_test.specs.Reached.{IsEndKey, IsKey, IsRunKey, has_refusal, is_marked, next_place, marks_after, place_of, refuses_context, IsNumberOf, IsReachedByCall, IsWaiting, MarksGrow, Reaches, key_after, key_at_end, key_with};
 ghost use Rattle.bp_test.specs.Tests.{IsOver};
 ghost use Rattle.bp_test.specs.declared.limits.TheConstants.{MAX_KEYS};
@@ -19,8 +18,8 @@ use std::alloc::AllocError;
 
 /// Makes a call of a thread, and keeps it.
 fn play(session: &mut Session, history: &mut Vec<Call>, thread: u32) -> Result<Reply, AllocError>
-    requires { StandsForAll session.old history.old.items }
-    ensures stands { OnOk result (StandsForAll session.new history.new.items) }
+    requires { Stands session.old.code.tree session.old history.old.items }
+    ensures stands { OnOk result (Stands session.new.code.tree session.new history.new.items) }
     ensures longer { OnOk result (length history.new.items ≡ length history.old.items + 1) }
     ensures grown { IfOk result (λ r.
         (x : Answered)
@@ -146,17 +145,16 @@ fn follow(
     history: &mut Vec<Call>,
     reached: &mut Vec<bool>,
 ) -> Result<FollowedRun, AllocError>
-    requires program { IsOfProgram session.old.code }
-    requires stands { StandsForAll session.old [] }
-    ensures stands { OnOk result (StandsForAll session.new history.new.items) }
+    requires stands { Stands session.old.code.tree session.old [] }
+    ensures stands { OnOk result (Stands session.new.code.tree session.new history.new.items) }
     ensures over { OnOk result
-        (InEach session.new.code (λ t. IsOver t session.new.setup history.new.items)) }
+        (IsOver session.new.code.tree session.new.setup history.new.items) }
     ensures marks { OnOk result
-        (InEach session.new.code (λ t.
+        (let t = session.new.code.tree in
         let by_call = IsReachedByCall t session.new.setup history.new.items in
-        MarksGrow (place_of t) by_call reached.old.items reached.new.items)) }
+        MarksGrow (place_of t) by_call reached.old.items reached.new.items) }
     ensures key { IfOk result (λ x.
-        InEach session.new.code (λ t. IsKey t session.new.setup history.new.items x.key)) }
+        IsKey session.new.code.tree session.new.setup history.new.items x.key) }
     ensures refused { IfOk result (λ x. x.was_refused ≡ has_refusal history.new.items) }
     ensures kept { (session.new.code ≡ session.old.code) × (session.new.setup ≡ session.old.setup) }
 {
@@ -192,23 +190,22 @@ pub(crate) fn run_once(
     history: &mut Vec<Call>,
     reached: &mut Vec<bool>,
 ) -> Result<FollowedRun, AllocError>
-    requires { FitsCode session.old.code session.old.setup }
-    ensures stands { OnOk result (StandsForAll session.new history.new.items) }
+    requires { Fits session.old.code.tree session.old.setup }
+    ensures stands { OnOk result (Stands session.new.code.tree session.new history.new.items) }
     ensures over { OnOk result
-        (InEach session.new.code (λ t. IsOver t session.new.setup history.new.items)) }
+        (IsOver session.new.code.tree session.new.setup history.new.items) }
     ensures marks { OnOk result
-        (InEach session.new.code (λ t.
+        (let t = session.new.code.tree in
         let reaches = Reaches t session.new.setup history.new.items in
-        MarksGrow (place_of t) reaches reached.old.items reached.new.items)) }
+        MarksGrow (place_of t) reaches reached.old.items reached.new.items) }
     ensures key { IfOk result (λ x.
-        InEach session.new.code (λ t. IsRunKey t session.new.setup history.new.items x.key)) }
+        IsRunKey session.new.code.tree session.new.setup history.new.items x.key) }
     ensures refused { IfOk result (λ x. x.was_refused ≡ has_refusal history.new.items) }
     ensures code { OnOk result (session.new.code ≡ session.old.code) }
     ensures setup { OnOk result
         (session.new.setup ≡ record session.old.setup { seed = Some seed }) }
 {
     session.restart(Some(seed))?;
-    session.code().is_of_a_program();
     let mut scheduler = Scheduler::new(seed, session, visible, lengths);
     reach_waits(reached, session);
     let steps = follow(session, &mut scheduler, history, reached)?;

@@ -1,6 +1,6 @@
 //! The search for a smaller history.
 ghost use Rattle.std.specs.Prelude.{◌≡◌, true, None, IfOk};
-ghost use Rattle.bp_machine.specs.Setups.{FitsCode};
+ghost use Rattle.bp_machine.specs.Setups.{Fits};
 ghost use Rattle.bp_test.specs.Shrinks.{EndsIn, IsNoMore, IsSearch, GoesOn};
 
 use crate::candidates::{Candidates, Next};
@@ -108,7 +108,7 @@ fn write_candidate(
     change: Change,
     lines: &mut Vec<Call>,
 ) -> Result<Session, AllocError>
-    requires fits { FitsCode session.code session.setup }
+    requires fits { Fits session.code.tree session.setup }
     requires unseeded { session.setup.seed ≡ None }
     ensures { IfOk result (λ x. (x.code ≡ session.code) × (x.setup ≡ session.setup)) }
 {

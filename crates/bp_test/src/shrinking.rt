@@ -3,11 +3,10 @@
 //! Driving calls again, in the memory of an earlier session.
 ghost use Rattle.std.specs.Prelude.{◌≡◌, ◌≤◌, IfOk, List, true, IfErr, OnOk};
 ghost use Rattle.bp_language.specs.Ast.{Program};
-ghost use Rattle.bp_flat.specs.StandsFor.{IsOfProgram, InEach};
 ghost use Rattle.bp_machine.specs.Histories.{granted_calls, IsLegal, IsReport};
-ghost use Rattle.bp_machine.specs.Setups.{FitsCode, SetupOf};
+ghost use Rattle.bp_machine.specs.Setups.{Fits, SetupOf};
 ghost use Rattle.bp_machine.specs.declared.calls.Call.{Call as Answered};
-ghost use Rattle.bp_machine.specs.Sessions.{StandsForAll, AfterEach};
+ghost use Rattle.bp_machine.specs.Sessions.{Stands, AfterEach};
 ghost use Rattle.bp_test.specs.Tests.{IsDeadlock};
 ghost use Rattle.bp_test.specs.Shrinks.{IsEnd, budgeted, IsDriven, IsShrunk, IsShrunkOf, EndsIn, unseeded};
 
@@ -54,14 +53,13 @@ fn budgeted(setup: &Setup, contexts: u32) -> Result<Setup, AllocError>
 
 /// The calls of the best history that made a step, in the setup of the contexts that they use.
 fn used(alloc: Global, code: &Code, setup: &Setup, search: &Search) -> Result<Shrunk, AllocError>
-    requires fits { FitsCode code.now setup.now }
-    requires driven { InEach code.now (λ t. IsDriven t setup.now search.now.end search.now.best) }
+    requires fits { Fits code.now.tree setup.now }
+    requires driven { IsDriven code.now.tree setup.now search.now.end search.now.best }
     ensures { IfOk result (λ g.
-        InEach code.now (λ t. IsShrunkOf t setup.now search.now g)) }
+        IsShrunkOf code.now.tree setup.now search.now g) }
 {
     runs_are_histories();
     steps_are_within();
-    code.is_of_a_program();
     let best = &search.best;
     let history = granted(alloc, best.history.as_slice())?;
     let setup = budgeted(setup, best.report.contexts)?;
@@ -92,12 +90,12 @@ pub fn shrink(
     report: &Report,
     end: HistoryEnd,
 ) -> Result<Shrunk, AllocError>
-    requires fits { FitsCode code.now setup.now }
-    requires legal { InEach code.now (λ t. IsLegal t setup.now history.now) }
-    requires report { InEach code.now (λ t. IsReport setup.now history.now report.now) }
-    requires ends { InEach code.now (λ t. IsEnd t setup.now history.now end) }
+    requires fits { Fits code.now.tree setup.now }
+    requires legal { IsLegal code.now.tree setup.now history.now }
+    requires report { IsReport setup.now history.now report.now }
+    requires ends { IsEnd code.now.tree setup.now history.now end }
     ensures { IfOk result (λ g.
-        InEach code.now (λ t. IsShrunk t setup.now history.now end g)) }
+        IsShrunk code.now.tree setup.now history.now end g) }
 {
     let setup = setup.try_copy()?.with_seed(None);
     let search = Search {
@@ -177,9 +175,8 @@ pub(crate) fn has_end(
 
 /// Makes a call again, where the thread may make it, and keeps it.
 fn make_again(session: &mut Session, history: &mut Vec<Call>, line: &Call) -> Result<(), AllocError>
-    requires program { IsOfProgram session.old.code }
-    requires stands { StandsForAll session.old history.old.items }
-    ensures stands { OnOk result (StandsForAll session.new history.new.items) }
+    requires stands { Stands session.old.code.tree session.old history.old.items }
+    ensures stands { OnOk result (Stands session.new.code.tree session.new history.new.items) }
     ensures kept { (session.new.code ≡ session.old.code) × (session.new.setup ≡ session.old.setup) }
 {
     match session.ask_with(line.thread, line.bit) {
@@ -199,13 +196,12 @@ pub(crate) fn drive_again(
     history: &mut Vec<Call>,
     lines: &[Call],
 ) -> Result<Session, AllocError>
-    requires { FitsCode session.code session.setup }
-    ensures stands { IfOk result (λ x. StandsForAll x history.new.items) }
+    requires { Fits session.code.tree session.setup }
+    ensures stands { IfOk result (λ x. Stands x.code.tree x history.new.items) }
     ensures code { IfOk result (λ x. x.code ≡ session.code) }
     ensures setup { IfOk result (λ x. x.setup ≡ unseeded session.setup) }
 {
     let mut session = session.restarted(None)?;
-    session.code().is_of_a_program();
     history.clear();
     for line in lines {
         if session.is_failed() {

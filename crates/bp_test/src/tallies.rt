@@ -1,7 +1,6 @@
 //! What runs of a test came to, counted.
 ghost use Rattle.std.specs.Prelude.{◌≡◌, ◌<◌, ◌^◌, ◌++◌, ◌∷◌, [], ℕ, true, false, List, length, take, slice_set, slice_index_or, IfOk, OnOk};
 ghost use Rattle.bp_language.specs.Ast.{Program};
-ghost use Rattle.bp_flat.specs.StandsFor.{InEach};
 ghost use Rattle.bp_machine.specs.Histories.{is_granted};
 ghost use Rattle.bp_machine.specs.Setups.{SetupOf};
 ghost use Rattle.bp_test.specs.Tallies.{contexts_with, AreContextsUsed, MadeRun, made, ends_of, ends_sum, count_with, has_full_stack, with_lack, IsCounted, IsTally};
@@ -259,9 +258,9 @@ impl ContextsUsed {
 impl Tally {
     /// The tally of no run.
     pub(crate) fn new(alloc: Global, code: &Code, setup: &Setup) -> Result<Tally, AllocError>
-        ensures { IfOk result (λ x.
-            InEach code.now (λ t. IsTally t setup.now [] x)) }
+        ensures { IfOk result (IsTally code.now.tree setup.now []) }
     {
+        code.is_of_a_program();
         Ok(Tally {
             runs: 0,
             calls: 0,

@@ -3,8 +3,7 @@
 //! Who is told how far a test is.
 //! Why a test is not finished.
 ghost use Rattle.std.specs.Prelude.{◌≡◌, MatchResult, None, false};
-ghost use Rattle.bp_flat.specs.StandsFor.{InEach};
-ghost use Rattle.bp_machine.specs.Setups.{FitsCode};
+ghost use Rattle.bp_machine.specs.Setups.{Fits};
 ghost use Rattle.bp_test.specs.Tests.{found_in, jobs_of, IsTest, IsTestRefusal};
 
 use crate::plans::Plan;
@@ -78,12 +77,12 @@ pub fn test<R: Threads + Sync, C: Clock + Sync, P: Progress, W: Write>(
     progress: &P,
     out: &mut W,
 ) -> Result<Tested, TestFault>
-    requires { FitsCode code.now setup.now }
-    ensures { InEach code.now (λ t. let old = W.contents out.old in
+    requires { Fits code.now.tree setup.now }
+    ensures { let t = code.now.tree in let old = W.contents out.old in
         let new = W.contents out.new in
         MatchResult result
         (IsTest t setup.now options.now old new)
-        (IsTestRefusal t setup.now options.now old new)) }
+        (IsTestRefusal t setup.now options.now old new) }
 {
     let deadline = deadline_after(rt.clock, options.seconds);
     let (seed, with_deadlock) = (options.seed, options.with_deadlock);

@@ -2,8 +2,7 @@
 //! Blocks of runs.
 ghost use Rattle.std.specs.Prelude.{if◌then◌else◌, ◌≡◌, ◌<◌, ◌≤◌, ◌+◌, ◌*◌, ◌^◌, min, ℕ, List, length, IfOk};
 ghost use Rattle.bp_flat.specs.Flat.{Flat};
-ghost use Rattle.bp_flat.specs.StandsFor.{InEach};
-ghost use Rattle.bp_machine.specs.Setups.{SetupOf, FitsCode};
+ghost use Rattle.bp_machine.specs.Setups.{SetupOf, Fits};
 ghost use Rattle.bp_test.specs.declared.plans.Plan.{Plan as PlanOf};
 ghost use Rattle.bp_test.specs.Tests.{start_of_block, AreBlocks, IsBlock, IsEnd, IsTalliedAfter, IsTallied, is_sought};
 ghost use Rattle.bp_test.specs.Tallies.{MadeRun, IsTally};
@@ -53,7 +52,7 @@ fn blocks_of<R: Threads + Sync, C: Clock + Sync>(
     plan: &Plan,
     wave: Wave,
 ) -> Result<Vec<Result<Block, AllocError>>, AllocError>
-    requires { FitsCode code.now setup.now }
+    requires { Fits code.now.tree setup.now }
     ensures count { IfOk result (λ blocks. length blocks.items ≡ wave.blocks) }
     ensures blocks { IfOk result (λ blocks.
         AreBlocks code.now setup.now plan.now wave.from wave.size wave.runs 0 blocks.items) }
@@ -65,9 +64,9 @@ fn blocks_of<R: Threads + Sync, C: Clock + Sync>(
         wave.blocks,
         &|n: usize| -> Result<Block, AllocError>
             requires few { n + 1 < 2 ^ 64 }
-            requires fits { FitsCode code.now setup.now }
-            ensures { let k = code.entry.now in let s = setup.entry.now in let p = plan.entry.now in
-                IsBlock k s p wave.from wave.size wave.runs n result }
+            requires fits { Fits code.now.tree setup.now }
+            ensures { let c = code.entry.now in let s = setup.entry.now in let p = plan.entry.now in
+                IsBlock c s p wave.from wave.size wave.runs n result }
         {
             let start = wave.start(n as u64);
             let end = wave.start(n as u64 + 1);
@@ -91,16 +90,16 @@ fn first_of(
     blocks: Vec<Result<Block, AllocError>>,
     tally: &mut Tally,
 ) -> Result<WaveEnd, AllocError>
-    ensures { (k : Flat) (s : SetupOf) (p : PlanOf) (from size runs : ℕ)
-        → AreBlocks k s p from size runs 0 blocks.items
+    ensures { (c : Flat) (s : SetupOf) (p : PlanOf) (from size runs : ℕ)
+        → AreBlocks c s p from size runs 0 blocks.items
         → start ≡ start_of_block from size 0 runs
         → let last = start_of_block from size (length blocks.items) runs in
         IfOk result (λ wave.
-        InEach k (λ t. (before : List MadeRun)
+        let t = c.tree in (before : List MadeRun)
         → IsTally t s before tally.old
         → let found = wave.found in
         IsEnd p.deadline start last found wave.end
-        × IsTalliedAfter before t s p.with_deadlock p.seed start wave.end found tally.new)) }
+        × IsTalliedAfter before t s p.with_deadlock p.seed start wave.end found tally.new) }
 {
     let mut end = start;
     for block in blocks {
@@ -146,12 +145,12 @@ pub(crate) fn search<R: Threads + Sync, C: Clock + Sync, P: Progress>(
     jobs: usize,
     progress: &P,
 ) -> Result<Block, AllocError>
-    requires fits { FitsCode code.now setup.now }
+    requires fits { Fits code.now.tree setup.now }
     requires some { 0 < jobs }
     ensures { IfOk result (λ block.
-        InEach code.now (λ t. let p = plan.now in
+        let t = code.now.tree in let p = plan.now in
         IsEnd p.deadline 0 runs block.found block.end
-        × IsTallied t setup.now p.with_deadlock p.seed 0 block.end block.found block.tally)) }
+        × IsTallied t setup.now p.with_deadlock p.seed 0 block.end block.found block.tally) }
 {
     let mut tally = Tally::new(alloc, code, setup)?;
     let (mut from, mut size) = (0, FIRST_BLOCK);
@@ -235,12 +234,12 @@ pub fn first_found<C: Clock>(
     from: u64,
     to: u64,
 ) -> Result<Block, AllocError>
-    requires { FitsCode code.now setup.now }
+    requires { Fits code.now.tree setup.now }
     ensures from { IfOk result (λ block. block.from ≡ from) }
     ensures end { IfOk result (λ block. IsEnd plan.now.deadline from to block.found block.end) }
     ensures tallied { IfOk result (λ block.
-        InEach code.now (λ t. let p = plan.now in
-        IsTallied t setup.now p.with_deadlock p.seed from block.end block.found block.tally)) }
+        let t = code.now.tree in let p = plan.now in
+        IsTallied t setup.now p.with_deadlock p.seed from block.end block.found block.tally) }
 {
     let mut session = Session::new(alloc, code, setup)?;
     let mut history = Vec::new(alloc);

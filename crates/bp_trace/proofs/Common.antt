@@ -1,13 +1,12 @@
 -- What the proofs of this crate name of std, of the crates below and of its own definitions.
 pub use Rattle.bp_flat.specs.Moves.{Configuration}
-pub use Rattle.bp_flat.specs.StandsFor.{IsOfProgram, StandsFor}
 pub use Rattle.bp_language.specs.Ast.{Program}
 pub use Rattle.bp_language.specs.declared.limits.TheConstants.{TEXT_LIMIT}
 pub use Rattle.bp_machine.proofs.HistoriesAreRuns.{AllBelow, all_below, legal_length}
-pub use Rattle.bp_machine.proofs.SetupInRange.{entries_are_names, few_calls, few_threads, fits, is_true, range_of, same_number, same_open}
+pub use Rattle.bp_machine.proofs.SetupInRange.{entries_are_names, few_calls, few_threads, fits, range_of}
 pub use Rattle.bp_machine.specs.Histories.{Answers, IsAllowed, IsBitOfCall, IsLeastWithin, IsLegal, IsLegalAfter, IsReport, calls_of_thread, choice_bit, configuration_after, configuration_after_call, configuration_after_calls, granted_threads, is_finished, letter_of, open_below, open_lines, reply_of}
 pub use Rattle.bp_machine.specs.Runs.{PrintedRow, history_of_run, printed_rows, rows_after, rows_of_call}
-pub use Rattle.bp_machine.specs.Sessions.{IsAskRefusal, IsNextCall, SessionOf, Stands, StandsForAll, contexts_opened, given_bit, last_thread}
+pub use Rattle.bp_machine.specs.Sessions.{IsAskRefusal, IsNextCall, SessionOf, Stands, contexts_opened, given_bit, last_thread}
 pub use Rattle.bp_machine.specs.Setups.{IsInRange, SetupOf, setup_fault, setup_of, start, threads}
 pub use Rattle.bp_machine.specs.declared.calls.Call.{Call}
 pub use Rattle.bp_machine.specs.declared.calls.Reply.{Reply}

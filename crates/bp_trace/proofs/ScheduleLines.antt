@@ -1,5 +1,5 @@
 -- Lines of schedules: what begins them, how long they are, which call they are of, and what a session that stands after them says.
-use Rattle.bp_trace.proofs.Common.{◌≡◌, ℕ, ◌+◌, ◌/◌, ◌%◌, ◌<◌, ◌≤◌, ◌^◌, List, [], ◌∷◌, ◌++◌, length, refl, ap, sym, ◌∙◌, arith, decimal, append_assoc, ◌*◌, length-append, ◌≢◌, ◌↔◌, IsTrue, Bool, true, Some, subst, Option, None, rules, decimal_digit, decimal_step, HasNone, IsAt, ends_at, regrouped, one_at, ScheduleLine, schedule_line, thread_field, line_text, bit_digit, IsLineAt, HasNoLine, schedule_text, line_of_call, lines_of_history, mul-le-mul_left, mul-le-mul_right, cases_lt, Program, Configuration, StandsFor, IsOfProgram, MAX_THREADS, Call, SetupOf, threads, IsInRange, IsLegal, Answers, reply_of, configuration_after, granted_threads, is_finished, IsAllowed, Reply, SessionOf, Stands, StandsForAll, IsAskRefusal, AllBelow, all_below, legal_length, is_true, MAX_SCHEDULE, IsAfterFinish, IsRefusal, drive_fault_of, IsLineRefusal, DriveFault}
+use Rattle.bp_trace.proofs.Common.{◌≡◌, ℕ, ◌+◌, ◌/◌, ◌%◌, ◌<◌, ◌≤◌, ◌^◌, List, [], ◌∷◌, ◌++◌, length, refl, ap, sym, ◌∙◌, arith, decimal, append_assoc, ◌*◌, length-append, ◌≢◌, ◌↔◌, IsTrue, Bool, true, Some, subst, Option, None, rules, decimal_digit, decimal_step, HasNone, IsAt, ends_at, regrouped, one_at, ScheduleLine, schedule_line, thread_field, line_text, bit_digit, IsLineAt, HasNoLine, schedule_text, line_of_call, lines_of_history, mul-le-mul_left, mul-le-mul_right, cases_lt, Program, Configuration, MAX_THREADS, Call, SetupOf, threads, IsInRange, IsLegal, Answers, reply_of, configuration_after, granted_threads, is_finished, IsAllowed, Reply, SessionOf, Stands, IsAskRefusal, AllBelow, all_below, legal_length, MAX_SCHEDULE, IsAfterFinish, IsRefusal, drive_fault_of, IsLineRefusal, DriveFault}
 use Rattle.bp_machine.specs.declared.calls.AskFault.{AskFault}
 use Rattle.bp_machine.specs.declared.calls.AskFault.TheVariants.{Memory}
 use Rattle.bp_trace.specs.declared.faults.DriveFault.TheVariants as fault
@@ -86,23 +86,22 @@ ask_refused t s h i bit f given1 given2 given3 given4 = grind (arith)
 
 -- What a session that stands after the calls of all lines says of them.
 
-module _ (x : SessionOf) (h : List Call) (of_some : IsOfProgram x.code) (stands : StandsForAll x h) where
+module _ (x : SessionOf) (h : List Call) (stands : Stands x.code.tree x h) where
   -- the refusal of a call of a thread that is there
   pub refused_line : (line : ScheduleLine) (n : ℕ) (f : AskFault) → line.thread < threads x.setup → x.setup.seed ≡ None
-      → ((t : Program) (g : List Call) → StandsFor x.code t → Stands t x g
-      → IsAskRefusal t x.setup g line.thread (Some line.bit) f) → IsLineRefusal x.setup h line n (drive_fault_of f n)
+      → ((g : List Call) → Stands x.code.tree x g
+      → IsAskRefusal x.code.tree x.setup g line.thread (Some line.bit) f) → IsLineRefusal x.setup h line n (drive_fault_of f n)
   refused_line line n Memory within unseeded refused = tt
   refused_line line n f within unseeded refused = (
     refl,
-    is_true x.code (is_finished x.setup h line.thread) of_some
-        (λ t is. ask_refused t x.setup h line.thread line.bit f within unseeded (refused t h is (stands t is)) (λ e. absurd cc)),
+    ask_refused x.code.tree x.setup h line.thread line.bit f within unseeded (refused h stands) (λ e. absurd cc),
   )
 
 -- the refusal of a line, as that of the schedule
-module _ (x : SessionOf) (t : Program) (is : StandsFor x.code t) (s : SetupOf) (h : List Call) (setup : x.setup ≡ s) (stands : StandsForAll x h)
+module _ (x : SessionOf) (t : Program) (s : SetupOf) (h : List Call) (setup : x.setup ≡ s) (stands : Stands t x h)
     (schedule rest : List ℕ) (short : length schedule ≤ MAX_SCHEDULE) (whole : schedule ≡ schedule_text (lines_of_history h) ++ rest) where
   pub legal_of : IsLegal t s h
-  legal_of = subst (λ z. IsLegal t z h) setup (stands t is).state.legal
+  legal_of = subst (λ z. IsLegal t z h) setup stands.state.legal
 
   pub bad_line : (n many : ℕ) → n ≡ length h + 1 → many ≡ threads s → rest ≢ [] → HasNoLine many rest → (bytes : Option (List ℕ))
       → IsRefusal t s schedule bytes bytes (fault.Line n)

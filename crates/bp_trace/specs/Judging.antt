@@ -5,7 +5,6 @@ use Rattle.bp_language.specs.Ast.{Program}
 use Rattle.bp_machine.specs.declared.calls.Call.{Call}
 use Rattle.bp_machine.specs.declared.calls.AskFault.{AskFault}
 use Rattle.bp_machine.specs.declared.calls.AskFault.TheVariants as refused
-use Rattle.bp_flat.specs.StandsFor.{StandsFor}
 use Rattle.bp_machine.specs.declared.setup_faults.SetupFault.{SetupFault}
 use Rattle.bp_machine.specs.declared.setup_faults.SetupFault.TheVariants as refused_setup
 use Rattle.bp_machine.specs.Sessions.{last_thread, SessionOf, Stands}
@@ -59,10 +58,8 @@ IsCallRefusal t s h n x f = (f ≡ fault.Memory) ⊎ IsCallFault t s h n x f
 -- the session stands after the calls that were played, and these are the rows that they print
 abbrev pub ArePlayed : {O : Type 0} → SessionOf → Played O → Type 0
 ArePlayed x p =
-    (t : Program)
-    → StandsFor x.code t
-    → Stands t x p.history.items
-    × (map row_of p.printed.items ≡ printed_rows t x.setup p.history.items)
+    Stands x.code.tree x p.history.items
+    × (map row_of p.printed.items ≡ printed_rows x.code.tree x.setup p.history.items)
 
 -- what was seen of the calls that were played stays seen with the new ones
 abbrev pub Watches

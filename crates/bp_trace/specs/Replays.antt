@@ -4,7 +4,6 @@ use Rattle.std.specs.Str.Parse.{AllDigits}
 use Rattle.std.specs.List.{AllByRecursion}
 use Rattle.bp_text.specs.Writing.{AppendsAll, AppendsPart}
 use Rattle.bp_language.specs.Ast.{Program}
-use Rattle.bp_flat.specs.StandsFor.{StandsFor}
 use Rattle.bp_machine.specs.declared.calls.Call.{Call}
 use Rattle.bp_machine.specs.declared.calls.AskFault.{AskFault}
 use Rattle.bp_machine.specs.declared.calls.AskFault.TheVariants.{Memory}
@@ -296,7 +295,7 @@ pub record IsWatched
     : Type 0 where
   pub replayed : IsReplayed t text w.replayed
   pub stands : Stands t w.session w.replayed.history.items
-  pub code : StandsFor w.session.code t
+  pub program : w.session.code.tree ≡ t
   pub setup : w.session.setup ≡ w.replayed.setup
   pub seen : sees w.watcher t w.replayed.setup w.replayed.history.items
 

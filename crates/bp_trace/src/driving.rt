@@ -2,10 +2,9 @@
 //! Schedules: lines that name the thread of the next call and its choice bit.
 ghost use Rattle.std.specs.Prelude.{◌≡◌, ◌<◌, ◌≤◌, ℕ, List, Option, None, [], length, IfOk, IfErr, OnOk, MatchResult, drop, decimal, MatchOption};
 ghost use Rattle.bp_language.specs.Ast.{Program};
-ghost use Rattle.bp_flat.specs.StandsFor.{StandsFor, IsOfProgram, InEach};
 ghost use Rattle.bp_machine.specs.declared.limits.TheConstants.{MAX_THREADS};
-ghost use Rattle.bp_machine.specs.Setups.{FitsCode};
-ghost use Rattle.bp_machine.specs.Sessions.{StandsForAll};
+ghost use Rattle.bp_machine.specs.Setups.{Fits};
+ghost use Rattle.bp_machine.specs.Sessions.{Stands};
 ghost use Rattle.bp_trace.specs.declared.limits.TheConstants.{MAX_SCHEDULE};
 ghost use Rattle.bp_text.specs.Formats.{Finds};
 ghost use Rattle.bp_trace.specs.TraceText.{schedule_text, lines_of_history};
@@ -40,11 +39,10 @@ fn play_line(
     line: ScheduleLine,
     n: u32,
 ) -> Result<(), DriveFault>
-    requires program { IsOfProgram session.old.code }
-    requires stands { StandsForAll session.old calls.old.items }
+    requires stands { Stands session.old.code.tree session.old calls.old.items }
     requires thread { line.thread < length session.old.setup.entries }
     requires unseeded { session.old.setup.seed ≡ None }
-    ensures stands { OnOk result (StandsForAll session.new calls.new.items) }
+    ensures stands { OnOk result (Stands session.new.code.tree session.new calls.new.items) }
     ensures added { OnOk result (IsAdded calls.old.items calls.new.items line) }
     ensures kept { (session.new.code ≡ session.old.code) × (session.new.setup ≡ session.old.setup) }
     ensures refused { IfErr result (IsLineRefusal session.old.setup calls.old.items line n) }
@@ -67,17 +65,15 @@ fn play(
     threads: u32,
     schedule: &[u8],
 ) -> Result<Vec<Call>, DriveFault>
-    requires program { IsOfProgram session.old.code }
-    requires stands { StandsForAll session.old [] }
+    requires stands { Stands session.old.code.tree session.old [] }
     requires threads { threads ≡ length session.old.setup.entries }
     requires few { threads ≤ MAX_THREADS }
     requires unseeded { session.old.setup.seed ≡ None }
     requires short { length schedule.now ≤ MAX_SCHEDULE }
-    ensures stands { IfOk result (λ h. StandsForAll session.new h.items) }
+    ensures stands { IfOk result (λ h. Stands session.new.code.tree session.new h.items) }
     ensures lines { IfOk result (λ h. schedule.now ≡ schedule_text (lines_of_history h.items)) }
     ensures kept { (session.new.code ≡ session.old.code) × (session.new.setup ≡ session.old.setup) }
-    ensures refused { (t : Program) (bytes : Option (List ℕ))
-        → StandsFor session.old.code t
+    ensures refused { let t = session.old.code.tree in (bytes : Option (List ℕ))
         → IfErr result (IsRefusal t session.old.setup schedule.now bytes bytes) }
 {
     let mut calls = Vec::new(alloc);
@@ -103,16 +99,15 @@ pub fn drive<W: Write>(
     schedule: &[u8],
     out: &mut W,
 ) -> Result<Report, DriveFault>
-    requires fits { FitsCode code.now setup.now }
+    requires fits { Fits code.now.tree setup.now }
     requires unseeded { setup.now.seed ≡ None }
-    ensures { InEach code.now (λ t. MatchResult result
+    ensures { let t = code.now.tree in MatchResult result
         (DrivesTo t setup.now schedule.now (W.contents out.old) (W.contents out.new))
-        (IsRefusal t setup.now schedule.now (W.contents out.old) (W.contents out.new))) }
+        (IsRefusal t setup.now schedule.now (W.contents out.old) (W.contents out.new)) }
 {
     if schedule.len() > MAX_SCHEDULE {
         return Err(DriveFault::TooLong);
     }
-    code.is_of_a_program();
     setup.is_in_range();
     let mut session = Session::new(alloc, code, setup)?;
     let calls = play(alloc, &mut session, setup.threads(), schedule)?;

@@ -4,8 +4,7 @@
 ghost use Rattle.std.specs.Prelude.{◌≡◌, ◌<◌, ◌+◌, ◌^◌, ◌++◌, [], length, map, IfOk, IfErr, OnOk, ◌∷◌, List, MatchResult};
 ghost use Rattle.std.specs.List.{AllByRecursion};
 ghost use Rattle.bp_language.specs.Ast.{Program};
-ghost use Rattle.bp_flat.specs.StandsFor.{InEach};
-ghost use Rattle.bp_machine.specs.Sessions.{last_thread, StandsForAll, Stands, AfterEach};
+ghost use Rattle.bp_machine.specs.Sessions.{last_thread, Stands, AfterEach};
 ghost use Rattle.bp_machine.specs.Setups.{threads, SetupOf};
 ghost use Rattle.bp_machine.specs.declared.calls.Call.{Call as Answered};
 ghost use Rattle.bp_trace.specs.Judging.{ArePlayed, IsBody, IsBodyRefusal, IsLineRefused, Watches, WatchesAll};
@@ -47,14 +46,14 @@ fn judge_line<O: Watcher + Drop>(
     requires threads { AllByRecursion (λ x. x.thread < threads session.old.setup) calls.now }
     requires played { ArePlayed session.old played.old }
     ensures played { OnOk result (ArePlayed session.new played.new) }
-    ensures watched { InEach session.old.code (λ t.
-        OnOk result (Watches O.sees t session.old.setup played.old played.new)) }
+    ensures watched { let t = session.old.code.tree in
+        OnOk result (Watches O.sees t session.old.setup played.old played.new) }
     ensures history { OnOk result
         (played.new.history.items ≡ played.old.history.items ++ calls.now) }
     ensures kept { (session.new.code ≡ session.old.code) × (session.new.setup ≡ session.old.setup) }
-    ensures refused { InEach session.old.code (λ t. IfErr result
+    ensures refused { let t = session.old.code.tree in IfErr result
         (IsLineRefused t session.old.setup played.old.history.items n calls.now
-        played.new.history.items)) }
+        played.new.history.items) }
 {
     for call in calls {
         judge(session, call, n, played)?;
@@ -74,16 +73,16 @@ pub(crate) fn play<O: Watcher + Drop>(
     watcher: O,
     kept: &mut Vec<Call>,
 ) -> Result<Body<O>, ReplayFault>
-    requires stands { StandsForAll session.old [] }
+    requires stands { Stands session.old.code.tree session.old [] }
     requires setup { session.old.setup ≡ setup.now }
     requires lines { first + length text.now < 2 ^ 32 }
     ensures played { IfOk result (λ b. ArePlayed session.new b.played) }
-    ensures watched { InEach session.old.code (λ t.
-        IfOk result (λ b. WatchesAll O.sees t setup.now watcher b.played)) }
+    ensures watched { let t = session.old.code.tree in
+        IfOk result (λ b. WatchesAll O.sees t setup.now watcher b.played) }
     ensures body { IfOk result (IsBody version setup.now text.now first) }
     ensures kept { (session.new.code ≡ session.old.code) × (session.new.setup ≡ setup.now) }
-    ensures refused { InEach session.old.code (λ t.
-        IfErr result (IsBodyRefusal t version setup.now text.now first kept.new.items)) }
+    ensures refused { let t = session.old.code.tree in
+        IfErr result (IsBodyRefusal t version setup.now text.now first kept.new.items) }
 {
     setup.is_in_range();
     let mut played = Played {

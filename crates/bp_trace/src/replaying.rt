@@ -3,8 +3,7 @@
 //! Migrating a trace to version 2.
 //! The calls of a text that are accepted, where the text as a whole is no trace.
 ghost use Rattle.std.specs.Prelude.{◌≡◌, [], IfOk, None, MatchResult, MatchOption};
-ghost use Rattle.bp_flat.specs.StandsFor.{InEach};
-ghost use Rattle.bp_machine.specs.Sessions.{StandsForAll};
+ghost use Rattle.bp_machine.specs.Sessions.{Stands};
 ghost use Rattle.bp_machine.specs.Setups.{setup_fault, IsSetupRefusal};
 ghost use Rattle.bp_trace.specs.Replays.{HasNoCalls, IsReplayed, IsWatched, IsReplayRefusal, IsMigrated, IsMigrateRefusal, IsAcceptedTrace, IsSomeTrace};
 ghost use Rattle.bp_trace.specs.Reading.{setup_of_head};
@@ -64,9 +63,9 @@ pub(crate) struct Opened {
 
 /// The setup of the head of a trace.
 fn setup_of_head(alloc: Global, code: &Code, head: &Head<'_>) -> Result<Setup, SetupFault>
-    ensures { InEach code.now (λ t. MatchResult result
+    ensures { let t = code.now.tree in MatchResult result
         (λ s. (s ≡ setup_of_head head.now) × (setup_fault t s ≡ None))
-        (IsSetupRefusal t (setup_of_head head.now))) }
+        (IsSetupRefusal t (setup_of_head head.now)) }
 {
     Setup::from_names(
         alloc,
@@ -82,14 +81,13 @@ fn setup_of_head(alloc: Global, code: &Code, head: &Head<'_>) -> Result<Setup, S
 /// Reads the head of a trace, of a setup that the program takes.
 pub(crate) fn open(alloc: Global, code: &Code, text: &[u8]) -> Result<Opened, ReplayFault>
     ensures fits { IfOk result (FitsText text.now) }
-    ensures judged { InEach code.now (λ t. MatchResult result
+    ensures judged { let t = code.now.tree in MatchResult result
         (λ o. IsOpened text.now o × (setup_fault t o.setup ≡ None))
-        (λ f. IsReplayRefusal t text.now f × HasNoCalls f)) }
+        (λ f. IsReplayRefusal t text.now f × HasNoCalls f) }
 {
     if text.len() > MAX_TRACE {
         return Err(ReplayFault::TooLong);
     }
-    code.is_of_a_program();
     let head = read_head(alloc, text)?;
     match setup_of_head(alloc, code, &head) {
         Ok(setup) => Ok(Opened {
@@ -113,17 +111,17 @@ pub(crate) fn play_opened<O: Watcher + Drop>(
     kept: &mut Vec<Call>,
 ) -> Result<(Played<O>, Report), ReplayFault>
     requires fits { FitsText text.now opened.now }
-    requires stands { StandsForAll session.old [] }
+    requires stands { Stands session.old.code.tree session.old [] }
     requires setup { session.old.setup ≡ opened.now.setup }
     ensures played { IfOk result (λ p. ArePlayed session.new p.0) }
-    ensures watched { InEach session.old.code (λ t.
-        IfOk result (λ p. WatchesAll O.sees t opened.now.setup watcher p.0)) }
+    ensures watched { let t = session.old.code.tree in
+        IfOk result (λ p. WatchesAll O.sees t opened.now.setup watcher p.0) }
     ensures kept { (session.new.code ≡ session.old.code) × (session.new.setup ≡ opened.now.setup) }
-    ensures judged { InEach session.old.code (λ t. IsOpened text.now opened.now
+    ensures judged { let t = session.old.code.tree in IsOpened text.now opened.now
         → setup_fault t opened.now.setup ≡ None
         → MatchResult result
         (λ p. IsPlayedTrace t text.now opened.now p.0.history.items p.1)
-        (IsRefusedOpened t text.now opened.now kept.new.items)) }
+        (IsRefusedOpened t text.now opened.now kept.new.items) }
 {
     let rest = text_from(text, opened.size);
     let (setup, version, first) = (&opened.setup, opened.version, opened.lines + 1);
@@ -148,9 +146,9 @@ pub fn replay_watched<O: Watcher + Drop>(
     text: &[u8],
     watcher: O,
 ) -> Result<Watched<O>, ReplayFault>
-    ensures { InEach code.now (λ t. MatchResult result
+    ensures { let t = code.now.tree in MatchResult result
         (IsWatched (O.sees watcher) t text.now)
-        (IsReplayRefusal t text.now)) }
+        (IsReplayRefusal t text.now) }
 {
     let opened = open(alloc, code, text)?;
     let mut watcher = watcher;
@@ -173,8 +171,8 @@ pub fn replay_watched<O: Watcher + Drop>(
 /// Replays a text without threads: it is the trace of a legal history of the program, in either
 /// version, or it is refused by the first thing that is not as expected.
 pub fn replay(alloc: Global, code: &Code, text: &[u8]) -> Result<Replayed, ReplayFault>
-    ensures { InEach code.now (λ t.
-        MatchResult result (IsReplayed t text.now) (IsReplayRefusal t text.now)) }
+    ensures { let t = code.now.tree in
+        MatchResult result (IsReplayed t text.now) (IsReplayRefusal t text.now) }
 {
     Ok(replay_watched(alloc, code, text, Unwatched)?.replayed)
 }
@@ -188,11 +186,10 @@ pub fn migrate<W: Write>(
     text: &[u8],
     out: &mut W,
 ) -> Result<Report, MigrateFault>
-    ensures { InEach code.now (λ t. MatchResult result
+    ensures { let t = code.now.tree in MatchResult result
         (IsMigrated t text.now (W.contents out.old) (W.contents out.new))
-        (IsMigrateRefusal t text.now (W.contents out.old) (W.contents out.new))) }
+        (IsMigrateRefusal t text.now (W.contents out.old) (W.contents out.new)) }
 {
-    code.is_of_a_program();
     let replayed = replay(alloc, code, text)?;
     let report = replayed.report;
     write_with_open_lines(
@@ -222,9 +219,9 @@ pub fn accepted_trace(
     code: &Code,
     text: &[u8],
 ) -> Result<Option<AcceptedTrace>, ReplayFault>
-    ensures { InEach code.now (λ t. MatchResult result
+    ensures { let t = code.now.tree in MatchResult result
         (λ o. MatchOption o (IsSomeTrace t text.now) (IsAcceptedTrace t text.now))
-        (λ f. IsReplayRefusal t text.now f × HasNoCalls f)) }
+        (λ f. IsReplayRefusal t text.now f × HasNoCalls f) }
 {
     let opened = open(alloc, code, text)?;
     let mut session = Session::new(alloc, code, &opened.setup)?;

@@ -146,12 +146,12 @@ module _ {c : Flat} {t : Program} {text : List ℕ} {s : SetupOf} {r : Report} {
 
     -- all calls were made: the end that follows is one of the view
     pub end_there : {end : List ℕ} → length h ≤ i
-        → ((t : Program) (text : List ℕ) (g : List Call) → IsViewContextOf t text w.context → StandsFor w.session.code t → Stands t w.session g
+        → ((text : List ℕ) (g : List Call) → let t = w.session.code.tree in IsViewContextOf t text w.context → Stands t w.session g
         → w.context.history.now ≡ g → r.outcome ≡ outcome_of g → IsEnd w.context.options w.context.file.now t text w.session.setup g r end)
         → IsEnd x.options x.file.now t text s h r end
     end_there past end =
         let made = subst (λ g. HasMade t g w) (take_all i h past) has.made in
-        rw (has.context, has.setup) at (end t text h known_there made.code made.stands (ap (λ (y : ViewContext). y.history.now) has.context) can.outcome)
+        rw (made.program, has.context, has.setup) at (end text h (rw (sym made.program) at known_there) (rw (sym made.program) at made.stands) (ap (λ (y : ViewContext). y.history.now) has.context) can.outcome)
 
     module _ (d : Call) (within : i < length h) where
       abbrev next : List Call

@@ -48,7 +48,7 @@ asked_refused t s h x playable fault.Busy is = absurd is
 
 module _ (t : Program) (s : SetupOf) (h : List Call) where
   -- the session stands after the whole history
-  pub whole : (x : Checkpoint) → x.made ≡ length h → StandsFor x.session.code t → x.session.setup ≡ s → Stands t x.session h
+  pub whole : (x : Checkpoint) → x.made ≡ length h → x.session.code.tree ≡ t → x.session.setup ≡ s → Stands t x.session h
       → x.last ≡ last_thread (granted_threads h) → IsCheckpoint t s h x
   whole x given1 given2 given3 given4 given5 = search (rules, take_all)
 

@@ -1,11 +1,17 @@
 -- The context of a replayed trace is one of which a view can be made, and its view is one of the trace.
 use Rattle.bp_view.proofs.Common.{◌≡◌, ℕ, List, Option, refl, subst, sym, suc, None, length, arith, rules, IsWritten, Adds, IsInParts, begun_as, cut_as, written_as, Program, Flat, StandsFor, Call, SetupOf, threads, SourceStatement, AreSourceStatements, texts_are, shown_texts, ViewOptions, watched_names, AreDeclared, IsUndeclared, Memory, NoThread, NoVariable, Replay, Write, Span, AreSpans, contexts_head, AreContextLines, IsContextLine, ViewContext, IsViewContextOf, IsShownTrace, IsMissing, IsStopped, IsThere, IsView, IsViewOfTrace, IsViewRefusal, IsViewable, IsViewed, extent_of, AreWidths}
+use Rattle.bp_flat.specs.StandsFor.{IsOfProgram}
+use Rattle.bp_machine.proofs.SetupInRange.{stands_for_own}
 use Rattle.bp_trace.specs.declared.replaying.Replayed.{Replayed}
 use Rattle.bp_view.specs.declared.faults.ViewFault.{ViewFault}
 use Rattle.bp_view.specs.declared.view_contexts.ShownTrace.{ShownTrace}
 use Rattle.bp_view.proofs.BegunViews.{places_are}
 
-module _ {t : Program} {text trace : List ℕ} {shown : ShownTrace} (is : IsShownTrace t text t trace shown) where
+-- a code by another name, whose program is t, stands for t
+pub stands_at : {c d : Flat} {t : Program} → d ≡ c → IsOfProgram d → c.tree ≡ t → StandsFor c t
+stands_at {c} e of same = subst (StandsFor c) same (stands_for_own e of)
+
+module _ {t : Program} {text trace : List ℕ} {shown : ShownTrace} (is : IsShownTrace t text trace shown) where
   abbrev r : Replayed
   r = shown.replayed
 

@@ -4,7 +4,7 @@ use Rattle.bp_text.specs.declared.lines.Position.{Position}
 use Rattle.bp_text.specs.Lines.{IsOneLine, position_at}
 use Rattle.bp_language.specs.Ast.{Program, Procedure}
 use Rattle.bp_flat.specs.Moves.{Frame, Configuration, Valuation, same_bit}
-use Rattle.bp_flat.specs.StandsFor.{start_of_block, StandsFor}
+use Rattle.bp_flat.specs.StandsFor.{start_of_block}
 use Rattle.bp_machine.specs.Histories.{stack_of, IsLeastWithin, configuration_after, granted_threads, is_granted}
 use Rattle.bp_machine.specs.declared.calls.Call.{Call}
 use Rattle.bp_machine.specs.Sessions.{last_thread, Stands}
@@ -246,7 +246,7 @@ module _ (t : Program) (s : SetupOf) (h : List Call) where
   -- the session stands after the first calls of the history, as many as the checkpoint says
   pub record IsCheckpoint (x : Checkpoint) : Type 0 where
     pub few : x.made ≤ length h
-    pub code : StandsFor x.session.code t
+    pub program : x.session.code.tree ≡ t
     pub setup : x.session.setup ≡ s
     pub stands : Stands t x.session (take x.made h)
     pub last : x.last ≡ last_thread (granted_threads (take x.made h))

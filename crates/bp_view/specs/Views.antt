@@ -151,10 +151,8 @@ filter_of o =
 -- A device: a trace that was replayed, with the source statements of its program.
 
 -- the source statements are those of the program p, and the text of the trace is one of t
-pub record IsShownTrace
-    (p : Program) (text : List ℕ) (t : Program) (trace : List ℕ) (x : ShownTrace)
-    : Type 0 where
-  pub statements : AreSourceStatements text p x.statements.items
+pub record IsShownTrace (t : Program) (text trace : List ℕ) (x : ShownTrace) : Type 0 where
+  pub statements : AreSourceStatements text t x.statements.items
   pub is : IsReplayed t trace x.replayed
   pub short : length trace ≤ MAX_TRACE
 
@@ -303,7 +301,7 @@ next_print_in Json c i = values_printed c.globals (stack_of c i)
 -- A device: the writer's session stands after a history of the program, and the writer has the
 -- thread of its last step and its length.
 pub record HasMade (t : Program) (h : List Call) (w : ViewWriter) : Type 0 where
-  pub code : StandsFor w.session.code t
+  pub program : w.session.code.tree ≡ t
   pub stands : Stands t w.session h
   pub last : w.last ≡ last_thread (granted_threads h)
   pub made : w.made ≡ length h

@@ -3,9 +3,8 @@
 //! The calls of a history, each with what was before and after it.
 ghost use Rattle.std.specs.Prelude.{◌≡◌, List, IfOk, MatchResult, if◌then◌else◌, ◌++◌, ◌∷◌, [], suc, None, Some, true, false, length, option_map, MatchOption};
 ghost use Rattle.bp_language.specs.Ast.{Program};
-ghost use Rattle.bp_flat.specs.StandsFor.{StandsFor, InEach};
 ghost use Rattle.bp_machine.specs.declared.calls.Call.{Call as Answered};
-ghost use Rattle.bp_machine.specs.Setups.{FitsCode};
+ghost use Rattle.bp_machine.specs.Setups.{Fits};
 ghost use Rattle.bp_machine.specs.Sessions.{Stands, last_thread, AfterEach};
 ghost use Rattle.bp_machine.specs.Histories.{IsLeastWithin, granted_threads, is_granted};
 ghost use Rattle.bp_trace.specs.Replays.{IsReplayed, IsReplayRefusal, IsOwnCall, IsOwnRefusal};
@@ -30,9 +29,8 @@ pub struct Checkpoint {
 impl Checkpoint {
     /// The checkpoint before any call.
     pub fn start(alloc: Global, code: &Code, setup: &Setup) -> Result<Checkpoint, AllocError>
-        requires { FitsCode code.now setup.now }
-        ensures { (t : Program) (h : List Answered)
-            → StandsFor code.now t
+        requires { Fits code.now.tree setup.now }
+        ensures { let t = code.now.tree in (h : List Answered)
             → IfOk result (IsCheckpointAfter t setup.now h 0) }
     {
         Ok(Checkpoint {
@@ -94,10 +92,9 @@ fn checkpoint_of(
     session: Session,
     watcher: CheckpointWatcher,
 ) -> Result<Checkpoint, AllocError>
-    requires { FitsCode code.now setup.now }
-    ensures { (t : Program) (h : List Answered)
-        → StandsFor code.now t
-        → StandsFor session.code t
+    requires { Fits code.now.tree setup.now }
+    ensures { let t = code.now.tree in (h : List Answered)
+        → session.code.tree ≡ t
         → session.setup ≡ setup.now
         → Stands t session h
         → HasCounted t setup.now h watcher
@@ -124,10 +121,10 @@ pub fn replay_to_checkpoint(
     text: &[u8],
     after: u64,
 ) -> Result<(Replayed, Checkpoint), ReplayFault>
-    ensures { InEach code.now (λ t. MatchResult result
+    ensures { let t = code.now.tree in MatchResult result
         (λ p. IsReplayed t text.now p.0
         × IsCheckpointAfter t p.0.setup p.0.history.items after p.1)
-        (IsReplayRefusal t text.now)) }
+        (IsReplayRefusal t text.now) }
 {
     if text.len() > MAX_TRACE {
         return Err(ReplayFault::TooLong);

@@ -1,7 +1,6 @@
 //! The contexts of a history, a line for each.
 ghost use Rattle.std.specs.Prelude.{◌≡◌, ◌++◌, ℕ, suc, List, length, MatchResult};
 ghost use Rattle.bp_language.specs.Ast.{Program};
-ghost use Rattle.bp_flat.specs.StandsFor.{StandsFor};
 ghost use Rattle.bp_machine.specs.declared.calls.Call.{Call as Answered};
 ghost use Rattle.bp_machine.specs.Setups.{SetupOf};
 ghost use Rattle.bp_trace.specs.Replays.{IsReplayRefusal};
@@ -170,22 +169,20 @@ fn push_contexts_head(view: &mut Buffer, format: ViewFormat, calls: u64, context
 pub fn contexts_of(
     alloc: Global,
     text: &[u8],
-    checked: &Checked,
     code: &Code,
     trace: &[u8],
     format: ViewFormat,
 ) -> Result<(Vec<u8>, Report), ReplayFault>
-    requires { StandsFor code.now checked.now }
     ensures { MatchResult result
-        (λ p. AreContextsOfTrace format checked.now text.now trace.now p.0.items p.1)
-        (IsReplayRefusal checked.now trace.now) }
+        (λ p. AreContextsOfTrace format code.now.tree text.now trace.now p.0.items p.1)
+        (IsReplayRefusal code.now.tree trace.now) }
 {
-    let shown = shown_trace_of(alloc, text, checked, code, trace)?;
+    let shown = shown_trace_of(alloc, text, code, trace)?;
     let history = shown.replayed.history.as_slice();
     let Ok(spans) = spans_of(alloc, code, &shown.replayed.setup, history) else {
         return Err(ReplayFault::Memory);
     };
-    let context = shown.context(checked, format);
+    let context = shown.context(code.checked(), format);
     let mut view = Buffer::new(alloc);
     let calls = context.history.len() as u64;
     push_contexts_head(&mut view, format, calls, spans.len() as u64);

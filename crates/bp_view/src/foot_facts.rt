@@ -123,9 +123,8 @@ fn condition_of<'a>(
     session: &Session,
     thread: u32,
 ) -> Result<Option<ConditionFacts<'a>>, AllocError>
-    ensures { (t : Program) (text : List ℕ) (h : List Answered)
+    ensures { let t = session.now.code.tree in (text : List ℕ) (h : List Answered)
         → AreProgramFacts t text program.now
-        → StandsFor session.now.code t
         → Stands t session.now h
         → let now = configuration_after t session.now.setup h in
         IsAtCondition now thread
@@ -163,9 +162,8 @@ fn add_wait<'a>(
     session: &Session,
     thread: u32,
 ) -> Result<(), AllocError>
-    ensures { (t : Program) (text : List ℕ) (h : List Answered)
+    ensures { let t = session.now.code.tree in (text : List ℕ) (h : List Answered)
         → AreProgramFacts t text program.now
-        → StandsFor session.now.code t
         → Stands t session.now h
         → let now = configuration_after t session.now.setup h in
         AreWaitsFacts text now (waiting t now thread) (map condition_in waits.old.items)
@@ -190,9 +188,8 @@ fn waits_of<'a>(
     session: &Session,
     deadlocked: bool,
 ) -> Result<Vec<ConditionFacts<'a>>, AllocError>
-    ensures { (t : Program) (text : List ℕ) (h : List Answered)
+    ensures { let t = session.now.code.tree in (text : List ℕ) (h : List Answered)
         → AreProgramFacts t text program.now
-        → StandsFor session.now.code t
         → Stands t session.now h
         → let now = configuration_after t session.now.setup h in
         let all = waiting t now (threads session.now.setup) in
@@ -216,9 +213,8 @@ fn failure_of<'a>(
     session: &Session,
     outcome: Outcome,
 ) -> Result<Option<ConditionFacts<'a>>, AllocError>
-    ensures { (t : Program) (text : List ℕ) (h : List Answered)
+    ensures { let t = session.now.code.tree in (text : List ℕ) (h : List Answered)
         → AreProgramFacts t text program.now
-        → StandsFor session.now.code t
         → Stands t session.now h
         → outcome ≡ outcome_of h
         → let are = AreFailureFacts t text session.now.setup h outcome in
@@ -238,9 +234,8 @@ pub fn facts_of_foot<'a>(
     session: &Session,
     report: Report,
 ) -> Result<FootFacts<'a>, AllocError>
-    ensures { (t : Program) (text : List ℕ) (h : List Answered)
+    ensures { let t = session.now.code.tree in (text : List ℕ) (h : List Answered)
         → AreProgramFacts t text program.now
-        → StandsFor session.now.code t
         → Stands t session.now h
         → report.outcome ≡ outcome_of h
         → let s = session.now.setup in

@@ -191,9 +191,8 @@ pub(crate) fn push_foot_of(
     session: &Session,
     report: Report,
 )
-    ensures { (t : Program) (text : List ℕ) (h : List Answered)
+    ensures { let t = session.now.code.tree in (text : List ℕ) (h : List Answered)
         → IsViewContextOf t text context.now
-        → StandsFor session.now.code t
         → Stands t session.now h
         → report.outcome ≡ outcome_of h
         → let format = context.now.options.format in

@@ -1,10 +1,9 @@
 //! The contexts of a history: where the steps of each begin and end.
 ghost use Rattle.std.specs.Prelude.{◌≡◌, ◌++◌, ◌∷◌, [], suc, List, length, MatchResult, OnOk};
-ghost use Rattle.bp_flat.specs.StandsFor.{InEach};
 ghost use Rattle.bp_machine.specs.declared.calls.Call.{Call as Answered};
 ghost use Rattle.bp_machine.specs.Histories.{configuration_after};
 ghost use Rattle.bp_machine.specs.Sessions.{Stands, AfterEach};
-ghost use Rattle.bp_machine.specs.Setups.{FitsCode};
+ghost use Rattle.bp_machine.specs.Setups.{Fits};
 ghost use Rattle.bp_trace.specs.Replays.{IsPlayable};
 ghost use Rattle.bp_view.specs.ContextLines.{joined, with_step, AreSpans, IsStandingPoint};
 
@@ -121,11 +120,11 @@ pub fn spans_of(
     setup: &Setup,
     history: &[Call],
 ) -> Result<Vec<Span>, AskFault>
-    requires fits { FitsCode code.now setup.now }
-    requires playable { InEach code.now (λ t. IsPlayable t setup.now history.now) }
-    ensures { InEach code.now (λ t. MatchResult result
+    requires fits { Fits code.now.tree setup.now }
+    requires playable { IsPlayable code.now.tree setup.now history.now }
+    ensures { let t = code.now.tree in MatchResult result
         (λ v. AreSpans t setup.now history.now v.items)
-        (λ f. f ≡ AskFault.Memory)) }
+        (λ f. f ≡ AskFault.Memory) }
 {
     let mut session = Session::new(alloc, code, setup)?;
     let mut spans = Vec::new(alloc);

@@ -2,7 +2,7 @@
 //! How a thread stands after a history.
 ghost use Rattle.std.specs.Prelude.{◌≡◌, ◌<◌, ℕ, List, Some, length, map, slice_get, IfOk, IsSomeAnd};
 ghost use Rattle.bp_language.specs.Ast.{Program};
-ghost use Rattle.bp_flat.specs.StandsFor.{StandsFor, InEach};
+ghost use Rattle.bp_flat.specs.StandsFor.{StandsFor};
 ghost use Rattle.bp_flat.specs.Moves.{Frame};
 ghost use Rattle.bp_machine.specs.Histories.{calls_of_thread, stack_of, configuration_after};
 ghost use Rattle.bp_machine.specs.Sessions.{Stands, AfterEach};
@@ -71,8 +71,8 @@ impl Standing {
     /// How a thread of a session stands, which stands after this history.
     pub(crate) fn of(session: &Session, history: &[Call], thread: u32) -> Standing
         requires { thread < threads session.now.setup }
-        ensures { InEach session.now.code (λ t. Stands t session.now history.now
-            → result ≡ standing t session.now.setup history.now thread) }
+        ensures { let t = session.now.code.tree in Stands t session.now history.now
+            → result ≡ standing t session.now.setup history.now thread }
     {
         if session.is_finished(thread) {
             return Standing::after(last_reply(history, thread));
@@ -137,9 +137,8 @@ fn frame_below<'a>(
     thread: u32,
     above: usize,
 ) -> Option<FrameFacts<'a>>
-    ensures { (t : Program) (text : List ℕ) (h : List Answered) (f : Frame)
+    ensures { let t = session.now.code.tree in (text : List ℕ) (h : List Answered) (f : Frame)
         → AreProgramFacts t text program.now
-        → StandsFor session.now.code t
         → Stands t session.now h
         → let now = configuration_after t session.now.setup h in
         slice_get (stack_of now thread) above ≡ Some f
@@ -176,9 +175,8 @@ fn frames_of<'a>(
     session: &Session,
     thread: u32,
 ) -> Result<Vec<FrameFacts<'a>>, AllocError>
-    ensures { (t : Program) (text : List ℕ) (h : List Answered)
+    ensures { let t = session.now.code.tree in (text : List ℕ) (h : List Answered)
         → AreProgramFacts t text program.now
-        → StandsFor session.now.code t
         → Stands t session.now h
         → let stack = stack_of (configuration_after t session.now.setup h) thread in
         IfOk result (λ v. AreStackFacts text 0 stack (map frame_in v.items)) }
@@ -202,9 +200,8 @@ fn facts_of_thread<'a>(
     thread: u32,
 ) -> Result<ThreadFacts<'a>, AllocError>
     requires { thread < threads session.now.setup }
-    ensures { (t : Program) (text : List ℕ)
+    ensures { let t = session.now.code.tree in (text : List ℕ)
         → AreProgramFacts t text program.now
-        → StandsFor session.now.code t
         → Stands t session.now history.now
         → let s = session.now.setup in
         IfOk result (λ x. AreThreadFacts t text s history.now thread (thread_in x)) }
@@ -225,9 +222,8 @@ fn threads_of<'a>(
     history: &[Call],
 ) -> Result<Vec<ThreadFacts<'a>>, AllocError>
     ensures count { IfOk result (λ v. length v.items ≡ threads session.now.setup) }
-    ensures each { (t : Program) (text : List ℕ)
+    ensures each { let t = session.now.code.tree in (text : List ℕ)
         → AreProgramFacts t text program.now
-        → StandsFor session.now.code t
         → Stands t session.now history.now
         → let s = session.now.setup in
         IfOk result (λ v. AreThreadsFacts t text s history.now 0 (map thread_in v.items)) }
@@ -249,9 +245,8 @@ pub fn facts_of_state<'a>(
     history: &[Call],
     count: u64,
 ) -> Result<StateFacts<'a>, AllocError>
-    ensures { (t : Program) (text : List ℕ)
+    ensures { let t = session.now.code.tree in (text : List ℕ)
         → AreProgramFacts t text program.now
-        → StandsFor session.now.code t
         → Stands t session.now history.now
         → let s = session.now.setup in
         IfOk result (λ x. AreStateFacts t text s history.now count (state_in x)) }

@@ -212,9 +212,8 @@ pub(crate) fn push_state_of(
     history: &[Call],
     count: u64,
 )
-    ensures { (t : Program) (text : List ℕ)
+    ensures { let t = session.now.code.tree in (text : List ℕ)
         → IsViewContextOf t text context.now
-        → StandsFor session.now.code t
         → Stands t session.now history.now
         → let format = context.now.options.format in
         let state = IsStateText format t text session.now.setup history.now count in
@@ -233,20 +232,18 @@ pub(crate) fn push_state_of(
 pub fn state_at(
     alloc: Global,
     text: &[u8],
-    checked: &Checked,
     code: &Code,
     trace: &[u8],
     format: ViewFormat,
     number: u64,
 ) -> Result<(Vec<u8>, Report), ReplayFault>
-    requires { StandsFor code.now checked.now }
     ensures { MatchResult result
-        (λ p. IsStateOfTrace format number checked.now text.now trace.now p.0.items p.1)
-        (IsReplayRefusal checked.now trace.now) }
+        (λ p. IsStateOfTrace format number code.now.tree text.now trace.now p.0.items p.1)
+        (IsReplayRefusal code.now.tree trace.now) }
 {
-    let (shown, checkpoint) = shown_trace_to(alloc, text, checked, code, trace, number)?;
+    let (shown, checkpoint) = shown_trace_to(alloc, text, code, trace, number)?;
     let calls = calls_to(shown.replayed.history.as_slice(), number);
-    let context = shown.context(checked, format);
+    let context = shown.context(code.checked(), format);
     let count = context.history.len() as u64;
     let mut view = Buffer::new(alloc);
     push_state_of(

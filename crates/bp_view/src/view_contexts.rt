@@ -2,7 +2,6 @@
 //! columns.
 //! A trace that was replayed, with the source statements of its program.
 ghost use Rattle.std.specs.Prelude.{◌≡◌, ◌<◌, ◌≤◌, ◌^◌, ℕ, List, length, map, max, MatchResult};
-ghost use Rattle.bp_flat.specs.StandsFor.{InEach};
 ghost use Rattle.bp_trace.specs.Replays.{IsReplayRefusal};
 ghost use Rattle.bp_source.specs.SourceStatements.{AreSourceStatements};
 ghost use Rattle.bp_view.specs.Filters.{watched_names, skipped};
@@ -137,18 +136,17 @@ pub(crate) struct ShownTrace {
 pub(crate) fn shown_trace_of(
     alloc: Global,
     text: &[u8],
-    checked: &Checked,
     code: &Code,
     trace: &[u8],
 ) -> Result<ShownTrace, ReplayFault>
-    ensures { InEach code.now (λ t. MatchResult result
-        (IsShownTrace checked.now text.now t trace.now)
-        (IsReplayRefusal t trace.now)) }
+    ensures { let t = code.now.tree in MatchResult result
+        (IsShownTrace t text.now trace.now)
+        (IsReplayRefusal t trace.now) }
 {
     if trace.len() > MAX_TRACE {
         return Err(ReplayFault::TooLong);
     }
-    let statements = source_statements_of(alloc, text, checked)?;
+    let statements = source_statements_of(alloc, text, code.checked())?;
     let replayed = replay(alloc, code, trace)?;
     Ok(ShownTrace {
         statements,
@@ -161,20 +159,19 @@ pub(crate) fn shown_trace_of(
 pub(crate) fn shown_trace_to(
     alloc: Global,
     text: &[u8],
-    checked: &Checked,
     code: &Code,
     trace: &[u8],
     after: u64,
 ) -> Result<(ShownTrace, Checkpoint), ReplayFault>
-    ensures { InEach code.now (λ t. MatchResult result
-        (λ p. IsShownTrace checked.now text.now t trace.now p.0
+    ensures { let t = code.now.tree in MatchResult result
+        (λ p. IsShownTrace t text.now trace.now p.0
         × IsCheckpointAfter t p.0.replayed.setup p.0.replayed.history.items after p.1)
-        (IsReplayRefusal t trace.now)) }
+        (IsReplayRefusal t trace.now) }
 {
     if trace.len() > MAX_TRACE {
         return Err(ReplayFault::TooLong);
     }
-    let statements = source_statements_of(alloc, text, checked)?;
+    let statements = source_statements_of(alloc, text, code.checked())?;
     let (replayed, checkpoint) = replay_to_checkpoint(alloc, code, trace, after)?;
     let shown = ShownTrace {
         statements,
@@ -199,20 +196,19 @@ fn told_calls(trace: &[u8]) -> u64 {
 pub(crate) fn shown_trace_before(
     alloc: Global,
     text: &[u8],
-    checked: &Checked,
     code: &Code,
     trace: &[u8],
     filter: &CallFilter,
 ) -> Result<(ShownTrace, Checkpoint), ReplayFault>
-    ensures { InEach code.now (λ t. MatchResult result
+    ensures { let t = code.now.tree in MatchResult result
         (λ p. let h = p.0.replayed.history.items in
-        IsShownTrace checked.now text.now t trace.now p.0
+        IsShownTrace t text.now trace.now p.0
         × IsCheckpoint t p.0.replayed.setup h p.1
         × (p.1.made ≤ skipped filter.now (length h)))
-        (IsReplayRefusal t trace.now)) }
+        (IsReplayRefusal t trace.now) }
 {
     let after = filter.skipped(told_calls(trace));
-    let (shown, checkpoint) = shown_trace_to(alloc, text, checked, code, trace, after)?;
+    let (shown, checkpoint) = shown_trace_to(alloc, text, code, trace, after)?;
     if checkpoint.made <= filter.skipped(shown.replayed.history.len() as u64) {
         return Ok((shown, checkpoint));
     }

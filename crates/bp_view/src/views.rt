@@ -3,7 +3,6 @@
 ghost use Rattle.std.specs.Prelude.{◌≡◌, ◌≤◌, [], ℕ, List, length, map, take, MatchResult, IfOk};
 ghost use Rattle.bp_text.specs.Writing.{IsWritten};
 ghost use Rattle.bp_language.specs.Ast.{Program};
-ghost use Rattle.bp_flat.specs.StandsFor.{StandsFor};
 ghost use Rattle.bp_machine.specs.Setups.{threads};
 ghost use Rattle.bp_machine.specs.declared.calls.Call.{Call as Answered};
 ghost use Rattle.bp_machine.specs.Histories.{outcome_of};
@@ -97,7 +96,7 @@ fn write_view<W: Write>(
     out: &mut W,
 ) -> Result<(), ViewFault>
     ensures { (text trace : List ℕ)
-        → IsShownTrace checked.now text checked.now trace shown.now
+        → IsShownTrace checked.now text trace shown.now
         → let h = shown.now.replayed.history.items in
         IsCheckpoint checked.now shown.now.replayed.setup h start
         → start.made ≤ skipped (filter_of options.entry) (length h)
@@ -110,6 +109,7 @@ fn write_view<W: Write>(
         (λ _. IsViewed checked.now text trace options name old new shown.now.replayed.report)
         (IsViewRefusal checked.now text trace options name old new) }
 {
+    start.session.code().is_of_a_program();
     check_thread(options, &shown.replayed.setup)?;
     if let Some(n) = undeclared(checked, names) {
         return Err(ViewFault::NoVariable(n));
@@ -155,28 +155,35 @@ fn write_view<W: Write>(
 pub fn view<W: Write>(
     alloc: Global,
     text: &[u8],
-    checked: &Checked,
     code: &Code,
     trace: &[u8],
     options: ViewOptions<'_>,
     file: &str,
     out: &mut W,
 ) -> Result<Report, ViewFault>
-    requires { StandsFor code.now checked.now }
     ensures { let old = W.contents out.old in
         let new = W.contents out.new in
         let options = options.entry in
         let name = file.now in
         MatchResult result
-        (IsViewed checked.now text.now trace.now options name old new)
-        (IsViewRefusal checked.now text.now trace.now options name old new) }
+        (IsViewed code.now.tree text.now trace.now options name old new)
+        (IsViewRefusal code.now.tree text.now trace.now options name old new) }
 {
     let filter = filter_of(&options);
-    let (shown, start) = shown_trace_before(alloc, text, checked, code, trace, &filter)?;
+    let (shown, start) = shown_trace_before(alloc, text, code, trace, &filter)?;
     let Ok(names) = watched_names(alloc, options.watch) else {
         return Err(ViewFault::Replay(ReplayFault::Memory));
     };
-    write_view(alloc, checked, &shown, start, options, file, &names, out)?;
+    write_view(
+        alloc,
+        code.checked(),
+        &shown,
+        start,
+        options,
+        file,
+        &names,
+        out,
+    )?;
     Ok(shown.replayed.report)
 }
 
@@ -192,9 +199,8 @@ fn push_gap(view: &mut Buffer, format: ViewFormat)
 /// Adds the state of the session after a foot, where it is asked for. The session stands after the
 /// last call.
 fn push_state(alloc: Global, view: &mut Buffer, context: &ViewContext<'_>, session: &Session)
-    ensures { (t : Program) (text : List ℕ) (h : List Answered)
+    ensures { let t = session.now.code.tree in (text : List ℕ) (h : List Answered)
         → IsViewContextOf t text context.now
-        → StandsFor session.now.code t
         → Stands t session.now h
         → context.now.history.now ≡ h
         → let o = context.now.options in
@@ -217,9 +223,8 @@ pub(crate) fn end_of(
     session: &Session,
     report: Report,
 ) -> Result<Vec<u8>, AllocError>
-    ensures { (t : Program) (text : List ℕ) (h : List Answered)
+    ensures { let t = session.now.code.tree in (text : List ℕ) (h : List Answered)
         → IsViewContextOf t text context.now
-        → StandsFor session.now.code t
         → Stands t session.now h
         → context.now.history.now ≡ h
         → report.outcome ≡ outcome_of h

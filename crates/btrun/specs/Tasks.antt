@@ -7,7 +7,7 @@ use Rattle.bp_commands.specs.declared.explanations.SecondInput.TheVariants.{Sche
 use Rattle.bp_commands.specs.FaultReports.{done, of_report, of_run}
 use Rattle.bp_tasks.specs.declared.tasks.FaultFormat.{FaultFormat}
 use Rattle.bp_commands.specs.Jobs.{on_bundle, on_file, on_files, Job}
-use Rattle.bp_commands.specs.Runs.{runs_by_names}
+use Rattle.bp_commands.specs.Runs.{runs}
 use Rattle.bp_commands.specs.Tests.{of_test, tests}
 use Rattle.bp_commands.specs.Confirms.{confirms, of_confirm}
 use Rattle.bp_commands.specs.Explores.{explores, of_exploration}
@@ -51,8 +51,7 @@ module _ (bytes : List ℕ → Option (List ℕ)) (screen : Screen) (format : Fa
       let steps = task.steps.now in
       on_files bytes format (confirms task) of_confirm MAX_SCHEDULE Steps task.program.now steps
   job_in input (Run task) =
-      let command = runs_by_names task.options task.named in
-      on_file bytes format command of_run task.program.now
+      on_file bytes format (runs task.options task.named) of_run task.program.now
   job_in input (Test task) = on_file bytes format (tests task) of_test task.program.now
   job_in input (Explore task) = explore_job task (option_map (λ file. file.now) task.through)
   job_in input (Replay task) = on_trace replays task.program.now task.trace.now

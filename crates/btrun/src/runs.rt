@@ -125,28 +125,20 @@ fn do_on_host<T: Threads + Wait + Clock + Sync>(
     end.status
 }
 
-/// Does what the arguments ask for, and answers the exit status.
-fn run_arguments<T: Threads + Wait + Clock + Sync>(
-    rt: &HostRuntime,
-    threads: &T,
-    arguments: &[String],
-) -> u8 {
-    match read_arguments(rt.alloc(), arguments) {
-        Ok(task) => do_on_host(rt, threads, arguments, &task),
-        Err(none) => end_on_host(rt, &none, asks_for_json(arguments)),
-    }
-}
-
 /// Ends a run whose arguments ask for no task, and answers the exit status.
 fn end_on_host(rt: &HostRuntime, none: &NoTask, json: bool) -> u8 {
     end_without_task(none, json, &mut rt.stdout(), &mut rt.stderr()).status
 }
 
-/// Runs the program and answers its exit status. Workers are started by `threads`.
+/// Does what the arguments ask for, and answers the exit status. Workers are started by `threads`.
 pub fn run<T: Threads + Wait + Clock + Sync>(rt: &HostRuntime, threads: &T) -> u8 {
-    match arguments(rt) {
-        Ok(arguments) => run_arguments(rt, threads, &arguments),
+    let arguments = match arguments(rt) {
+        Ok(arguments) => arguments,
         // No word is known then, so none asks for JSON.
-        Err(error) => end_on_host(rt, &unread(rt.alloc(), &error), false),
+        Err(error) => return end_on_host(rt, &unread(rt.alloc(), &error), false),
+    };
+    match read_arguments(rt.alloc(), &arguments) {
+        Ok(task) => do_on_host(rt, threads, &arguments, &task),
+        Err(none) => end_on_host(rt, &none, asks_for_json(&arguments)),
     }
 }

@@ -1,6 +1,6 @@
 //! Rounds: a new session, desk or board of one guest thread, and its asks.
 ghost use Rattle.std.specs.Prelude.{◌≡◌, true, is_some, IfOk};
-ghost use Rattle.bp_machine.specs.Setups.{threads, FitsCode};
+ghost use Rattle.bp_machine.specs.Setups.{threads, Fits};
 ghost use Rattle.bp_run.specs.Desks.{IsNamed};
 
 use crate::cases::{Case, RING, unexpected};
@@ -26,7 +26,7 @@ const FILLS: u32 = CALLS / RING;
 
 /// The setup of the thread.
 fn setup(alloc: Global, code: &Code) -> io::Result<Setup>
-    ensures { IfOk result (λ s. FitsCode code.now s × (is_some s.seed ≡ true)) }
+    ensures { IfOk result (λ s. Fits code.now.tree s × (is_some s.seed ≡ true)) }
 {
     let entries = vec![in alloc; String::from_str(alloc, "main")?]?;
     match Setup::new(alloc, code, &entries, &[], 1_000, CALLS, Some(42)) {
@@ -125,7 +125,7 @@ fn round_at<C: Calls, O: Ledger, R: Wait + Clock>(
     requires code { code.now ≡ C.code }
     requires setup { setup.now ≡ C.setup }
     requires threads { kit.threads ≡ threads setup.now }
-    requires fits { FitsCode code.now setup.now }
+    requires fits { Fits code.now.tree setup.now }
     requires seeded { is_some setup.now.seed ≡ true }
 {
     if is_board {
@@ -151,7 +151,7 @@ fn round<R: Wait + Clock>(
     is_board: bool,
     case: &mut Case,
 ) -> io::Result<()>
-    requires fits { FitsCode code.now setup.now }
+    requires fits { Fits code.now.tree setup.now }
     requires seeded { is_some setup.now.seed ≡ true }
 {
     setup.is_in_range();

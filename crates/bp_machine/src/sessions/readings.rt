@@ -47,7 +47,7 @@ impl Session {
             let globals = (configuration_after t self.now.setup h).globals in
             result ≡ option_map (λ e. e.1) (slice_get globals n)) }
     {
-        self.code.is_of_a_program();
+        self.code().is_of_a_program();
         if n >= self.code.globals() {
             return None;
         }
@@ -110,6 +110,7 @@ impl Session {
         ensures { AfterEach self.now (λ t h. let now = configuration_after t self.now.setup h in
             result ≡ is_some (values_printed now.globals (stack_of now thread))) }
     {
+        self.code().is_of_a_program();
         let Some(guest) = self.machine.thread(thread) else {
             return false;
         };
@@ -131,6 +132,7 @@ impl Session {
             (thread < threads self.now.setup) × (option_map (λ v. v.items) values ≡ printed))
             (IsPrintRefusal self.now.setup thread printed)) }
     {
+        self.code().is_of_a_program();
         let Some(guest) = self.machine.thread(thread) else {
             return Err(AskFault::NoThread);
         };

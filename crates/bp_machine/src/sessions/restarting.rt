@@ -1,7 +1,6 @@
 //! Starting a session anew.
 ghost use Rattle.std.specs.Prelude.{◌≡◌, [], None, IfOk, IsOk, OnOk, OnErr};
-ghost use Rattle.bp_flat.specs.StandsFor.{InEach};
-ghost use Rattle.bp_machine.specs.Setups.{FitsCode};
+ghost use Rattle.bp_machine.specs.Setups.{Fits};
 ghost use Rattle.bp_machine.specs.Sessions.{Stands};
 
 use crate::sessions::{Session, restart_choices};
@@ -13,9 +12,9 @@ impl Session {
     /// none. It uses the memory that it has. Only the choices may need more; where that is refused,
     /// the session stays as it is.
     pub fn restart(&mut self, seed: Option<u64>) -> Result<(), AllocError>
-        requires { FitsCode self.old.code self.old.setup }
+        requires { Fits self.old.code.tree self.old.setup }
         ensures stands { OnOk result
-            (InEach self.old.code (λ t. Stands t self.new [])) }
+            (Stands self.old.code.tree self.new []) }
         ensures code { self.new.code ≡ self.old.code }
         ensures setup { OnOk result (self.new.setup ≡ record self.old.setup { seed = seed }) }
         ensures same { OnErr result (self.new ≡ self.old) }
@@ -34,8 +33,8 @@ impl Session {
     /// A session of the same code before any call, in the same setup but with this seed or with
     /// none. It uses the memory of this one.
     pub fn restarted(self, seed: Option<u64>) -> Result<Session, AllocError>
-        requires { FitsCode self.code self.setup }
-        ensures stands { IfOk result (λ x. InEach self.code (λ t. Stands t x [])) }
+        requires { Fits self.code.tree self.setup }
+        ensures stands { IfOk result (λ x. Stands self.code.tree x []) }
         ensures kept { IfOk result (λ x.
             (x.code ≡ self.code) × (x.setup ≡ record self.setup { seed = seed })) }
     {

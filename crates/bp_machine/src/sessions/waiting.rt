@@ -22,8 +22,7 @@ fn is_blocked(reply: Reply) -> bool
 impl Session {
     /// Whether the next statement of a thread is an assumption of 0 with this choice bit.
     fn finds_zero(&self, guest: &GuestThread, bit: bool) -> bool
-        ensures { (t : Program) (h : List Answered) (i : ℕ)
-            → StandsFor self.now.code t
+        ensures { let t = self.now.code.tree in (h : List Answered) (i : ℕ)
             → Stands t self.now h
             → slice_get self.now.machine.state.threads i ≡ Some guest.now.guest
             → let now = configuration_after t self.now.setup h in

@@ -1,6 +1,6 @@
 //! Desks and boards: what was asked before a refusal stands, and the thread continues after it.
 ghost use Rattle.std.specs.Prelude.{◌≡◌, true, is_some, IfOk};
-ghost use Rattle.bp_machine.specs.Setups.{threads, FitsCode};
+ghost use Rattle.bp_machine.specs.Setups.{threads, Fits};
 ghost use Rattle.bp_run.specs.Desks.{IsNamed};
 ghost use Rattle.bp_run.specs.Gatherings.{AreOnePerThread};
 
@@ -144,7 +144,7 @@ fn at_a_board<C: Calls, O: Ledger, R: Wait + Runtime>(
     requires code { code.now ≡ C.code }
     requires setup { setup.now ≡ C.setup }
     requires threads { kit.threads ≡ threads setup.now }
-    requires fits { FitsCode code.now setup.now }
+    requires fits { Fits code.now.tree setup.now }
     requires seeded { is_some setup.now.seed ≡ true }
 {
     let (board, mut seats, mut tap) = Board::<C, O>::open(alloc, kit, code, setup)?;
@@ -172,7 +172,7 @@ fn at_a_desk<C: Calls, O: Ledger, R: Runtime>(
     requires code { code.now ≡ C.code }
     requires setup { setup.now ≡ C.setup }
     requires threads { kit.threads ≡ threads setup.now }
-    requires fits { FitsCode code.now setup.now }
+    requires fits { Fits code.now.tree setup.now }
     requires seeded { is_some setup.now.seed ≡ true }
 {
     begin(rt)?;
@@ -193,7 +193,7 @@ fn is_opened<C: Calls, O: Ledger>(alloc: Global, kit: Kit, code: &Code, setup: &
     requires code { code.now ≡ C.code }
     requires setup { setup.now ≡ C.setup }
     requires threads { kit.threads ≡ threads setup.now }
-    requires fits { FitsCode code.now setup.now }
+    requires fits { Fits code.now.tree setup.now }
     requires seeded { is_some setup.now.seed ≡ true }
 {
     Board::<C, O>::open(alloc, kit, code, setup).is_ok()
@@ -202,7 +202,7 @@ fn is_opened<C: Calls, O: Ledger>(alloc: Global, kit: Kit, code: &Code, setup: &
 /// The same under names of its own.
 fn opens(alloc: Global, kit: Kit, code: &Code, setup: &Setup) -> bool
     requires threads { kit.threads ≡ threads setup.now }
-    requires fits { FitsCode code.now setup.now }
+    requires fits { Fits code.now.tree setup.now }
     requires seeded { is_some setup.now.seed ≡ true }
 {
     is_opened::<Brand, Brand>(alloc, kit, code, setup)

@@ -1,7 +1,7 @@
 //! Calls that take memory: each is made, and made again if it is refused. Then it succeeds; which
 //! value it has is proved.
 ghost use Rattle.std.specs.Prelude.{◌≡◌, None};
-ghost use Rattle.bp_machine.specs.Setups.{FitsCode};
+ghost use Rattle.bp_machine.specs.Setups.{Fits};
 
 use super::ready::{begin, program, setup, tell, wants};
 use crate::common::mains;
@@ -76,7 +76,7 @@ fn succeeds(
     tree: &mut Option<Tree>,
     out: &mut Vec<u8>,
 ) -> bool
-    requires fits { FitsCode code.now own.now }
+    requires fits { Fits code.now.tree own.now }
     requires unseeded { own.now.seed ≡ None }
 {
     match call {
@@ -99,7 +99,7 @@ fn makes_each<R: Runtime>(
     code: &Code,
     own: &Setup,
 ) -> Result<(), Fail>
-    requires fits { FitsCode code.now own.now }
+    requires fits { Fits code.now.tree own.now }
     requires unseeded { own.now.seed ≡ None }
 {
     let mut trace = Vec::new(alloc);

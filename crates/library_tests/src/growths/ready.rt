@@ -1,6 +1,6 @@
 //! What the calls need, and the lines that the script reads.
 ghost use Rattle.std.specs.Prelude.{◌≡◌, IfOk};
-ghost use Rattle.bp_machine.specs.Setups.{FitsCode};
+ghost use Rattle.bp_machine.specs.Setups.{Fits};
 
 use crate::common::mains;
 use bp_code::Code;
@@ -36,7 +36,7 @@ pub(super) fn setup(
     threads: u32,
     seed: Option<u64>,
 ) -> Result<Setup, Fail>
-    ensures { IfOk result (λ s. FitsCode code.now s × (s.seed ≡ seed)) }
+    ensures { IfOk result (λ s. Fits code.now.tree s × (s.seed ≡ seed)) }
 {
     let entries = mains(alloc, threads)?;
     Ok(Setup::new(alloc, code, &entries, &[false, false], 1000, 20, seed)?)

@@ -1,5 +1,5 @@
 //! Sessions and their calls: after a refusal a session makes the calls that it makes without one.
-ghost use Rattle.bp_machine.specs.Setups.{FitsCode};
+ghost use Rattle.bp_machine.specs.Setups.{Fits};
 
 use super::ready::{begin, calls, program, setup, tell, wants};
 use crate::common::code_of;
@@ -17,7 +17,7 @@ enum Way {
 
 /// Makes a session, once more where it is refused. It is new.
 fn makes_a_session(rt: &HostRuntime, code: &Code, setup: &Setup) -> Result<(), Fail>
-    requires fits { FitsCode code.now setup.now }
+    requires fits { Fits code.now.tree setup.now }
 {
     begin(rt)?;
     let made = Session::new(rt.alloc(), code, setup);

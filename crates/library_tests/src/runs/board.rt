@@ -3,7 +3,7 @@ mod desks;
 mod turns;
 
 ghost use Rattle.std.specs.Prelude.{◌≡◌, true, is_some, IfOk};
-ghost use Rattle.bp_machine.specs.Setups.{threads, FitsCode};
+ghost use Rattle.bp_machine.specs.Setups.{threads, Fits};
 
 use crate::common::mains;
 use bp_code::Code;
@@ -28,7 +28,7 @@ fn setup_of(
     contexts: u32,
     calls: u32,
 ) -> Result<Setup, Fail>
-    ensures { IfOk result (λ s. FitsCode code.now s × (is_some s.seed ≡ true)) }
+    ensures { IfOk result (λ s. Fits code.now.tree s × (is_some s.seed ≡ true)) }
 {
     let entries = mains(alloc, threads)?;
     Ok(Setup::new(alloc, code, &entries, &[], contexts, calls, Some(42))?)

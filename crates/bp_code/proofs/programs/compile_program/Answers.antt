@@ -24,11 +24,5 @@ new-requires c =
     let t : Program = record { globals = c.args.globals.now; procedures = c.args.procs.now } in
     let all = rw (dropped_all c.args.procs.now c.loop-proc.proc-index c.loop-proc-test.false) at c.loop-proc.invariant.code in
     let code = sym (append-nil c.loop-proc.instrs.items) ∙ all in
-    rw (c.in_ok-headings.ensures, code) (∣ (t, c.requires.lawful, c.requires.of_text, flat_stands t c.requires.able) ∣₁)
-
-pub returns-clause-stands : goal.returns-clause-stands
-returns-clause-stands c =
-    let t : Program = record { globals = c.args.globals.now; procedures = c.args.procs.now } in
-    let all = rw (dropped_all c.args.procs.now c.loop-proc.proc-index c.loop-proc-test.false) at c.loop-proc.invariant.code in
-    let code = sym (append-nil c.loop-proc.instrs.items) ∙ all in
-    rw (c.in_ok-code.ensures, c.in_ok-headings.ensures, code) (flat_stands t c.requires.able)
+    rw (c.in_ok-headings.ensures, code, c.requires.parts)
+    (record { lawful = c.requires.lawful; of_text = c.requires.of_text; stands = flat_stands t c.requires.able })

@@ -12,13 +12,13 @@ returns-in_err-drive g c =
     let given : Pair = record { text = c.args.text.now; input = c.args.schedule.now } in
     let x = c.in_ok-opened.opened in
     let is = c.in_ok-opened.ensures in
-    rw (p.1, p.2) (not_driven c.args.start.now c.args.named.now given x.checked x.setup is.answer _ _
-    c.in_err-drive.field-0.0 (c.in_err-drive.ensures x.checked is.code))
+    rw (p.1, p.2) (not_driven c.args.start.now c.args.named.now given x.code.tree x.setup is.answer _ _
+    c.in_err-drive.field-0.0 c.in_err-drive.ensures)
 
 pub returns : goal.returns
 returns g c =
     let given : Pair = record { text = c.args.text.now; input = c.args.schedule.now } in
     let x = c.in_ok-opened.opened in
     let is = c.in_ok-opened.ensures in
-    driven c.args.start.now c.args.named.now given x.checked x.setup is.answer _ _
-    c.in_ok-drive.field-0 (c.in_ok-drive.ensures x.checked is.code)
+    driven c.args.start.now c.args.named.now given x.code.tree x.setup is.answer _ _
+    c.in_ok-drive.field-0 c.in_ok-drive.ensures

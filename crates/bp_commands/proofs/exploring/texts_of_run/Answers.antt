@@ -1,16 +1,18 @@
-use Rattle.bp_commands.proofs.Common.{◌∙◌, ap, map, option_map, condition_in, foot_in, AreProgramFacts, outcome_text, waits_text, copied}
+use Rattle.bp_flat.specs.Flat.{Flat}
+use Rattle.bp_commands.proofs.Common.{◌≡◌, ◌∙◌, ap, map, option_map, condition_in, foot_in, AreProgramFacts, outcome_text, waits_text, copied}
 use Rattle.bp_commands.proofs.exploring.texts_of_run.Goals as goal
 
 pub returns : goal.returns
 returns c = λ h stands.
-    let t = c.args.checked.now in
+    let t = c.args.session.now.code.tree in
+    let tree : c.checked-checked.result.now ≡ t = c.checked-checked.ensures ∙ ap (λ (k : Flat). k.tree) c.code.ensures in
     let text = c.args.text.now in
     let reported = c.report-report.ensures t h stands in
     let slice = c.facts_of_program-program.ensures.statements ∙ c.as_slice.ensures.value in
     let are : AreProgramFacts t text c.facts_of_program-program.result = record {
-      statements = rw slice c.in_ok-statements.ensures;
-      globals = c.facts_of_program-program.ensures.globals;
-      procedures = c.facts_of_program-program.ensures.procedures;
+      statements = rw slice (rw tree at c.in_ok-statements.ensures);
+      globals = c.facts_of_program-program.ensures.globals ∙ ap (λ p. p.globals) tree;
+      procedures = c.facts_of_program-program.ensures.procedures ∙ ap (λ p. p.procedures) tree;
     } in
     let foot = c.in_ok-foot.foot in
     let failed = copied condition_in c.as_ref.result ∙ ap (option_map condition_in) c.as_ref.ensures.value in
@@ -21,7 +23,7 @@ returns c = λ h stands.
       reported = reported;
       failed_is = c.has_failed.ensures;
       facts = foot_in foot;
-      facts_are = c.in_ok-foot.ensures t text h are c.requires stands reported.outcome;
+      facts_are = c.in_ok-foot.ensures text h are stands reported.outcome;
       outcome_is =
           c.in_ok-outcome.ensures
           ∙ ap (outcome_text c.format_of-format.result file foot.deadlocked) failed

@@ -9,14 +9,13 @@ asked start (n ∷ ns) t some = refl
 pub returns-in_err-setup-2-clause-answer : goal.returns-in_err-setup-2-clause-answer
 returns-in_err-setup-2-clause-answer c =
     let p = err_from_is_err_and c.from_residual-in_err-setup-2.result c.from_residual-in_err-setup-2.ensures.1 in
-    let t = c.in_ok-checked.checked in
-    let of = c.in_ok-checked.ensures in
+    let t = c.in_ok-code.code.tree in
     let f = c.in_err-setup-2.field-0.0 in
-    let start = c.in_ok-start.ensures ∙ asked c.args.start.now c.args.named.now t (λ none. let empty = c.if-is_empty.ensures.1 none in cc) in
-    let why = subst (λ s. IsSetupRefusal t (setup_from s None t) f) start (c.in_err-setup-2.ensures.answer t of.1) in
+    let start = (rw c.checked-checked.ensures at c.in_ok-start.ensures) ∙ asked c.args.start.now c.args.named.now t (λ none. let empty = c.if-is_empty.ensures.1 none in cc) in
+    let why = subst (λ s. IsSetupRefusal t (setup_from s None t) f) start c.in_err-setup-2.ensures.answer in
     rw (p.1, p.2) (inr (inr (inl (record {
       program = t;
-      of = record { lawful = of.0; known = c.in_default.ensures };
+      of = record { lawful = c.in_ok-code.ensures; known = rw c.checked-checked.ensures at c.in_default.ensures };
       cause = f;
       why = why;
       is = refl;

@@ -1,13 +1,62 @@
-use Rattle.bp_commands.proofs.Common.{subst, options_of, AnswersOf, runs, runs_by_names}
-use Rattle.bp_commands.proofs.Answered.{answers_found}
+use Rattle.bp_commands.proofs.Common.{inl, false, true, ap, subst, sym, ◌≡◌, ◌∙◌, err_from_is_err_and, IsOpened, IsRefusedWith, NamedBitOf, OptionsOf, List, ℕ, Program, SetupOf, runs, seeded}
+use Rattle.bp_run.specs.Options.{has_bad_turn_or_ring}
+use Rattle.bp_run.specs.Runs.{IsPlayedBy, IsPlayRefusal}
+use Rattle.bp_commands.proofs.Answered.{refused_with}
+use Rattle.bp_commands.proofs.RunAnswers.{bad_numbers, done, refused}
 use Rattle.bp_commands.proofs.running.run_text.Goals as goal
 
-pub returns-in-Some : goal.returns-in-Some
-returns-in-Some g c =
-    let found = rw c.in-Some.is at c.in_ok-found.ensures in
-    let o = c.options.inside in
+-- what is opened from the parts of the options is opened from the options
+opened_from : (x o : OptionsOf) (named : List NamedBitOf) (text : List ℕ) (t : Program) (s : SetupOf)
+    → x ≡ o → IsOpened x.start named text t s → IsOpened o.start named text t s
+opened_from x o named text t s same is = subst (λ (y : OptionsOf). IsOpened y.start named text t s) same is
+
+seeded_from : (x o : OptionsOf) (s r : SetupOf) → x ≡ o → r ≡ seeded x s → r ≡ seeded o s
+seeded_from x o s r same is = is ∙ ap (λ (y : OptionsOf). seeded y s) same
+
+pub returns-in_err-opened : goal.returns-in_err-opened
+returns-in_err-opened g c =
+    let p = err_from_is_err_and c.from_residual.result c.from_residual.ensures.1 in
+    let task = c.args.asked.now.task.now in
+    let out = g.W.Write.contents c.args.out.now in
+    let f = c.in_err-opened.field-0.0 in
+    rw (p.1, p.2) (
+    subst (λ x. IsRefusedWith (runs x task.named) out out c.args.text.now f) c.options.view_is
+    (refused_with (runs _ task.named) c.args.text.now out f (inl c.in_err-opened.ensures.answer))
+    )
+
+pub returns-then-has_bad_turn_or_ring : goal.returns-then-has_bad_turn_or_ring
+returns-then-has_bad_turn_or_ring g c =
+    let task = c.args.asked.now.task.now in
+    let x = c.in_ok-opened.opened in
+    let opened = opened_from _ task.options task.named c.args.text.now x.code.tree x.setup c.options.view_is c.in_ok-opened.ensures.answer in
+    let bad : has_bad_turn_or_ring task.options ≡ true = sym c.has_bad_turn_or_ring.ensures ∙ c.if-has_bad_turn_or_ring.true in
+    bad_numbers task.options task.named c.args.text.now x.code.tree x.setup opened _ bad
+
+pub returns-in_err-report : goal.returns-in_err-report
+returns-in_err-report g c =
+    let p = err_from_is_err_and c.from_residual-in_err-report.result c.from_residual-in_err-report.ensures.1 in
+    let task = c.args.asked.now.task.now in
+    let x = c.in_ok-opened.opened in
+    let opened = opened_from _ task.options task.named c.args.text.now x.code.tree x.setup c.options.view_is c.in_ok-opened.ensures.answer in
+    let fine : has_bad_turn_or_ring task.options ≡ false = sym c.has_bad_turn_or_ring.ensures ∙ c.if-has_bad_turn_or_ring.false in
+    let setup = seeded_from _ task.options x.setup _ c.options.view_is c.with_seed-setup.ensures in
+    let f = c.in_err-report.field-0.0 in
     let old = g.W.Write.contents c.args.out.now in
-    let new = g.W.Write.contents c.run_under.new.out in
-    let answer = answers_found o.start (λ s. runs (options_of s o.turn o.seed o.ring)) c.args.text.now
-    old new c.args.asked.now.task.now.named found.0 _ found.1 c.run_under.result c.run_under.ensures in
-    subst (λ x. AnswersOf (runs_by_names x c.args.asked.now.task.now.named) c.args.text.now old new c.run_under.result) c.options.view_is answer
+    let new = g.W.Write.contents c.run_code.new.out in
+    rw (p.1, p.2) (
+    refused task.options task.named c.args.text.now x.code.tree x.setup opened fine old new f
+    (subst (λ s. IsPlayRefusal x.code.tree s old new f) setup c.in_err-report.ensures)
+    )
+
+pub returns : goal.returns
+returns g c =
+    let task = c.args.asked.now.task.now in
+    let x = c.in_ok-opened.opened in
+    let opened = opened_from _ task.options task.named c.args.text.now x.code.tree x.setup c.options.view_is c.in_ok-opened.ensures.answer in
+    let fine : has_bad_turn_or_ring task.options ≡ false = sym c.has_bad_turn_or_ring.ensures ∙ c.if-has_bad_turn_or_ring.false in
+    let setup = seeded_from _ task.options x.setup _ c.options.view_is c.with_seed-setup.ensures in
+    let r = c.in_ok-report.report in
+    let old = g.W.Write.contents c.args.out.now in
+    let new = g.W.Write.contents c.run_code.new.out in
+    done task.options task.named c.args.text.now x.code.tree x.setup opened fine old new r
+    (subst (λ s. IsPlayedBy x.code.tree s old new r) setup c.in_ok-report.ensures)

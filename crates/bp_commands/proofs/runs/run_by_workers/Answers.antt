@@ -1,5 +1,5 @@
 use Rattle.bp_commands.proofs.Common.{writer_contents, of_run, ExplainsText, AreReadOr, IsFileOfText, IsObjectIn, rest_of, text_alone, text_alone_of}
-use Rattle.bp_commands.proofs.ConcludedReads.{concluded_read}
+use Rattle.bp_commands.proofs.ConcludedReads.{finished_read}
 use Rattle.bp_commands.proofs.runs.run_by_workers.Goals as goal
 
 pub returns : goal.returns
@@ -15,10 +15,7 @@ returns g c =
       buffered = writer_contents g.W.Write.contents c.run_program-done.new.out;
       done = c.run_program-done.result;
       answers = rw (← c.source-program.ensures) c.run_program-done.ensures.answers;
-      final = c.flushed-done.result.0;
-      flushed = c.flushed-done.ensures;
-      concluded =
-          concluded_read inputs text (λ t. IsObjectIn (IsFileOfText path) (text_alone_of t) (ExplainsText path t)) (ExplainsText path)
-          of_run c.args.io.format _ _ _ _ _ _ _
-          holds c.flushed-done.ensures (rw c.deref.ensures.value at c.conclude-end.ensures);
+      finished =
+          finished_read inputs text (λ t. IsObjectIn (IsFileOfText path) (text_alone_of t) (ExplainsText path t)) (ExplainsText path)
+          of_run c.args.io.format _ _ _ _ holds (rw c.deref.ensures.value at c.finish.ensures);
     }

@@ -1,5 +1,5 @@
 use Rattle.bp_commands.proofs.Common.{◌≡◌, None, writer_contents, of_report, AreReadOr, IsObjectIn, bundle_alone, text_alone_of}
-use Rattle.bp_commands.proofs.ConcludedReads.{concluded_read}
+use Rattle.bp_commands.proofs.ConcludedReads.{finished_read}
 use Rattle.bp_commands.proofs.runs.run_on_bundle.Goals as goal
 
 pub returns : goal.returns
@@ -13,10 +13,7 @@ returns g c =
       buffered = writer_contents g.W.Write.contents c.drive_bundle-done.new.out;
       done = c.drive_bundle-done.result;
       answers = rw (← c.new-bundle.ensures) c.drive_bundle-done.ensures.answers;
-      final = c.flushed-done.result.0;
-      flushed = c.flushed-done.ensures;
-      concluded =
-          concluded_read inputs bytes (λ t. IsObjectIn (λ _ file. file ≡ None) (text_alone_of t) (λ _ _. ⊥)) (λ _ _ _. ⊥)
-          of_report c.args.format c.drive_bundle-done.result c.flushed-done.result.0 _ _ c.conclude-end.result _ _
-          holds c.flushed-done.ensures (rw c.deref.ensures.value at c.conclude-end.ensures);
+      finished =
+          finished_read inputs bytes (λ t. IsObjectIn (λ _ file. file ≡ None) (text_alone_of t) (λ _ _. ⊥)) (λ _ _ _. ⊥)
+          of_report c.args.format _ _ _ _ holds (rw c.deref.ensures.value at c.finish.ensures);
     }

@@ -1,5 +1,5 @@
 use Rattle.bp_commands.proofs.Common.{ℕ, List, Option, writer_contents, ExplainsPair, AreReadOr, IsFileOfPair, IsObjectIn, rest_of, pair_of_files, Pair}
-use Rattle.bp_commands.proofs.ConcludedReads.{concluded_read}
+use Rattle.bp_commands.proofs.ConcludedReads.{finished_read}
 use Rattle.bp_commands.proofs.runs.run_on_pair.Goals as goal
 
 pub returns : goal.returns
@@ -22,11 +22,9 @@ returns g c =
       buffered = writer_contents g.W.Write.contents c.do_on_pair-done.new.out;
       done = c.do_on_pair-done.result;
       answers = rw (← c.source-program.ensures, ← c.source-input.ensures) c.do_on_pair-done.ensures.answers;
-      final = c.flushed-done.result.0;
-      flushed = c.flushed-done.ensures;
-      concluded =
-          concluded_read inputs given
+      finished =
+          finished_read inputs given
           (λ (x : Pair). IsObjectIn (IsFileOfPair kind path input_path) x (ExplainsPair kind path input_path x)) (ExplainsPair kind path input_path)
-          g.C.Answer.CommandAnswer.rule c.args.io.format _ _ _ _ _ _ _
-          holds c.flushed-done.ensures (rw (c.second_input.ensures, c.deref.ensures.value, c.deref-2.ensures.value) at c.conclude-end.ensures);
+          g.C.Answer.CommandAnswer.rule c.args.io.format _ _ _ _ holds
+          (rw (c.second_input.ensures, c.deref.ensures.value, c.deref-2.ensures.value) at c.finish.ensures);
     }

@@ -9,7 +9,7 @@ returns-in_err-report g c =
     let task = c.args.asked.task.now in
     let why = rw c.on_screen-options.ensures at c.in_err-report.ensures in
     rw (p.1, p.2, c.in_default.is, c.if-task.false, c.if-task-2.false)
-    (not_viewed (on_screen task.options c.args.asked.screen) task.program.now given c.args.checked.now c.requires.lawful _ _ c.in_err-report.field-0.0 why)
+    (not_viewed (on_screen task.options c.args.asked.screen) task.program.now given c.args.code.now.tree c.requires _ _ c.in_err-report.field-0.0 why)
 
 pub returns : goal.returns
 returns g c =
@@ -17,4 +17,4 @@ returns g c =
     let task = c.args.asked.task.now in
     let done = rw c.on_screen-options.ensures at c.in_ok-report.ensures in
     rw (c.in_default.is, c.if-task.false, c.if-task-2.false)
-    (viewed (on_screen task.options c.args.asked.screen) task.program.now given c.args.checked.now c.requires.lawful _ _ c.in_ok-report.report done)
+    (viewed (on_screen task.options c.args.asked.screen) task.program.now given c.args.code.now.tree c.requires _ _ c.in_ok-report.report done)

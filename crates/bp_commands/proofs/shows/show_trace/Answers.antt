@@ -7,11 +7,11 @@ returns-in_err-show_part g c =
     let p = err_from_is_err_and c.from_residual-in_err-show_part.result c.from_residual-in_err-show_part.ensures.1 in
     let given : Pair = record { text = c.args.text.now; input = c.args.trace.now } in
     let task = c.args.asked.task.now in
-    let t = c.args.checked.now in
+    let t = c.args.code.now.tree in
     let x = c.in-Some.accepted in
     let valid : task.valid ≡ true = c.if-not-asked.false in
-    let accepted : IsAcceptedTrace t c.args.trace.now x = rw c.in-Some.is at (c.in_ok-accepted.ensures t c.requires.stands) in
-    rw (p.1, p.2, valid) (part_refused task.options.format (shows_part task c.args.asked.screen) given t c.requires.lawful x accepted _ _ _
+    let accepted : IsAcceptedTrace t c.args.trace.now x = rw c.in-Some.is at c.in_ok-accepted.ensures in
+    rw (p.1, p.2, valid) (part_refused task.options.format (shows_part task c.args.asked.screen) given t c.requires x accepted _ _ _
     (rw c.as_slice-valid.ensures.value at c.in_err-show_part.ensures))
 
 pub returns-in_err-put_refusal : goal.returns-in_err-put_refusal
@@ -19,20 +19,20 @@ returns-in_err-put_refusal g c =
     let p = err_from_is_err_and c.from_residual-in_err-put_refusal.result c.from_residual-in_err-put_refusal.ensures.1 in
     let given : Pair = record { text = c.args.text.now; input = c.args.trace.now } in
     let task = c.args.asked.task.now in
-    let t = c.args.checked.now in
+    let t = c.args.code.now.tree in
     let x = c.in-Some.accepted in
     let valid : task.valid ≡ true = c.if-not-asked.false in
-    let accepted : IsAcceptedTrace t c.args.trace.now x = rw c.in-Some.is at (c.in_ok-accepted.ensures t c.requires.stands) in
-    rw (p.1, p.2, valid) (line_cut task.options.format (shows_part task c.args.asked.screen) given t c.requires.lawful x accepted _ _ _ _
+    let accepted : IsAcceptedTrace t c.args.trace.now x = rw c.in-Some.is at c.in_ok-accepted.ensures in
+    rw (p.1, p.2, valid) (line_cut task.options.format (shows_part task c.args.asked.screen) given t c.requires x accepted _ _ _ _
     (rw c.as_slice-valid.ensures.value at c.in_ok-show_part.ensures) c.in_err-put_refusal.ensures)
 
 pub returns : goal.returns
 returns g c =
     let given : Pair = record { text = c.args.text.now; input = c.args.trace.now } in
     let task = c.args.asked.task.now in
-    let t = c.args.checked.now in
+    let t = c.args.code.now.tree in
     let x = c.in-Some.accepted in
     let valid : task.valid ≡ true = c.if-not-asked.false in
-    let accepted : IsAcceptedTrace t c.args.trace.now x = rw c.in-Some.is at (c.in_ok-accepted.ensures t c.requires.stands) in
-    rw (c.from.ensures, valid) (line_shown task.options.format (shows_part task c.args.asked.screen) given t c.requires.lawful x accepted _ _ _ _
+    let accepted : IsAcceptedTrace t c.args.trace.now x = rw c.in-Some.is at c.in_ok-accepted.ensures in
+    rw (c.from.ensures, valid) (line_shown task.options.format (shows_part task c.args.asked.screen) given t c.requires x accepted _ _ _ _
     (rw c.as_slice-valid.ensures.value at c.in_ok-show_part.ensures) c.in_ok-put_refusal.ensures)

@@ -9,7 +9,8 @@ loop-thread-preserved c =
     let is = c.in_ok-push.ensures.items in
     record {
       size = ap length is ∙ length-append c.loop-thread.waits.items (c.waits.result ∷ []) ∙ ap (λ k. k + 1) inv.size;
-      each = λ t h stands of.
+      each = λ h of.
+          let t = c.args.session.now.code.tree in
           table_more (waits_after t c.args.session.now.setup h) c.loop-thread.waits.items c.push.new.self.items c.waits.result n inv.size is
-          (c.waits.ensures t h stands of) (inv.each t h stands of);
+          (c.waits.ensures h of) (inv.each h of);
     }

@@ -1,4 +1,4 @@
-use Rattle.bp_confirm.proofs.Common.{◌++◌, ◌∷◌, [], subst, Difference, configuration_after, IsDifference, AreShown, StepLineOf, values_in}
+use Rattle.bp_confirm.proofs.Common.{◌++◌, ◌∷◌, [], sym, subst, Difference, configuration_after, IsDifference, AreShown, StepLineOf, values_in}
 use Rattle.bp_confirm.proofs.LastChanges.{difference_is}
 use Rattle.bp_confirm.proofs.following.first_difference.Goals as goal
 
@@ -11,7 +11,7 @@ returns c = λ text call are stands.
     let found : Difference = record { place = c.in-Some.unseen.place; seen = c.in-Some.unseen.seen; changed = c.sight_after-changed.result.changed } in
     let now = configuration_after t s after in
     let shown : AreShown t now c.line.inside.thread c.top-top.result c.globals-globals.result = record {
-      tops = c.top-top.ensures t after c.requires.code stands;
+      tops = rw c.requires.code at (c.top-top.ensures after (rw (sym c.requires.code) at stands));
       globals_are = c.globals-globals.ensures t after stands;
     } in
     let unseen = c.in-Some.ensures.first text now c.line.inside.thread are shown in

@@ -1,4 +1,4 @@
-use Rattle.bp_confirm.proofs.Common.{◌≡◌, ◌∙◌, ◌+◌, ◌++◌, ◌∷◌, [], ◌<◌, length, drop, false, ap, refl, sym, subst, arith, length-append, err_from_is_err_and, StandsFor, stack_of, configuration_after, Stands, is_fork_on, last_bits, Follows, place_of, step_of, steps_of}
+use Rattle.bp_confirm.proofs.Common.{◌≡◌, ◌∙◌, ◌+◌, ◌++◌, ◌∷◌, [], ◌<◌, length, drop, false, ap, refl, sym, subst, arith, length-append, err_from_is_err_and, Flat, stack_of, configuration_after, Stands, is_fork_on, last_bits, Follows, place_of, step_of, steps_of}
 use Rattle.bp_confirm.proofs.LastWays.{no_place, unasked}
 use Rattle.bp_confirm.proofs.NextLocations.{as_many_nexts, tells_next}
 use Rattle.bp_confirm.proofs.StepsFollowed.{follow_next, not_followed}
@@ -50,10 +50,10 @@ loop-n-preserved c =
           let tells = tells_next text last lines c.args.nexts.now n x x _ _ _ _ bit refl c.len-in-loop-n-2.ensures c.requires.nexts within is in
           let made = c.in_ok-call.ensures.follows text last later are tells in
           let own = subst (λ g. Follows t c.loop-n.session.setup last g (step_of text x) later a) c.as_slice-made.ensures.value made in
+          let tree = ap (λ (k : Flat). k.tree) inv.code ∙ c.requires.code in
           let next = unasked t c.loop-n.session.setup last other h (step_of text x) later a
           (λ e. subst (λ z. is_fork_on (stack_of (configuration_after t c.loop-n.session.setup h) z.thread) ≡ false) c.line.view_is
-          (c.asks_now-asks.ensures.here t h (subst (λ k. StandsFor k t) (sym inv.code) c.requires.code) inv.stands none
-          (no_place (place_of text) _ (sym tells.place ∙ e)))) own in
+          (rw tree at (c.asks_now-asks.ensures.here h (rw (sym tree) at inv.stands) none (no_place (place_of text) _ (sym tells.place ∙ e))))) own in
           follow_next text t s other lines n within is inv.setup refl c.in_ok-keep.ensures.kept
           (inv.any text other are (c.asks_now-asks.ensures.before none)) next;
       code = c.take_step.ensures.kept.0 ∙ inv.code;

@@ -4,7 +4,7 @@ use Rattle.bp_confirm.proofs.histories.take_again.Goals as goal
 
 pub returns-in-Err-Refusal-clause-refused : goal.returns-in-Err-Refusal-clause-refused
 returns-in-Err-Refusal-clause-refused c = λ text other h are lawful followed.
-    let t = c.args.checked.now in
+    let t = c.args.code.now.tree in
     let s = c.args.setup.now in
     let last = last_bits c.args.last in
     let lines = c.args.lines.now in

@@ -6,8 +6,7 @@ returns g c =
       c.from.ensures,
       c.bytes_of.ensures,
       c.byte_of.ensures,
-      c.line_in.ensures,
-      c.column_in.ensures,
+      c.place_in-line.ensures,
       c.thread_of.ensures,
       c.wanted_letter.ensures,
     ) at c.put_pieces.ensures

@@ -14,7 +14,7 @@ with_last : {k n : ℕ} (f : SeatOf → ℕ) (all others : List SeatOf) (last : 
 with_last f all others last are own sum = ap (sum_by f) are ∙ (let more = sum_by-append f others (last ∷ []) in omega (arith, more, own, sum))
 
 pub returns-clause-gathered : goal.returns-clause-gathered
-returns-clause-gathered g c = λ t is.
+returns-clause-gathered g c =
     let all = own g (goal.at.returns-clause-gathered g c).After-pop in
     let len : length c.args.seats.items ≡ vec_len c.args.seats = search rules in
     let parts : vec_len c.args.seats ≡ threads c.desk.inside.session.setup = sym len ∙ all.many in
@@ -35,9 +35,8 @@ returns-clause-gathered g c = λ t is.
     let left = known_items c.slots_beside.new.self in
     let past : received c.slots_beside.new.self ++ left ≡ c.desk.inside.to.end.past = search rules in
     let taken : received c.slots_beside.new.self ≡ c.args.tap.taken = search rules in
-    gathered_as t (sym c.desk.invariant.4) (sym c.desk.invariant.5)
-    (λ t of. gathered t c.desk.inside.session c.desk.inside.to.end.past c.desk.inside.made.total c.desk.inside.lines.total
-    c.desk.invariant.0 c.args.seats.items all of c.report-report.result
+    gathered_as (sym c.desk.invariant.4) (sym c.desk.invariant.5)
+    (gathered c.desk.inside.session c.desk.inside.to.end.past c.desk.inside.made.total c.desk.inside.lines.total
+    c.desk.invariant.0 c.args.seats.items all c.report-report.result
     c.stopped_early-early.result c.agree-agree.result
-    c.report-report.ensures calls open_are c.stopped_early-early.ensures agreement c.args.tap.taken left _ (ap (λ x. x ++ left) (sym taken) ∙ past) taken refl)
-    is
+    (c.report-report.ensures _) calls open_are c.stopped_early-early.ensures (agreement _) c.args.tap.taken left _ (ap (λ x. x ++ left) (sym taken) ∙ past) taken refl)

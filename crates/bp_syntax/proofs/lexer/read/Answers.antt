@@ -53,11 +53,12 @@ returns-in_err-globals-clause-whole c =
 of_text : (c : In_ok-globals) → IsTextOf c.args.text.now (program_of c.in_ok-globals.globals c.in_ok-globals.procs)
 of_text c = search (rules, parsed)
 
-pub invariant_of-result : goal.invariant_of-result
-invariant_of-result c = ∣ (c.args.text.now, of_text c) ∣₁
+pub new-requires : goal.new-requires
+new-requires c = ∣ (c.args.text.now, of_text c) ∣₁
 
 pub returns-clause-answer : goal.returns-clause-answer
-returns-clause-answer c = of_text (goal.at.returns-clause-answer c).In_ok-globals
+returns-clause-answer c = rw c.in_ok-tree.ensures (of_text (goal.at.returns-clause-answer c).In_ok-globals)
 
 pub returns-clause-whole : goal.returns-clause-whole
-returns-clause-whole c = only_answer c.args.text.now (Ok _) (of_text (goal.at.returns-clause-whole c).In_ok-globals)
+returns-clause-whole c =
+    only_answer c.args.text.now (Ok _) (rw c.in_ok-tree.ensures (of_text (goal.at.returns-clause-whole c).In_ok-globals))

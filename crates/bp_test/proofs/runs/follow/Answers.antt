@@ -1,4 +1,4 @@
-use Rattle.bp_test.proofs.Common.{◌≡◌, [], rules, refl, ap, ◌∙◌, sym, subst, IsOfProgram, StandsFor, Stands, no_call, IsKey, has_refusal, place_of, IsReachedByCall, MarksGrow}
+use Rattle.bp_test.proofs.Common.{◌≡◌, [], rules, refl, ap, ◌∙◌, sym, subst, Stands, no_call, IsKey, has_refusal, place_of, IsReachedByCall, MarksGrow}
 use Rattle.bp_test.specs.declared.runs.TheConstants.{FIRST_KEY}
 use Rattle.bp_test.proofs.TallyLemmas.{key_of_call}
 use Rattle.bp_test.proofs.Playing.{smaller, refusal_of_call}
@@ -7,57 +7,58 @@ use Rattle.bp_test.proofs.runs.follow.Goals as goal
 
 pub loop-thread-init : goal.loop-thread-init
 loop-thread-init c =
+    let t = c.args.session.now.code.tree in
     let none : [] ≡ c.clear.new.self.items = search rules in record {
-      stands = λ t is. subst (Stands t c.args.session.now) none (c.requires.stands t is);
+      stands = subst (Stands t c.args.session.now) none c.requires.stands;
       code = refl;
       setup = refl;
-      marks = λ t is.
+      marks =
           subst
           (λ h. MarksGrow (place_of t) (IsReachedByCall t c.args.session.now.setup h) c.args.reached.now.items c.args.reached.now.items)
           none (none_by_call t c.args.session.now.setup c.args.reached.now.items);
-      key = λ t is. subst (λ h. IsKey t c.args.session.now.setup h FIRST_KEY) none no_call;
+      key = subst (λ h. IsKey t c.args.session.now.setup h FIRST_KEY) none no_call;
       refused = ap has_refusal none;
     }
 
 pub loop-thread-smaller : goal.loop-thread-smaller
 loop-thread-smaller c =
-    let of_some = subst IsOfProgram (sym (c.play.ensures.kept.0 ∙ c.loop-thread.invariant.code)) c.requires.program in
     smaller c.loop-thread.session c.play.new.session c.loop-thread.history.items c.play.new.history.items
-    c.play.ensures.kept.1 of_some c.in_ok-reply.ensures.stands c.in_ok-reply.ensures.longer
+    c.play.ensures.kept.1 c.in_ok-reply.ensures.stands c.in_ok-reply.ensures.longer
 
 pub returns-then-eq-clause-marks : goal.returns-then-eq-clause-marks
-returns-then-eq-clause-marks c = λ t is.
-    let was = subst (λ k. StandsFor k t) c.play.ensures.kept.0 is in
-    marks_of_call t c.loop-thread.session.setup c.play.new.session.setup c.loop-thread.history.items
+returns-then-eq-clause-marks c =
+    let t = c.loop-thread.session.code.tree in
+    rw c.play.ensures.kept.0 (marks_of_call t c.loop-thread.session.setup c.play.new.session.setup c.loop-thread.history.items
     c.play.new.history.items _ _ _ c.args.reached.now.items c.loop-thread.reached.items c.reach.new.reached.items
     c.reach_wait.new.reached.items
     c.play.ensures.kept.1 c.in_ok-reply.ensures.grown
-    (c.next_number-number.ensures t c.loop-thread.history.items was (c.loop-thread.invariant.stands t was))
-    c.reach.ensures (c.reach_wait.ensures t c.play.new.history.items is (c.in_ok-reply.ensures.stands t is)
-    (c.next_number-next.ensures t c.play.new.history.items is (c.in_ok-reply.ensures.stands t is)))
-    (c.loop-thread.invariant.marks t was)
+    (c.next_number-number.ensures c.loop-thread.history.items c.loop-thread.invariant.stands)
+    c.reach.ensures (rw c.play.ensures.kept.0 at (c.reach_wait.ensures c.play.new.history.items c.in_ok-reply.ensures.stands
+    (c.next_number-next.ensures c.play.new.history.items c.in_ok-reply.ensures.stands)))
+    c.loop-thread.invariant.marks)
 
 pub loop-thread-preserved : goal.loop-thread-preserved
 loop-thread-preserved c = record {
   stands = c.in_ok-reply.ensures.stands;
   code = c.play.ensures.kept.0 ∙ c.loop-thread.invariant.code;
   setup = c.play.ensures.kept.1 ∙ c.loop-thread.invariant.setup;
-  marks = λ t is.
-      let was = subst (λ k. StandsFor k t) c.play.ensures.kept.0 is in
-      marks_of_call t c.loop-thread.session.setup c.play.new.session.setup c.loop-thread.history.items
+  marks =
+      let t = c.loop-thread.session.code.tree in
+      rw c.play.ensures.kept.0 (marks_of_call t c.loop-thread.session.setup c.play.new.session.setup c.loop-thread.history.items
       c.play.new.history.items _ _ _ c.args.reached.now.items c.loop-thread.reached.items c.reach.new.reached.items
       c.reach_wait.new.reached.items
       c.play.ensures.kept.1 c.in_ok-reply.ensures.grown
-      (c.next_number-number.ensures t c.loop-thread.history.items was (c.loop-thread.invariant.stands t was))
-      c.reach.ensures (c.reach_wait.ensures t c.play.new.history.items is (c.in_ok-reply.ensures.stands t is)
-      (c.next_number-next.ensures t c.play.new.history.items is (c.in_ok-reply.ensures.stands t is)))
-      (c.loop-thread.invariant.marks t was);
-  key = λ t is.
-      let was = subst (λ k. StandsFor k t) c.play.ensures.kept.0 is in
-      key_of_call t c.loop-thread.session.setup c.play.new.session.setup c.loop-thread.history.items c.play.new.history.items _ _ _ c.loop-thread.key _
+      (c.next_number-number.ensures c.loop-thread.history.items c.loop-thread.invariant.stands)
+      c.reach.ensures (rw c.play.ensures.kept.0 at (c.reach_wait.ensures c.play.new.history.items c.in_ok-reply.ensures.stands
+      (c.next_number-next.ensures c.play.new.history.items c.in_ok-reply.ensures.stands)))
+      c.loop-thread.invariant.marks);
+  key =
+      let t = c.loop-thread.session.code.tree in
+      rw c.play.ensures.kept.0 (key_of_call t c.loop-thread.session.setup c.play.new.session.setup c.loop-thread.history.items
+      c.play.new.history.items _ _ _ c.loop-thread.key _
       c.play.ensures.kept.1 c.in_ok-reply.ensures.grown
-      (c.next_number-number.ensures t c.loop-thread.history.items was (c.loop-thread.invariant.stands t was))
-      c.key_after-key.ensures (c.loop-thread.invariant.key t was);
+      (c.next_number-number.ensures c.loop-thread.history.items c.loop-thread.invariant.stands)
+      c.key_after-key.ensures c.loop-thread.invariant.key);
   refused =
       refusal_of_call c.loop-thread.history.items c.play.new.history.items _ _ c.loop-thread.was_refused _ c.in_ok-reply.ensures.grown
       c.refused_with-was_refused.ensures c.loop-thread.invariant.refused;

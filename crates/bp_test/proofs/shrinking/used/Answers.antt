@@ -1,6 +1,4 @@
-use Rattle.bp_test.proofs.Common.{◌≡◌, ◌≤◌, length, None, ap, sym, ◌∙◌, subst, arith, IsLeastWithin, granted_calls, granted_threads, open_lines, IsLegal, outcome_of, SetupOf, IsInRange, setup_fault, for_one, IsEnd}
-use Rattle.std.proofs.Math.Logic.{∥∥₁_elim}
-use Rattle.std.specs.Coded.{le_prop}
+use Rattle.bp_test.proofs.Common.{◌≡◌, length, None, ap, sym, ◌∙◌, subst, arith, IsLeastWithin, granted_calls, granted_threads, open_lines, IsLegal, outcome_of, SetupOf, IsInRange, setup_fault, IsEnd}
 use Rattle.bp_test.proofs.ShrunkHistories.{no_fault, fewer_calls, granted_again, same_outcome, granted_legal, granted_end, granted_same}
 use Rattle.bp_test.proofs.shrinking.used.Goals as goal
 
@@ -9,18 +7,17 @@ pub budgeted-requires : goal.budgeted-requires
 budgeted-requires c =
     let s = c.args.setup.now in
     let best = c.args.search.now.best in
-    ∥∥₁_elim (for_one c.args.code.now (best.report.contexts ≤ s.contexts) c.is_of_a_program.ensures (λ t is.
-    let driven = c.requires.driven t is in
-    driven.report.contexts.least s.contexts (c.steps_are_within.ensures t s best.history.items driven.legal)))
-    le_prop (λ few. few)
+    let driven = c.requires.driven in
+    driven.report.contexts.least s.contexts (c.steps_are_within.ensures c.args.code.now.tree s best.history.items driven.legal)
 
 pub returns : goal.returns
-returns c = λ t is.
+returns c =
+    let t = c.args.code.now.tree in
     let s = c.args.setup.now in
     let best = c.args.search.now.best in
     let h = best.history.items in
-    let driven = c.requires.driven t is in
-    let fits = c.requires.fits t is in
+    let driven = c.requires.driven in
+    let fits = c.requires.fits in
     let k = best.report.contexts in
     let end = c.args.search.now.end in
     let each = c.runs_are_histories.ensures.each in

@@ -6,14 +6,15 @@ pub returns-in_default : goal.returns-in_default
 returns-in_default g c = search (rules, as_asked)
 
 pub returns-in_err-write_trace : goal.returns-in_err-write_trace
-returns-in_err-write_trace g c = λ t is.
+returns-in_err-write_trace g c =
+    let t = c.args.code.now.tree in
     let p = err_from_is_err_and c.from_residual-in_err-write_trace.result c.from_residual-in_err-write_trace.ensures.1 in
     let written = rw c.as_slice.ensures.value at c.in_err-write_trace.ensures in
     let setup =
     c.with_seed-setup.ensures
     ∙ ap {A = SetupOf} (λ y. record y { seed = Some ((c.args.options.now.seed + c.in-Some.found.run) % 2 ^ 64) })
     c.in_ok-try_copy.ensures in
-    let found = c.in_ok-found.ensures t is in
+    let found = c.in_ok-found.ensures in
     let first = as_asked t c.args.setup.now c.args.options.now _ _ c.in_ok-plan.ensures.seed _
     c.in_ok-plan.ensures.deadlock _ _ c.in-Some.is found.1.runs found.1.first in
     let high = found.0.1 in
@@ -23,13 +24,14 @@ returns-in_err-write_trace g c = λ t is.
     (g.W.Write.contents c.args.out.now) (g.W.Write.contents c.write_trace.new.out) written)
 
 pub returns : goal.returns
-returns g c = λ t is.
+returns g c =
+    let t = c.args.code.now.tree in
     let written = rw c.as_slice.ensures.value at c.in_ok-write_trace.ensures in
     let setup =
     c.with_seed-setup.ensures
     ∙ ap {A = SetupOf} (λ y. record y { seed = Some ((c.args.options.now.seed + c.in-Some.found.run) % 2 ^ 64) })
     c.in_ok-try_copy.ensures in
-    let found = c.in_ok-found.ensures t is in
+    let found = c.in_ok-found.ensures in
     let first = as_asked t c.args.setup.now c.args.options.now _ _ c.in_ok-plan.ensures.seed _
     c.in_ok-plan.ensures.deadlock _ _ c.in-Some.is found.1.runs found.1.first in
     let high = found.0.1 in

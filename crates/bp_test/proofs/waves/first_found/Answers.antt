@@ -14,14 +14,16 @@ loop-run-init g c = record {
   earlier = [];
   count = omega arith;
   ahead = omega arith;
-  clean = λ t is. tt;
+  clean = tt;
   tallied = c.in_ok-tally.ensures;
 }
 
 pub returns-then-is_sought-clause-tallied : goal.returns-then-is_sought-clause-tallied
-returns-then-is_sought-clause-tallied g c = λ t is.
+returns-then-is_sought-clause-tallied g c =
+    let t = c.args.code.now.tree in
     let before = c.loop-run.invariant in
     let now = c.in_ok-followed in
+    let same = now.ensures.code ∙ before.code in
     let run = made c.run_once.new.history.items c.report-report.result c.is_deadlocked-is_deadlocked.result c.have_returned-has_returned.result in
     record {
       runs = before.earlier ++ run ∷ [];
@@ -32,46 +34,44 @@ returns-then-is_sought-clause-tallied g c = λ t is.
         whole = refl;
         number = let count = before.count in let after = c.loop-run.auto.run in omega (arith, count, after);
         below = omega arith;
-        clean = before.clean t is;
+        clean = before.clean;
         found =
-            sought_run c.args.code.now c.args.setup.now c.args.plan.now.with_deadlock c.args.plan.now.seed
-            c.loop-run.run c.loop-run.session c.run_once.new.session c.run_once.new.history.items _ refl before.code before.setup
-            now.ensures.code now.ensures.setup
-            now.ensures.stands now.ensures.over c.report-report.result c.report-report.ensures
+            rw same at (sought_run c.args.setup.now c.args.plan.now.with_deadlock c.args.plan.now.seed
+            c.loop-run.run c.loop-run.session c.run_once.new.session c.run_once.new.history.items _ refl before.setup
+            now.ensures.setup
+            now.ensures.stands now.ensures.over c.report-report.result (c.report-report.ensures _)
             c.is_deadlocked-is_deadlocked.result c.is_deadlocked-is_deadlocked.ensures
             c.have_returned-has_returned.result c.have_returned-has_returned.ensures
-            (sym c.is_sought.ensures ∙ c.if-is_sought.true) t is;
+            (sym c.is_sought.ensures ∙ c.if-is_sought.true));
         at =
-            fails_there c.args.code.now c.args.setup.now c.args.plan.now.with_deadlock c.args.plan.now.seed
-            c.loop-run.run c.loop-run.session c.run_once.new.session c.run_once.new.history.items _ refl before.code before.setup
-            now.ensures.code now.ensures.setup
-            now.ensures.stands t is c.failed_instruction-number.result c.failed_instruction-number.ensures.at c.failed_instruction-number.ensures.none;
+            rw same at (fails_there c.args.setup.now c.args.plan.now.with_deadlock c.args.plan.now.seed
+            c.loop-run.run c.loop-run.session c.run_once.new.session c.run_once.new.history.items _ refl before.setup
+            now.ensures.setup
+            now.ensures.stands c.failed_instruction-number.result c.failed_instruction-number.ensures.at c.failed_instruction-number.ensures.none);
         waiting =
-            waits_there c.args.code.now c.args.setup.now c.args.plan.now.with_deadlock c.args.plan.now.seed
-            c.loop-run.run c.loop-run.session c.run_once.new.session c.run_once.new.history.items _ refl before.code before.setup
-            now.ensures.code now.ensures.setup
-            now.ensures.stands t is c.in_ok-waiting.waiting.items c.in_ok-waiting.ensures;
+            rw same at (waits_there c.args.setup.now c.args.plan.now.with_deadlock c.args.plan.now.seed
+            c.loop-run.run c.loop-run.session c.run_once.new.session c.run_once.new.history.items _ refl before.setup
+            now.ensures.setup
+            now.ensures.stands c.in_ok-waiting.waiting.items c.in_ok-waiting.ensures);
       };
-      tallied = tally_run t c.args.setup.now before.earlier run c.loop-run.tally c.add_run.new.self c.run_once.new.reached.items _ (before.tallied t is)
-          (key_is c.args.code.now c.args.setup.now c.args.plan.now.with_deadlock c.args.plan.now.seed c.loop-run.run
-          c.loop-run.session c.run_once.new.session c.run_once.new.history.items _ refl before.code before.setup now.ensures.code
-          now.ensures.setup
-          t is _ now.ensures.key)
+      tallied = tally_run t c.args.setup.now before.earlier run c.loop-run.tally c.add_run.new.self c.run_once.new.reached.items _ before.tallied
+          (rw same at (key_is c.args.setup.now c.args.plan.now.with_deadlock c.args.plan.now.seed c.loop-run.run
+          c.loop-run.session c.run_once.new.session c.run_once.new.history.items _ refl before.setup now.ensures.setup _ now.ensures.key))
           c.in_ok-add_run.ensures.keys
-          (reaches_is c.args.code.now c.args.setup.now c.args.plan.now.with_deadlock c.args.plan.now.seed c.loop-run.run
-          c.loop-run.session c.run_once.new.session c.run_once.new.history.items _ refl before.code before.setup now.ensures.code
-          now.ensures.setup
-          t is c.loop-run.tally.reached.items c.run_once.new.reached.items now.ensures.marks)
+          (rw same at (reaches_is c.args.setup.now c.args.plan.now.with_deadlock c.args.plan.now.seed c.loop-run.run
+          c.loop-run.session c.run_once.new.session c.run_once.new.history.items _ refl before.setup now.ensures.setup c.loop-run.tally.reached.items c.run_once.new.reached.items now.ensures.marks))
           c.in_ok-add_run.ensures.reached
           (rw c.as_slice.ensures.value at (c.in_ok-add_run.ensures.counted c.args.setup.now before.earlier
           (same_counts c.args.setup.now before.earlier c.loop-run.tally _ refl refl refl refl refl refl
-          (before.tallied t is).counted)));
+          before.tallied.counted)));
     }
 
 pub loop-run-preserved : goal.loop-run-preserved
 loop-run-preserved g c =
+    let t = c.args.code.now.tree in
     let before = c.loop-run.invariant in
     let now = c.in_ok-followed in
+    let same = now.ensures.code ∙ before.code in
     let run = made c.run_once.new.history.items c.report-report.result c.is_deadlocked-is_deadlocked.result c.have_returned-has_returned.result in
     let count = before.count in
     let after = c.loop-run.auto.run in
@@ -81,27 +81,22 @@ loop-run-preserved g c =
       earlier = before.earlier ++ run ∷ [];
       count = rw length_push (omega (arith, count, after));
       ahead = let within = c.loop-run-test.true in omega (arith, within);
-      clean = λ t is. clean_one t c.args.setup.now c.args.plan.now.with_deadlock c.args.plan.now.seed c.args.from before.earlier run (before.clean t is)
+      clean = clean_one t c.args.setup.now c.args.plan.now.with_deadlock c.args.plan.now.seed c.args.from before.earlier run before.clean
           (subst (λ n. IsCleanRun t (setup_of_run c.args.setup.now c.args.plan.now.seed n) c.args.plan.now.with_deadlock run) (omega (arith, count, after))
-          (clean_run c.args.code.now c.args.setup.now c.args.plan.now.with_deadlock c.args.plan.now.seed c.loop-run.run
-          c.loop-run.session c.run_once.new.session c.run_once.new.history.items _ refl before.code before.setup now.ensures.code
-          now.ensures.setup
-          now.ensures.stands now.ensures.over c.report-report.result c.report-report.ensures
+          (rw same at (clean_run c.args.setup.now c.args.plan.now.with_deadlock c.args.plan.now.seed c.loop-run.run
+          c.loop-run.session c.run_once.new.session c.run_once.new.history.items _ refl before.setup now.ensures.setup
+          now.ensures.stands now.ensures.over c.report-report.result (c.report-report.ensures _)
           c.is_deadlocked-is_deadlocked.result c.is_deadlocked-is_deadlocked.ensures
           c.have_returned-has_returned.result c.have_returned-has_returned.ensures
-          (sym c.is_sought.ensures ∙ c.if-is_sought.false) t is));
-      tallied = λ t is. tally_run t c.args.setup.now before.earlier run c.loop-run.tally c.add_run.new.self c.run_once.new.reached.items _ (before.tallied t is)
-          (key_is c.args.code.now c.args.setup.now c.args.plan.now.with_deadlock c.args.plan.now.seed c.loop-run.run
-          c.loop-run.session c.run_once.new.session c.run_once.new.history.items _ refl before.code before.setup now.ensures.code
-          now.ensures.setup
-          t is _ now.ensures.key)
+          (sym c.is_sought.ensures ∙ c.if-is_sought.false))));
+      tallied = tally_run t c.args.setup.now before.earlier run c.loop-run.tally c.add_run.new.self c.run_once.new.reached.items _ before.tallied
+          (rw same at (key_is c.args.setup.now c.args.plan.now.with_deadlock c.args.plan.now.seed c.loop-run.run
+          c.loop-run.session c.run_once.new.session c.run_once.new.history.items _ refl before.setup now.ensures.setup _ now.ensures.key))
           c.in_ok-add_run.ensures.keys
-          (reaches_is c.args.code.now c.args.setup.now c.args.plan.now.with_deadlock c.args.plan.now.seed c.loop-run.run
-          c.loop-run.session c.run_once.new.session c.run_once.new.history.items _ refl before.code before.setup now.ensures.code
-          now.ensures.setup
-          t is c.loop-run.tally.reached.items c.run_once.new.reached.items now.ensures.marks)
+          (rw same at (reaches_is c.args.setup.now c.args.plan.now.with_deadlock c.args.plan.now.seed c.loop-run.run
+          c.loop-run.session c.run_once.new.session c.run_once.new.history.items _ refl before.setup now.ensures.setup c.loop-run.tally.reached.items c.run_once.new.reached.items now.ensures.marks))
           c.in_ok-add_run.ensures.reached
           (rw c.as_slice.ensures.value at (c.in_ok-add_run.ensures.counted c.args.setup.now before.earlier
           (same_counts c.args.setup.now before.earlier c.loop-run.tally _ refl refl refl refl refl refl
-          (before.tallied t is).counted)));
+          before.tallied.counted)));
     }

@@ -1,4 +1,4 @@
-use Rattle.bp_test.proofs.Common.{◌≡◌, ◌≤◌, ◌-◌, max, List, length, Program, StandsFor, MadeRun, IsTally, AreCleanRuns}
+use Rattle.bp_test.proofs.Common.{◌≡◌, ◌≤◌, ◌-◌, max, List, length, MadeRun, IsTally, AreCleanRuns}
 use Rattle.bp_test.proofs.RunsOfTests.{IsReseeded}
 use Rattle.bp_test.proofs.waves.first_found.Given as goal
 
@@ -9,6 +9,6 @@ invariant-loop-run g l = record {
   earlier : List MadeRun;
   count : length earlier ≡ l.run - l.fn.from;
   ahead : l.run ≤ max l.fn.from l.fn.to;
-  clean : (t : Program) → StandsFor l.fn.code t → AreCleanRuns t l.fn.setup l.fn.plan.with_deadlock l.fn.plan.seed l.fn.from earlier;
-  tallied : (t : Program) → StandsFor l.fn.code t → IsTally t l.fn.setup earlier l.tally;
+  clean : AreCleanRuns l.fn.code.tree l.fn.setup l.fn.plan.with_deadlock l.fn.plan.seed l.fn.from earlier;
+  tallied : IsTally l.fn.code.tree l.fn.setup earlier l.tally;
 }

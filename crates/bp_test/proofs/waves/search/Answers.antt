@@ -4,15 +4,16 @@ use Rattle.bp_test.proofs.waves.search.Goals.{then-is_some-via-then-is_some, the
 use Rattle.bp_test.proofs.waves.search.Goals as goal
 
 pub returns-then-is_some : goal.returns-then-is_some
-returns-then-is_some g c = λ t is.
+returns-then-is_some g c =
+    let t = c.args.code.now.tree in
     let s = c.args.setup.now in
     let p = c.args.plan.now in
     let from = c.loop-from.from in
     let size = c.loop-from.size in
     let within = c.loop-from.invariant.within in
-    let was = c.loop-from.invariant.tallied t is in
+    let was = c.loop-from.invariant.tallied in
     let here : from ≡ start_of_block from size 0 c.args.runs = omega (arith, within) in
-    let wave = c.in_ok-end.ensures c.args.code.now s p from size c.args.runs c.in_ok-blocks.ensures.blocks here t is was.runs was.tallied in
+    let wave = c.in_ok-end.ensures c.args.code.now s p from size c.args.runs c.in_ok-blocks.ensures.blocks here was.runs was.tallied in
     let high = wave.0.1 in
     let next = c.start-next.ensures in
     let count = c.in_ok-blocks.ensures.count in (
@@ -34,15 +35,16 @@ loop-from-preserved g c = record {
   within = let next = c.start-next.ensures in omega (arith, next);
   some = c.next_size-size.ensures.some c.loop-from.invariant.some;
   short = c.next_size-size.ensures.most;
-  tallied = λ t is.
+  tallied =
+      let t = c.args.code.now.tree in
       let s = c.args.setup.now in
       let p = c.args.plan.now in
       let from = c.loop-from.from in
       let size = c.loop-from.size in
       let within = c.loop-from.invariant.within in
-      let was = c.loop-from.invariant.tallied t is in
+      let was = c.loop-from.invariant.tallied in
       let here : from ≡ start_of_block from size 0 c.args.runs = omega (arith, within) in
-      let wave = c.in_ok-end.ensures c.args.code.now s p from size c.args.runs c.in_ok-blocks.ensures.blocks here t is was.runs was.tallied in
+      let wave = c.in_ok-end.ensures c.args.code.now s p from size c.args.runs c.in_ok-blocks.ensures.blocks here was.runs was.tallied in
       let end = c.in_ok-end.field-0.end in
       let found = c.in_ok-end.field-0.found in
       let tally = c.first_of.new.tally in

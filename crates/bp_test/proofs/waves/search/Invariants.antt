@@ -1,4 +1,4 @@
-use Rattle.bp_test.proofs.Common.{◌<◌, ◌≤◌, ◌-◌, None, Program, StandsFor, LONGEST_BLOCK, IsTallied}
+use Rattle.bp_test.proofs.Common.{◌<◌, ◌≤◌, ◌-◌, None, LONGEST_BLOCK, IsTallied}
 use Rattle.bp_test.proofs.waves.search.Given as goal
 
 abbrev pub invariant-loop-from : goal.invariant-loop-from
@@ -6,7 +6,7 @@ invariant-loop-from g l = record {
   within : l.from ≤ l.fn.runs;
   some : 0 < l.size;
   short : l.size ≤ LONGEST_BLOCK;
-  tallied : (t : Program) → StandsFor l.fn.code t → IsTallied t l.fn.setup l.fn.plan.with_deadlock l.fn.plan.seed 0 l.from None l.tally;
+  tallied : IsTallied l.fn.code.tree l.fn.setup l.fn.plan.with_deadlock l.fn.plan.seed 0 l.from None l.tally;
 }
 
 abbrev pub decreases-loop-from : goal.decreases-loop-from

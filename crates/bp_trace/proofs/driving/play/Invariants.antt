@@ -1,10 +1,10 @@
-use Rattle.bp_trace.proofs.Common.{◌≡◌, ◌≤◌, ◌+◌, ◌++◌, length, schedule_text, lines_of_history, StandsForAll}
+use Rattle.bp_trace.proofs.Common.{◌≡◌, ◌≤◌, ◌+◌, ◌++◌, length, schedule_text, lines_of_history, Stands}
 use Rattle.bp_trace.proofs.driving.play.Given as goal
 
 abbrev pub invariant-loop-rest : goal.invariant-loop-rest
 invariant-loop-rest l = record {
   few : length l.calls.items + length l.rest ≤ length l.schedule;
-  stands : StandsForAll l.session l.calls.items;
+  stands : Stands l.session.code.tree l.session l.calls.items;
   front : l.schedule ≡ schedule_text (lines_of_history l.calls.items) ++ l.rest;
   code : l.session.code ≡ l.fn.session.code;
   setup : l.session.setup ≡ l.fn.session.setup;

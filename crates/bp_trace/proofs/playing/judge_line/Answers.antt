@@ -1,4 +1,4 @@
-use Rattle.bp_trace.proofs.Common.{◌∙◌, sym, subst, rules, err_from_is_err_and, StandsFor}
+use Rattle.bp_trace.proofs.Common.{◌∙◌, sym, rules, err_from_is_err_and}
 use Rattle.bp_trace.proofs.LongestAccepted.{line_refused, playable_of, played_more, history_more}
 use Rattle.bp_trace.proofs.playing.judge_line.Goals as goal
 
@@ -10,19 +10,17 @@ loop-call-preserved g c =
     let before = c.loop-call.invariant in
     let after = c.in_ok-judge.ensures in
     record {
-      played = λ t is.
-          let is_kept = subst (λ k. StandsFor k t) c.judge.ensures.kept.0 is in
-          let old = before.played t is_kept in
-          let rows = after.printed t c.loop-call.played.history.items is_kept old.0 in (
-            rw (sym after.history) at (after.stands t c.loop-call.played.history.items is_kept old.0),
-            rw (sym c.judge.ensures.kept.1) at (played_more t c.loop-call.session.setup c.loop-call.played.history.items
-                c.judge.new.played.history.items _ _ _ after.history old.1 rows),
+      played =
+          let old = before.played in
+          let t = c.loop-call.session.code.tree in
+          let rows = after.printed c.loop-call.played.history.items old.0 in (
+            rw (sym c.judge.ensures.kept.0, sym after.history) at (after.stands c.loop-call.played.history.items old.0),
+            rw (sym c.judge.ensures.kept.0, sym c.judge.ensures.kept.1) at (played_more t c.loop-call.session.setup
+                c.loop-call.played.history.items c.judge.new.played.history.items _ _ _ after.history old.1 rows),
           );
-      watched = λ t is first seen.
-          let is_kept = subst (λ k. StandsFor k t) (sym before.code) is in
-          let stands = (before.played t is_kept).0 in
-          let now = rw (sym before.setup) at (before.watched t is first seen) in
-          rw (sym after.history, before.setup) at (after.watched first t c.loop-call.played.history.items is_kept stands now);
+      watched = λ first seen.
+          let now = rw (sym before.code, sym before.setup) at (before.watched first seen) in
+          rw (sym after.history, before.code, before.setup) at (after.watched first c.loop-call.played.history.items before.played.0 now);
       history =
           history_more c.args.played.now.history.items c.loop-call.played.history.items c.judge.new.played.history.items
           c.args.calls.now c.loop-call.call-index _ c.loop-call-test.true before.history after.history;

@@ -1,4 +1,4 @@
-use Rattle.bp_trace.proofs.Common.{◌∙◌, sym, subst, rules, StandsFor}
+use Rattle.bp_trace.proofs.Common.{◌∙◌, sym, rules}
 use Rattle.bp_trace.proofs.PiecesAreFewest.{line_below}
 use Rattle.bp_trace.proofs.LongestAccepted.{playable_of, next_line, body_refused}
 use Rattle.bp_trace.proofs.playing.play.Goals as goal
@@ -41,11 +41,9 @@ loop-calls-preserved g c =
     before.within before.parts before.number c.body_line_at.new.calls.items new c.in-Some.more at after before.few in
     record {
       played = c.in-Ok.ensures.played;
-      watched = λ t is first begun.
-          let is_kept = subst (λ k. StandsFor k t) (sym before.code) is in
-          let same = before.setup ∙ c.requires.setup in
-          let seen = rw same at (c.in-Ok.ensures.watched t is_kept first) in
-          seen (before.watched t is first begun);
+      watched = λ first begun.
+          let seen = rw (before.code, before.setup ∙ c.requires.setup) at (c.in-Ok.ensures.watched first) in
+          seen (before.watched first begun);
       within = within;
       parts = parts;
       number = number;

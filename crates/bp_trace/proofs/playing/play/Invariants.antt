@@ -1,10 +1,10 @@
-use Rattle.bp_trace.proofs.Common.{◌≡◌, ◌≤◌, ◌-◌, ◌+◌, ◌++◌, length, drop, Program, StandsFor, ArePlayed, WatchesAll, line_count, calls_text}
+use Rattle.bp_trace.proofs.Common.{◌≡◌, ◌≤◌, ◌-◌, ◌+◌, ◌++◌, length, drop, ArePlayed, WatchesAll, line_count, calls_text}
 use Rattle.bp_trace.proofs.playing.play.Given as goal
 
 abbrev pub invariant-loop-calls : goal.invariant-loop-calls
 invariant-loop-calls g l = record {
   played : ArePlayed l.session l.played;
-  watched : (t : Program) → StandsFor l.fn.session.code t → WatchesAll g.O.Watcher.sees t l.setup l.fn.watcher l.played;
+  watched : WatchesAll g.O.Watcher.sees l.fn.session.code.tree l.setup l.fn.watcher l.played;
   within : l.size ≤ length l.text;
   parts : l.text ≡ calls_text l.version l.played.history.items ++ drop l.size l.text;
   number : l.line ≡ l.first + line_count l.version l.played.history.items;

@@ -4,18 +4,20 @@ use Rattle.bp_view.proofs.FailedConditions.{at_assumption}
 use Rattle.bp_view.proofs.foot_facts.add_wait.Goals as goal
 
 pub returns-in_default : goal.returns-in_default
-returns-in_default c = λ t text h set is stands are.
+returns-in_default c = λ text h set stands are.
+    let t = c.args.session.now.code.tree in
     let now = configuration_after t c.args.session.now.setup h in
-    let does : waits t now c.args.thread ≡ true = sym (c.waits.ensures t h is stands) ∙ c.if-not-waits.false in
-    absurd (rw c.in_default.is at c.in_ok-condition.ensures t text h set is stands (at_assumption t now c.args.thread does))
+    let does : waits t now c.args.thread ≡ true = sym (c.waits.ensures h stands) ∙ c.if-not-waits.false in
+    absurd (rw c.in_default.is at c.in_ok-condition.ensures text h set stands (at_assumption t now c.args.thread does))
 
 pub returns : goal.returns
-returns c = λ t text h set is stands are.
+returns c = λ text h set stands are.
+    let t = c.args.session.now.code.tree in
     let now = configuration_after t c.args.session.now.setup h in
     let n = c.args.thread in
     let x = c.in-Some.condition in
     let before = map condition_in c.args.waits.now.items in
-    let does : waits t now n ≡ true = sym (c.waits.ensures t h is stands) ∙ c.if-not-waits.false in
-    let facts = rw c.in-Some.is at c.in_ok-condition.ensures t text h set is stands (at_assumption t now n does) in
+    let does : waits t now n ≡ true = sym (c.waits.ensures h stands) ∙ c.if-not-waits.false in
+    let facts = rw c.in-Some.is at c.in_ok-condition.ensures text h set stands (at_assumption t now n does) in
     let pushed : map condition_in c.push.new.self.items ≡ before ++ condition_in x ∷ [] = search (rules, map-append) in
     subst (AreWaitsFacts text now (waiting t now (suc n))) (sym pushed) (one_wait_more t text now n before are does (condition_in x) facts.0 facts.1)

@@ -4,24 +4,27 @@ use Rattle.bp_view.proofs.FailedConditions.{decision_is, position_is, standing_f
 use Rattle.bp_view.proofs.foot_facts.condition_of.Goals as goal
 
 pub returns-in_default-source_statement_of : goal.returns-in_default-source_statement_of
-returns-in_default-source_statement_of c = λ t text h set is stands at.
+returns-in_default-source_statement_of c = λ text h set stands at.
+    let t = c.args.session.now.code.tree in
     let now = configuration_after t c.args.session.now.setup h in
-    absurd (c.in_default-source_statement_of.ensures t text now (stack_of now c.args.thread) set (c.in-Some.ensures t h is stands))
+    absurd (c.in_default-source_statement_of.ensures t text now (stack_of now c.args.thread) set (c.in-Some.ensures h stands))
 
 pub returns-in_default-position : goal.returns-in_default-position
-returns-in_default-position c = λ t text h set is stands at.
+returns-in_default-position c = λ text h set stands at.
+    let t = c.args.session.now.code.tree in
     let i = c.args.thread in
     let now = configuration_after t c.args.session.now.setup h in
-    let top = c.in-Some.ensures t h is stands in
+    let top = c.in-Some.ensures h stands in
     let shown = c.in-Some-source_statement_of.ensures t text now (stack_of now i) set top in
     let some = position_is t text now i at c.in-Some.top top c.in-Some-source_statement_of.statement.now shown in
     absurd (false≢true (ap is_some (sym c.in_default-position.is ∙ some)))
 
 pub returns-in_default-2 : goal.returns-in_default-2
-returns-in_default-2 c = λ t text h set is stands at.
+returns-in_default-2 c = λ text h set stands at.
+    let t = c.args.session.now.code.tree in
     let i = c.args.thread in
     let now = configuration_after t c.args.session.now.setup h in
-    let top = c.in-Some.ensures t h is stands in
+    let top = c.in-Some.ensures h stands in
     let shown = c.in-Some-source_statement_of.ensures t text now (stack_of now i) set top in
     let some = decision_is t text now i at c.in-Some.top top c.in-Some-source_statement_of.statement.now shown in
     let placed = rw set.procedures at c.in_ok-decider.ensures (place top.frame.procedure top.frame.left) in
@@ -29,10 +32,11 @@ returns-in_default-2 c = λ t text h set is stands at.
     absurd (false≢true (ap is_some (none ∙ some)))
 
 pub returns : goal.returns
-returns c = λ t text h set is stands at.
+returns c = λ text h set stands at.
+    let t = c.args.session.now.code.tree in
     let i = c.args.thread in
     let now = configuration_after t c.args.session.now.setup h in
-    let top = c.in-Some.ensures t h is stands in
+    let top = c.in-Some.ensures h stands in
     let statement = c.in-Some-source_statement_of.statement.now in
     let shown = c.in-Some-source_statement_of.ensures t text now (stack_of now i) set top in
     let placed = rw set.procedures at c.in_ok-decider.ensures (place top.frame.procedure top.frame.left) in

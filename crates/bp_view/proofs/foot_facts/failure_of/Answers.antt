@@ -9,10 +9,11 @@ shown_failure : (t : Program) (text : List ℕ) (s : SetupOf) (h : List Call) (i
 shown_failure t text s h i given1 o given2 = search (rules, assertion_facts)
 
 pub returns : goal.returns
-returns c = λ t text h set code stands outcome.
+returns c = λ text h set stands outcome.
+    let t = c.args.session.now.code.tree in
     let s = c.args.session.now.setup in
     let i = c.in-Failed.thread in
     let fails : outcome_of h ≡ Failed i = sym outcome ∙ c.in-Failed.is in
     let failure = real t s h i stands.state.legal fails in
-    let own = c.condition_of.ensures t text h set code stands (at_assertion t s h i failure) in
+    let own = c.condition_of.ensures text h set stands (at_assertion t s h i failure) in
     rw c.in-Failed.is (IfOk-weaker c.condition_of.result _ _ (λ o is. shown_failure t text s h i failure o is) own)

@@ -1,8 +1,8 @@
-use Rattle.bp_view.proofs.Common.{List, ℕ, map, Program, StandsFor, Call, configuration_after, Stands, condition_in, waiting, AreWaitsFacts, AreProgramFacts}
+use Rattle.bp_view.proofs.Common.{List, ℕ, map, Call, configuration_after, Stands, condition_in, waiting, AreWaitsFacts, AreProgramFacts}
 use Rattle.bp_view.proofs.foot_facts.waits_of.Given as goal
 
 abbrev pub invariant-loop-thread : goal.invariant-loop-thread
 invariant-loop-thread l =
-    (t : Program) (text : List ℕ) (h : List Call) → AreProgramFacts t text l.program → StandsFor l.session.code t → Stands t l.session h
-    → let now = configuration_after t l.session.setup h in
-    AreWaitsFacts text now (waiting t now l.thread) (map condition_in l.waits.items)
+    (text : List ℕ) (h : List Call) → AreProgramFacts l.session.code.tree text l.program → Stands l.session.code.tree l.session h
+    → let now = configuration_after l.session.code.tree l.session.setup h in
+    AreWaitsFacts text now (waiting l.session.code.tree now l.thread) (map condition_in l.waits.items)

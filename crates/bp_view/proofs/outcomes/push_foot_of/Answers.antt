@@ -3,5 +3,5 @@ use Rattle.bp_view.proofs.Growing.{gains}
 use Rattle.bp_view.proofs.outcomes.push_foot_of.Goals as goal
 
 pub returns : goal.returns
-returns c = λ t text h set code stands outcome.
-    gains c.push_foot.ensures (record { facts = foot_in c.in-Ok.foot; facts_are = c.in-Ok.ensures t text h set.program code stands outcome; is = refl })
+returns c = λ text h set stands outcome.
+    gains c.push_foot.ensures (record { facts = foot_in c.in-Ok.foot; facts_are = c.in-Ok.ensures text h set.program stands outcome; is = refl })

@@ -1,10 +1,11 @@
-use Rattle.bp_view.proofs.Common.{◌≡◌, ◌∙◌, ◌+◌, ◌<◌, suc, length, sym, subst, take, arith, rules, take_all, take_more, err_from_is_err_and, StandsFor, Stands, AreSpans}
+use Rattle.bp_view.proofs.Common.{◌≡◌, ◌∙◌, ◌+◌, ◌<◌, suc, length, sym, subst, take, arith, rules, take_all, take_more, err_from_is_err_and, Stands, AreSpans}
 use Rattle.std.proofs.Common.{length-take-le}
 use Rattle.bp_view.proofs.RecordedCalls.{playable_here}
 use Rattle.bp_view.proofs.spans.spans_of.Goals as goal
 
 pub loop-n-preserved : goal.loop-n-preserved
 loop-n-preserved c =
+    let t = c.args.code.now.tree in
     let s = c.args.setup.now in
     let h = c.args.history.now in
     let i = c.loop-n.n in
@@ -12,16 +13,14 @@ loop-n-preserved c =
     let after = c.in_ok-play_call.ensures in
     let inside : i < length h = c.loop-n-test.true in
     let count : i + 1 ≡ suc (length (take i h)) = omega (arith, length-take-le i h (omega (arith, inside))) in
+    let playable = playable_here t s h c.requires.playable i _ inside in
+    let stood = rw (sym before.code) at before.stands in
     record {
-      stands = λ t is.
-          let code = subst (λ k. StandsFor k t) (sym before.code) is in
-          subst (Stands t c.play_call.new.session) (sym (take_more h i _ inside))
-          (after.stands t (take i h) code (before.stands t is) (rw before.setup (playable_here t s h (c.requires.playable t is) i _ inside)));
-      spans = λ t is.
-          let code = subst (λ k. StandsFor k t) (sym before.code) is in
-          let are = subst (λ k. AreSpans t k (take i h) c.loop-n.spans.items) (sym before.setup) (before.spans t is) in
-          let playable = playable_here t s h (c.requires.playable t is) i _ inside in
-          let more = after.spans t (take i h) code (before.stands t is) (rw before.setup playable) count are in
+      stands = subst (Stands t c.play_call.new.session) (sym (take_more h i _ inside))
+          (rw before.code at (after.stands (take i h) stood (rw (before.code, before.setup) playable)));
+      spans =
+          let are : AreSpans c.loop-n.session.code.tree c.loop-n.session.setup (take i h) c.loop-n.spans.items = rw (before.code, before.setup) before.spans in
+          let more = rw before.code at (after.spans (take i h) stood (rw (before.code, before.setup) playable) count are) in
           subst (λ g. AreSpans t s g c.play_call.new.spans.items) (sym (take_more h i _ inside)) (rw before.setup at more);
       code = after.kept.0 ∙ before.code;
       setup = after.kept.1 ∙ before.setup;

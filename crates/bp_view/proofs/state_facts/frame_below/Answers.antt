@@ -6,18 +6,20 @@ pub returns-in_err-top : goal.returns-in_err-top
 returns-in_err-top c = search (rules, from_here)
 
 pub returns-in_err-statement : goal.returns-in_err-statement
-returns-in_err-statement c = λ t text h f set is stands at.
+returns-in_err-statement c = λ text h f set stands at.
+    let t = c.args.session.now.code.tree in
     let now = configuration_after t c.args.session.now.setup h in
-    absurd (c.in_err-statement.ensures t text now (drop c.args.above (stack_of now c.args.thread)) set (c.in_ok-top.ensures t h is stands))
+    absurd (c.in_err-statement.ensures t text now (drop c.args.above (stack_of now c.args.thread)) set (c.in_ok-top.ensures h stands))
 
 pub returns : goal.returns
-returns c = λ t text h f set is stands at.
+returns c = λ text h f set stands at.
+    let t = c.args.session.now.code.tree in
     let now = configuration_after t c.args.session.now.setup h in
     let n = c.args.above in
     let x = c.in_ok-top.top in
     let statement = c.in_ok-statement.statement.now in
     let left = drop n (stack_of now c.args.thread) in
-    let top = c.in_ok-top.ensures t h is stands in
+    let top = c.in_ok-top.ensures h stands in
     let some = c.in_ok-proc.ensures t text (place top.frame.procedure top.frame.left) set.statements set.procedures top.next in
     let own : top.frame.procedure ≡ c.in_ok-proc.proc.now = cc in
     let values : Procedure → Valuation = λ p. valuation_of (variables p) (bits_of x.store.locals) in

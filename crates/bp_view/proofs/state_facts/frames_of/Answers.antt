@@ -4,28 +4,31 @@ use Rattle.bp_view.proofs.state_facts.frames_of.Goals as goal
 
 -- each frame within the depth is there
 pub returns-in_default : goal.returns-in_default
-returns-in_default c = λ t text h set is stands.
+returns-in_default c = λ text h set stands.
+    let t = c.args.session.now.code.tree in
     let stack = stack_of (configuration_after t c.args.session.now.setup h) c.args.thread in
-    let inside : c.loop-above.above < length stack = omega (arith, c.depth_of-above-end.ensures t h is stands, c.loop-above-test.true) in
+    let inside : c.loop-above.above < length stack = omega (arith, c.depth_of-above-end.ensures h stands, c.loop-above-test.true) in
     let (f, at) = item_at stack c.loop-above.above inside in
-    absurd (rw c.in_default.is at c.frame_below.ensures t text h f set is stands at)
+    absurd (rw c.in_default.is at c.frame_below.ensures text h f set stands at)
 
 pub loop-above-preserved : goal.loop-above-preserved
-loop-above-preserved c = λ t text h set is stands.
+loop-above-preserved c = λ text h set stands.
+    let t = c.args.session.now.code.tree in
     let stack = stack_of (configuration_after t c.args.session.now.setup h) c.args.thread in
     let n = c.loop-above.above in
-    let inside : n < length stack = omega (arith, c.depth_of-above-end.ensures t h is stands, c.loop-above-test.true) in
+    let inside : n < length stack = omega (arith, c.depth_of-above-end.ensures h stands, c.loop-above-test.true) in
     let (f, at) = item_at stack n inside in
     let frame = c.in-Some.frame in
-    let facts = rw c.in-Some.is at c.frame_below.ensures t text h f set is stands at in
+    let facts = rw c.in-Some.is at c.frame_below.ensures text h f set stands at in
     let pushed : map frame_in c.push.new.self.items ≡ map frame_in c.loop-above.frames.items ++ frame_in frame ∷ [] = search (rules, map-append) in
     subst (λ k. AreStackFacts text 0 (take k stack) (map frame_in c.push.new.self.items)) (sym (add-one n))
     (subst (AreStackFacts text 0 (take (suc n) stack)) (sym pushed)
-    (one_frame_more text 0 n n (omega arith) stack _ f (frame_in frame) (c.loop-above.invariant t text h set is stands) at facts))
+    (one_frame_more text 0 n n (omega arith) stack _ f (frame_in frame) (c.loop-above.invariant text h set stands) at facts))
 
 pub returns : goal.returns
-returns c = λ t text h set is stands.
+returns c = λ text h set stands.
+    let t = c.args.session.now.code.tree in
     let stack = stack_of (configuration_after t c.args.session.now.setup h) c.args.thread in
-    let all : length stack ≤ c.loop-above.above = omega (arith, c.depth_of-above-end.ensures t h is stands) in
+    let all : length stack ≤ c.loop-above.above = omega (arith, c.depth_of-above-end.ensures h stands) in
     subst (λ fs. AreStackFacts text 0 fs (map frame_in c.loop-above.frames.items)) (take_all c.loop-above.above stack all)
-    (c.loop-above.invariant t text h set is stands)
+    (c.loop-above.invariant text h set stands)

@@ -14,10 +14,11 @@ loop-thread-preserved c =
     let one_more : length c.push.new.self.items ≡ n + 1 = rw pushed (omega (arith, c.loop-thread.invariant.all, length-append before (x ∷ []))) in
     record {
       all = one_more;
-      are = λ t text set is stands.
+      are = λ text set stands.
+          let t = c.args.session.now.code.tree in
           let s = c.args.session.now.setup in
           let h = c.args.history.now in
-          let so_far = c.loop-thread.invariant.are t text set is stands in
-          let own = c.in_ok-facts_of_thread.ensures t text set is stands in
+          let so_far = c.loop-thread.invariant.are text set stands in
+          let own = c.in_ok-facts_of_thread.ensures text set stands in
           subst (AreThreadsFacts t text s h 0) (sym said) (one_thread_more t text s h 0 n (map thread_in before) (thread_in x) last so_far own);
     }

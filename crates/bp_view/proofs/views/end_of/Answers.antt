@@ -2,10 +2,11 @@ use Rattle.bp_view.proofs.Common.{◌∙◌, ◌++◌, ap, IfOk-weaker}
 use Rattle.bp_view.proofs.views.end_of.Goals as goal
 
 pub returns : goal.returns
-returns c = λ t text h known code stands whole outcome.
+returns c = λ text h known stands whole outcome.
+    let t = c.args.session.now.code.tree in
     IfOk-weaker c.into_bytes.result _ _ (λ v (fine, same).
-    let (was, state) = c.push_state.ensures t text h known code stands whole fine in
-    let (none, foot) = c.push_foot_of.ensures t text h known code stands outcome was in
+    let (was, state) = c.push_state.ensures text h known stands whole fine in
+    let (none, foot) = c.push_foot_of.ensures text h known stands outcome was in
     record {
       foot = foot.more;
       foot_is = foot.more_are;

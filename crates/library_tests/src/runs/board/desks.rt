@@ -1,7 +1,7 @@
 //! Desks by hand: turns and single calls. A board's turn is a desk's, under its lock.
 
 ghost use Rattle.std.specs.Prelude.{◌≡◌, true, is_some};
-ghost use Rattle.bp_machine.specs.Setups.{threads, FitsCode};
+ghost use Rattle.bp_machine.specs.Setups.{threads, Fits};
 ghost use Rattle.bp_run.specs.Desks.{IsNamed};
 
 use super::{LOOP, WAIT, kit_of, setup_of};
@@ -132,7 +132,7 @@ fn is_seen_at<C: Calls, O: Ledger>(
     requires code { code.now ≡ C.code }
     requires setup { setup.now ≡ C.setup }
     requires threads { kit.threads ≡ threads setup.now }
-    requires fits { FitsCode code.now setup.now }
+    requires fits { Fits code.now.tree setup.now }
     requires seeded { is_some setup.now.seed ≡ true }
 {
     let (mut desk, mut seats, mut tap) = Desk::<C, O>::open(alloc, kit, code, setup)?;

@@ -1,7 +1,7 @@
 //! Turns at a board, and the calls and the report that it is gathered with.
 
 ghost use Rattle.std.specs.Prelude.{◌≡◌, true, is_some};
-ghost use Rattle.bp_machine.specs.Setups.{threads, FitsCode};
+ghost use Rattle.bp_machine.specs.Setups.{threads, Fits};
 ghost use Rattle.bp_run.specs.Desks.{IsNamed};
 ghost use Rattle.bp_run.specs.Gatherings.{AreOnePerThread};
 
@@ -184,7 +184,7 @@ fn is_played_at<C: Calls, O: Ledger, R: Wait + Runtime>(
     requires code { code.now ≡ C.code }
     requires setup { setup.now ≡ C.setup }
     requires threads { kit.threads ≡ threads setup.now }
-    requires fits { FitsCode code.now setup.now }
+    requires fits { Fits code.now.tree setup.now }
     requires seeded { is_some setup.now.seed ≡ true }
 {
     let (board, mut seats, tap) = Board::<C, O>::open(alloc, kit, code, setup)?;

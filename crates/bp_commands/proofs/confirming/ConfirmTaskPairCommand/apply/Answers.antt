@@ -1,4 +1,5 @@
-use Rattle.bp_commands.proofs.Common.{common_steps, inr, refl, subst, arith, rules, err_from_is_err_and, AppendsAll, AppendsPart, One, text_of, trace_text, Pair, confirms, IsOfSteps}
+use Rattle.bp_commands.proofs.Common.{common_steps, inr, refl, sym, subst, arith, rules, err_from_is_err_and, AppendsAll, AppendsPart, One, text_of, trace_text, Pair, confirms, IsOfSteps}
+use Rattle.bp_machine.proofs.SetupInRange.{stands_of}
 use Rattle.bp_commands.proofs.Answered.{cut_short, refused_with}
 use Rattle.bp_commands.proofs.confirming.ConfirmTaskPairCommand.apply.Goals as goal
 
@@ -11,7 +12,7 @@ returns-in_err-confirmed g c =
     let given : Pair = record { text = c.args.text.now; input = c.args.steps.now } in
     let x = c.in_ok-opened.opened in
     rw (p.1, p.2) (refused_with (confirms c.args.self.now) given _ _ (inr (record {
-      program = x.checked;
+      program = x.code.tree;
       start = x.setup;
       opened = c.in_ok-opened.ensures.answer;
       cause = c.in_err-confirmed.field-0.0;
@@ -33,7 +34,7 @@ returns-in_err-write_with_open_lines g c =
     let of_history = subst (λ h. AppendsPart old new (text_of One c.setup-setup.result.now h)) c.deref.ensures.value c.in_err-write_with_open_lines.ensures in
     let written = subst (λ s. AppendsPart old new (text_of One s found.history.items)) c.setup-setup.ensures of_history in
     let trace : IsOfSteps c.args.self.now given (trace_text found.session.setup found.history.items) = record {
-      program = x.checked;
+      program = x.code.tree;
       start = x.setup;
       opened = c.in_ok-opened.ensures.answer;
       setup = found.session.setup;
@@ -55,7 +56,7 @@ returns g c =
       text = trace_text found.session.setup found.history.items;
       reports = record {
         trace = record {
-          program = x.checked;
+          program = x.code.tree;
           start = x.setup;
           opened = c.in_ok-opened.ensures.answer;
           setup = found.session.setup;
@@ -64,7 +65,8 @@ returns g c =
           confirmed = c.in_ok-confirmed.ensures.answer.confirmed c.in_ok-opened.ensures.answer.of.lawful;
           is = refl;
         };
-        verdict = c.in_ok-answer.ensures c.in_ok-confirmed.ensures.answer.stands;
+        verdict = rw c.in_ok-confirmed.ensures.code at
+            (c.in_ok-answer.ensures (stands_of (sym c.in_ok-confirmed.ensures.code) c.in_ok-confirmed.ensures.answer.stands));
       };
       written = subst (λ s. AppendsAll old new (text_of One s found.history.items)) c.setup-setup.ensures of_history;
     }

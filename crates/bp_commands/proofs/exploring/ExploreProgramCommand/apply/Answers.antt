@@ -19,16 +19,16 @@ pub returns : goal.returns
 returns g c =
     let task = c.args.self.now.task.now in
     let x = c.in_ok-opened.opened in
-    let stands = c.in_ok-opened.ensures.code in
+    let stands = c.is_of_a_program.ensures.stands in
     let e = c.in_ok-explored.explored in
     let bound = c.bound_of-bound.ensures ∙ ap (bound_of task.options.bound) c.contexts.ensures in
-    let explored = subst (λ b. IsExploration x.code x.checked x.setup b task.options.with_deadlock e.ending) bound
-    (c.in_ok-explored.ensures x.checked stands) in
+    let explored = subst (λ b. IsExploration x.code x.code.tree x.setup b task.options.with_deadlock e.ending) bound
+    c.in_ok-explored.ensures in
     record {
       text = trace_of e.ending;
       reports = record {
         trace = record {
-          program = x.checked;
+          program = x.code.tree;
           setup = x.setup;
           opened = c.in_ok-opened.ensures.answer;
           code = x.code;

@@ -37,14 +37,14 @@ returns-in_err-tested g c =
     let p = err_from_is_err_and c.from_residual-in_err-tested.result c.from_residual-in_err-tested.ensures.1 in
     let x = c.in_ok-opened.opened in
     let few : c.args.self.now.task.now.options.jobs ≤ MAX_JOBS = grind (arith, nat_tests) in
-    rw (p.1, p.2) (refused c.args.self.now.task.now c.args.text.now x.checked x.setup c.in_ok-opened.ensures.answer few _ _
-    c.in_err-tested.field-0.0 (c.in_err-tested.ensures x.checked c.in_ok-opened.ensures.code))
+    rw (p.1, p.2) (refused c.args.self.now.task.now c.args.text.now x.code.tree x.setup c.in_ok-opened.ensures.answer few _ _
+    c.in_err-tested.field-0.0 c.in_err-tested.ensures)
 
 pub returns : goal.returns
 returns g c =
     let x = c.in_ok-opened.opened in
     let few : c.args.self.now.task.now.options.jobs ≤ MAX_JOBS = grind (arith, nat_tests) in
-    done c.args.self.now.task.now c.args.text.now x.checked x.setup c.in_ok-opened.ensures.answer few _ _
-    c.in_ok-tested.tested (c.in_ok-tested.ensures x.checked c.in_ok-opened.ensures.code) _ refl refl refl
-    c.in_ok-positions.ensures c.in_ok-statements.ensures refl c.distinct_of.ensures
+    done c.args.self.now.task.now c.args.text.now x.code.tree x.setup c.in_ok-opened.ensures.answer few _ _
+    c.in_ok-tested.tested c.in_ok-tested.ensures _ refl refl refl
+    (rw c.checked-checked.ensures at c.in_ok-positions.ensures) (rw c.checked-checked.ensures at c.in_ok-statements.ensures) refl c.distinct_of.ensures
     c.counts-counts.ensures (c.in_ok-file.ensures.items ∙ c.as_bytes.ensures.value) refl refl refl c.in_ok-lines.ensures

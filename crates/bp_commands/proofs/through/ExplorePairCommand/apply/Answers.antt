@@ -13,11 +13,11 @@ returns-in_err-lines g c =
     let given : Pair = record { text = c.args.text.now; input = c.args.steps.now } in
     let x = c.in_ok-opened.opened in
     rw (p.1, p.2) (refused_with (explores_through c.args.self.now.task.now) given _ _ (inr (inl (record {
-      program = x.checked;
+      program = x.code.tree;
       setup = x.setup;
       opened = c.in_ok-opened.ensures.answer;
       cause = c.in_err-lines.field-0.0;
-      why = c.in_err-lines.ensures.told;
+      why = rw c.checked.ensures at c.in_err-lines.ensures.told;
       is = refl;
     }))))
 
@@ -27,10 +27,10 @@ returns-in_err-explored g c =
     let given : Pair = record { text = c.args.text.now; input = c.args.steps.now } in
     let x = c.in_ok-opened.opened in
     rw (p.1, p.2) (refused_with (explores_through c.args.self.now.task.now) given _ _ (inr (inr (record {
-      program = x.checked;
+      program = x.code.tree;
       setup = x.setup;
       lines = c.in_ok-lines.lines.lines;
-      listed = record { opened = c.in_ok-opened.ensures.answer; told = c.in_ok-lines.ensures.told };
+      listed = record { opened = c.in_ok-opened.ensures.answer; told = rw c.checked.ensures at c.in_ok-lines.ensures.told };
       is = refl;
     }))))
 
@@ -40,10 +40,10 @@ returns-in_err-said g c =
     let given : Pair = record { text = c.args.text.now; input = c.args.steps.now } in
     let x = c.in_ok-opened.opened in
     rw (p.1, p.2) (refused_with (explores_through c.args.self.now.task.now) given _ _ (inr (inr (record {
-      program = x.checked;
+      program = x.code.tree;
       setup = x.setup;
       lines = c.in_ok-lines.lines.lines;
-      listed = record { opened = c.in_ok-opened.ensures.answer; told = c.in_ok-lines.ensures.told };
+      listed = record { opened = c.in_ok-opened.ensures.answer; told = rw c.checked.ensures at c.in_ok-lines.ensures.told };
       is = refl;
     }))))
 
@@ -53,23 +53,25 @@ returns-in_err-write_through g c =
     let given : Pair = record { text = c.args.text.now; input = c.args.steps.now } in
     let task = c.args.self.now.task.now in
     let x = c.in_ok-opened.opened in
-    let stands = c.in_ok-opened.ensures.code in
+    let stands = c.is_of_a_program.ensures.stands in
     let lines = c.in_ok-lines.lines in
     let read = c.in_ok-lines.ensures in
+    let own = read.of.0 ∙ c.checked.ensures in
+    let told = rw c.checked.ensures at read.told in
     let e = c.in_ok-explored.explored in
     let bound = c.bound_of-bound.ensures ∙ ap (bound_of task.options.bound) c.contexts.ensures in
-    let through = c.in_ok-explored.ensures x.checked stands (sym read.of.0) in
-    let of_program = subst (λ t. IsThrough x.code x.checked x.setup (listed_steps t lines.text.now lines.lines) c.bound_of-bound.result e.ending) read.of.0 through in
-    let of_text = subst (λ w. IsThrough x.code x.checked x.setup (listed_steps x.checked w lines.lines) c.bound_of-bound.result e.ending) read.of.1 of_program in
+    let through = c.in_ok-explored.ensures (sym own) in
+    let of_program = subst (λ t. IsThrough x.code x.code.tree x.setup (listed_steps t lines.text.now lines.lines) c.bound_of-bound.result e.ending) own through in
+    let of_text = subst (λ w. IsThrough x.code x.code.tree x.setup (listed_steps x.code.tree w lines.lines) c.bound_of-bound.result e.ending) read.of.1 of_program in
     let trace : IsThroughTrace task given (trace_through e.ending) = record {
-      program = x.checked;
+      program = x.code.tree;
       setup = x.setup;
       lines = lines.lines;
-      listed = record { opened = c.in_ok-opened.ensures.answer; told = read.told };
+      listed = record { opened = c.in_ok-opened.ensures.answer; told = told };
       code = x.code;
       stands_for = stands;
       ending = e.ending;
-      through = subst (λ b. IsThrough x.code x.checked x.setup (listed_steps x.checked given.text lines.lines) b e.ending) bound of_text;
+      through = subst (λ b. IsThrough x.code x.code.tree x.setup (listed_steps x.code.tree given.text lines.lines) b e.ending) bound of_text;
       is = refl;
     } in
     rw (p.1, p.2) (cut_short (explores_through task) given _ _ (trace_through e.ending) trace c.in_err-write_through.ensures)
@@ -79,26 +81,28 @@ returns g c =
     let given : Pair = record { text = c.args.text.now; input = c.args.steps.now } in
     let task = c.args.self.now.task.now in
     let x = c.in_ok-opened.opened in
-    let stands = c.in_ok-opened.ensures.code in
+    let stands = c.is_of_a_program.ensures.stands in
     let lines = c.in_ok-lines.lines in
     let read = c.in_ok-lines.ensures in
+    let own = read.of.0 ∙ c.checked.ensures in
+    let told = rw c.checked.ensures at read.told in
     let e = c.in_ok-explored.explored in
     let bound = c.bound_of-bound.ensures ∙ ap (bound_of task.options.bound) c.contexts.ensures in
-    let through = c.in_ok-explored.ensures x.checked stands (sym read.of.0) in
-    let of_program = subst (λ t. IsThrough x.code x.checked x.setup (listed_steps t lines.text.now lines.lines) c.bound_of-bound.result e.ending) read.of.0 through in
-    let of_text = subst (λ w. IsThrough x.code x.checked x.setup (listed_steps x.checked w lines.lines) c.bound_of-bound.result e.ending) read.of.1 of_program in
+    let through = c.in_ok-explored.ensures (sym own) in
+    let of_program = subst (λ t. IsThrough x.code x.code.tree x.setup (listed_steps t lines.text.now lines.lines) c.bound_of-bound.result e.ending) own through in
+    let of_text = subst (λ w. IsThrough x.code x.code.tree x.setup (listed_steps x.code.tree w lines.lines) c.bound_of-bound.result e.ending) read.of.1 of_program in
     record {
       text = trace_through e.ending;
       reports = record {
         trace = record {
-          program = x.checked;
+          program = x.code.tree;
           setup = x.setup;
           lines = lines.lines;
-          listed = record { opened = c.in_ok-opened.ensures.answer; told = read.told };
+          listed = record { opened = c.in_ok-opened.ensures.answer; told = told };
           code = x.code;
           stands_for = stands;
           ending = e.ending;
-          through = subst (λ b. IsThrough x.code x.checked x.setup (listed_steps x.checked given.text lines.lines) b e.ending) bound of_text;
+          through = subst (λ b. IsThrough x.code x.code.tree x.setup (listed_steps x.code.tree given.text lines.lines) b e.ending) bound of_text;
           is = refl;
         };
         task = refl;

@@ -1,10 +1,7 @@
-use Rattle.bp_machine.proofs.Common.{subst, rules, Program, StandsFor, StepsAlike, slice_get_within, err_from_is_err_and, SessionOf, IsInOrder, session_of, IsJudged}
+use Rattle.bp_machine.proofs.Common.{◌++◌, ◌∷◌, [], Stands, subst, rules, Program, StandsFor, StepsAlike, slice_get_within, err_from_is_err_and, SessionOf, IsInOrder, session_of, IsJudged}
 use Rattle.bp_machine.proofs.SessionAnswers.{judged_next, refused_after, refused_for_memory, within, made_stands, made_in_order}
 use Rattle.bp_machine.proofs.sessions.Session.make_given.Goals.{In_ok-made}
 use Rattle.bp_machine.proofs.sessions.Session.make_given.Goals as goal
-
-abbrev AllAlike : SessionOf → Type 0
-AllAlike x = (t : Program) → StandsFor x.code t → StepsAlike x.code t
 
 -- what was judged, of the session as it is kept
 judged : (c : In_ok-made)
@@ -37,17 +34,18 @@ invariant_of-self-2 c =
     c.make.new.self c.make.ensures c.draw.new.choices.items c.draw.ensures c.steps_alike.ensures
 
 pub returns-clause-answer : goal.returns-clause-answer
-returns-clause-answer c = λ t h is stands.
+returns-clause-answer c = λ h stands.
     let order = subst IsInOrder c.self.view_is c.self.invariant in
-    let alike = subst AllAlike c.self.view_is c.steps_alike.ensures in
-    judged_next t c.args.self.now h stands order.choice_count c.args.thread c.args.given (alike t is) c.in_ok-made.made c.in_ok-made.ensures
+    let alike = subst (λ (x : SessionOf). StepsAlike x.code x.code.tree) c.self.view_is c.steps_alike.ensures in
+    judged_next c.args.self.now.code.tree c.args.self.now h stands order.choice_count c.args.thread c.args.given alike c.in_ok-made.made c.in_ok-made.ensures
 
 pub returns-clause-stands : goal.returns-clause-stands
-returns-clause-stands c = λ t h is stands.
+returns-clause-stands c = λ h stands.
     let d = (goal.at.returns-clause-stands c).In_ok-made in
-    let is_kept = rw (← c.self.view_is) at is in
     let stood = rw (← c.self.view_is) at stands in
-    made_stands c.self.inside.code c.self.inside.setup c.self.inside.machine c.reserve.new.self
+    subst (λ (x : SessionOf). Stands x.code.tree (session_of c.self.inside.code c.self.inside.setup c.make.new.self c.draw.new.choices.items)
+    (h ++ c.in_ok-made.made.call ∷ [])) c.self.view_is
+    (made_stands c.self.inside.code c.self.inside.setup c.self.inside.machine c.reserve.new.self
     c.in_ok-reserve.ensures.state c.self.inside.choices.items c.args.thread c.args.given
     c.in_ok-made.made c.self.invariant (judged d)
-    c.make.new.self c.make.ensures c.draw.new.choices.items c.draw.ensures t h (c.steps_alike.ensures t is_kept) stood
+    c.make.new.self c.make.ensures c.draw.new.choices.items c.draw.ensures c.self.inside.code.tree h c.steps_alike.ensures stood)

@@ -1,4 +1,4 @@
-use Rattle.bp_machine.proofs.Common.{◌∙◌, ap, map, sym, subst, bits_from, StandsFor, first_thread, FitsCode, AreFirstChoices}
+use Rattle.bp_machine.proofs.Common.{◌∙◌, ap, map, sym, subst, bits_from, first_thread, Fits, AreFirstChoices}
 use Rattle.bp_machine.proofs.SessionsInOrder.{stands_at_start, in_order_at_start, fits_anew, in_range_anew}
 use Rattle.bp_machine.proofs.sessions.Session.restart.Goals as goal
 
@@ -12,22 +12,22 @@ invariant_of-self-2 c =
     let choices = c.restart_choices.new.choices.items in
     let word = c.word_of-word.ensures ∙ ap bits_from c.bits.ensures in
     let threads = ap (map (first_thread c.self.inside.code)) c.entries.ensures in
-    let fitted = subst (λ y. FitsCode y.code y.setup) (sym x) c.requires in
-    let fits = fits_anew c.self.inside.code c.self.inside.setup z _ c.set_seed.ensures fitted in
+    let fitted = subst (λ y. Fits y.code.tree y.setup) (sym x) c.requires in
+    let fits = fits_anew c.self.inside.code.tree c.self.inside.setup z _ c.set_seed.ensures fitted in
     let first = subst (λ s. AreFirstChoices s choices) (sym c.set_seed.ensures) c.in_ok-restart_choices.ensures.first in
     let range = in_range_anew c.self.inside.setup z _ c.set_seed.ensures c.is_in_range.ensures in
     in_order_at_start c.self.inside.code z c.restart.new.self choices _ _
     c.restart.ensures word threads fits first range c.is_of_a_program.ensures
 
 pub returns-clause-stands : goal.returns-clause-stands
-returns-clause-stands c = λ t is.
+returns-clause-stands c =
     let x = c.self.view_is in
     let z = c.set_seed.new.self in
     let choices = c.restart_choices.new.choices.items in
     let word = c.word_of-word.ensures ∙ ap bits_from c.bits.ensures in
     let threads = ap (map (first_thread c.self.inside.code)) c.entries.ensures in
-    let fitted = subst (λ y. FitsCode y.code y.setup) (sym x) c.requires in
-    let fits = fits_anew c.self.inside.code c.self.inside.setup z _ c.set_seed.ensures fitted in
+    let fitted = subst (λ y. Fits y.code.tree y.setup) (sym x) c.requires in
+    let fits = fits_anew c.self.inside.code.tree c.self.inside.setup z _ c.set_seed.ensures fitted in
     let first = subst (λ s. AreFirstChoices s choices) (sym c.set_seed.ensures) c.in_ok-restart_choices.ensures.first in
-    stands_at_start c.self.inside.code z c.restart.new.self choices _ _
-    c.restart.ensures word threads fits first t (subst (λ y. StandsFor y.code t) (sym x) is)
+    rw (← x) (stands_at_start c.self.inside.code z c.restart.new.self choices _ _
+    c.restart.ensures word threads fits first c.is_of_a_program.ensures.stands)

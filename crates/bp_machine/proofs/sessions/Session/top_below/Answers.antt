@@ -6,8 +6,9 @@ pub returns-in_default : goal.returns-in_default
 returns-in_default c = search (rules, no_stack, drop_of_length-le)
 
 pub returns-in_default-below : goal.returns-in_default-below
-returns-in_default-below c = λ t h is stands.
+returns-in_default-below c = λ h stands.
     let x = c.args.self.now in
+    let t = x.code.tree in
     let n = c.args.returned in
     let guest = c.in-Some.guest.now.guest in
     let frames = stack_of (configuration_after t x.setup h) c.args.thread in
@@ -17,8 +18,9 @@ returns-in_default-below c = λ t h is stands.
     none_shown t (drop n guest.stack) (drop n frames) shown top
 
 pub returns : goal.returns
-returns c = λ t h is stands.
+returns c = λ h stands.
     let x = c.args.self.now in
+    let t = x.code.tree in
     let n = c.args.returned in
     let guest = c.in-Some.guest.now.guest in
     let frames = stack_of (configuration_after t x.setup h) c.args.thread in

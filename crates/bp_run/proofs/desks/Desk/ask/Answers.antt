@@ -1,4 +1,4 @@
-use Rattle.bp_run.proofs.Common.{rules, arith, refl, sym, ◌∙◌, ap, subst, ◌≡◌, ◌+◌, ◌<◌, List, [], ◌∷◌, ◌++◌, length, Err, Bool, true, false, not, None, length-append, Program, IsOfProgram, StandsFor, Call, is_finished, Stands, IsNextCall, threads, IsInRange, is_true, is_untrue, same_number, known_free, IsAsked, IsDeskRefusal, desk_of, seat_of}
+use Rattle.bp_run.proofs.Common.{rules, arith, refl, sym, ◌∙◌, ap, subst, ◌≡◌, ◌+◌, ◌<◌, List, [], ◌∷◌, ◌++◌, length, Err, Bool, true, false, not, None, length-append, Program, Call, is_finished, Stands, IsNextCall, threads, IsInRange, known_free, IsAsked, IsDeskRefusal, desk_of, seat_of}
 use Rattle.bp_run.proofs.GatheredBooks.{books_when_finished, books_when_open, few_made}
 use Rattle.bp_run.proofs.TurnsWithCall.{unfinished, desk_refusal, refused_where_shut, not_shut}
 use Rattle.bp_run.proofs.desks.Desk.ask.Given.{Over}
@@ -6,18 +6,15 @@ use Rattle.bp_run.proofs.desks.Desk.ask.Goals.{In_ok-call, After-audit}
 use Rattle.bp_run.proofs.desks.Desk.ask.Goals as goal
 
 -- what is known once the call was sent
-of_some : (g : Over) (c : In_ok-call g) → IsOfProgram c.self.inside.session.code
-of_some g c = rw (← c.code.ensures) c.is_of_a_program.ensures
-
 within : (g : Over) (c : In_ok-call g) → c.seat.inside.thread < threads c.self.inside.session.setup
 within g c = rw c.self.invariant.2 c.seat.invariant.0
 
-is_next : (g : Over) (c : In_ok-call g) (t : Program) → StandsFor c.self.inside.session.code t
-    → IsNextCall t c.self.inside.session.setup (c.self.inside.to.end.past) c.seat.inside.thread None c.in_ok-call.call
-is_next g c t is = c.in_ok-call.ensures.answer t is (c.self.invariant.0.stands t is)
+is_next : (g : Over) (c : In_ok-call g)
+    → IsNextCall c.self.inside.session.code.tree c.self.inside.session.setup (c.self.inside.to.end.past) c.seat.inside.thread None c.in_ok-call.call
+is_next g c = c.in_ok-call.ensures.answer c.self.invariant.0.stands
 
 line_is_open : (g : Over) (c : In_ok-call g) → is_finished c.self.inside.session.setup c.self.inside.to.end.past c.seat.inside.thread ≡ false
-line_is_open g c = unfinished c.self.inside.session c.self.inside.to.end.past c.seat.inside.thread (of_some g c) (within g c) c.in_ok-call.call (is_next g c)
+line_is_open g c = unfinished c.self.inside.session c.self.inside.to.end.past c.seat.inside.thread (within g c) c.in_ok-call.call (is_next g c)
 
 code_is : (g : Over) (c : After-audit g) → c.send.new.session.code ≡ c.self.inside.session.code
 code_is g c = c.send.ensures.kept.0
@@ -25,9 +22,9 @@ code_is g c = c.send.ensures.kept.0
 setup_is : (g : Over) (c : After-audit g) → c.send.new.session.setup ≡ c.self.inside.session.setup
 setup_is g c = c.send.ensures.kept.1
 
-stands : (g : Over) (c : After-audit g) (t : Program) → StandsFor c.self.inside.session.code t
-    → Stands t c.send.new.session (c.self.inside.to.end.past ++ c.in_ok-call.call ∷ [])
-stands g c t is = c.in_ok-call.ensures.stands t is (c.self.invariant.0.stands t is)
+stands : (g : Over) (c : After-audit g)
+    → Stands c.self.inside.session.code.tree c.send.new.session (c.self.inside.to.end.past ++ c.in_ok-call.call ∷ [])
+stands g c = c.in_ok-call.ensures.stands c.self.invariant.0.stands
 
 -- the history with the call
 abbrev now : (g : Over) → After-audit g → List Call
@@ -37,17 +34,16 @@ now g c = c.self.inside.to.end.past ++ c.in_ok-call.call ∷ []
 abbrev SaysFinished : (g : Over) → After-audit g → Bool → Type 0
 SaysFinished g c b = (t : Program) (h : List Call) → Stands t c.send.new.session h → b ≡ is_finished c.send.new.session.setup h c.seat.inside.thread
 
-finished_now : (g : Over) (c : After-audit g) (b : Bool) → IsOfProgram c.self.inside.session.code → SaysFinished g c b
+finished_now : (g : Over) (c : After-audit g) (b : Bool) → SaysFinished g c b
     → is_finished c.send.new.session.setup (now g c) c.seat.inside.thread ≡ b
-finished_now g c true of each = is_true c.self.inside.session.code _ of (λ t is. sym (each t (now g c) (stands g c t is)))
-finished_now g c false of each = is_untrue c.self.inside.session.code _ of (λ t is. sym (each t (now g c) (stands g c t is)))
+finished_now g c b each = sym (each _ (now g c) (stands g c))
 
-finished_as : (g : Over) (c : After-audit g) (b : Bool) → IsOfProgram c.self.inside.session.code → SaysFinished g c b
+finished_as : (g : Over) (c : After-audit g) (b : Bool) → SaysFinished g c b
     → is_finished c.self.inside.session.setup (now g c) c.in_ok-call.call.thread ≡ b
-finished_as g c b of each =
+finished_as g c b each =
     ap (λ i. is_finished c.self.inside.session.setup (now g c) i) c.in_ok-call.ensures.asked
     ∙ ap (λ s. is_finished s (now g c) c.seat.inside.thread) (sym (setup_is g c))
-    ∙ finished_now g c b of each
+    ∙ finished_now g c b each
 
 one_more : (g : Over) (c : After-audit g) → c.audit.new.self.total ≡ c.self.inside.made.total + 1
 one_more g c = c.audit.ensures.total ∙ c.add.ensures.total
@@ -56,18 +52,17 @@ pub returns-in_err-call-clause-finished : goal.returns-in_err-call-clause-finish
 returns-in_err-call-clause-finished g c =
     let x = c.self.inside.session in
     let h = c.self.inside.to.end.past in
-    let of : IsOfProgram x.code = rw (← c.code.ensures) c.is_of_a_program.ensures in
     let within : c.seat.inside.thread < threads x.setup = rw c.self.invariant.2 c.seat.invariant.0 in
     let is : c.from_residual.result ≡ Err c.in_err-call.field-0.0 = search rules in
     rw (← c.self.view_is, ← c.seat.view_is)
-    (refused_where_shut x h c.seat.inside.thread of within c.seat.inside.is_open (search rules) c.in_err-call.field-0.0
-    (λ t stands_for. c.in_err-call.ensures.answer t stands_for (c.self.invariant.0.stands t stands_for)) c.from_residual.result is)
+    (refused_where_shut x h c.seat.inside.thread within c.seat.inside.is_open (search rules) c.in_err-call.field-0.0
+    (c.in_err-call.ensures.answer c.self.invariant.0.stands) c.from_residual.result is)
 
 pub overflow_add-seat : goal.overflow_add-seat
 overflow_add-seat g c =
     let range : IsInRange c.self.inside.session.setup = rw (← c.setup.ensures) c.is_in_range.ensures in
     let few = few_made c.self.inside.session c.self.inside.to.end.past c.self.inside.made.total
-    c.self.inside.lines.total c.self.invariant.0 (of_some g (goal.at.overflow_add-seat g c).In_ok-call) range in
+    c.self.inside.lines.total c.self.invariant.0 range in
     let bound = c.audit.ensures.bound in
     let amount = c.add.ensures.amount in
     let total = c.add.ensures.total in
@@ -78,10 +73,10 @@ pub invariant_of-self-then-is_finished : goal.invariant_of-self-then-is_finished
 invariant_of-self-then-is_finished g c =
     let d = (goal.at.invariant_of-self-then-is_finished g c).After-audit in
     let k = (goal.at.invariant_of-self-then-is_finished g c).In_ok-call in
-    let finished = finished_as g d _ (of_some g k) c.is_finished.ensures ∙ c.if-is_finished.true in
+    let finished = finished_as g d _ c.is_finished.ensures ∙ c.if-is_finished.true in
     let books = books_when_finished c.self.inside.session c.send.new.session c.self.inside.to.end.past
     c.self.inside.made.total c.self.inside.lines.total c.seat.inside.thread c.in_ok-call.call
-    c.self.invariant.0 (of_some g k) (is_next g k) (stands g d) (code_is g d)
+    c.self.invariant.0 (is_next g k) (stands g d) (code_is g d)
     (setup_is g d) c.audit.new.self.total c.sub.new.self.total (one_more g d) c.sub.ensures.total finished in (
       rw c.in_ok-call.ensures.sent.0 books,
       search rules,
@@ -95,10 +90,10 @@ pub invariant_of-self-else-is_finished : goal.invariant_of-self-else-is_finished
 invariant_of-self-else-is_finished g c =
     let d = (goal.at.invariant_of-self-else-is_finished g c).After-audit in
     let k = (goal.at.invariant_of-self-else-is_finished g c).In_ok-call in
-    let unfinished = finished_as g d _ (of_some g k) c.is_finished.ensures ∙ c.if-is_finished.false in
+    let unfinished = finished_as g d _ c.is_finished.ensures ∙ c.if-is_finished.false in
     let books = books_when_open c.self.inside.session c.send.new.session c.self.inside.to.end.past
     c.self.inside.made.total c.self.inside.lines.total c.seat.inside.thread c.in_ok-call.call
-    c.self.invariant.0 (of_some g k) (is_next g k) (stands g d) (code_is g d) (setup_is g d) c.audit.new.self.total (one_more g d) unfinished in (
+    c.self.invariant.0 (is_next g k) (stands g d) (code_is g d) (setup_is g d) c.audit.new.self.total (one_more g d) unfinished in (
       rw c.in_ok-call.ensures.sent.0 books,
       search rules,
       rw (setup_is g d) c.self.invariant.2,
@@ -111,42 +106,40 @@ pub returns-then-is_finished-clause-finished : goal.returns-then-is_finished-cla
 returns-then-is_finished-clause-finished g c =
     let d = (goal.at.returns-then-is_finished-clause-finished g c).In_ok-call in
     rw (← c.self.view_is, ← c.seat.view_is)
-    (not_shut c.self.inside.session c.self.inside.to.end.past c.seat.inside.thread (of_some g d)
-    (within g d) c.seat.inside.is_open (search rules) _ (λ e. cc) (line_is_open g d))
+    (not_shut c.self.inside.session c.self.inside.to.end.past c.seat.inside.thread (within g d)
+    c.seat.inside.is_open (search rules) _ (λ e. cc) (line_is_open g d))
 
 pub returns-else-is_finished-clause-finished : goal.returns-else-is_finished-clause-finished
 returns-else-is_finished-clause-finished g c =
     let d = (goal.at.returns-else-is_finished-clause-finished g c).In_ok-call in
     rw (← c.self.view_is, ← c.seat.view_is)
-    (not_shut c.self.inside.session c.self.inside.to.end.past c.seat.inside.thread (of_some g d)
-    (within g d) c.seat.inside.is_open (search rules) _ (λ e. cc) (line_is_open g d))
+    (not_shut c.self.inside.session c.self.inside.to.end.past c.seat.inside.thread (within g d)
+    c.seat.inside.is_open (search rules) _ (λ e. cc) (line_is_open g d))
 
 pub returns-in_err-call-clause-answer : goal.returns-in_err-call-clause-answer
 returns-in_err-call-clause-answer g c =
     let x = c.self.inside.session in
     let h = c.self.inside.to.end.past in
-    let of : IsOfProgram x.code = rw (← c.code.ensures) c.is_of_a_program.ensures in
     let within : c.seat.inside.thread < threads x.setup = rw c.self.invariant.2 c.seat.invariant.0 in
     let is : c.from_residual.result ≡ Err c.in_err-call.field-0.0 = search rules in
     let free = known_free c.send.new.to in
     rw (is, c.in_err-call.ensures.same, ← c.seat.view_is)
     (subst (λ past. IsDeskRefusal (desk_of x past free) (seat_of c.seat.inside.thread c.seat.inside.calls c.seat.inside.is_open) c.in_err-call.field-0.0)
-    (sym c.in_err-call.ensures.unsent.0) (desk_refusal x h c.seat.inside.thread of within free c.seat.inside.calls
+    (sym c.in_err-call.ensures.unsent.0) (desk_refusal x h c.seat.inside.thread within free c.seat.inside.calls
     c.seat.inside.is_open (search rules) c.self.invariant.0.has_seed c.in_err-call.field-0.0
-    (λ e. same_number x.code free 0 of
-    (λ t is_for. c.send.ensures.full t is_for (c.self.invariant.0.stands t is_for) (search rules)))
-    (λ t stands_for. c.in_err-call.ensures.answer t stands_for (c.self.invariant.0.stands t stands_for))))
+    (λ e. c.send.ensures.full c.self.invariant.0.stands (search rules))
+    (c.in_err-call.ensures.answer c.self.invariant.0.stands)))
 
 -- what was asked, where the line is finished or not
-asked : (g : Over) (c : After-audit g) (b : Bool) → IsOfProgram c.self.inside.session.code
-    → ((t : Program) → StandsFor c.self.inside.session.code t
-    → IsNextCall t c.self.inside.session.setup (c.self.inside.to.end.past) c.seat.inside.thread None c.in_ok-call.call)
+asked : (g : Over) (c : After-audit g) (b : Bool)
+    → IsNextCall c.self.inside.session.code.tree c.self.inside.session.setup (c.self.inside.to.end.past) c.seat.inside.thread None
+    c.in_ok-call.call
     → SaysFinished g c b → (is_open : Bool) → is_open ≡ not b
     → IsAsked (desk_of c.self.inside.session c.self.inside.to.end.past (known_free c.self.inside.to))
     (desk_of c.send.new.session c.send.new.to.end.past (known_free c.send.new.to))
     (seat_of c.seat.inside.thread c.seat.inside.calls c.seat.inside.is_open)
     (seat_of c.seat.inside.thread (c.seat.inside.calls + 1) is_open) c.in_ok-call.call.reply
-asked g c b of next each is_open line =
+asked g c b next each is_open line =
     let sent : c.send.new.to.end.past ≡ now g c = c.in_ok-call.ensures.sent.0 in record {
       call = c.in_ok-call.call;
       next = next;
@@ -164,19 +157,19 @@ asked g c b of next each is_open line =
           let total = c.add.ensures.total in
           let own = c.seat.invariant.1.made_is in
           omega (arith, long, made, bound, amount, total, own);
-      line = line ∙ ap not (sym (finished_now g c b of each) ∙ ap (λ h. is_finished c.send.new.session.setup h c.seat.inside.thread) (sym sent));
+      line = line ∙ ap not (sym (finished_now g c b each) ∙ ap (λ h. is_finished c.send.new.session.setup h c.seat.inside.thread) (sym sent));
     }
 
 pub returns-then-is_finished-clause-answer : goal.returns-then-is_finished-clause-answer
 returns-then-is_finished-clause-answer g c =
     let d = (goal.at.returns-then-is_finished-clause-answer g c).After-audit in
     let k = (goal.at.returns-then-is_finished-clause-answer g c).In_ok-call in
-    rw (← c.self.view_is, ← c.seat.view_is) (asked g d _ (of_some g k) (is_next g k) c.is_finished.ensures false (ap not (sym c.if-is_finished.true)))
+    rw (← c.self.view_is, ← c.seat.view_is) (asked g d _ (is_next g k) c.is_finished.ensures false (ap not (sym c.if-is_finished.true)))
 
 pub returns-else-is_finished-clause-answer : goal.returns-else-is_finished-clause-answer
 returns-else-is_finished-clause-answer g c =
     let d = (goal.at.returns-else-is_finished-clause-answer g c).After-audit in
     let k = (goal.at.returns-else-is_finished-clause-answer g c).In_ok-call in
     let was : c.seat.inside.is_open ≡ true = search rules in
-    rw (← c.self.view_is, ← c.seat.view_is) (asked g d _ (of_some g k) (is_next g k) c.is_finished.ensures
+    rw (← c.self.view_is, ← c.seat.view_is) (asked g d _ (is_next g k) c.is_finished.ensures
     c.seat.inside.is_open (was ∙ ap not (sym c.if-is_finished.false)))

@@ -12,6 +12,6 @@ invariant_of-desk g c =
     let code : x.code ≡ c.args.code.now = c.in_ok-session.ensures.kept.0 in
     let many : c.from.result ≡ threads x.setup = search rules in
     let books = books_at_start x c.open-made.result.0.total c.add.new.self.total (rw (code, setup) c.requires.fits) (rw setup c.requires.seeded)
-    (λ t is. c.in_ok-session.ensures.stands t (rw (← code) is)) (rw setup c.is_in_range.ensures.one) c.open-made.ensures.total
+    (rw (← code) at c.in_ok-session.ensures.stands) (rw setup c.is_in_range.ensures.one) c.open-made.ensures.total
     (c.add.ensures.total ∙ total_is c.open-lines.result.0.total c.from.result (threads x.setup) c.open-lines.ensures.total many) in
     (rw c.kit.invariant.unsent books, search rules, search rules, search rules, code ∙ c.requires.code, setup ∙ c.requires.setup)

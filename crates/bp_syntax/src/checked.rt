@@ -1,0 +1,93 @@
+//! Lawful trees.
+ghost use Rattle.std.specs.Prelude.{◌≡◌, ◌≤◌, IfOk};
+ghost use Rattle.bp_language.specs.Ast.{procedures_size};
+ghost use Rattle.bp_language.specs.Faults.{IsLawful, HasFewNames, HasDistinctNames, HasSoundStatements};
+ghost use Rattle.bp_language.specs.Texts.{HasText};
+ghost use Rattle.bp_language.specs.declared.limits.TheConstants.{TEXT_LIMIT};
+
+use crate::trees::Tree;
+use std::alloc::AllocError;
+use std::marker::Model;
+
+/// A tree without faults. Copies share the tree.
+#[derive(Drop)]
+pub struct Checked {
+    tree: Tree,
+}
+
+impl Model for Checked {
+    ghost use Rattle.bp_language.specs.Ast.{Program};
+    ghost use Rattle.bp_language.specs.Codes.{coded_program};
+    ghost use Rattle.bp_language.specs.Faults.{IsLawful};
+
+    ghost Value = { Program };
+
+    ghost coded = { coded_program };
+
+    ghost view = { λ c. c.tree };
+
+    ghost invariant = { λ c. IsLawful c.tree };
+}
+
+impl Checked {
+    /// Keeps a tree that has no fault.
+    pub fn new(tree: Tree) -> Checked
+        requires { IsLawful tree }
+        ensures { result ≡ tree }
+    {
+        Checked { tree }
+    }
+
+    /// The tree, which has no fault.
+    pub fn tree(&self) -> &Tree
+        ensures value { result.now ≡ self.now }
+        ensures lawful { IsLawful self.now }
+    {
+        &self.tree
+    }
+
+    /// Returns a copy, which shares the tree. Fails only if too many share it.
+    pub fn try_copy(&self) -> Result<Checked, AllocError>
+        ensures { IfOk result (λ c. c ≡ self.now) }
+    {
+        let tree = self.tree.try_copy()?;
+        Ok(Checked { tree })
+    }
+
+    /// Law: the tree is that of some text.
+    pub fn is_of_a_text(&self)
+        ensures { HasText self.now }
+    {
+        self.tree.is_of_a_text();
+    }
+
+    /// Law: procedures, globals, and the formals and locals of each procedure keep to their limits.
+    pub fn has_few_names(&self)
+        ensures { HasFewNames self.now }
+    {
+        let _ = &self.tree;
+    }
+
+    /// Law: no two globals, no two procedures, and in a procedure no two labels and no two formals
+    /// or locals are spelled alike.
+    pub fn has_distinct_names(&self)
+        ensures { HasDistinctNames self.now }
+    {
+        let _ = &self.tree;
+    }
+
+    /// Law: each variable, label and procedure that a statement names is declared, an assignment
+    /// has targets, and an assignment and a call have as many values as they need.
+    pub fn has_sound_statements(&self)
+        ensures { HasSoundStatements self.now }
+    {
+        self.tree.is_of_a_text();
+    }
+
+    /// Law: there are no more statements and procedures together than a text has bytes.
+    pub fn has_few_statements(&self)
+        ensures { procedures_size self.now.procedures ≤ TEXT_LIMIT }
+    {
+        self.tree.has_few_statements();
+    }
+}
