@@ -15,6 +15,8 @@ mod sessions;
 mod short_texts;
 mod starts;
 mod texts;
+#[cfg(test)]
+mod without_memory;
 
 use std::sync::Wait;
 use std::thread::Threads;
