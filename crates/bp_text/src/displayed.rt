@@ -1,6 +1,6 @@
 //! Texts for a terminal: a question mark stands for each byte of a control character.
 //! Strings of JSON: a text as it stands between quotation marks.
-ghost use Rattle.std.specs.Prelude.{◌≡◌, ◌++◌, OnOk, ◌<◌, flat_map};
+ghost use Rattle.std.specs.Prelude.{◌≡◌, ◌++◌, ◌∷◌, [], true, OnOk, ◌<◌, flat_map};
 ghost use Rattle.std.specs.List.{slice_index};
 ghost use Rattle.bp_text.specs.Pieces.{control_bytes, control_size, displayed, displayed_byte, is_among, is_turning, NoControlIsDisplayed, hex_digit, string_byte, string_text, StringsAreReadBack};
 ghost use Rattle.bp_text.specs.Writing.{Given};
@@ -110,6 +110,26 @@ fn hex_digit(number: u8) -> u8
     }
 }
 
+/// Whether a byte stands for itself in a string.
+fn is_plain_byte(byte: u8) -> bool
+    ensures { result ≡ true → string_byte byte ≡ byte ∷ [] }
+{
+    byte >= b' ' && byte != DELETE && byte != b'"' && byte != b'\\'
+}
+
+/// Whether each byte of a text stands for itself in a string. Most texts are so, and are then added
+/// at once.
+fn is_plain(text: &[u8]) -> bool
+    ensures { result ≡ true → flat_map string_byte text.now ≡ text.now }
+{
+    for byte in text {
+        if !is_plain_byte(*byte) {
+            return false;
+        }
+    }
+    true
+}
+
 /// Writes a byte of a string.
 fn put_byte<W: Write>(byte: u8, sink: &mut Sink<'_, W>)
     ensures { Given W.contents sink.old sink.new (string_byte byte) }
@@ -174,7 +194,11 @@ pub(crate) fn push_string(line: &mut Vec<u8>, text: &[u8]) -> Result<(), AllocEr
     ensures { OnOk result (line.new.items ≡ line.old.items ++ string_text text.now) }
 {
     push_bytes(line, b"\"")?;
-    push_escaped(line, text)?;
+    if is_plain(text) {
+        push_bytes(line, text)?;
+    } else {
+        push_escaped(line, text)?;
+    }
     push_bytes(line, b"\"")?;
     Ok(())
 }
