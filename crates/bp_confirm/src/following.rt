@@ -179,6 +179,10 @@ fn first_difference(
         (SeesValues (configuration_after checked.now session.now.setup after) i line.now.values)
         (IsDifference checked.now session.now.setup after i line.now.values)) }
 {
+    // Most lines say no values, and then no top is looked up.
+    if line.values.is_empty() {
+        return Ok(None);
+    }
     let top = session.top(line.thread);
     let globals = session.globals();
     let Some(unseen) = first_unseen(checked, points, top, globals, line.values) else {
