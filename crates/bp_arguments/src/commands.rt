@@ -1,5 +1,5 @@
 //! The arguments of the command line.
-ghost use Rattle.std.specs.Prelude.{◌≡◌, false, ℕ, List, ◌∷◌, map, string_bytes, IfOk, MatchResult};
+ghost use Rattle.std.specs.Prelude.{◌≡◌, ◌∷◌, map, string_bytes, IfOk};
 ghost use Rattle.clap.specs.Words.{FailsBy, app_of, found_of, kind_of, rows_of, subcommand_of, subcommand_rows_of};
 ghost use Rattle.bp_arguments.specs.Commands.{btrun_app, program_app, arguments_fault, IsOurs, IsTaskOf, IsTaskOfCommand};
 ghost use Rattle.bp_arguments.specs.Misuses.{misuse_kind};

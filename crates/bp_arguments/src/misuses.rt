@@ -1,6 +1,6 @@
 //! What is wrong with options that `clap` takes one by one.
 ghost use Rattle.std.specs.Prelude.{◌≡◌, find, option_copied};
-ghost use Rattle.clap.specs.Words.{found_of, kind_of, rows_of, subcommand_rows_of};
+ghost use Rattle.clap.specs.Words.{found_of, rows_of, subcommand_rows_of};
 ghost use Rattle.bp_arguments.specs.Misuses.{are_on_line, backwards_in, is_from_line, is_on_line, misuse_in, misuse_kind, misuse_of, option_name};
 
 use crate::values::{given_long_number, has_bad_init, has_bad_verdict};

@@ -1,6 +1,6 @@
 //! What is said where the arguments ask for no task.
 //! The error of arguments, with the control characters of the arguments escaped.
-ghost use Rattle.std.specs.Prelude.{◌≡◌, ◌⊎◌, ℕ, List, ◌∷◌, map, string_bytes, IfOk, MatchResult};
+ghost use Rattle.std.specs.Prelude.{◌≡◌, ◌⊎◌, ◌∷◌, map, string_bytes, IfOk, MatchResult};
 ghost use Rattle.clap.specs.Words.{kind_of, subcommand_of};
 ghost use Rattle.bp_arguments.specs.Commands.{btrun_app, arguments_fault, IsTaskOf};
 ghost use Rattle.bp_arguments.specs.NoTasks.{EndsBy, IsOfKind, IsPrinted, IsRefused};

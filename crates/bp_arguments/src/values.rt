@@ -1,5 +1,5 @@
 //! The values of arguments.
-ghost use Rattle.std.specs.Prelude.{◌≡◌, codes, map, string_bytes, option_map, IfOk};
+ghost use Rattle.std.specs.Prelude.{◌≡◌, map, string_bytes, option_map, IfOk};
 ghost use Rattle.clap.specs.Words.{first_of, found_of, one_of, rows_of};
 ghost use Rattle.bp_machine.specs.declared.limits.TheConstants.{DEFAULT_CONTEXTS};
 ghost use Rattle.bp_arguments.specs.Values.{bits_given, bits_in, entries_in, expected_in, has_bad_init, has_bad_verdict, given_number, init_in, is_bits, is_init, named_in, names_given, number_or, start_in, value_of, verdict_named, IsFlagOf};

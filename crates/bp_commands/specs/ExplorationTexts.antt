@@ -4,7 +4,6 @@ use Rattle.std.specs.List.{concat}
 use Rattle.bp_text.specs.Pieces.{displayed, key_text, list_text, number_or_null, string_or_null, string_text, truth_text}
 use Rattle.bp_explore.specs.declared.explorations.Reason.{Reason}
 use Rattle.bp_explore.specs.declared.explorations.Reason.TheVariants.{States, Stopped, Memory}
-use Rattle.bp_commands.specs.declared.exploration_ends.EndFacts.{EndFacts}
 use Rattle.bp_commands.specs.declared.exploration_ends.Exploration.{Exploration}
 use Rattle.bp_commands.specs.declared.exploration_ends.FoundKind.{FoundKind}
 use Rattle.bp_commands.specs.declared.exploration_ends.FoundKind.TheVariants.{Nothing, Failure, Deadlock, Steps}

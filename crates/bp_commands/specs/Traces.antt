@@ -23,7 +23,6 @@ use Rattle.bp_messages.specs.declared.faults.Fault.TheVariants.{Memory, NoFailur
 use Rattle.bp_messages.specs.FaultTable.{fault_of_trace, fault_of_schedule}
 use Rattle.bp_messages.specs.ReplayLines.{shown_text}
 use Rattle.bp_flat.specs.Flat.{Flat}
-use Rattle.bp_flat.specs.StandsFor.{StandsFor}
 use Rattle.bp_commands.specs.Commands.{AnswersOf, Command, Pair}
 use Rattle.bp_commands.specs.Programs.{HasNoCode, IsNotOpened, IsOpened}
 

@@ -1,7 +1,7 @@
 //! Explanations of the faults of schedules.
 //! By which call of a schedule a thread is finished, and why.
 ghost use Rattle.std.specs.Prelude.{IfOk};
-ghost use Rattle.bp_advice.specs.Explanations.{ExplainsLine, IsExplanationOf};
+ghost use Rattle.bp_advice.specs.Explanations.{IsExplanationOf};
 ghost use Rattle.bp_explain.specs.Explained.{ExplainsSchedule};
 
 use crate::sources::{Source, lines_before, setup_of, source_of};

@@ -1,7 +1,7 @@
 //! Explanations of the faults of reported steps.
 //! Sentences on a line that is no step.
 ghost use Rattle.std.specs.Prelude.{IfOk};
-ghost use Rattle.bp_advice.specs.Explanations.{ExplainsLine, IsExplanationOf};
+ghost use Rattle.bp_advice.specs.Explanations.{IsExplanationOf};
 ghost use Rattle.bp_explain.specs.Explained.{ExplainsSteps};
 
 use crate::schedules::no_entry;

@@ -4,7 +4,6 @@ use Rattle.std.specs.Option.{option_or}
 use Rattle.bp_language.specs.Ast.{Procedure, Program}
 use Rattle.bp_language.specs.declared.limits.TheConstants.{MAX_GLOBALS}
 use Rattle.bp_flat.specs.Moves.{Configuration, procedure_named, start_of}
-use Rattle.bp_flat.specs.Flat.{Flat}
 use Rattle.bp_machine.specs.declared.limits.TheConstants.{MAX_THREADS, MAX_CONTEXTS, MAX_CALLS, DEFAULT_CONTEXTS, DEFAULT_CALLS}
 use Rattle.bp_machine.specs.declared.setup_faults.SetupFault.{SetupFault}
 use Rattle.bp_machine.specs.declared.setup_faults.SetupFault.TheVariants.{Threads, UnknownEntry, EntryHasFormals, InitLength, OutOfRange, Memory}

@@ -1,6 +1,6 @@
 //! Which assertion failed in the run that a test found, and where. It is written without memory.
 //! Which threads wait at the end of a run, and where. They are written without memory.
-ghost use Rattle.std.specs.Prelude.{◌≡◌, [], codes, option_map};
+ghost use Rattle.std.specs.Prelude.{◌≡◌, [], option_map};
 ghost use Rattle.bp_text.specs.Writing.{Given};
 ghost use Rattle.bp_messages.specs.Summaries.{failure_member, failed_assertion, failure_text, statement_of, position_of, wait_object, wait_objects, wait_text, waits_member, waits_text};
 

@@ -11,7 +11,6 @@ use Rattle.rtrb.specs.Ring.{sent, known_free, received}
 use Rattle.std.specs.Coded.{Coded, code_by, coded×, coded_ℕ, coded_list}
 use Rattle.std.specs.List.{range_with_len}
 use Rattle.std.specs.Option.{option_map}
-use Rattle.bp_language.specs.Ast.{Program}
 use Rattle.bp_flat.specs.Flat.{Flat, flat}
 use Rattle.bp_flat.specs.Codes.{coded_flat}
 use Rattle.bp_machine.specs.Setups.{SetupOf, setup_of, Fits}

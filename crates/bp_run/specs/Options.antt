@@ -1,5 +1,5 @@
 -- The setup of a program under the options of a run, and when they are refused.
-use Rattle.std.specs.Prelude.{◌≡◌, ◌<◌, ◌≤◌, ℕ, ◌==◌, Bool, true, ◌||◌, nat_lt, [], ◌∷◌, Option, None, Some, is_some}
+use Rattle.std.specs.Prelude.{◌≡◌, ◌<◌, ◌≤◌, ◌==◌, Bool, true, ◌||◌, nat_lt, [], ◌∷◌, Option, None, Some, is_some}
 use Rattle.bp_language.specs.Ast.{Program}
 use Rattle.bp_flat.specs.Flat.{Flat}
 use Rattle.bp_machine.specs.declared.setup_faults.SetupFault.{SetupFault}

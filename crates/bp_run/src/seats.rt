@@ -24,7 +24,7 @@ pub struct Seat<C: Calls, O: Ledger> {
 
 impl<C: Calls, O: Ledger> Model for Seat<C, O> {
     ghost use Rattle.std.specs.Prelude.{◌≡◌, ◌<◌};
-    ghost use Rattle.bp_run.specs.Desks.{SeatOf, seat_of, open_amount, HasShares};
+    ghost use Rattle.bp_run.specs.Desks.{SeatOf, seat_of, HasShares};
 
     ghost Value = { SeatOf };
 

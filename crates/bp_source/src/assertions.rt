@@ -1,7 +1,6 @@
 //! What decides the assertions and the assumptions of a program, and the variables that a decider
 //! reads.
-ghost use Rattle.std.specs.Prelude.{◌≡◌, ◌++◌, List, Some, ℕ, map, option_map, slice_get, IfOk, OnOk};
-ghost use Rattle.bp_language.specs.Ast.{Procedure};
+ghost use Rattle.std.specs.Prelude.{◌≡◌, ◌++◌, Some, map, option_map, slice_get, IfOk, OnOk};
 ghost use Rattle.bp_language.specs.Blocks.{block_of, statement_of};
 ghost use Rattle.bp_language.specs.Views.{decision_of, expression_of};
 ghost use Rattle.bp_flat.specs.StandsFor.{places_of, Place};

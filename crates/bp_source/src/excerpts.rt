@@ -1,5 +1,5 @@
 //! The text of a statement on one line.
-ghost use Rattle.std.specs.Prelude.{◌≡◌, ◌++◌, ◌∷◌, [], ◌≤◌, ◌<◌, length, IfOk, OnOk, MatchOption, bytes_eq, codes};
+ghost use Rattle.std.specs.Prelude.{◌≡◌, ◌++◌, ◌∷◌, [], ◌≤◌, ◌<◌, length, IfOk, OnOk, MatchOption};
 ghost use Rattle.bp_text.specs.Lines.{AddsOneLine, IsOneLine};
 ghost use Rattle.bp_source.specs.SourceStatements.{is_choice, is_ending, is_gap, lexeme_text, IsAtEnd, IsStatement, Takes};
 

@@ -1,6 +1,6 @@
 //! Runs: histories of a seed and of the schedule that is drawn by it.
 //! Keys of runs, by which runs with the same steps are told.
-ghost use Rattle.std.specs.Prelude.{◌≡◌, ◌<◌, ◌+◌, ◌++◌, ◌∷◌, ◌||◌, [], ℕ, List, true, length, Some, IfOk, OnOk, take};
+ghost use Rattle.std.specs.Prelude.{◌≡◌, ◌<◌, ◌+◌, ◌++◌, ◌∷◌, ◌||◌, [], ℕ, true, length, Some, IfOk, OnOk, take};
 ghost use Rattle.bp_machine.specs.declared.calls.Call.{Call as Answered};
 ghost use Rattle.bp_machine.specs.Histories.{configuration_after, outcome_of, is_failure};
 ghost use Rattle.bp_machine.specs.Sessions.{Stands, AfterEach};

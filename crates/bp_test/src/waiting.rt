@@ -1,7 +1,6 @@
 //! Whether a thread may step, and where threads wait.
 //! Where an assertion failed.
-ghost use Rattle.std.specs.Prelude.{◌≡◌, ◌<◌, ◌↔◌, List, true, false, IsTrue, IfOk, MatchOption, IfNone, IfSome};
-ghost use Rattle.bp_machine.specs.declared.calls.Call.{Call as Answered};
+ghost use Rattle.std.specs.Prelude.{◌≡◌, ◌<◌, ◌↔◌, true, false, IsTrue, IfOk, MatchOption, IfNone, IfSome};
 ghost use Rattle.bp_machine.specs.Histories.{configuration_after, outcome_of};
 ghost use Rattle.bp_machine.specs.Sessions.{AfterEach};
 ghost use Rattle.bp_machine.specs.Setups.{threads};

@@ -132,7 +132,7 @@ HasNoBodyLine v n last text =
 
 -- How the line that ends a trace is read: a device of the reader, which no public clause names.
 
--- a decimal of any length is a zero, or has digits of which the first is none
+-- what has been read of a decimal after one more byte, if a decimal may begin so
 abbrev pub more_digits : ℕ → Option DecimalState
 more_digits byte = if is_ascii_digit byte then Some Digits else None
 
@@ -146,6 +146,7 @@ is_whole Start = false
 is_whole Zero = true
 is_whole Digits = true
 
+-- a decimal of any length is a zero, or has digits of which the first is none
 abbrev pub any_decimal : Format (List ℕ)
 any_decimal = Span after_digit is_whole Start
 

@@ -1,7 +1,6 @@
 //! Driving a program by a schedule.
 //! Schedules: lines that name the thread of the next call and its choice bit.
-ghost use Rattle.std.specs.Prelude.{◌≡◌, ◌<◌, ◌≤◌, ℕ, List, Option, None, [], length, IfOk, IfErr, OnOk, MatchResult, drop, decimal, MatchOption};
-ghost use Rattle.bp_language.specs.Ast.{Program};
+ghost use Rattle.std.specs.Prelude.{◌≡◌, ◌<◌, ◌≤◌, ℕ, List, Option, None, [], length, IfOk, IfErr, OnOk, MatchResult, drop};
 ghost use Rattle.bp_machine.specs.declared.limits.TheConstants.{MAX_THREADS};
 ghost use Rattle.bp_machine.specs.Setups.{Fits};
 ghost use Rattle.bp_machine.specs.Sessions.{Stands};

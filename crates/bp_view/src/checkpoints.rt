@@ -8,7 +8,7 @@ ghost use Rattle.bp_machine.specs.Setups.{Fits};
 ghost use Rattle.bp_machine.specs.Sessions.{Stands, last_thread, AfterEach};
 ghost use Rattle.bp_machine.specs.Histories.{IsLeastWithin, granted_threads, is_granted};
 ghost use Rattle.bp_trace.specs.Replays.{IsReplayed, IsReplayRefusal, IsOwnCall, IsOwnRefusal};
-ghost use Rattle.bp_view.specs.CallFacts.{IsCheckpoint, IsCheckpointAfter, HasCounted, is_other, is_switch, IsReplayedCall};
+ghost use Rattle.bp_view.specs.CallFacts.{IsCheckpointAfter, HasCounted, is_other, is_switch, IsReplayedCall};
 
 use bp_flat::Code;
 use bp_machine::{AskFault, Call, Reply, Session, Setup, Top};

@@ -4,7 +4,7 @@ ghost use Rattle.bp_language.specs.Ast.{Program};
 ghost use Rattle.bp_language.specs.Views.{decision_of};
 ghost use Rattle.bp_flat.specs.InstrEffects.{store_of};
 ghost use Rattle.bp_flat.specs.Moves.{Configuration, frame_store};
-ghost use Rattle.bp_flat.specs.StandsFor.{named_store, StandsFor};
+ghost use Rattle.bp_flat.specs.StandsFor.{named_store};
 ghost use Rattle.bp_machine.specs.declared.calls.Call.{Call as Answered};
 ghost use Rattle.bp_machine.specs.Histories.{configuration_after, outcome_of};
 ghost use Rattle.bp_machine.specs.Sessions.{Stands};

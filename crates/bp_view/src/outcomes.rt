@@ -1,7 +1,5 @@
 //! The text of the foot of a view, from its facts: the report of the history.
 ghost use Rattle.std.specs.Prelude.{◌≡◌, ℕ, List, map, option_map, IfOk};
-ghost use Rattle.bp_language.specs.Ast.{Program};
-ghost use Rattle.bp_flat.specs.StandsFor.{StandsFor};
 ghost use Rattle.bp_machine.specs.declared.calls.Call.{Call as Answered};
 ghost use Rattle.bp_machine.specs.Histories.{outcome_of};
 ghost use Rattle.bp_machine.specs.Sessions.{Stands};

@@ -1,6 +1,5 @@
 //! The contexts of a history: where the steps of each begin and end.
-ghost use Rattle.std.specs.Prelude.{◌≡◌, ◌++◌, ◌∷◌, [], suc, List, length, MatchResult, OnOk};
-ghost use Rattle.bp_machine.specs.declared.calls.Call.{Call as Answered};
+ghost use Rattle.std.specs.Prelude.{◌≡◌, ◌++◌, ◌∷◌, [], suc, length, MatchResult, OnOk};
 ghost use Rattle.bp_machine.specs.Histories.{configuration_after};
 ghost use Rattle.bp_machine.specs.Sessions.{Stands, AfterEach};
 ghost use Rattle.bp_machine.specs.Setups.{Fits};

@@ -1,8 +1,6 @@
 //! What is shown of a state, as plain facts.
 //! How a thread stands after a history.
 ghost use Rattle.std.specs.Prelude.{◌≡◌, ◌<◌, ℕ, List, Some, length, map, slice_get, IfOk, IsSomeAnd};
-ghost use Rattle.bp_language.specs.Ast.{Program};
-ghost use Rattle.bp_flat.specs.StandsFor.{StandsFor};
 ghost use Rattle.bp_flat.specs.Moves.{Frame};
 ghost use Rattle.bp_machine.specs.Histories.{calls_of_thread, stack_of, configuration_after};
 ghost use Rattle.bp_machine.specs.Sessions.{Stands, AfterEach};

@@ -1,4 +1,4 @@
-//! The calls of docs/calling.md, on a race of two threads.
+//! The calls of docs/dev/calling.md, on a race of two threads.
 
 use crate::{drives, runs, sessions, texts};
 use std::io;

@@ -1,7 +1,5 @@
 //! Whether a thread waits in a session, and whether all that are left do.
 ghost use Rattle.std.specs.Prelude.{◌≡◌, ◌↔◌, IsTrue, ℕ, List, Some, slice_get};
-ghost use Rattle.bp_language.specs.Ast.{Program};
-ghost use Rattle.bp_flat.specs.StandsFor.{StandsFor};
 ghost use Rattle.bp_machine.specs.declared.calls.Call.{Call as Answered};
 ghost use Rattle.bp_machine.specs.Runs.{has_frames, IsDeadlocked, finds_zero, is_blocked, waits};
 ghost use Rattle.bp_machine.specs.Histories.{configuration_after};
