@@ -1,5 +1,6 @@
 """What the scripts of .ci/ share: the program under test, runs of it, the report of each test, and the closing count.
 It is no test itself."""
+import contextlib
 import os
 import re
 import subprocess
@@ -29,6 +30,17 @@ def run(words, **how):
     if how.get("input") is None:
         how["stdin"] = subprocess.DEVNULL
     return subprocess.run(words, **{"stdout": subprocess.PIPE, "stderr": subprocess.PIPE, "timeout": SECONDS, **how})
+
+
+@contextlib.contextmanager
+def shell_with(program):
+    """What the environment of a shell is in which `btrun` is the program, `btrun-page` and `btrun-suite` are the scripts of
+    that name in the archive of `dist/make`, and TOP is the top of the repository."""
+    commands = {"btrun": program, "btrun-page": TOP / "page/make", "btrun-suite": TOP / "suite/run"}
+    with tempfile.TemporaryDirectory() as binaries:
+        for name, target in commands.items():
+            (Path(binaries) / name).symlink_to(target)
+        yield {**os.environ, "PATH": "%s:%s" % (binaries, os.environ["PATH"]), "TOP": str(TOP)}
 
 
 def lost_paths(page, top=TOP):
