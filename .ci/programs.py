@@ -1,4 +1,4 @@
-"""Random concurrent Boolean programs, and a machine that plays them. It is no test itself.
+"""Random concurrent Boolean programs, a machine that plays them, and a generator of choice bits. It is no test itself.
 
 A program is a list of instructions beside its text. Both come from docs/language.md alone, so a
 script can judge by them what `btrun` says."""
@@ -12,6 +12,9 @@ NAMES = ["go", "x", "{a = b}", "kept", "on"]
 ENTRIES = ["one", "two"]
 CALLEE = "deep"
 DEEPEST = 2
+WORD = 2**64
+# the stream of the choice bits of thread 0
+BITS_STREAM = 54
 OPERATORS = {
     "&": lambda a, b: a & b,
     "|": lambda a, b: a | b,
@@ -23,7 +26,7 @@ OPERATORS = {
 # `place` is the line and the column of the statement, None at a procedure's end. `next` and `other`
 # are numbers of instructions, `other` that for a condition of 0. `reads` has functions from the
 # values of variables to those of the expressions, and is None for a `?`.
-Instruction = namedtuple("Instruction", "kind place next other reads targets")
+Instruction = namedtuple("Instruction", "kind place next other reads targets", defaults=(None, None, None, None, ()))
 
 # A stack has its frames from the top. A frame has the number of the instruction at which it goes
 # on, and the values of its locals. `failed` is the thread whose assertion failed, or None.
@@ -156,14 +159,14 @@ class Writer:
 class Program:
     """A program with its threads: its text, where they stand, and what a step of each does."""
 
-    def __init__(self, draw):
-        writer = Writer(draw)
-        self.text, self.code, self.entries = writer.text, writer.code, writer.entries
+    def __init__(self, text, code, entries, globals_, procedures):
+        self.text, self.code, self.entries = text, code, entries
+        self.globals, self.procedures = globals_, procedures
 
     def start(self, entries, bits):
-        locals_ = {name: dict.fromkeys(PROCEDURES[name][1], 0) for name in entries}
+        locals_ = {name: dict.fromkeys(self.procedures[name][1], 0) for name in entries}
         stacks = tuple((frame(self.entries[name], locals_[name]),) for name in entries)
-        return State(tuple(bits), stacks, None)
+        return State(tuple(zip(self.globals, bits)), stacks, None)
 
     def next(self, state, thread):
         """The instruction at which a thread stands, or None if it has ended."""
@@ -191,15 +194,20 @@ class Program:
         if it.kind == "return":
             return with_stack(state, thread, below)
         on = it.other if it.kind == "branch" and not found[0] else it.next
-        kept, globals_ = dict(top.locals), dict(zip(GLOBALS, state.globals))
+        kept, globals_ = dict(top.locals), dict(state.globals)
         for name, bit in zip(it.targets, found):
             (kept if name in kept else globals_)[name] = bit
         frames = [frame(on, kept), *below]
         if it.kind == "call":
-            formals, declared = PROCEDURES[CALLEE]
+            formals, declared = self.procedures[CALLEE]
             given = {**dict(zip(formals, found)), **dict.fromkeys(declared, 0)}
             frames.insert(0, frame(self.entries[CALLEE], given))
-        return with_stack(state._replace(globals=tuple(globals_.values())), thread, frames)
+        return with_stack(state._replace(globals=tuple(globals_.items())), thread, frames)
+
+
+def random_program(draw):
+    writer = Writer(draw)
+    return Program(writer.text, writer.code, writer.entries, GLOBALS, PROCEDURES)
 
 
 def frame(number, locals_):
@@ -215,4 +223,37 @@ def with_stack(state, thread, frames):
 def values(state, thread):
     """The values of the variables that a thread sees: a local hides a global."""
     stack = state.stacks[thread]
-    return {**dict(zip(GLOBALS, state.globals)), **(dict(stack[0].locals) if stack else {})}
+    return {**dict(state.globals), **(dict(stack[0].locals) if stack else {})}
+
+
+class Generator:
+    """The numbers of PCG XSH RR 64/32 (O'Neill) for a seed and a stream."""
+
+    def __init__(self, seed, stream):
+        self.increment = 2 * stream + 1
+        self.state = (seed + self.increment) % WORD
+        self.step()
+
+    def step(self):
+        self.state = (self.state * 6364136223846793005 + self.increment) % WORD
+
+    def word(self):
+        state, turn = self.state, self.state >> 59
+        self.step()
+        word = (state >> 18 ^ state) >> 27 & 0xFFFFFFFF
+        return (word >> turn | word << 32 - turn) & 0xFFFFFFFF
+
+    def below(self, count):
+        word = self.word()
+        return word % count if count else 0
+
+    def bits(self):
+        """The bits of each word, from the lowest."""
+        while True:
+            word = self.word()
+            yield from (word >> place & 1 for place in range(32))
+
+
+def choice_bits(seed, thread):
+    """The choice bits of a thread."""
+    return Generator(seed, BITS_STREAM + thread).bits()
