@@ -1,6 +1,6 @@
 //! The command `run`. It is no `ProgramCommand`: what starts threads and the gate of a run are
 //! known in its workers as a function's own parameters alone.
-ghost use Rattle.bp_commands.specs.Commands.{Answers, AnswersOf, text_alone};
+ghost use Rattle.bp_commands.specs.Commands.{Answers, text_alone};
 ghost use Rattle.bp_commands.specs.FaultReports.{AreReadOr};
 ghost use Rattle.bp_commands.specs.Runs.{runs};
 
@@ -26,20 +26,26 @@ pub struct Run<'a, T, G> {
     pub task: &'a RunTask<'a>,
 }
 
-/// Runs the program of a text as it is asked. The trace of the history that the workers make is
-/// written while it grows.
-fn run_text<T: Threads + Wait + Clock + Sync, G: Gate, W: Write>(
+/// Reads a program text, and runs its program as it is asked. The trace of the history that the
+/// workers make is written while it grows. At most 65,537 bytes are read.
+pub fn run_program<T: Threads + Wait + Clock + Sync, G: Gate, R: Read, W: Write>(
     alloc: Global,
     asked: &Run<'_, T, G>,
-    text: &[u8],
+    program: &mut Source<R>,
     out: &mut W,
 ) -> Result<RunReport, Fault>
-    ensures { let task = asked.now.task.now in
-        AnswersOf (runs task.options task.named) text.now
+    ensures answers { let inputs = text_alone
+        (R.remaining program.old.reader) (R.remaining program.new.reader) in
+        let task = asked.now.task.now in
+        Answers (runs task.options task.named) inputs
         (W.contents out.old) (W.contents out.new) result }
+    ensures holds { let inputs = text_alone
+        (R.remaining program.old.reader) (R.remaining program.new.reader) in
+        AreReadOr inputs program.new.bytes.items result }
 {
+    read_text(alloc, program)?;
     let (options, named) = (&asked.task.options, &asked.task.named);
-    let opened = open(alloc, text, &options.start, named)?;
+    let opened = open(alloc, &program.bytes, &options.start, named)?;
     if has_bad_turn_or_ring(options) {
         return Err(Fault::Setup(SetupFault::OutOfRange));
     }
@@ -57,24 +63,4 @@ fn run_text<T: Threads + Wait + Clock + Sync, G: Gate, W: Write>(
         out,
     )?;
     Ok(report)
-}
-
-/// Reads a program text, and runs its program as `run_text` does. At most 65,537 bytes are read.
-pub fn run_program<T: Threads + Wait + Clock + Sync, G: Gate, R: Read, W: Write>(
-    alloc: Global,
-    asked: &Run<'_, T, G>,
-    program: &mut Source<R>,
-    out: &mut W,
-) -> Result<RunReport, Fault>
-    ensures answers { let inputs = text_alone
-        (R.remaining program.old.reader) (R.remaining program.new.reader) in
-        let task = asked.now.task.now in
-        Answers (runs task.options task.named) inputs
-        (W.contents out.old) (W.contents out.new) result }
-    ensures holds { let inputs = text_alone
-        (R.remaining program.old.reader) (R.remaining program.new.reader) in
-        AreReadOr inputs program.new.bytes.items result }
-{
-    read_text(alloc, program)?;
-    run_text(alloc, asked, &program.bytes, out)
 }
