@@ -1,5 +1,5 @@
 //! Texts in memory that grow by pieces. A refusal of memory sticks, and is answered at the end.
-ghost use Rattle.std.specs.Prelude.{◌≡◌, ◌++◌, ◌∷◌, [], ℕ, List, false, flat_map, true, IfOk, length, take, OnOk};
+ghost use Rattle.std.specs.Prelude.{◌≡◌, ◌<◌, ◌++◌, ◌∷◌, [], ℕ, List, decimal, false, flat_map, true, IfOk, length, take, OnOk};
 ghost use Rattle.bp_text.specs.Pieces.{piece_text};
 ghost use Rattle.bp_view.specs.Buffers.{Grown, HasTaken, IsEmpty, IsLed, IsListed, then};
 ghost use Rattle.bp_view.specs.declared.buffers.Buffer.{Buffer as Given};
@@ -41,9 +41,33 @@ impl Buffer {
         self.refused = false;
     }
 
-    /// Adds a piece.
+    /// Adds the decimal of a number below 10.
+    #[inline(always)]
+    fn put_digit(&mut self, digit: u8)
+        requires { digit < 10 }
+        ensures { Grown self.old self.new (decimal digit) }
+    {
+        let Ok(()) = self.bytes.push(b'0' + digit) else {
+            self.refused = true;
+            return;
+        };
+    }
+
+    /// Adds a piece. Most numbers of a call have one digit, which is pushed: to format it takes five
+    /// times as long.
     #[inline(always)]
     pub(crate) fn put(&mut self, piece: Piece<'_>)
+        ensures { Grown self.old self.new (piece_text piece.entry) }
+    {
+        match piece {
+            Piece::Number(n) | Piece::NumberOrNull(Some(n)) if n < 10 => self.put_digit(n as u8),
+            _ => self.put_other(piece),
+        }
+    }
+
+    /// Adds any piece.
+    #[inline(always)]
+    fn put_other(&mut self, piece: Piece<'_>)
         ensures { Grown self.old self.new (piece_text piece.entry) }
     {
         let Ok(()) = push_piece(&mut self.bytes, piece) else {

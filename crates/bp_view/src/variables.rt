@@ -1,8 +1,8 @@
 //! The names of the bits of a store, and their values.
 //! The object of a call in JSON, from its facts.
-ghost use Rattle.std.specs.Prelude.{◌≡◌, ◌<◌, ◌+◌, ◌^◌, ◌∷◌, [], codes, length, option_map, flat_map};
+ghost use Rattle.std.specs.Prelude.{◌≡◌, ◌<◌, ◌+◌, ◌^◌, ◌++◌, ◌∷◌, [], codes, length, option_map, flat_map};
 ghost use Rattle.std.specs.List.{concat};
-ghost use Rattle.bp_text.specs.Pieces.{bit_text};
+ghost use Rattle.bp_text.specs.Pieces.{bit_or_null, bit_text, key_text, string_text, truth_text};
 ghost use Rattle.bp_flat.specs.InstrEffects.{bits_of};
 ghost use Rattle.bp_flat.specs.StandsFor.{valuation_of};
 ghost use Rattle.bp_tasks.specs.declared.options.ViewFormat.TheVariants.{Json};
@@ -18,7 +18,7 @@ use bp_language::{Name, Proc};
 use bp_machine::Reply;
 use bp_source::{column_of, line_of, wide};
 use bp_tasks::ViewFormat;
-use bp_text::Piece::{Bit, BitOrNull, Bytes, Number, NumberOrNull, Text, TextOrNull, Truth};
+use bp_text::Piece::{Bit, Bytes, Number, NumberOrNull, Text, TextOrNull};
 
 /// Adds the name of a local's procedure and a dot; nothing for a global.
 fn push_owner(line: &mut Buffer, owner: Option<&Proc>)
@@ -109,18 +109,40 @@ pub(crate) fn push_values(
     }
 }
 
-/// What is said of a reply.
-fn reply_name(reply: Reply) -> &'static [u8]
-    ensures { result.now ≡ reply_name reply }
+/// What is said of a reply, as a string of JSON.
+fn reply_text(reply: Reply) -> &'static [u8]
+    ensures { result.now ≡ string_text (reply_name reply) }
 {
     match reply {
-        Reply::Stopped => b"stopped",
-        Reply::Ended => b"ended",
-        Reply::NoContexts => b"out_of_contexts",
-        Reply::Full => b"stack_full",
-        Reply::Blocked => b"waits",
-        Reply::Failed => b"failed",
-        Reply::Stepped => b"stepped",
+        Reply::Stopped => b"\"stopped\"",
+        Reply::Ended => b"\"ended\"",
+        Reply::NoContexts => b"\"out_of_contexts\"",
+        Reply::Full => b"\"stack_full\"",
+        Reply::Blocked => b"\"waits\"",
+        Reply::Failed => b"\"failed\"",
+        Reply::Stepped => b"\"stepped\"",
+    }
+}
+
+/// The member that says whether a step is a switch.
+fn switch_member(is_switch: bool) -> &'static [u8]
+    ensures { result.now ≡ key_text (codes "switch") ++ truth_text is_switch }
+{
+    if is_switch {
+        b",\"switch\":true"
+    } else {
+        b",\"switch\":false"
+    }
+}
+
+/// The member that says a choice.
+fn choice_member(choice: Option<bool>) -> &'static [u8]
+    ensures { result.now ≡ key_text (codes "choice") ++ bit_or_null choice }
+{
+    match choice {
+        Some(true) => b",\"choice\":1",
+        Some(false) => b",\"choice\":0",
+        None => b",\"choice\":null",
     }
 }
 
@@ -139,9 +161,8 @@ fn push_members(line: &mut Buffer, facts: &CallFacts<'_>)
         Bytes(b",\"context\":"),
         NumberOrNull(wide(facts.context)),
     );
-    line.put_four(
-        Bytes(b",\"switch\":"),
-        Truth(facts.is_switch),
+    line.put_three(
+        Bytes(switch_member(facts.is_switch)),
         Bytes(b",\"line\":"),
         NumberOrNull(line_of(facts.next.position)),
     );
@@ -157,11 +178,10 @@ fn push_members(line: &mut Buffer, facts: &CallFacts<'_>)
         Bytes(b",\"statement\":"),
         TextOrNull(facts.next.text),
     );
-    line.put_four(
-        Bytes(b",\"choice\":"),
-        BitOrNull(facts.choice()),
+    line.put_three(
+        Bytes(choice_member(facts.choice())),
         Bytes(b",\"reply\":"),
-        Text(reply_name(facts.call.reply)),
+        Bytes(reply_text(facts.call.reply)),
     )
 }
 
