@@ -34,8 +34,8 @@ def run(words, **how):
 
 @contextlib.contextmanager
 def shell_with(program):
-    """What the environment of a shell is in which `btrun` is the program, `btrun-page` and `btrun-suite` are the scripts of
-    that name in the archive of `dist/make`, and TOP is the top of the repository."""
+    """Yields the environment of a shell in which `btrun` is the program, `btrun-page` and `btrun-suite` are the scripts of
+    these names in the archive of `dist/make`, and TOP is the top of the repository."""
     commands = {"btrun": program, "btrun-page": TOP / "page/make", "btrun-suite": TOP / "suite/run"}
     with tempfile.TemporaryDirectory() as binaries:
         for name, target in commands.items():
