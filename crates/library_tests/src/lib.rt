@@ -1,12 +1,19 @@
-//! Tests of public calls of several crates: what no command shows. They stand here, and not in
-//! those crates, since a crate with tests is proved once more with them.
+//! Tests of public calls: what no command shows. They stand here, and not in the crates that they
+//! test, since a crate with tests is proved once more with them. A file is named for that crate,
+//! without `bp_`; `growths` has those of several.
 #![tactic(auto)]
 
+#[cfg(test)]
+mod code;
 #[cfg(test)]
 mod common;
 #[cfg(test)]
 mod growths;
 #[cfg(test)]
-mod runs;
+mod machine;
 #[cfg(test)]
-mod texts;
+mod ready;
+#[cfg(test)]
+mod run;
+#[cfg(test)]
+mod trace;

@@ -3,8 +3,8 @@
 ghost use Rattle.std.specs.Prelude.{◌≡◌, None};
 ghost use Rattle.bp_machine.specs.Setups.{Fits};
 
-use super::ready::{begin, program, setup, tell, wants};
 use crate::common::mains;
+use crate::ready::{begin, program, setup, tell, wants};
 use bp_code::{Checked, Code, check, compile};
 use bp_machine::Setup;
 use bp_syntax::{Tree, read};

@@ -1,8 +1,8 @@
 //! Calls that take no memory. Each test prints a line once all is ready; `.ci/growths` refuses each
 //! growth after it, and none may be asked for.
-use super::boards::{Way, makes_calls};
-use super::ready::{begin, calls, program, setup, wants};
 use crate::common::code_of;
+use crate::ready::{begin, calls, program, setup, wants};
+use crate::run::growths::boards::{Way, makes_calls};
 use bp_code::{Code, Kind, list, put};
 use bp_machine::{Call, Choices, Outcome, Reply, Report, Session, Setup, open_lines};
 use bp_trace::{write_call, write_end, write_head, write_trace, write_trace2};

@@ -4,8 +4,8 @@ ghost use Rattle.bp_machine.specs.Setups.{threads, Fits};
 ghost use Rattle.bp_run.specs.Desks.{IsNamed};
 ghost use Rattle.bp_run.specs.Gatherings.{AreOnePerThread};
 
-use super::ready::{begin, calls, setup, tell, wants};
 use crate::common::code_of;
+use crate::ready::{begin, calls, setup, tell, wants};
 use bp_code::Code;
 use bp_machine::{AskFault, Session, Setup};
 use bp_run::{Board, Calls, Desk, Kit, Open, Seat, Signals, Tap, Unfinished, gather, work};
@@ -18,7 +18,7 @@ use std::test::Fail;
 
 /// How the calls of a thread are made.
 #[derive(Clone, Copy, PartialEq, Eq)]
-pub(super) enum Way {
+pub(crate) enum Way {
     /// Single calls at a desk.
     Asks,
     /// Turns of three calls at a desk.
@@ -217,7 +217,7 @@ fn kit(alloc: Global, setup: &Setup) -> Result<Kit, AllocError>
 }
 
 /// The same at a desk or a board of the program that calls itself.
-pub(super) fn makes_calls<R: Wait + Runtime>(rt: &R, alloc: Global, way: Way) -> Result<(), Fail> {
+pub(crate) fn makes_calls<R: Wait + Runtime>(rt: &R, alloc: Global, way: Way) -> Result<(), Fail> {
     let code = code_of(alloc, calls())?;
     let threads = if way == Way::Gathered { 2 } else { 1 };
     let setup = setup(alloc, &code, threads, Some(42))?;

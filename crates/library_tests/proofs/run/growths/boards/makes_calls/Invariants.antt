@@ -1,4 +1,4 @@
-use Rattle.library_tests.proofs.growths.boards.makes_calls.Given as goal
+use Rattle.library_tests.proofs.run.growths.boards.makes_calls.Given as goal
 
 abbrev pub ghosts-at_a_desk-C-Calls : goal.ghosts-at_a_desk-C-Calls
 ghosts-at_a_desk-C-Calls g a = record { ring = a.kit.ring; code = a.code.now; setup = a.setup.now }

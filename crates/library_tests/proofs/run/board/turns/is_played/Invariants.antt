@@ -1,4 +1,4 @@
-use Rattle.library_tests.proofs.runs.board.turns.is_played.Given as goal
+use Rattle.library_tests.proofs.run.board.turns.is_played.Given as goal
 
 abbrev pub ghosts-is_played_at-C-Calls : goal.ghosts-is_played_at-C-Calls
 ghosts-is_played_at-C-Calls g a = record { ring = a.kit.ring; code = a.code.now; setup = a.setup.now }

@@ -1,4 +1,4 @@
-use Rattle.library_tests.proofs.runs.board.desks.plays.Given as goal
+use Rattle.library_tests.proofs.run.board.desks.plays.Given as goal
 
 abbrev pub ghosts-is_seen_at-C-Calls : goal.ghosts-is_seen_at-C-Calls
 ghosts-is_seen_at-C-Calls a = record { ring = a.kit.ring; code = a.code.now; setup = a.setup.now }

@@ -20,17 +20,17 @@ const CALLS: &[u8] = b"decl x, y; main() begin f(0); end f(a) begin f(!a); end";
 
 /// The text of the first of these programs: a function hands it out, so that no proof of a test
 /// reads all of it.
-pub(super) fn program() -> &'static [u8] {
+pub(crate) fn program() -> &'static [u8] {
     PROGRAM
 }
 
 /// The text of the second one.
-pub(super) fn calls() -> &'static [u8] {
+pub(crate) fn calls() -> &'static [u8] {
     CALLS
 }
 
 /// The setup of this many threads with 20 calls each, with the seed 42 or without one.
-pub(super) fn setup(
+pub(crate) fn setup(
     alloc: Global,
     code: &Code,
     threads: u32,
@@ -43,22 +43,22 @@ pub(super) fn setup(
 }
 
 /// Prints a line. Growths are refused after it.
-pub(super) fn begin<R: Runtime>(rt: &R) -> io::Result<()> {
+pub(crate) fn begin<R: Runtime>(rt: &R) -> io::Result<()> {
     println!(rt; "ready")
 }
 
 /// Prints a word on the call. After this line every growth is granted.
-pub(super) fn say<R: Runtime>(rt: &R, word: &str) -> io::Result<()> {
+pub(crate) fn say<R: Runtime>(rt: &R, word: &str) -> io::Result<()> {
     println!(rt; "{word}")
 }
 
 /// Prints whether the call was refused. After this line every growth is granted.
-pub(super) fn tell<R: Runtime>(rt: &R, was_refused: bool) -> io::Result<()> {
+pub(crate) fn tell<R: Runtime>(rt: &R, was_refused: bool) -> io::Result<()> {
     say(rt, if was_refused { "refused" } else { "done" })
 }
 
 /// A failure unless the answer is right.
-pub(super) fn wants(is_right: bool) -> Result<(), Fail> {
+pub(crate) fn wants(is_right: bool) -> Result<(), Fail> {
     if is_right {
         Ok(())
     } else {

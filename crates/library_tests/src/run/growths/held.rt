@@ -1,7 +1,7 @@
 //! A run in which one worker alone takes frames, after the others were started. Where it is refused
 //! one, the others end, and its line stays open after the calls that it made.
-use super::ready::{begin, say, wants};
 use crate::common::{code_of, names};
+use crate::ready::{begin, say, wants};
 use bp_code::{CheckFault, ProgramFault};
 use bp_machine::{Outcome, Reply, Report, SetupFault, Start};
 use bp_run::{Gate, RunFault, RunOptions, RunReport, WorkerCount, run};

@@ -3,7 +3,7 @@ use Rattle.bp_machine.specs.Setups.{threads}
 use Rattle.bp_run.specs.Gatherings.{AreOnePerThread}
 use Rattle.bp_run.proofs.Played.{one_each_new}
 use Rattle.library_tests.proofs.SeatsBack.{put_back}
-use Rattle.library_tests.proofs.runs.board.turns.is_played_at.Goals as goal
+use Rattle.library_tests.proofs.run.board.turns.is_played_at.Goals as goal
 
 pub is_gathered-requires : goal.is_gathered-requires
 is_gathered-requires g c =

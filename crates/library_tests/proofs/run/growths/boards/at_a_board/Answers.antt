@@ -2,7 +2,7 @@ use Rattle.std.proofs.Common.{subst}
 use Rattle.bp_machine.specs.Setups.{threads}
 use Rattle.bp_run.specs.Gatherings.{AreOnePerThread}
 use Rattle.bp_run.proofs.Played.{one_each_new}
-use Rattle.library_tests.proofs.growths.boards.at_a_board.Goals as goal
+use Rattle.library_tests.proofs.run.growths.boards.at_a_board.Goals as goal
 
 pub gathers-requires : goal.gathers-requires
 gathers-requires g c =

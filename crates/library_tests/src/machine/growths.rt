@@ -1,8 +1,8 @@
 //! Sessions and their calls: after a refusal a session makes the calls that it makes without one.
 ghost use Rattle.bp_machine.specs.Setups.{Fits};
 
-use super::ready::{begin, calls, program, setup, tell, wants};
 use crate::common::code_of;
+use crate::ready::{begin, calls, program, setup, tell, wants};
 use bp_code::Code;
 use bp_machine::{AskFault, Call, Session, Setup};
 use std::alloc::Global;

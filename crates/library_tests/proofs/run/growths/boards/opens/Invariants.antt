@@ -1,4 +1,4 @@
-use Rattle.library_tests.proofs.growths.boards.opens.Given as goal
+use Rattle.library_tests.proofs.run.growths.boards.opens.Given as goal
 
 abbrev pub ghosts-is_opened-C-Calls : goal.ghosts-is_opened-C-Calls
 ghosts-is_opened-C-Calls a = record { ring = a.kit.ring; code = a.code.now; setup = a.setup.now }

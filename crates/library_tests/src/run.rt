@@ -1,0 +1,5 @@
+//! Tests of `bp_run`: desks and boards by hand, gathering, workers and gates, and their calls if
+//! memory is refused.
+mod board;
+pub(crate) mod growths;
+mod workers;
