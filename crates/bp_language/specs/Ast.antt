@@ -1,8 +1,8 @@
--- Programs as trees, without memory: what contracts see of the types of src/.
+-- Programs as trees, without memory: the values that contracts give to the types of src/.
 use Rattle.std.specs.Prelude.{ℕ, Bool, List, Option, ◌++◌, if◌then◌else◌, [], ◌∷◌, None, Some, bytes_eq, ◌+◌}
 use Rattle.bp_language.specs.declared.exprs.Op.{Op}
 
--- a name as it is spelled, braces included, and the place of its first byte
+-- a name as written, braces included, and the place of its first byte
 pub record Name : Type 0 where
   pub text : List ℕ
   pub at : ℕ
@@ -13,7 +13,7 @@ pub data Expression : Type 0 where
   Negation : (e : Expression) → Expression
   Operation : (op : Op) (left right : Expression) → Expression
 
--- what decides a branch, a loop, an assertion or an assumption: the call's choice bit, or an
+-- the test of a branch, a loop, an assertion or an assumption: the call's choice bit, or an
 -- expression
 pub data Decision : Type 0 where
   Choose : Decision
@@ -47,7 +47,7 @@ pub record Program : Type 0 where
   pub globals : List Name
   pub procedures : List Procedure
 
--- The procedure of a name, and the variables of a procedure.
+-- The procedure with a name, and the variables of a procedure.
 
 -- the first procedure with this name
 abbrev pub procedure_named : List Procedure → List ℕ → Option Procedure
@@ -55,11 +55,11 @@ procedure_named [] text = None
 procedure_named (q ∷ qs) text =
     if bytes_eq q.name.text text then Some q else procedure_named qs text
 
--- the formals of a procedure and then its declared locals
+-- the formals of a procedure, then its declared locals
 abbrev pub variables : Procedure → List Name
 variables p = p.formals ++ p.locals
 
--- How many statements a program has, with one more for each procedure's end.
+-- The number of statements of a program, plus one for each procedure's end.
 
 abbrev mutual
   pub block_size : Block → ℕ

@@ -1,5 +1,5 @@
 -- An encoding of the data of Ast, which models need; no contract names it. An expression or a block
--- is coded as the list of its nodes in postfix order, from which a stack builds it again.
+-- is coded as the list of its nodes in postfix order, from which a stack rebuilds it.
 use Rattle.std.specs.Coded.{Coded, code_by, coded×, coded⊎, coded_ℕ, coded_bool, coded_list, coded_option}
 use Rattle.std.proofs.Common.{inl, inr, ◌∙◌, ◌≡◌, ℕ, zero, suc, Bool, true, false, cond, List, [], ◌∷◌, ◌⊎◌, Option, None, Some, refl}
 use Rattle.bp_language.specs.declared.exprs.Op.{Op}
@@ -45,14 +45,14 @@ ExpressionNode = (Bool ⊎ Name) ⊎ (ℕ ⊎ Op)
 abbrev pub coded_expression_node : Coded ExpressionNode
 coded_expression_node = coded⊎ (coded⊎ coded_bool coded_name) (coded⊎ coded_ℕ coded_op)
 
--- the nodes of an expression, and then the rest
+-- the nodes of an expression, followed by the rest
 abbrev pub expression_nodes : Expression → List ExpressionNode → List ExpressionNode
 expression_nodes (Constant b) rest = inl (inl b) ∷ rest
 expression_nodes (Variable n) rest = inl (inr n) ∷ rest
 expression_nodes (Negation e) rest = expression_nodes e (inr (inl 0) ∷ rest)
 expression_nodes (Operation o a b) rest = expression_nodes a (expression_nodes b (inr (inr o) ∷ rest))
 
--- one node onto the stack
+-- pushes one node onto the stack
 abbrev pub with_node : ExpressionNode → List Expression → List Expression
 with_node (inl (inl b)) stack = Constant b ∷ stack
 with_node (inl (inr n)) stack = Variable n ∷ stack
@@ -82,7 +82,7 @@ abbrev pub coded_expression : Coded Expression
 coded_expression =
     code_by (List ExpressionNode) (coded_list coded_expression_node) (λ e. expression_nodes e []) (λ ns. expression_from ns []) (λ e. expression_again e [] [])
 
--- A decision as an option of an expression.
+-- A decision as an optional expression.
 
 abbrev pub decision_part : Decision → Option Expression
 decision_part Choose = None
@@ -99,10 +99,10 @@ decision_again (Decide e) = refl
 abbrev pub coded_decision : Coded Decision
 coded_decision = code_by (Option Expression) (coded_option coded_expression) decision_part decision_from decision_again
 
--- A node of a block: its end (0), or a statement with its label and place. A statement that holds
--- no blocks is whole in its node: skip (0) or return (1), a jump, an assignment, an assertion
--- (true) or an assumption (false), a print or a call. A branch (true) or a loop (false) has its
--- decision there, and takes its blocks from the stack.
+-- A node of a block: its end (0), or a statement with its label and place. A statement without
+-- blocks is whole in its node: skip (0) or return (1), a jump, an assignment, an assertion (true)
+-- or an assumption (false), a print or a call. A branch (true) or a loop (false) keeps its decision
+-- there, and takes its blocks from the stack.
 
 abbrev pub PlainNode : Type 0
 PlainNode =
@@ -119,7 +119,7 @@ abbrev pub coded_block_node : Coded BlockNode
 coded_block_node =
     coded⊎ coded_ℕ (coded× (coded× (coded_option coded_name) coded_ℕ) (coded⊎ coded_plain_node (coded× coded_bool coded_decision)))
 
--- the nodes of a block, and then the rest
+-- the nodes of a block, followed by the rest
 abbrev mutual
   pub block_nodes : Block → List BlockNode → List BlockNode
   block_nodes Done rest = inl 0 ∷ rest
@@ -146,7 +146,7 @@ plain_from (inr (inr (inl p))) = cond p.0 (Asserts p.1) (Assumes p.1)
 plain_from (inr (inr (inr (inl es)))) = Prints es
 plain_from (inr (inr (inr (inr p)))) = Calls p.0 p.1
 
--- a branch or a loop with what the stack has below the rest of the block
+-- a branch or a loop whose blocks are taken from the stack below the rest of the block
 abbrev pub with_blocks : Bool → Decision → (Option Name × ℕ) → Block → List Block → List Block
 with_blocks true d p t [] = []
 with_blocks true d p t (b ∷ []) = []
@@ -154,7 +154,7 @@ with_blocks true d p t (b ∷ a ∷ stack) = Then p.0 p.1 (Branches d a b) t ∷
 with_blocks false d p t [] = []
 with_blocks false d p t (a ∷ stack) = Then p.0 p.1 (Loops d a) t ∷ stack
 
--- one node onto the stack
+-- pushes one node onto the stack
 abbrev pub with_block_node : BlockNode → List Block → List Block
 with_block_node (inl k) stack = Done ∷ stack
 with_block_node (inr n) [] = []

@@ -1,4 +1,4 @@
--- How deep the data of Ast go: a whole is deeper than its parts. Measures of recursions; no
+-- The depths of the data of Ast: a whole is deeper than its parts. They measure recursions; no
 -- contract names them.
 use Rattle.std.specs.Prelude.{ℕ, ◌+◌, max}
 use Rattle.bp_language.specs.Ast.{Expression, Constant, Variable, Negation, Operation, Block, Done, Then, Statement, Branches, Loops}

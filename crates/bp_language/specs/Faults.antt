@@ -1,4 +1,4 @@
--- Where names appear in a program, its faults, and what each lawful program keeps.
+-- The places of names in a program, its faults, and properties that each lawful program has.
 use Rattle.std.specs.Prelude.{◌≡◌, ◌⊎◌, ℕ, ◌++◌, Bool, List, [], ◌∷◌, Option, Some, slice_get, ◌≢◌, true, false, None, take, map, length, ◌<◌, ◌≤◌}
 use Rattle.std.specs.Option.{option_to_list}
 use Rattle.std.specs.List.{list_any, position_from}
@@ -8,23 +8,23 @@ use Rattle.bp_language.specs.declared.faults.CheckFault.{CheckFault}
 use Rattle.bp_language.specs.declared.faults.CheckFault.TheVariants.{TwiceGlobal, TwiceProcedure, TwiceLocal, TwiceLabel, UnknownVariable, UnknownProcedure, UnknownLabel, Arity, Lengths, TwiceTarget, Limit, Memory}
 use Rattle.bp_language.specs.declared.limits.TheConstants.{MAX_PROCEDURES, MAX_GLOBALS, MAX_OWN_NAMES}
 
--- Where names appear in a program, and which of them a statement may use.
+-- The places of names in a program, and the names that a statement may use.
 
--- whether a name of the list is spelled so
+-- the list has a name with this text
 abbrev pub has : List Name → List ℕ → Bool
 has ns text = list_any (λ n. bytes_eq n.text text) ns
 
--- the name with this index in the list, and its place in the text
+-- the list has this name at this index, and the name is at this place in the text
 pub record IsNameAt (ns : List Name) (k : ℕ) (n : Name) (at : ℕ) : Type 0 where
   pub stands : slice_get ns k ≡ Some n
   pub place : n.at ≡ at
 
--- a value of the list
+-- the value is in the list
 abbrev pub Among : {X : Type 0} → List X → X → Type 0
 Among [] x = ⊥
 Among (y ∷ ys) x = (y ≡ x) ⊎ Among ys x
 
--- a name that the expression uses
+-- the expression uses the name
 abbrev pub Uses : Expression → Name → Type 0
 Uses (Constant b) n = ⊥
 Uses (Variable m) n = m ≡ n
@@ -38,7 +38,7 @@ DecisionUses (Decide e) n = Uses e n
 abbrev pub SomeUses : List Expression → Name → Type 0
 SomeUses es n = (e : Expression) × Among es e × Uses e n
 
--- a variable that the statement itself uses or writes, apart from the blocks inside it
+-- the statement itself uses or writes the variable, apart from the blocks inside it
 abbrev pub Mentions : Statement → Name → Type 0
 Mentions (Assigns targets values) n = Among targets n ⊎ SomeUses values n
 Mentions (Branches d a b) n = DecisionUses d n
@@ -66,7 +66,7 @@ abbrev mutual
   statements_inside (Loops d a) = statements a
   statements_inside _ = []
 
--- the labels among them
+-- the labels of these statements
 abbrev pub labels_of : List Labelled → List Name
 labels_of [] = []
 labels_of (s ∷ rest) = option_to_list s.label ++ labels_of rest
@@ -74,18 +74,18 @@ labels_of (s ∷ rest) = option_to_list s.label ++ labels_of rest
 abbrev pub labels : Block → List Name
 labels body = labels_of (statements body)
 
--- Tables of names: the first name of each spelling in a list.
+-- Tables of names: the first name of each text in a list.
 
--- the index of the first name that is spelled so, where the list begins at index i
+-- the index of the first name with this text, if the list begins at index i
 abbrev pub first_index_from : ℕ → List Name → List ℕ → Option ℕ
 first_index_from i ns text = position_from (λ n. bytes_eq n.text text) i ns
 
 abbrev pub first_index : List Name → List ℕ → Option ℕ
 first_index ns text = first_index_from 0 ns text
 
--- The faults of a program: for each kind, the places where the program has that fault.
+-- The faults of a program: for each kind, the places with that fault.
 
--- the number by which users know a fault
+-- the number by which users know the fault
 abbrev pub check_fault_number : CheckFault → ℕ
 check_fault_number TwiceGlobal = 11
 check_fault_number TwiceProcedure = 12
@@ -100,34 +100,34 @@ check_fault_number TwiceTarget = 20
 check_fault_number Limit = 21
 check_fault_number Memory = 7
 
--- the place that a refusal for the fault reports; for memory there is none
+-- the place that a refusal for the fault reports; memory has none
 abbrev pub check_fault_place : CheckFault → ℕ → Option ℕ
 check_fault_place Memory at = None
 check_fault_place f at = Some at
 
--- a name of the list that is spelled like an earlier one
+-- the name at this place has the text of an earlier name of the list
 abbrev pub IsTwice : List Name → ℕ → Type 0
 IsTwice ns at = (k : ℕ) × (n : Name) × IsNameAt ns k n at × (has (take k ns) n.text ≡ true)
 
--- the first name past this many
+-- the first name past the limit is at this place
 abbrev pub IsPast : ℕ → List Name → ℕ → Type 0
 IsPast limit ns at = (n : Name) × IsNameAt ns limit n at
 
--- a name that is used so, and that is not declared
+-- the name at this place is used in this way, but not declared
 abbrev pub IsStrayIn : List Name → (Name → Type 0) → ℕ → Type 0
 IsStrayIn declared Uses at = (n : Name) × Uses n × (has declared n.text ≡ false) × (n.at ≡ at)
 
--- a variable that the statement mentions, and that is not declared
+-- the statement mentions the variable at this place, which is not declared
 abbrev pub IsUndeclared : List Name → Statement → ℕ → Type 0
 IsUndeclared declared s at = IsStrayIn declared (Mentions s) at
 
--- a call of a name that no procedure has
+-- the statement calls the name at this place, which no procedure has
 abbrev pub CallsNone : List Procedure → Statement → ℕ → Type 0
 CallsNone qs (Calls callee arguments) at =
     (procedure_named qs callee.text ≡ None) × (callee.at ≡ at)
 CallsNone qs _ at = ⊥
 
--- a call with another number of arguments than the procedure has formals
+-- the call at this place has another number of arguments than the procedure has formals
 abbrev pub CallsWrongly : List Procedure → Statement → ℕ → Type 0
 CallsWrongly qs (Calls callee arguments) at =
     (q : Procedure)
@@ -136,23 +136,23 @@ CallsWrongly qs (Calls callee arguments) at =
     × (callee.at ≡ at)
 CallsWrongly qs _ at = ⊥
 
--- a jump to none of the labels
+-- the statement jumps to the name at this place, which is none of the labels
 abbrev pub JumpsNowhere : List Name → Statement → ℕ → Type 0
 JumpsNowhere ls (GoesTo to) at = (has ls to.text ≡ false) × (to.at ≡ at)
 JumpsNowhere ls _ at = ⊥
 
--- the first target of an assignment whose two sides differ in number
+-- the two sides of the assignment differ in number, and its first target is at this place
 abbrev pub IsUneven : Statement → ℕ → Type 0
 IsUneven (Assigns targets values) at =
     (length targets ≢ length values) × (n : Name) × IsNameAt targets 0 n at
 IsUneven _ at = ⊥
 
--- a target that appears earlier on the same left side
+-- the target at this place appears earlier on the same left side
 abbrev pub HasTargetTwice : Statement → ℕ → Type 0
 HasTargetTwice (Assigns targets values) at = IsTwice targets at
 HasTargetTwice _ at = ⊥
 
--- a fault of some statement of some procedure
+-- some statement of some procedure has the fault at this place
 abbrev pub InSome : Program → (Procedure → Statement → ℕ → Type 0) → ℕ → Type 0
 InSome p Is at =
     (q : Procedure)
@@ -161,14 +161,14 @@ InSome p Is at =
     × Among (statements q.body) s
     × Is q s.statement at
 
--- the first name past a limit
+-- the first name past one of the limits is at this place
 abbrev pub IsOverLimit : Program → ℕ → Type 0
 IsOverLimit p at =
     IsPast MAX_PROCEDURES (map (λ q. q.name) p.procedures) at
     ⊎ (IsPast MAX_GLOBALS p.globals at
     ⊎ (q : Procedure) × Among p.procedures q × IsPast MAX_OWN_NAMES (variables q) at)
 
--- the places of each fault
+-- the program has the fault at this place
 abbrev pub IsFault : Program → CheckFault → ℕ → Type 0
 IsFault p TwiceGlobal at = IsTwice p.globals at
 IsFault p TwiceProcedure at = IsTwice (map (λ q. q.name) p.procedures) at
@@ -183,11 +183,11 @@ IsFault p TwiceTarget at = InSome p (λ q. HasTargetTwice) at
 IsFault p Limit at = IsOverLimit p at
 IsFault p Memory at = ⊥
 
--- a program without faults
+-- the program has no fault
 abbrev pub IsLawful : Program → Type 0
 IsLawful p = (f : CheckFault) (at : ℕ) → IsFault p f at → ⊥
 
--- What each lawful program keeps.
+-- Properties of each lawful program.
 
 -- no more names of a kind than their limit
 pub record HasFewNames (p : Program) : Type 0 where
@@ -195,12 +195,12 @@ pub record HasFewNames (p : Program) : Type 0 where
   pub globals : length p.globals ≤ MAX_GLOBALS
   pub own : (q : Procedure) → Among p.procedures q → length (variables q) ≤ MAX_OWN_NAMES
 
--- no two names of the list are spelled alike
+-- no two names of the list have the same text
 abbrev pub AreDistinct : List Name → Type 0
 AreDistinct ns =
     (k : ℕ) (n : Name) → slice_get ns k ≡ Some n → has (take k ns) n.text ≡ false
 
--- no two names of a kind are spelled alike
+-- no two names of a kind have the same text
 pub record HasDistinctNames (p : Program) : Type 0 where
   pub procedures : AreDistinct (map (λ q. q.name) p.procedures)
   pub globals : AreDistinct p.globals
@@ -208,7 +208,7 @@ pub record HasDistinctNames (p : Program) : Type 0 where
   pub labels_in : (q : Procedure) → Among p.procedures q → AreDistinct (labels q.body)
 
 -- in the procedure q a jump has its label; a call has its procedure, and as many arguments as that
--- has formals; an assignment has targets, no two of them alike, and as many right sides
+-- has formals; an assignment has distinct targets, and as many right sides
 abbrev pub IsSound : Program → Procedure → Statement → Type 0
 IsSound p q (GoesTo to) = has (labels q.body) to.text ≡ true
 IsSound p q (Calls callee arguments) =

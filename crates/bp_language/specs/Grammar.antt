@@ -1,7 +1,7 @@
 -- The grammar, a rule for each production, in the order of docs/language.md; the lists of names and
--- expressions come last. IsExpr ts e rest says that the tokens ts begin with an expression, which
--- is e, and that the tokens rest follow it; so with the other phrases. Tokens are named for what
--- begins with them.
+-- expressions come last. IsExpr ts e rest says that the tokens ts begin with the expression e, and
+-- that the tokens rest follow it; likewise for the other phrases. Tokens are named for the phrase
+-- that begins with them.
 use Rattle.std.specs.Prelude.{◌≡◌, List, ◌∷◌, ℕ, true, false, [], ◌++◌, Option, None, Some}
 use Rattle.bp_language.specs.Ast.{Name, Expression, Constant, Variable, Negation, Operation, Decision, Choose, Decide, Block, Done, Then, Statement, Skips, GoesTo, Returns, Assigns, Branches, Loops, Asserts, Assumes, Prints, Calls, Procedure, Program}
 use Rattle.bp_language.specs.declared.exprs.Op.TheVariants as op
@@ -9,9 +9,9 @@ use Rattle.bp_language.specs.Tokens.{Token}
 use Rattle.bp_language.specs.declared.tokens.TokenKind.{TokenKind}
 use Rattle.bp_language.specs.declared.tokens.TokenKind.TheVariants as kind
 
--- A word and a name at the start of tokens, as the rules of the grammar have them.
+-- A word and a name at the start of tokens, as the grammar's rules use them.
 
--- a word: the first token is of this kind, and the rest follows it
+-- the first token is of this kind, and the rest follows it
 pub data Word (k : TokenKind) : List Token → List Token → Type 0 where
   first_word : {token : Token} {rest : List Token} → token.kind ≡ k → Word k (token ∷ rest) rest
 
@@ -104,7 +104,7 @@ mutual
         → IsForm (first ∷ behind) statement rest
         → IsStmt (first ∷ behind) None first.at statement rest
 
-  -- form, each of its productions
+  -- form, with all its productions
   pub data IsForm : List Token → Statement → List Token → Type 0 where
     -- "skip" ";"
     skip :

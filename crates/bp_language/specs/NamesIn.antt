@@ -1,4 +1,4 @@
--- What holds of each name in a program, wherever it appears.
+-- Properties of each name in a program, wherever it appears.
 use Rattle.std.specs.Prelude.{ℕ, ◌≤◌, length, List, [], ◌∷◌, Option, None, Some}
 use Rattle.bp_language.specs.Ast.{Name, Expression, Constant, Variable, Negation, Operation, Decision, Choose, Decide, Block, Done, Then, Statement, Skips, GoesTo, Returns, Assigns, Branches, Loops, Asserts, Assumes, Prints, Calls, Procedure, Program}
 use Rattle.bp_language.specs.Tokens.{IsSpelled}
@@ -53,7 +53,7 @@ module _ (P : Name → Type 0) where
   abbrev pub NamesInProgram : Program → Type 0
   NamesInProgram p = EachName p.globals × NamesInProcedures p.procedures
 
--- no name of the program is longer than this many bytes
+-- no name of the program has more bytes than the limit
 abbrev pub HasShortNames : ℕ → Program → Type 0
 HasShortNames most p = NamesInProgram (λ n. length n.text ≤ most) p
 

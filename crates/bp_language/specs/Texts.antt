@@ -7,9 +7,9 @@ use Rattle.bp_language.specs.declared.tokens.TokenKind.{TokenKind}
 use Rattle.bp_language.specs.declared.tokens.TokenKind.TheVariants as kind
 use Rattle.bp_language.specs.Grammar.{Derives}
 
--- How deep statements nest.
+-- The depth at which statements nest.
 
--- the depth after a token of the kind, where it was n before; it never falls below 0
+-- the depth after a token of the kind, if it was n before; it never falls below 0
 abbrev pub depth_after : TokenKind → ℕ → ℕ
 depth_after kind.If n = n + 1
 depth_after kind.While n = n + 1
@@ -17,7 +17,7 @@ depth_after kind.Fi n = n - 1
 depth_after kind.Od n = n - 1
 depth_after _ n = n
 
--- the depth after the tokens, where it was n before
+-- the depth after the tokens, if it was n before
 abbrev pub depth_from : ℕ → List Token → ℕ
 depth_from n [] = n
 depth_from n (t ∷ ts) = depth_from (depth_after t.kind n) ts
@@ -31,7 +31,7 @@ IsShallow ts = (front rest : List Token) → ts ≡ front ++ rest → depth fron
 
 -- Tokens in succession without a separator.
 
--- what a statement ends with, or a sequence of statements begins or ends with
+-- the token ends a statement, or begins or ends a sequence of statements
 abbrev pub is_separator : TokenKind → Bool
 is_separator kind.Semicolon = true
 is_separator kind.Then = true
@@ -48,7 +48,7 @@ abbrev pub NoSeparator : List Token → Type 0
 NoSeparator [] = Unit {0}
 NoSeparator (t ∷ ts) = (is_separator t.kind ≡ false) × NoSeparator ts
 
--- no more tokens than the limit come in succession without a separator
+-- no run of tokens without a separator is longer than the limit
 abbrev pub IsSparse : List Token → Type 0
 IsSparse ts =
     (before run after : List Token)

@@ -1,4 +1,4 @@
--- Tokens: what the bytes of a text spell, and the cut of a text into lexemes.
+-- Tokens: the bytes of each kind, and how a text is cut into lexemes.
 use Rattle.std.specs.Prelude.{◌≡◌, ◌⊎◌, ℕ, Bool, true, false, not, ◌||◌, ◌&&◌, ◌==◌, nat_eq, nat_le, is_some, List, [], ◌∷◌, Option, Some, None, codes, ◌+◌, ◌<◌, ◌≤◌, ◌≢◌, length, take, drop}
 use Rattle.std.specs.Char.{is_ascii_alphabetic, is_ascii_alphanumeric}
 use Rattle.std.specs.List.{list_any, list_all}
@@ -10,7 +10,7 @@ use Rattle.bp_language.specs.declared.tokens.TokenKind.TheVariants as kind
 use Rattle.bp_language.specs.declared.tokens.LexemeKind.{LexemeKind}
 use Rattle.bp_language.specs.declared.tokens.LexemeKind.TheVariants as lexeme
 
--- What the bytes of a text spell: the kinds of lexemes, and the kinds of tokens.
+-- The bytes of each kind of lexeme, and of each kind of token.
 
 -- space, tab, line feed, carriage return
 abbrev pub whites : List ℕ
@@ -19,23 +19,23 @@ whites = 32 ∷ 9 ∷ 10 ∷ 13 ∷ []
 abbrev pub is_white : ℕ → Bool
 is_white b = list_any (nat_eq b) whites
 
--- a letter or an underscore: what an identifier begins with
+-- a letter or an underscore: the first byte of an identifier
 abbrev pub is_letter : ℕ → Bool
 is_letter b = is_ascii_alphabetic b || b == 95
 
--- a letter, an underscore or a digit: what an identifier continues with
+-- a letter, an underscore or a digit: a further byte of an identifier
 abbrev pub is_word_byte : ℕ → Bool
 is_word_byte b = is_ascii_alphanumeric b || b == 95
 
--- any byte but a line feed: what a comment continues with
+-- any byte but a line feed: a further byte of a comment
 abbrev pub is_comment_byte : ℕ → Bool
 is_comment_byte b = not (b == 10)
 
--- a byte 32 to 126 but }: what a braced name may have inside
+-- a byte 32 to 126 but }: a byte inside a braced name
 abbrev pub is_braced_byte : ℕ → Bool
 is_braced_byte b = nat_le 32 b && (nat_le b 126 && not (b == 125))
 
--- any number of such bytes, and }: what a brace continues with in a name
+-- any number of such bytes, and }: a braced name after its opening brace
 abbrev pub is_braced_rest : List ℕ → Bool
 is_braced_rest [] = false
 is_braced_rest (b ∷ []) = b == 125
@@ -45,7 +45,7 @@ is_braced_rest (b ∷ c ∷ bs) = is_braced_byte b && is_braced_rest (c ∷ bs)
 abbrev pub constants : List (ℕ × TokenKind)
 constants = (48, kind.Zero) ∷ (49, kind.One) ∷ []
 
--- the tokens of one byte that are no digits
+-- the tokens of one byte that are not digits
 abbrev pub symbols : List (ℕ × TokenKind)
 symbols =
     (59, kind.Semicolon) ∷ (44, kind.Comma) ∷ (40, kind.Open) ∷ (41, kind.Close)
@@ -74,7 +74,7 @@ reserved_words =
     ∷ (codes "od", kind.Od) ∷ (codes "assert", kind.Assert) ∷ (codes "print", kind.Print)
     ∷ (codes "assume", kind.Assume) ∷ []
 
--- the kind of the reserved word that the bytes are
+-- the kind of the reserved word with these bytes
 abbrev pub reserved_word : List ℕ → Option TokenKind
 reserved_word s = lookup (bytes_eq s) reserved_words
 
@@ -97,13 +97,13 @@ fits lexeme.Symbol (b ∷ []) = is_some (symbol b)
 fits lexeme.Symbol (b ∷ c ∷ []) = is_some (long_symbol b c)
 fits _ _ = false
 
--- the bytes spell a name: they are an identifier that is not reserved, or a braced name
+-- the bytes are a name: an identifier that is not reserved, or a braced name
 abbrev pub IsSpelled : List ℕ → Type 0
 IsSpelled s =
     ((fits lexeme.Identifier s ≡ true) × (is_reserved s ≡ false))
     ⊎ (fits lexeme.Braced s ≡ true)
 
--- the kind of the token that such a lexeme is; white and comments are no tokens
+-- the kind of the token of such a lexeme; white and comments have none
 abbrev pub kind_of : LexemeKind → List ℕ → Option TokenKind
 kind_of lexeme.Identifier s = Some (word_kind s)
 kind_of lexeme.Braced s = Some kind.Name
@@ -118,7 +118,7 @@ pub record Token : Type 0 where
   pub at : ℕ
   pub text : List ℕ
 
--- the scan gives such a token
+-- the scan can give the token
 pub record IsReal (t : Token) : Type 0 where
   pub lexeme : LexemeKind
   pub fits : fits lexeme t.text ≡ true
@@ -129,10 +129,10 @@ abbrev pub AllReal : List Token → Type 0
 AllReal [] = Unit {0}
 AllReal (t ∷ ts) = IsReal t × AllReal ts
 
--- The cut of a text into lexemes: each is the longest lexeme that fits at its place, or one byte
--- where none fits, an open brace or a bad byte.
+-- The cut of a text into lexemes: each is the longest lexeme that fits at its place, or one byte if
+-- none fits: an open brace or a bad byte.
 
--- the first n bytes of s are a lexeme of the kind, and no more bytes from its start are a lexeme
+-- the first n bytes of s are a lexeme of the kind, and no longer prefix of s is a lexeme
 pub record IsLongest (s : List ℕ) (kind : LexemeKind) (n : ℕ) : Type 0 where
   pub some : 0 < n
   pub within : n ≤ length s
@@ -151,7 +151,7 @@ pub data Lexeme : Type 0 where
   Brace : (at : ℕ) → Lexeme
   Bad : (at : ℕ) → Lexeme
 
--- these are the lexemes of what is left of a text from a place on
+-- these are the lexemes of the rest of a text from a place on
 pub data IsCut : ℕ → List ℕ → List Lexeme → Type 0 where
   ends : {at : ℕ} → IsCut at [] []
   fit :
@@ -186,7 +186,7 @@ first_open_brace (Fit kind at bytes ∷ ps) = first_open_brace ps
 first_open_brace (Brace at ∷ ps) = Some at
 first_open_brace (Bad at ∷ ps) = first_open_brace ps
 
--- these tokens after the one that a lexeme is, unless it is white or a comment
+-- these tokens after that of a lexeme, unless the lexeme is white or a comment
 abbrev pub with_token : Option TokenKind → ℕ → List ℕ → List Token → List Token
 with_token None at bytes ts = ts
 with_token (Some kind) at bytes ts = record { kind = kind; at = at; text = bytes } ∷ ts
@@ -206,13 +206,13 @@ pub record HasTokens (text : List ℕ) (ts : List Token) : Type 0 where
   pub closed : first_open_brace lexemes ≡ None
   pub tokens : tokens_of lexemes ≡ ts
 
--- the first bad byte of the text is here
+-- the first bad byte of the text is at this place
 pub record HasBadByte (text : List ℕ) (at : ℕ) : Type 0 where
   pub lexemes : List Lexeme
   pub cut : IsCut 0 text lexemes
   pub bad : first_bad_byte lexemes ≡ Some at
 
--- the text has no bad byte, and its first open brace is here
+-- the text has no bad byte, and its first open brace is at this place
 pub record HasOpenName (text : List ℕ) (at : ℕ) : Type 0 where
   pub lexemes : List Lexeme
   pub cut : IsCut 0 text lexemes

@@ -1,5 +1,4 @@
--- The expression and the decision that an enum of src/ stands for, whose parts are seen by their
--- models.
+-- The expression and the decision of an enum of src/ whose parts are seen by their models.
 use Rattle.bp_language.specs.declared.exprs.Expr.{Expr}
 use Rattle.bp_language.specs.declared.exprs.Expr.TheVariants.{Const, Var, Not, Binary}
 use Rattle.bp_language.specs.declared.exprs.Decider.{Decider}
