@@ -8,7 +8,7 @@ use Rattle.bp_flat.specs.declared.slots.Slot.TheVariants.{Global, Local}
 use Rattle.bp_flat.specs.Flat.{Formula, Bit, At, Inverse, Joined, Instruction, Skip, Goto, Return, Assign, If, While, Assert, Assume, Print, Call, Heading, Flat}
 
 -- Heights and encodings of formulas, for the models of types in src/: a formula is coded as the
--- expression of its form, where a slot is a name. No contract names them.
+-- expression of its form, in which a slot is a name. No contract names them.
 
 abbrev pub height : Formula → ℕ
 height (Bit b) = 1

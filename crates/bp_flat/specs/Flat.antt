@@ -15,8 +15,8 @@ pub data Formula : Type 0 where
   Inverse : (f : Formula) → Formula
   Joined : (op : Op) (left right : Formula) → Formula
 
--- An instruction with its successors: the next one; where a test is 0, the other one; the first of
--- a callee. A test is a formula, or none if the choice bit decides.
+-- An instruction with its successors: the next one; the other one, for a test of 0; the first of a
+-- callee. A test is a formula, or none if the choice bit decides.
 pub data Instruction : Type 0 where
   Skip : (next : ℕ) → Instruction
   Goto : (next : ℕ) → Instruction
@@ -29,8 +29,7 @@ pub data Instruction : Type 0 where
   Print : (values : List Formula) (next : ℕ) → Instruction
   Call : (callee : ℕ) (arguments : List Formula) (next : ℕ) → Instruction
 
--- a procedure: its name, how many formals and declared locals it has, and the number of its first
--- instruction
+-- a procedure: its name, its numbers of formals and declared locals, and its first instruction
 pub record Heading : Type 0 where
   pub name : List ℕ
   pub formals : ℕ
@@ -41,7 +40,7 @@ abbrev pub heading : List ℕ → ℕ → ℕ → ℕ → Heading
 heading name formals locals entry =
     record { name = name; formals = formals; locals = locals; entry = entry }
 
--- a whole code, with the number of its globals and the program that it was compiled from
+-- a whole code, with its number of globals and the program that it was compiled from
 pub record Flat : Type 0 where
   pub headings : List Heading
   pub globals : ℕ
@@ -54,7 +53,7 @@ flat headings globals instructions tree =
 
 -- Headings by their names.
 
--- the first heading of a name
+-- the first heading with a name
 abbrev pub heading_named : List Heading → List ℕ → Option Heading
 heading_named hs x = find (λ h. bytes_eq h.name x) hs
 
@@ -84,13 +83,13 @@ next_of (Assume test m) = Some m
 next_of (Print fs m) = Some m
 next_of (Call c fs m) = Some m
 
--- where a test is 0
+-- the successor for a test of 0
 abbrev pub other_of : Instruction → Option ℕ
 other_of (If test m e) = Some e
 other_of (While test m e) = Some e
 other_of i = None
 
--- the first of a callee
+-- the first instruction of a callee
 abbrev pub callee_of : Instruction → Option ℕ
 callee_of (Call c fs m) = Some c
 callee_of i = None

@@ -1,4 +1,4 @@
--- What the effect of an instruction in src/ results in.
+-- The instruction effect for an effect of src/ and the store before it.
 use Rattle.std.specs.Prelude.{ℕ, nat_eq, List, ◌∷◌}
 use Rattle.std.specs.Int.{bit_at}
 use Rattle.bp_flat.specs.declared.stores.Store.{Store}
@@ -10,14 +10,14 @@ use Rattle.bp_flat.specs.Steps.{Activation, activation, InstructionEffect}
 
 -- The bits of the words of src/ by their slots.
 
--- the bits of a word, that of the weight 2 ^ k at k
+-- the bits of a word, with that of weight 2 ^ k at k
 abbrev pub bits_of : ℕ → steps.Bits
 bits_of word k = nat_eq (bit_at word k) 1
 
 abbrev pub store_of : Store → effects.Store steps.Bits
 store_of w = record { globals = bits_of w.globals; locals = bits_of w.locals }
 
--- above the activations below, where the store before it is s
+-- the effect above the activations below, with the store s before it
 abbrev pub effect_of : Store → Effect → List Activation → InstructionEffect
 effect_of s (Continues m after) below =
     effects.Leaves (bits_of after.globals) (activation m (bits_of after.locals) ∷ below)

@@ -1,4 +1,4 @@
--- What an action of src/ stands for.
+-- The instruction for an action of src/.
 use Rattle.bp_flat.specs.declared.actions.Assignment.{Assignment}
 use Rattle.bp_flat.specs.declared.actions.Branch.{Branch}
 use Rattle.bp_flat.specs.declared.actions.Call as call

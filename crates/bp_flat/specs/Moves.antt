@@ -6,15 +6,14 @@ use Rattle.bp_language.specs.declared.exprs.Op.TheVariants.{Equal, Differ, And, 
 use Rattle.bp_language.specs.Ast.{Name, Expression, Constant, Variable, Negation, Operation, Decision, Choose, Decide, Block, Done, Then, Statement, Branches, Loops, Calls, Procedure, Program, Skips, GoesTo, Returns, Assigns, Asserts, Assumes, Prints}
 pub use Rattle.bp_language.specs.Ast.{procedure_named}
 
--- What statements and instructions have in common: the store that they see, and the effect that
--- they have.
+-- The store that statements and instructions see, and the effect that they have.
 
 -- the variables that a statement or an instruction sees: the globals, and the locals of its frame
 pub record Store (Variables : Type 0) : Type 0 where
   pub globals : Variables
   pub locals : Variables
 
--- what a statement or an instruction does to its thread
+-- the effect of a statement or an instruction on its thread
 pub data Effect (Variables Frame : Type 0) : Type 0 where
   -- the globals and the thread's stack after it
   Leaves : (globals : Variables) (stack : List Frame) → Effect Variables Frame
@@ -22,10 +21,10 @@ pub data Effect (Variables Frame : Type 0) : Type 0 where
   Fails : Effect Variables Frame
   -- an assumption of 0
   Blocks : Effect Variables Frame
-  -- a jump, a call or a next instruction that is nowhere
+  -- the target of a jump or a call, or the next instruction, does not exist
   Misses : Effect Variables Frame
 
--- The values of expressions and decisions, where globals and locals are maps from names to bits.
+-- The values of expressions and decisions, with globals and locals as maps from names to bits.
 
 -- names with their bits; the first entry of a name counts
 abbrev pub Valuation : Type 0
@@ -35,12 +34,12 @@ abbrev pub lookup : Valuation → List ℕ → Option Bool
 lookup [] x = None
 lookup (e ∷ m) x = if bytes_eq e.0 x then Some e.1 else lookup m x
 
--- the map with another bit for a name that it has
+-- the map with another bit for one of its names
 abbrev pub update : Valuation → List ℕ → Bool → Valuation
 update [] x b = []
 update (e ∷ m) x b = if bytes_eq e.0 x then (e.0, b) ∷ m else e ∷ update m x b
 
--- the bit of a variable: a local hides a global of its name, and what is declared nowhere is 0
+-- the bit of a variable: a local hides a global of its name, and an undeclared name is 0
 abbrev pub variable_value : Store Valuation → List ℕ → Bool
 variable_value s x = unwrap_or (option_or (lookup s.locals x) (lookup s.globals x)) false
 
@@ -71,8 +70,8 @@ abbrev pub decision_value : Store Valuation → Bool → Decision → Bool
 decision_value s bit Choose = bit
 decision_value s bit (Decide e) = expression_value s e
 
--- the store with another bit for a variable: among the locals where it is one, else among the
--- globals
+-- the store with another bit for a variable: the local of this name if there is one, else the
+-- global
 abbrev pub after_write : Store Valuation → List ℕ → Bool → Store Valuation
 after_write s x b =
     if is_some (lookup s.locals x)
@@ -85,7 +84,7 @@ after_assignment s [] bits = s
 after_assignment s (x ∷ xs) [] = s
 after_assignment s (x ∷ xs) (b ∷ bits) = after_assignment (after_write s x.text b) xs bits
 
--- the names bound to these bits, and 0 for the names past the last bit
+-- the names bound to these bits, with 0 for the names past the last bit
 abbrev pub binding : List Name → List Bool → Valuation
 binding [] bits = []
 binding (x ∷ xs) [] = (x.text, false) ∷ binding xs []
@@ -102,9 +101,9 @@ abbrev pub has_label : Option Name → List ℕ → Bool
 has_label None x = false
 has_label (Some l) x = bytes_eq l.text x
 
--- What remains from the statement with this label on, where the block is followed by r: as if
--- control had come there in the usual way. Of a branch the first part counts first, then the
--- second, then what follows the branch.
+-- The statements from this label on, if r follows the block: as if control had come there in the
+-- usual way. In a branch the first part is searched first, then the second, then the statements
+-- after the branch.
 abbrev mutual
   pub from_label : Block → Block → List ℕ → Option Block
   from_label Done r x = None
@@ -113,13 +112,13 @@ abbrev mutual
       then Some (Then label at s (chain t r))
       else option_or (from_inside s label at (chain t r) x) (from_label t r x)
 
-  -- the same within one statement, where r remains after it
+  -- also within one statement, if r remains after it
   pub from_inside : Statement → Option Name → ℕ → Block → List ℕ → Option Block
   from_inside (Branches d a b) label at r x = option_or (from_label a r x) (from_label b r x)
   from_inside (Loops d a) label at r x = from_label a (Then label at (Loops d a) r) x
   from_inside s label at r x = None
 
--- The configurations of a program: what its threads share, and where each of them stands.
+-- The configurations of a program: the variables that its threads share, and each thread's stack.
 
 -- a call that has not returned: its procedure, its locals, and the statements that remain
 pub record Frame : Type 0 where
@@ -127,7 +126,7 @@ pub record Frame : Type 0 where
   pub locals : Valuation
   pub left : Block
 
--- a stack for each thread, its top first; failed where an assertion has failed
+-- a stack for each thread, its top first; failed if an assertion has failed
 pub record Configuration : Type 0 where
   pub globals : Valuation
   pub stacks : List (List Frame)
@@ -143,12 +142,12 @@ entry_frame p arguments =
       left = p.body;
     }
 
--- the stack of a thread that begins with this procedure, and none if there is none
+-- the stack of a thread that begins with this procedure, or no frames if there is none
 abbrev pub first_stack : Option Procedure → List Frame
 first_stack None = []
 first_stack (Some p) = entry_frame p [] ∷ []
 
--- the start: the globals have these bits, and each thread enters the procedure that is named for it
+-- the start: the globals have these bits, and each thread enters its entry procedure
 abbrev pub start_of : Program → List (List ℕ) → List Bool → Configuration
 start_of t entries init =
     record {
@@ -157,14 +156,14 @@ start_of t entries init =
       failed = false;
     }
 
--- whether the next statement is a call
+-- the next statement is a call
 abbrev pub is_call : Block → Bool
 is_call (Then label at (Calls x es) r) = true
 is_call b = false
 
 -- One move of a program: one thread carries out its next statement.
 
--- what a statement does to its thread
+-- the effect of a statement on its thread
 abbrev pub StatementEffect : Type 0
 StatementEffect = Effect Valuation Frame
 
@@ -172,27 +171,27 @@ StatementEffect = Effect Valuation Frame
 abbrev pub with_left : Frame → Block → Frame
 with_left f r = record f { left = r }
 
--- what the topmost frame sees
+-- the store that the topmost frame sees
 abbrev pub frame_store : Valuation → Frame → Store Valuation
 frame_store g f = record { globals = g; locals = f.locals }
 
--- a jump to where r remains, and none if the label is nowhere
+-- a jump to the place where r remains, or a miss if the label does not exist
 abbrev pub jump_effect : Valuation → Frame → List Frame → Option Block → StatementEffect
 jump_effect g f fs None = Misses
 jump_effect g f fs (Some r) = Leaves g (with_left f r ∷ fs)
 
--- a call of a procedure, and none if it is nowhere; r is left to the calling frame
+-- a call of a procedure, or a miss if it does not exist; r is left to the calling frame
 abbrev pub call_effect
     : Valuation → Frame → List Frame → Block → List Bool → Option Procedure → StatementEffect
 call_effect g f fs r arguments None = Misses
 call_effect g f fs r arguments (Some p) = Leaves g (entry_frame p arguments ∷ with_left f r ∷ fs)
 
--- an assignment after which the frame sees this store, and r is left to it
+-- an assignment that leaves this store and r to the frame
 abbrev pub assignment_effect : Store Valuation → Frame → List Frame → Block → StatementEffect
 assignment_effect s f fs r = Leaves s.globals (record f { locals = s.locals; left = r } ∷ fs)
 
 module _ (ps : List Procedure) (g : Valuation) (f : Frame) (fs : List Frame) (bit : Bool) where
-  -- the effect of a statement with its label and place, where r remains after it
+  -- the effect of a statement with its label and place, if r remains after it
   abbrev pub statement_effect : Statement → Option Name → ℕ → Block → StatementEffect
   statement_effect Skips label at r = Leaves g (with_left f r ∷ fs)
   statement_effect (GoesTo x) label at r =
@@ -222,7 +221,7 @@ abbrev pub effect : List Procedure → Block → Valuation → Frame → List Fr
 effect ps Done g f fs bit = Leaves g fs
 effect ps (Then label at s r) g f fs bit = statement_effect ps g f fs bit s label at r
 
--- the configuration after an effect on thread i, and none if there is no move
+-- the configuration after an effect on thread i, or None if there is no move
 abbrev pub after_effect : Configuration → ℕ → StatementEffect → Option Configuration
 after_effect c i (Leaves g stack) =
     Some (record { globals = g; stacks = slice_set c.stacks i stack; failed = false })
@@ -230,7 +229,7 @@ after_effect c i Fails = Some (record c { failed = true })
 after_effect c i Blocks = None
 after_effect c i Misses = None
 
--- thread i moves from c to d, where its choice bit is this one
+-- thread i moves from c to d with this choice bit
 pub record Moves (t : Program) (c : Configuration) (i : ℕ) (bit : Bool) (d : Configuration)
     : Type 0 where
   pub frame : Frame

@@ -9,12 +9,12 @@ use Rattle.bp_flat.specs.Flat.{Formula, Instruction, Skip, Goto, Return, Assign,
 use Rattle.bp_flat.specs.Moves.{Store, Valuation, expression_values, decision_value, after_assignment, chain, from_label, procedure_named, Frame, Leaves, Fails, Blocks, StatementEffect, effect}
 use Rattle.bp_flat.specs.Steps.{Bits, with_slots, formula_values, test_value, Activation, InstructionEffect, step}
 
--- names with the bits of their slots, where a variable's slot is its place among these names
+-- names with the bits of their slots, if a variable's slot is its index in these names
 abbrev pub valuation_of : List Name → Bits → Valuation
 valuation_of [] bits = []
 valuation_of (x ∷ xs) bits = (x.text, bits 0) ∷ valuation_of xs (λ k. bits (suc k))
 
--- the same of a store in a frame of the procedure p
+-- also of a store in a frame of the procedure p
 abbrev pub named_store : List Name → Procedure → Store Bits → Store Valuation
 named_store globals p store =
     record {
@@ -22,7 +22,7 @@ named_store globals p store =
       locals = valuation_of (variables p) store.locals;
     }
 
--- a place in a program: the procedure, and what remains of its statements
+-- a place in a program: the procedure, and the statements that remain
 pub record Place : Type 0 where
   pub procedure : Procedure
   pub left : Block
@@ -30,7 +30,7 @@ pub record Place : Type 0 where
 abbrev pub place : Procedure → Block → Place
 place p r = record { procedure = p; left = r }
 
--- the places of a block's statements in text order, where r remains after the block
+-- the places of a block's statements in text order, if r remains after the block
 abbrev mutual
   pub places : Procedure → Block → Block → List Place
   places p Done r = []
@@ -49,7 +49,7 @@ abbrev pub places_of : List Procedure → List Place
 places_of [] = []
 places_of (p ∷ ps) = places p p.body Done ++ (place p Done ∷ places_of ps)
 
--- the instruction of this number is where r remains in the procedure p
+-- the instruction of this number is at the place in the procedure p at which r remains
 abbrev pub Remains : List Place → ℕ → Procedure → Block → Type 0
 Remains table n p r = slice_get table n ≡ Some (place p r)
 
@@ -70,8 +70,8 @@ module _ (t : Program) (p : Procedure) where
         → named_store t.globals p (with_slots store slots bits)
         ≡ after_assignment (named_store t.globals p store) xs bits
 
--- What the instruction of a place is: of the statement's kind, with the same values, and with
--- successors at which remains what the statement leaves. r is what remains after the statement.
+-- The instruction of a place: it has the statement's kind, the same values, and successors for the
+-- places to which the statement leads. r remains after the statement.
 module _ (t : Program) (table : List Place) (p : Procedure) where
   pub record IsSkip (r : Block) (i : Instruction) : Type 0 where
     pub next : ℕ
@@ -95,7 +95,7 @@ module _ (t : Program) (table : List Place) (p : Procedure) where
     pub values_are : AreValues t p values es
     pub next_is : Remains table next p r
 
-  -- a test that continues at one place where it is 1, and at another where it is 0
+  -- a test that continues at one place if it is 1, and at another if it is 0
   pub record IsBranch (d : Decision) (taken other : Block) (i : Instruction) : Type 0 where
     pub test : Option Formula
     pub next : ℕ
@@ -160,12 +160,12 @@ module _ (t : Program) (table : List Place) (p : Procedure) where
   CarriesOut (Prints es) label at r i = IsPrint es r i
   CarriesOut (Calls x es) label at r i = IsCall x es r i
 
-  -- the same of what remains; where nothing remains, the instruction returns
+  -- the instruction does the next statement; if nothing remains, it returns
   abbrev pub Does : Block → Instruction → Type 0
   Does Done i = i ≡ Return
   Does (Then label at s r) i = CarriesOut s label at r i
 
--- the heading of a procedure
+-- the heading is that of the procedure
 pub record Heads (table : List Place) (p : Procedure) (h : Heading) : Type 0 where
   pub name : h.name ≡ p.name.text
   pub formals : h.formals ≡ length p.formals
@@ -182,15 +182,15 @@ pub record StandsFor (c : Flat) (t : Program) : Type 0 where
       → (i : Instruction) × (slice_get c.instructions n ≡ Some i)
       × Does t (places_of t.procedures) p r i
 
--- the instruction of this number is where the found procedure begins
+-- the instruction of this number begins the procedure that was found
 pub record IsEntryOf (t : Program) (found : Option Procedure) (n : ℕ) : Type 0 where
   pub procedure : Procedure
   pub is : found ≡ Some procedure
   pub begins : Remains (places_of t.procedures) n procedure procedure.body
 
--- Where in the text the statements of a program begin, in the order of its instructions.
+-- The places in the text at which statements begin, in the order of the instructions.
 
--- the place of the statement that comes next, and none if nothing remains
+-- the place of the next statement, or None if nothing remains
 abbrev pub start_of_block : Block → Option ℕ
 start_of_block Done = None
 start_of_block (Then label at s t) = Some at
@@ -199,7 +199,7 @@ start_of_block (Then label at s t) = Some at
 abbrev pub starts_of : Program → List (Option ℕ)
 starts_of t = map (λ p. start_of_block p.left) (places_of t.procedures)
 
--- the same of the statements of a block, at any depth, and of those inside a statement
+-- also of the statements of a block, at any depth, and of those inside a statement
 abbrev mutual
   pub block_starts : Block → List (Option ℕ)
   block_starts Done = []
@@ -218,12 +218,12 @@ pub record IsOfProgram (c : Flat) : Type 0 where
 
 -- Code and program step alike.
 
--- the activation is at what remains of the frame, and has its locals
+-- the activation is at the place of the frame's remaining statements, and has its locals
 pub record ShowsFrame (t : Program) (a : Activation) (f : Frame) : Type 0 where
   pub left : Remains (places_of t.procedures) a.number f.procedure f.left
   pub locals : f.locals ≡ valuation_of (variables f.procedure) a.locals
 
--- the same of a whole stack
+-- each activation of the stack shows its frame
 abbrev pub ShowsStack : Program → List Activation → List Frame → Type 0
 ShowsStack t [] [] = Unit {0}
 ShowsStack t (a ∷ below) (f ∷ fs) = ShowsFrame t a f × ShowsStack t below fs
@@ -238,7 +238,7 @@ SameEffect t Fails Fails = Unit {0}
 SameEffect t Blocks Blocks = Unit {0}
 SameEffect t o e = ⊥
 
--- where an activation shows a frame, its next instruction has the effect of the program's next
+-- if an activation shows a frame, its next instruction has the effect of the program's next
 -- statement: each instruction is one move, each move one instruction, and an assumption of 0 is
 -- neither
 abbrev pub StepsAlike : Flat → Program → Type 0

@@ -1,4 +1,4 @@
--- The effect of an instruction, where globals and locals are bits by their slots.
+-- The effect of an instruction, with globals and locals as bits by their slots.
 use Rattle.std.specs.Prelude.{if◌then◌else◌, ℕ, zero, suc, Bool, false, not, List, [], ◌∷◌, Option, None, Some, map, slice_get, slice_index_or}
 use Rattle.bp_flat.specs.declared.slots.Slot.{Slot}
 use Rattle.bp_flat.specs.declared.slots.Slot.TheVariants.{Global, Local}
@@ -17,14 +17,14 @@ pub record Activation : Type 0 where
 abbrev pub activation : ℕ → Bits → Activation
 activation n locals = record { number = n; locals = locals }
 
--- the bits with another one at a slot
+-- the bits with another bit at a slot
 abbrev pub with_bit : Bits → ℕ → Bool → Bits
 with_bit f zero b zero = b
 with_bit f zero b (suc j) = f (suc j)
 with_bit f (suc k) b zero = f zero
 with_bit f (suc k) b (suc j) = with_bit (λ i. f (suc i)) k b j
 
--- these bits from slot 0 on, and 0 past them
+-- these bits from slot 0 on, then 0
 abbrev pub bits_from : List Bool → Bits
 bits_from bs k = slice_index_or bs k false
 
@@ -52,12 +52,12 @@ formula_value store (Joined op a b) =
 abbrev pub formula_values : Store Bits → List Formula → List Bool
 formula_values store fs = map (formula_value store) fs
 
--- a test without a formula has the choice bit as its value
+-- the value of a test; without a formula it is the choice bit
 abbrev pub test_value : Store Bits → Bool → Option Formula → Bool
 test_value store bit None = bit
 test_value store bit (Some f) = formula_value store f
 
--- what an instruction does to its thread
+-- the effect of an instruction on its thread
 abbrev pub InstructionEffect : Type 0
 InstructionEffect = Effect Bits Activation
 
@@ -95,9 +95,9 @@ abbrev pub step : List Instruction → Bits → Activation → List Activation �
 step code globals a below bit =
     effect_at (slice_get code a.number) (record { globals = globals; locals = a.locals }) below bit
 
--- What an instruction prints.
+-- The values that an instruction prints.
 
--- the values of a print, where it sees this store
+-- the values of a print that sees this store
 abbrev pub printed_values : Store Bits → Instruction → Option (List Bool)
 printed_values store (Print fs m) = Some (formula_values store fs)
 printed_values store i = None

@@ -1,4 +1,4 @@
--- What the enums of src/ stand for: one level each, as the parts are seen by their models.
+-- The values for the enums of src/: one level each, as the parts are seen by their models.
 use Rattle.std.specs.Prelude.{Option, None, Some}
 use Rattle.bp_flat.specs.declared.exprs.SlotExpr.{SlotExpr}
 use Rattle.bp_flat.specs.declared.exprs.SlotExpr.TheVariants.{Const, Var, Not, Binary}
