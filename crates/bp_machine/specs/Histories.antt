@@ -1,4 +1,4 @@
--- Histories: what a call is answered, lists of calls, their reports, and the bits of a seed.
+-- Histories: the replies to calls, lists of calls, their reports, and the bits of a seed.
 use Rattle.std.specs.Prelude.{◌≡◌, ℕ, ◌≤◌, List, [], ◌∷◌, length, Bool, true, false, if◌then◌else◌, ◌↔◌, IsTrue, not, ◌&&◌, nat_le, ◌++◌, Option, None, Some, slice_index_or, unwrap_or, ◌==◌, ◌<◌, zero, suc, ◌+◌, ◌||◌, filter, ◌/◌, ◌%◌, slice_get}
 use Rattle.std.specs.List.{concat}
 use Rattle.rand_pcg.specs.Lcg.{Lcg, started, increment_of}
@@ -22,7 +22,7 @@ abbrev pub EachIs : ℕ → List ℕ → Type 0
 EachIs i [] = Unit {0}
 EachIs i (t ∷ ts) = (t ≡ i) × EachIs i ts
 
--- each piece is of one thread
+-- each list has steps of one thread
 abbrev pub EachOfOne : List (List ℕ) → Type 0
 EachOfOne [] = Unit {0}
 EachOfOne (piece ∷ pieces) = ((i : ℕ) × EachIs i piece) × EachOfOne pieces
@@ -34,12 +34,12 @@ pub record IsWithin (k : ℕ) (threads : List ℕ) : Type 0 where
   pub each : EachOfOne pieces
   pub whole : concat pieces ≡ threads
 
--- the least such number
+-- k is the least such number
 pub record IsLeastWithin (k : ℕ) (threads : List ℕ) : Type 0 where
   pub within : IsWithin k threads
   pub least : (m : ℕ) → IsWithin m threads → k ≤ m
 
--- Replies: their letters, which of them are of granted steps, and which are the last of a thread.
+-- Replies: their letters, those of granted steps, and those that are a thread's last.
 
 -- x e n u b f s
 abbrev pub letter_of : Reply → ℕ
@@ -51,19 +51,19 @@ letter_of Blocked = 98
 letter_of Failed = 102
 letter_of Stepped = 115
 
--- the call made a step
+-- the call with this reply made a step
 abbrev pub is_granted : Reply → Bool
 is_granted Stepped = true
 is_granted Failed = true
 is_granted r = false
 
--- the thread makes no further call
+-- the thread makes no further call after this reply
 abbrev pub is_last : Reply → Bool
 is_last Stepped = false
 is_last Blocked = false
 is_last r = true
 
--- What a call of a thread is answered, and the configuration after it.
+-- The reply to a call of a thread, and the configuration after it.
 
 -- no further frame fits on the stack
 abbrev pub is_full : List Frame → Bool
@@ -79,7 +79,7 @@ reply_to_effect Fails = Some Failed
 reply_to_effect Blocks = Some Blocked
 reply_to_effect Misses = None
 
--- the reply to a thread with this stack, where one more step fits within the contexts or not
+-- the reply to a thread with this stack, if one more step fits within the contexts or not
 abbrev pub reply_on_stack : Program → Bool → Valuation → List Frame → Bool → Option Reply
 reply_on_stack t fits g [] bit = Some Ended
 reply_on_stack t fits g (f ∷ fs) bit =
@@ -89,13 +89,13 @@ reply_on_stack t fits g (f ∷ fs) bit =
 
 -- The reply to thread i with this choice bit, by the first condition that holds: an assertion
 -- failed earlier; no frame; a further step is not within the contexts; a call, and no room; else
--- what the step does.
+-- the reply to the step.
 abbrev pub reply_of : Program → Bool → Configuration → ℕ → Bool → Option Reply
 reply_of t fits c i bit =
     if c.failed then Some Stopped
     else reply_on_stack t fits c.globals (stack_of c i) bit
 
--- the reply r is the machine's, where the threads of the steps so far are these, and k contexts are
+-- the reply r is the machine's if the threads of the steps so far are these, and k contexts are
 -- allowed
 pub record Answers
     (t : Program) (k : ℕ) (c : Configuration) (steps : List ℕ) (i : ℕ) (bit : Bool) (r : Reply)
@@ -111,7 +111,7 @@ configuration_after_step t c i bit [] = None
 configuration_after_step t c i bit (f ∷ fs) =
     after_effect c i (effect t.procedures f.left c.globals f fs bit)
 
--- the configuration after a call with this reply: another one where it made a step, else the same
+-- the configuration after a call with this reply: it changes only if the call made a step
 abbrev pub configuration_after_call : Program → Configuration → ℕ → Bool → Reply → Configuration
 configuration_after_call t c i bit r =
     if is_granted r then unwrap_or (configuration_after_step t c i bit (stack_of c i)) c else c
@@ -131,7 +131,7 @@ configuration_after t s h = configuration_after_calls t (start t s) h
 abbrev pub granted_calls : List Call → List Call
 granted_calls h = filter (λ x. is_granted x.reply) h
 
--- their threads
+-- the threads of the granted calls
 abbrev pub granted_threads : List Call → List ℕ
 granted_threads [] = []
 granted_threads (x ∷ xs) =
@@ -152,11 +152,11 @@ abbrev pub is_finished : SetupOf → List Call → ℕ → Bool
 is_finished s h i =
     ends_with_last (calls_of_thread i h) || nat_le s.calls (length (calls_of_thread i h))
 
--- how many lines the call x finishes after h
+-- the number of lines that the call x finishes after h
 abbrev pub finished_by : SetupOf → List Call → Call → ℕ
 finished_by s h x = if is_finished s (h ++ x ∷ []) x.thread then 1 else 0
 
--- how many of the lines below n are open
+-- the number of open lines of the threads below n
 abbrev pub open_below : ℕ → SetupOf → List Call → ℕ
 open_below zero s h = 0
 open_below (suc n) s h = if is_finished s h n then open_below n s h else open_below n s h + 1
@@ -164,7 +164,7 @@ open_below (suc n) s h = if is_finished s h n then open_below n s h else open_be
 abbrev pub open_lines : SetupOf → List Call → ℕ
 open_lines s h = open_below (threads s) s h
 
--- the call x may follow h: of a thread whose line is open, with the machine's reply
+-- the call x may follow h: its thread's line is open, and its reply is the machine's
 pub record IsAllowed (t : Program) (s : SetupOf) (h : List Call) (x : Call) : Type 0 where
   pub thread : x.thread < threads s
   pub unfinished : is_finished s h x.thread ≡ false
@@ -190,7 +190,7 @@ abbrev pub outcome_of : List Call → Outcome
 outcome_of [] = outcome.Clean
 outcome_of (x ∷ xs) = outcome_or x x.reply (outcome_of xs)
 
--- an assertion failed
+-- the outcome is a failed assertion
 abbrev pub is_failure : Outcome → Bool
 is_failure (outcome.Failed i) = true
 is_failure o = false
@@ -230,8 +230,8 @@ pub record IsRealFailure (t : Program) (s : SetupOf) (h : List Call) (i : ℕ) :
   pub last : granted_threads later ≡ []
   pub stands : IsAtFalseAssertion (configuration_after t s before) i call.bit
 
--- The choice bits of a seed. Each thread draws from a generator of its own: a PCG (O'Neill, XSH RR
--- 64/32) that is started at the seed as its state, on the stream 54 + the thread.
+-- The choice bits of a seed. Each thread draws from a PCG generator of its own (XSH RR 64/32),
+-- started with the seed as its state, on the stream 54 + the thread.
 
 -- the generator of a thread after n words
 unfoldable pub generator_after : ℕ → ℕ → ℕ → Lcg
@@ -256,13 +256,13 @@ pub record ChoicesOf : Type 0 where
 abbrev pub next_bit : ChoicesOf → Bool
 next_bit x = bits_of x.word x.place
 
--- the choices stand before bit n of the thread
+-- the choices are before bit n of the thread
 pub record IsAt (x : ChoicesOf) (seed thread n : ℕ) : Type 0 where
   pub word : x.word ≡ choice_word seed thread (n / 32)
   pub place : x.place ≡ n % 32
   pub generator : x.generator ≡ generator_after seed thread (n / 32 + 1)
 
--- Histories whose choice bits are those of a seed.
+-- Histories with the choice bits of a seed.
 
 -- call n of each thread, from 0, has its bit n
 abbrev pub IsSeeded : ℕ → List Call → Type 0
@@ -271,7 +271,7 @@ IsSeeded seed h =
     → slice_get (calls_of_thread i h) n ≡ Some x
     → x.bit ≡ choice_bit seed i n
 
--- where the setup has a seed, the history has its bits
+-- if the setup has a seed, the history has its bits
 abbrev pub HasSeededBits : SetupOf → List Call → Type 0
 HasSeededBits s h = (seed : ℕ) → s.seed ≡ Some seed → IsSeeded seed h
 
@@ -281,8 +281,8 @@ pub record IsSeededBit (s : SetupOf) (h : List Call) (i : ℕ) (bit : Bool) : Ty
   pub has : s.seed ≡ Some seed
   pub is : bit ≡ choice_bit seed i (length (calls_of_thread i h))
 
--- the bit of the next call of thread i: the one that was handed in, where the setup has no seed;
--- else that of the seed, where none was handed in
+-- the bit of the next call of thread i: the given bit if the setup has no seed; the seed's bit if
+-- no bit was given
 abbrev pub IsBitOfCall : SetupOf → List Call → ℕ → Option Bool → Bool → Type 0
 IsBitOfCall s h i (Some given) bit = (s.seed ≡ None) × (bit ≡ given)
 IsBitOfCall s h i None bit = IsSeededBit s h i bit

@@ -19,7 +19,7 @@ StepsAreARun =
     → IsLegal t s h
     → IsRun t (start t s) (granted_calls h) (configuration_after t s h)
 
--- and their threads are within the contexts that are allowed
+-- and their threads are within the allowed contexts
 abbrev pub StepsAreWithin : Type 0
 StepsAreWithin =
     (t : Program) (s : SetupOf) (h : List Call)
@@ -64,8 +64,8 @@ DeadlocksGrantNothing =
     → reply_of t fits c i bit ≡ Some r
     → is_granted r ≡ false
 
--- so a legal history that comes to a deadlock has no granted call after it, with whatever contexts
--- and calls of a thread its setup allows
+-- so a legal history that reaches a deadlock has no granted call after it, whatever contexts and
+-- calls of a thread its setup allows
 abbrev pub DeadlocksLast : Type 0
 DeadlocksLast =
     (t : Program) (s : SetupOf) (h more : List Call)
@@ -81,8 +81,8 @@ EntriesOnOneLine =
     → Fits t s
     → All (λ e. All (λ b. b ≢ 10) e) s.entries
 
--- programs for which one code stands have the same legal histories, which print the same rows;
--- their reports are the same as well, since a report is of the setup and the calls alone
+-- programs of one code have the same legal histories, which print the same rows; their reports are
+-- equal as well, since a report depends on the setup and the calls alone
 abbrev pub OneCodeOneMeaning : Type 0
 OneCodeOneMeaning =
     (c : Flat) (t u : Program) (s : SetupOf) (h : List Call)

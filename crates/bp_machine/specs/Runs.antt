@@ -1,4 +1,4 @@
--- Runs of a program: their bounds, where threads go on and wait, deadlocks, and what is printed.
+-- Runs of a program: their bounds, where threads continue and wait, deadlocks, and printed values.
 use Rattle.std.specs.Prelude.{◌≡◌, ℕ, List, ◌∷◌, length, Bool, true, false, ◌&&◌, Option, Some, [], if◌then◌else◌, ◌++◌, None, option_map, ◌<◌, ◌≤◌, map}
 use Rattle.std.specs.Option.{option_to_list}
 use Rattle.bp_language.specs.Ast.{Program, Block, Then, Prints}
@@ -15,8 +15,8 @@ use Rattle.bp_machine.specs.declared.limits.TheConstants.{MAX_FRAMES}
 
 -- Where a thread continues: at the top of its stack, and after its calls have returned.
 
--- a stack of these frames continues at this instruction, with these globals and locals, and this
--- many frames
+-- a stack of these frames continues at this instruction, with these globals, locals and number of
+-- frames
 pub record IsTopOf (t : Program) (c : Configuration) (frames : List Frame) (x : Top) : Type 0 where
   pub frame : Frame
   pub below : List Frame
@@ -26,7 +26,7 @@ pub record IsTopOf (t : Program) (c : Configuration) (frames : List Frame) (x : 
   pub locals : frame.locals ≡ valuation_of (variables frame.procedure) (bits_of x.store.locals)
   pub depth : x.depth ≡ length (frame ∷ below)
 
--- so does thread i
+-- thread i continues there
 abbrev pub IsTop : Program → Configuration → ℕ → Top → Type 0
 IsTop t c i x = IsTopOf t c (stack_of c i) x
 
@@ -41,7 +41,7 @@ is_blocked r = false
 abbrev pub finds_zero : Program → Configuration → ℕ → Bool → Bool
 finds_zero t c i bit = is_blocked (reply_on_stack t true c.globals (stack_of c i) bit)
 
--- so it is with either choice bit
+-- with either choice bit it is one
 abbrev pub waits : Program → Configuration → ℕ → Bool
 waits t c i = finds_zero t c i false && finds_zero t c i true
 
@@ -51,19 +51,19 @@ abbrev pub is_left : List Frame → Bool
 is_left [] = false
 is_left (f ∷ fs) = true
 
--- thread i has frames left: it did not come to the end of its program
+-- thread i has frames left: it did not reach the end of its program
 abbrev pub has_frames : Configuration → ℕ → Bool
 has_frames c i = is_left (stack_of c i)
 
 -- Some thread has frames left, and each thread that has frames left waits. Contexts and calls do
--- not matter: a thread that was refused a context, or made all its calls, waits where it stands at
--- an assumption of 0, and could step where it does not.
+-- not matter: a thread that was refused a context, or made all its calls, waits if it is at an
+-- assumption of 0, and could step otherwise.
 pub record IsDeadlocked (t : Program) (c : Configuration) : Type 0 where
   pub thread : ℕ
   pub unended : has_frames c thread ≡ true
   pub each_waits : (i : ℕ) → has_frames c i ≡ true → waits t c i ≡ true
 
--- What the granted steps of a history print.
+-- The values that the granted steps of a history print.
 
 -- a thread, and the values that it prints
 pub record PrintedRow : Type 0 where
@@ -75,12 +75,12 @@ abbrev pub values_at : Store Valuation → Block → Option (List Bool)
 values_at store (Then label at (Prints es) r) = Some (expression_values store es)
 values_at store left = None
 
--- what the next step of a stack prints
+-- the values that the next step of a stack prints
 abbrev pub values_printed : Valuation → List Frame → Option (List Bool)
 values_printed g [] = None
 values_printed g (f ∷ fs) = values_at (frame_store g f) f.left
 
--- what a call prints in this configuration: a row where its step is granted and at a print
+-- the rows that a call prints in this configuration: one if its step is granted and a print
 abbrev pub rows_of_call : Configuration → Call → List PrintedRow
 rows_of_call c x =
     let printed = values_printed c.globals (stack_of c x.thread) in
@@ -92,14 +92,14 @@ rows_after t c [] = []
 rows_after t c (x ∷ xs) =
     rows_of_call c x ++ rows_after t (configuration_after_call t c x.thread x.bit x.reply) xs
 
--- the rows of a history, the values of each as they are before its step
+-- the rows of a history, with the values before each step
 abbrev pub printed_rows : Program → SetupOf → List Call → List PrintedRow
 printed_rows t s h = rows_after t (start t s) h
 
--- Runs of a program within the bounds of a setup, without the machine: what another tool's
--- counterexample is. And the history of such a run.
+-- Runs of a program within the bounds of a setup, without the machine, such as another tool's
+-- counterexample; and the history of such a run.
 
--- where the next step of thread i is a call, its stack has room for one more frame
+-- if the next step of thread i is a call, its stack has room for one more frame
 abbrev pub HasRoom : Configuration → ℕ → Type 0
 HasRoom c i =
     (frame : Frame) (below : List Frame)
@@ -107,7 +107,7 @@ HasRoom c i =
     → is_call frame.left ≡ true
     → length (frame ∷ below) < MAX_FRAMES
 
--- each of the steps from c on has such room where the steps before it lead
+-- each of the steps from c on has such room after the steps before it
 abbrev pub EachHasRoom : Program → Configuration → List Call → Type 0
 EachHasRoom t c steps =
     (before : List Call) (x : Call) (later : List Call) (d : Configuration)
@@ -116,7 +116,7 @@ EachHasRoom t c steps =
     → HasRoom d x.thread
 
 -- The steps are moves, one after the other, from the start of the setup to d. They are within its
--- contexts, each thread makes at most as many as it may make calls, and the stacks have room.
+-- contexts, no thread makes more steps than it may make calls, and the stacks have room.
 pub record IsBoundedRun (t : Program) (s : SetupOf) (steps : List Call) (d : Configuration)
     : Type 0 where
   pub run : IsRun t (start t s) steps d
@@ -143,7 +143,7 @@ pub record IsHistoryOfSteps (t : Program) (s : SetupOf) (h : List Call) (d : Con
   pub granted : granted_calls h ≡ h
   pub leads : configuration_after t s h ≡ d
 
--- the granted calls of the history are a bounded run to where it leads, with the replies of one
+-- the granted calls of the history are a bounded run, with the replies of one
 pub record HasBoundedRun (t : Program) (s : SetupOf) (h : List Call) : Type 0 where
   pub run : IsBoundedRun t s (granted_calls h) (configuration_after t s h)
   pub replies :

@@ -1,4 +1,4 @@
--- Sessions as contracts see them, and what they keep of their threads.
+-- Sessions as contracts see them, and the state of their threads.
 use Rattle.std.specs.Prelude.{if◌then◌else◌, ◌≡◌, ℕ, ◌+◌, ◌==◌, List, [], ◌∷◌, Option, None, Some, Bool, false, map, option_map, unwrap_or, length, slice_get, ◌<◌, ◌≤◌, true, is_some}
 use Rattle.bp_language.specs.Ast.{Program}
 use Rattle.bp_flat.specs.Flat.{Flat, heading_named}
@@ -16,8 +16,7 @@ use Rattle.bp_machine.specs.declared.calls.Reply.TheVariants.{Stepped}
 use Rattle.bp_machine.specs.declared.calls.AskFault.{AskFault}
 use Rattle.bp_machine.specs.declared.calls.AskFault.TheVariants.{NoThread, Finished, Seeded, Unseeded, Memory, Busy}
 
--- Counting contexts step by step: how many the steps so far are within, and which thread made the
--- last of them.
+-- Counting contexts step by step: the contexts of the steps so far, and the last step's thread.
 
 -- the last of the threads
 abbrev pub last_thread : List ℕ → Option ℕ
@@ -25,12 +24,12 @@ last_thread [] = None
 last_thread (t ∷ []) = Some t
 last_thread (t ∷ u ∷ ts) = last_thread (u ∷ ts)
 
--- the contexts that a step of thread i opens after one of thread l
+-- the number of contexts that a step of thread i opens after one of thread l
 abbrev pub contexts_opened : Option ℕ → ℕ → ℕ
 contexts_opened None i = 1
 contexts_opened (Some l) i = if l == i then 0 else 1
 
--- the contexts that are used with one more step of thread i
+-- the number of contexts used with one more step of thread i
 abbrev pub used_with : ContextCount → ℕ → ℕ
 used_with k i = k.used + contexts_opened k.last i
 
@@ -51,7 +50,7 @@ pub record GuestThreadOf : Type 0 where
   pub calls : ℕ
   pub ended : Bool
 
--- the same, and for how many more frames its stack has room
+-- a thread, and the number of further frames for which its stack has room
 pub record KeptThread : Type 0 where
   pub guest : GuestThreadOf
   pub room : ℕ
@@ -77,7 +76,7 @@ first_thread c name =
 
 -- Stacks of frames, the topmost first.
 
--- a stack, and for how many more frames it has room
+-- a stack, and the number of further frames for which it has room
 pub record StackOf : Type 0 where
   pub frames : List ActivationRecord
   pub room : ℕ
@@ -94,7 +93,7 @@ abbrev pub entered_top : ActivationRecord → ℕ → List ActivationRecord → 
 entered_top f next [] = []
 entered_top f next (g ∷ fs) = f ∷ record { number = next; locals = g.locals } ∷ fs
 
--- What a session keeps of its threads, and when that stands for the configuration after a history.
+-- A session's state of its threads, and when it stands for the configuration after a history.
 
 -- the globals are a word, a bit for each slot
 pub record State : Type 0 where
@@ -103,7 +102,7 @@ pub record State : Type 0 where
   pub contexts : ContextCount
   pub outcome : Outcome
 
--- a machine: its state, and for how many more frames the stack of each thread has room
+-- a machine: its state, and the number of further frames for which each thread's stack has room
 pub record MachineOf : Type 0 where
   pub state : State
   pub rooms : List ℕ
@@ -136,15 +135,15 @@ pub record StandsAfter (t : Program) (s : SetupOf) (x : State) (h : List Call) :
 
 -- Sessions as contracts see them.
 
--- a session without memory: its machine, and the choices of each thread where the setup has a seed
+-- a session without memory: its machine, and the choices of each thread if the setup has a seed
 pub record SessionOf : Type 0 where
   pub code : Flat
   pub setup : SetupOf
   pub machine : MachineOf
   pub choices : List ChoicesOf
 
--- The session stands after the history h of the program t. Where the setup has a seed, the history
--- has its bits, and the choices of each thread stand before the bit of its next call.
+-- The session stands after the history h of the program t. If the setup has a seed, the history has
+-- its bits, and the choices of each thread are before the bit of its next call.
 pub record Stands (t : Program) (x : SessionOf) (h : List Call) : Type 0 where
   pub state : StandsAfter t x.setup x.machine.state h
   pub seeded : HasSeededBits x.setup h
@@ -153,11 +152,11 @@ pub record Stands (t : Program) (x : SessionOf) (h : List Call) : Type 0 where
       → slice_get x.choices i ≡ Some c
       → IsAt c seed i (length (calls_of_thread i h))
 
--- what holds in the session's program after each history after which the session stands
+-- P holds in the session's program of each history after which the session stands
 abbrev pub AfterEach : SessionOf → (Program → List Call → Type 0) → Type 0
 AfterEach x P = (h : List Call) → Stands x.code.tree x h → P x.code.tree h
 
--- where the session has choices, they are those of its threads
+-- the number of threads with choices: all of them if the setup has a seed, else none
 abbrev pub choices_of : SetupOf → ℕ
 choices_of s = if is_some s.seed then threads s else 0
 
@@ -177,8 +176,8 @@ pub record IsCallStep (t : Program) (s : SetupOf) (h : List Call) (i : ℕ) (bit
   pub calls : is_call frame.left ≡ true
   pub steps : Answers t s.contexts (configuration_after t s h) (granted_threads h) i bit Stepped
 
--- the next call of thread i after the history h, where this bit or none was handed in: it may
--- follow h, and its bit is the one that it has to have
+-- the next call of thread i after the history h with this given bit, or none: it may follow h, and
+-- has the required bit
 pub record IsNextCall
     (t : Program) (s : SetupOf) (h : List Call) (i : ℕ) (given : Option Bool) (x : Call)
     : Type 0 where
@@ -186,19 +185,17 @@ pub record IsNextCall
   pub bit : IsBitOfCall s h i given x.bit
   pub allowed : IsAllowed t s h x
 
--- the bit that is handed in for a recorded call: none if the setup has a seed, else that of the
--- record
+-- the bit given for a recorded call: none if the setup has a seed, else that of the record
 abbrev pub given_bit : SetupOf → Bool → Option Bool
 given_bit s bit = if is_some s.seed then None else Some bit
 
--- thread i is there, and its line is open
+-- thread i exists, and its line is open
 abbrev pub HasOpenLine : SetupOf → List Call → ℕ → Type 0
 HasOpenLine s h i = (i < threads s) × (is_finished s h i ≡ false)
 
--- When a call of thread i is refused after the history h, where this bit or none was handed in:
--- where there is no such thread; else where its line is finished; else where a bit was handed in
--- although the setup has a seed, or none although it has none; and memory may be refused only where
--- its step is a call.
+-- Why a call of thread i is refused after the history h with this given bit, or none: there is no
+-- such thread; else its line is finished; else a bit was given although the setup has a seed, or
+-- none although it has none. Memory may be refused only if its step is a call.
 module _ (t : Program) (s : SetupOf) (h : List Call) (i : ℕ) (given : Option Bool) where
   abbrev pub IsAskRefusal : AskFault → Type 0
   IsAskRefusal NoThread = threads s ≤ i
@@ -211,8 +208,8 @@ module _ (t : Program) (s : SetupOf) (h : List Call) (i : ℕ) (given : Option B
       × ((bit : Bool) × IsBitOfCall s h i given bit × IsCallStep t s h i bit)
   IsAskRefusal Busy = ⊥
 
--- When a look at what thread i prints next is refused: where there is no such thread; and memory
--- may be refused only where there is something that it prints.
+-- Why a look at the next values that thread i prints is refused: there is no such thread. Memory
+-- may be refused only if it prints some.
 abbrev pub IsPrintRefusal : SetupOf → ℕ → Option (List Bool) → AskFault → Type 0
 IsPrintRefusal s i printed NoThread = threads s ≤ i
 IsPrintRefusal s i printed Memory = (i < threads s) × (is_some printed ≡ true)

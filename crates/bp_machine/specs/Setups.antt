@@ -1,4 +1,4 @@
--- What a session starts from, and when a setup is refused.
+-- The start of a session, and when a setup is refused.
 use Rattle.std.specs.Prelude.{if◌then◌else◌, ◌≡◌, ℕ, ◌+◌, ◌<◌, ◌≤◌, ◌==◌, Bool, false, not, ◌||◌, nat_lt, List, [], ◌∷◌, Option, None, Some, length, replicate, codes}
 use Rattle.std.specs.Option.{option_or}
 use Rattle.bp_language.specs.Ast.{Procedure, Program}
@@ -26,7 +26,7 @@ setup_of entries init contexts calls seed = record {
   seed = seed;
 }
 
--- the initial bits of n globals: where none are given all are 0
+-- the initial bits of n globals: all are 0 if none are given
 abbrev pub initial_bits : Option (List Bool) → ℕ → List Bool
 initial_bits None n = replicate n false
 initial_bits (Some bits) n = bits
@@ -78,7 +78,7 @@ setup_fault t s = first_of (
     ∷ entries_fault t 0 s.entries
     ∷ number_faults t s)
 
--- why a setup is refused for a program: its first fault, or, where it has none, for memory
+-- why a setup is refused for a program: its first fault, or memory if it has none
 abbrev pub IsSetupRefusal : Program → SetupOf → SetupFault → Type 0
 IsSetupRefusal t s Memory = setup_fault t s ≡ None
 IsSetupRefusal t s f = setup_fault t s ≡ Some f
@@ -98,10 +98,10 @@ pub record IsInRange (s : SetupOf) : Type 0 where
   pub one : 0 < s.calls
   pub calls : s.calls ≤ MAX_CALLS
 
--- What a run of a program starts from, and the setup that comes of it.
+-- The start of a run of a program, and its setup.
 
--- each thread's entry procedure, the initial bits of the globals where they are
--- given, and the contexts and the calls of a thread that are allowed
+-- each thread's entry procedure, the initial bits of the globals if given, and the contexts and the
+-- calls of a thread that are allowed
 pub record StartOf : Type 0 where
   pub entries : List (List ℕ)
   pub init : Option (List Bool)
@@ -120,7 +120,7 @@ start_with entries init contexts calls = record {
 abbrev pub default_start : StartOf
 default_start = start_with (codes "main" ∷ []) None DEFAULT_CONTEXTS DEFAULT_CALLS
 
--- the setup of a program: where no bits are given, all globals begin with 0
+-- the setup of a program: all globals begin with 0 if no bits are given
 abbrev pub setup_from : StartOf → Option ℕ → Program → SetupOf
 setup_from start seed t =
     let bits = initial_bits start.init (length t.globals) in

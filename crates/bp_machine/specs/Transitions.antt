@@ -1,5 +1,5 @@
--- The result of a call of a thread in a session, and the state after it: how a session works,
--- which no public clause names.
+-- The result of a call of a thread in a session, and the state after it: how a session works, which
+-- no public clause names.
 use Rattle.std.specs.Prelude.{if◌then◌else◌, ◌≡◌, ℕ, ◌+◌, ◌<◌, ◌^◌, Bool, true, false, ◌||◌, nat_le, List, [], ◌∷◌, Option, None, Some, length, slice_get, slice_set, ◌≢◌}
 use Rattle.bp_flat.specs.Flat.{Instruction, Flat}
 use Rattle.bp_flat.specs.InstrEffects.{store_of, effect_of}
@@ -23,16 +23,16 @@ use Rattle.bp_machine.specs.declared.calls.AskFault.{AskFault}
 use Rattle.bp_machine.specs.declared.calls.AskFault.TheVariants.{NoThread, Finished, Seeded, Unseeded, Memory, Busy}
 use Rattle.bp_machine.specs.declared.sessions.Judged.{Judged}
 
--- what the topmost record sees: the globals, and its locals
+-- the store that the topmost record sees: the globals, and its locals
 abbrev pub store_at : ℕ → ActivationRecord → Store
 store_at globals f = record { globals = globals; locals = f.locals }
 
--- the effect is that of the instruction, where it sees this store
+-- the effect is that of the instruction if it sees this store
 pub record IsEffectOf (i : Instruction) (s : Store) (bit : Bool) (d : Effect) : Type 0 where
   pub each : (below : List Activation)
       → effect_of s d below ≡ instruction_effect i (store_of s) below bit
 
--- what an effect results in, where the stack may be full
+-- the transition for an effect, if the stack may be full
 abbrev pub transition_of : Effect → Bool → Transition
 transition_of (Enters c m locals) full = if full then Stays Full else Steps (Enters c m locals)
 transition_of instr.Fails full = Fails
@@ -40,25 +40,25 @@ transition_of instr.Blocks full = Stays Blocked
 transition_of d full = Steps d
 
 module _ (code : List Instruction) (g : ℕ) (bit : Bool) where
-  -- at the next instruction of the topmost record
+  -- the transition at the next instruction of the topmost record
   abbrev pub IsTransitionAt : Option Instruction → ActivationRecord → Bool → Transition → Type 0
   IsTransitionAt None f full v = v ≡ Stays Ended
   IsTransitionAt (Some i) f full v =
       (d : Effect) × IsEffectOf i (store_at g f) bit d × (v ≡ transition_of d full)
 
-  -- on a stack, where one more step fits within the contexts or not
+  -- the transition on a stack, if one more step fits within the contexts or not
   abbrev pub IsTransitionOn : Bool → List ActivationRecord → Transition → Type 0
   IsTransitionOn fits [] v = v ≡ Stays Ended
   IsTransitionOn true (f ∷ fs) v =
       IsTransitionAt (slice_get code f.number) f (nat_le MAX_FRAMES (length (f ∷ fs))) v
   IsTransitionOn false (f ∷ fs) v = v ≡ Stays NoContexts
 
-  -- where an assertion failed earlier or not
+  -- the transition if an assertion failed earlier or not
   abbrev pub IsTransitionUnless : Bool → Bool → List ActivationRecord → Transition → Type 0
   IsTransitionUnless true fits stack v = v ≡ Stays Stopped
   IsTransitionUnless false fits stack v = IsTransitionOn fits stack v
 
--- what a call of this thread, thread i, results in, where this many contexts are allowed
+-- the transition for a call of this thread, thread i, if this number of contexts is allowed
 abbrev pub IsTransition :
     List Instruction → State → ℕ → ℕ → GuestThreadOf → Bool → Transition → Type 0
 IsTransition code x most i guest bit v =
@@ -112,16 +112,16 @@ state_after x i guest (Steps d) = record {
   outcome = x.outcome;
 }
 
--- one more context is a number
+-- the number of contexts does not overflow with one more
 abbrev pub MayGrow : State → ℕ → Transition → Type 0
 MayGrow x i (Stays r) = Unit {0}
 MayGrow x i v = used_with x.contexts i < 2 ^ 32
 
--- no further call of this thread is made
+-- the thread makes no further call
 abbrev pub is_over : SetupOf → GuestThreadOf → Bool
 is_over s guest = guest.ended || nat_le s.calls guest.calls
 
--- what a call of thread i results in, which is there and may make it
+-- the transition for a call of thread i, which exists and may make it
 pub record IsNextTransition
     (code : List Instruction) (s : SetupOf) (x : State) (i : ℕ) (bit : Bool) (v : Transition)
     : Type 0 where
@@ -130,29 +130,29 @@ pub record IsNextTransition
   pub goes_on : is_over s guest ≡ false
   pub is : IsTransition code x s.contexts i guest bit v
 
--- the thread is there, and may make a further call
+-- the thread exists, and may make a further call
 pub record GoesOn (s : SetupOf) (x : State) (i : ℕ) : Type 0 where
   pub guest : GuestThreadOf
   pub has : slice_get x.threads i ≡ Some guest
   pub goes_on : is_over s guest ≡ false
 
--- the thread is there, and makes no further call
+-- the thread exists, and makes no further call
 pub record IsOver (s : SetupOf) (x : State) (i : ℕ) : Type 0 where
   pub guest : GuestThreadOf
   pub has : slice_get x.threads i ≡ Some guest
   pub over : is_over s guest ≡ true
 
--- the frame that the effect puts on a stack fits where there is room for this many
+-- the stack has room for the frame that the effect pushes
 abbrev pub FitsIn : ℕ → Effect → Type 0
 FitsIn room (Enters c m locals) = 0 < room
 FitsIn room d = Unit {0}
 
--- the same of a transition
+-- the stack has room for the frame that the transition pushes
 abbrev pub TransitionFitsIn : ℕ → Transition → Type 0
 TransitionFitsIn room (Steps d) = FitsIn room d
 TransitionFitsIn room v = Unit {0}
 
--- thread i has room for the transition, where the stacks have so much room
+-- thread i has room for the transition
 abbrev pub HasRoom : List ℕ → ℕ → Transition → Type 0
 HasRoom rooms i v =
     (room : ℕ) → slice_get rooms i ≡ Some room → TransitionFitsIn room v
@@ -178,7 +178,7 @@ session_of code setup machine choices = record {
   choices = choices;
 }
 
--- the choices of a setup's threads, none of which is drawn
+-- the choices of a setup's threads, before any is drawn
 pub record AreFirstChoices (s : SetupOf) (choices : List ChoicesOf) : Type 0 where
   pub count : length choices ≡ choices_of s
   pub each : (seed i : ℕ) (c : ChoicesOf)
@@ -186,7 +186,7 @@ pub record AreFirstChoices (s : SetupOf) (choices : List ChoicesOf) : Type 0 whe
       → slice_get choices i ≡ Some c
       → IsAt c seed i 0
 
--- the next bit of thread i is drawn, where it has choices
+-- the next bit of thread i is drawn, if it has choices
 pub record AreDrawn (i : ℕ) (old new : List ChoicesOf) : Type 0 where
   pub count : length new ≡ length old
   pub own : (c d : ChoicesOf) (seed thread n : ℕ)
@@ -196,25 +196,25 @@ pub record AreDrawn (i : ℕ) (old new : List ChoicesOf) : Type 0 where
       → IsAt d seed thread (n + 1)
   pub others : (j : ℕ) → j ≢ i → slice_get new j ≡ slice_get old j
 
--- the bit is the one that was handed in, where one was
+-- the bit is the given one, if any
 abbrev pub IsGiven : Option Bool → Bool → Type 0
 IsGiven (Some given) bit = bit ≡ given
 IsGiven None bit = Unit {0}
 
--- the bit of the next call of thread i, where this bit or none was handed in
+-- the bit of the next call of thread i, with this given bit or none
 abbrev pub IsKeptBit : List ChoicesOf → ℕ → Option Bool → Bool → Type 0
 IsKeptBit choices i (Some given) bit = (slice_get choices i ≡ None) × (bit ≡ given)
 IsKeptBit choices i None bit =
     (c : ChoicesOf) × (slice_get choices i ≡ Some c) × (bit ≡ next_bit c)
 
--- a bit was handed in although thread i has choices, or none although it has none
+-- a bit was given although thread i has choices, or none although it has none
 abbrev pub IsBitRefusal : List ChoicesOf → ℕ → Option Bool → AskFault → Type 0
 IsBitRefusal choices i given Seeded =
     ((c : ChoicesOf) × (slice_get choices i ≡ Some c)) × ((bit : Bool) × (given ≡ Some bit))
 IsBitRefusal choices i given Unseeded = (slice_get choices i ≡ None) × (given ≡ None)
 IsBitRefusal choices i given f = ⊥
 
--- what a call of thread i results in, where this bit or none was handed in
+-- the transition for a call of thread i, with this given bit or none
 pub record IsJudged (x : SessionOf) (i : ℕ) (given : Option Bool) (p : Judged) : Type 0 where
   pub thread : p.call.thread ≡ i
   pub bit : IsKeptBit x.choices i given p.call.bit
@@ -222,7 +222,7 @@ pub record IsJudged (x : SessionOf) (i : ℕ) (given : Option Bool) (p : Judged)
       IsNextTransition x.code.instructions x.setup x.machine.state i p.call.bit p.transition
   pub reply : p.call.reply ≡ reply_of_transition p.transition
 
--- why a call of thread i is refused before memory is taken
+-- why a call of thread i is refused before memory is allocated
 abbrev pub IsKeptRefusal : SessionOf → ℕ → Option Bool → AskFault → Type 0
 IsKeptRefusal x i given NoThread = slice_get x.machine.state.threads i ≡ None
 IsKeptRefusal x i given Finished = IsOver x.setup x.machine.state i
