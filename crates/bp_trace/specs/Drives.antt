@@ -1,4 +1,4 @@
--- What a schedule drives a program to.
+-- The history to which a schedule drives a program.
 use Rattle.std.specs.Prelude.{◌≡◌, ◌≢◌, ℕ, ◌+◌, ◌<◌, ◌≤◌, true, List, [], ◌++◌, Option, length, ◌∷◌}
 use Rattle.bp_text.specs.Writing.{AppendsAll, AppendsPart}
 use Rattle.bp_language.specs.Ast.{Program}
@@ -22,7 +22,7 @@ pub record DrivesUpTo
   pub whole : schedule ≡ schedule_text (lines_of_history history) ++ rest
   pub number : n ≡ length history + 1
 
--- the n-th line is no line of a thread of the setup
+-- the n-th line is not a schedule line of a thread of the setup
 pub record IsBadLine (t : Program) (s : SetupOf) (schedule : List ℕ) (n : ℕ) : Type 0 where
   pub rest : List ℕ
   pub reached : DrivesUpTo t s schedule n rest
@@ -43,8 +43,8 @@ pub record IsDriven (t : Program) (s : SetupOf) (schedule : List ℕ) (h : List 
   pub legal : IsLegal t s h
   pub lines : schedule ≡ schedule_text (lines_of_history h)
 
--- Why a schedule does not drive a program: the first that applies. Nothing is said of when memory
--- is refused.
+-- Why a schedule does not drive a program: the first reason that applies. It does not say when
+-- memory is refused.
 module _ (t : Program) (s : SetupOf) (schedule : List ℕ) where
   abbrev IsShort : Type 0
   IsShort = length schedule ≤ MAX_SCHEDULE
@@ -56,7 +56,7 @@ module _ (t : Program) (s : SetupOf) (schedule : List ℕ) where
   IsScheduleRefusal Memory = IsShort
   IsScheduleRefusal Write = ⊥
 
-  -- what was written then, by the bytes of the writer before and after it
+  -- the text written then, by the bytes of the writer before and after it
   abbrev pub IsRefusal : Option (List ℕ) → Option (List ℕ) → DriveFault → Type 0
   IsRefusal old new Write =
       (h : List Call) × IsDriven t s schedule h × AppendsPart old new (trace_text s h)
@@ -71,10 +71,10 @@ pub record DrivesTo
   pub written : AppendsAll old new (trace_text s history)
   pub report : IsReport s history r
 
--- What a line of a schedule does to a session: a device of the driver, which no public clause
+-- The effect of a line of a schedule on a session: a device of the driver, which no public clause
 -- names.
 
--- the refusal of a call on the line n, of a thread that is there
+-- the refusal of a call on the line n, of an existing thread
 abbrev pub drive_fault_of : AskFault → ℕ → DriveFault
 drive_fault_of refused.Memory n = Memory
 drive_fault_of f n = AfterFinish n

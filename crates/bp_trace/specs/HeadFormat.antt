@@ -36,7 +36,7 @@ may_end Within = true
 abbrev pub entry : Format (List ℕ)
 entry = Line (After (codes "entry ") (Span after_byte may_end Start))
 
--- a digit for each global, or a dash where there is none
+-- a digit for each global, or a dash if there is none
 abbrev pub parts_of_bits : List Bool → Unit {0} ⊎ (Bool × List Bool)
 parts_of_bits [] = inl tt
 parts_of_bits (b ∷ bs) = inr (b, bs)

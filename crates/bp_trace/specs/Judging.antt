@@ -29,7 +29,7 @@ use Rattle.bp_trace.specs.declared.faults.ReplayFault.TheVariants as fault
 abbrev pub rows_of : Option Printed → List PrintedRow
 rows_of row = option_to_list (option_map row_of row)
 
--- the refusal of a call on the line n, where this many calls were made before; its thread exists
+-- the refusal of a call on the line n, after this number of calls; its thread exists
 abbrev pub replay_fault_of : AskFault → ℕ → ℕ → ReplayFault
 replay_fault_of refused.Memory n made = fault.Memory
 replay_fault_of f n made = fault.AfterFinish n made
@@ -39,7 +39,7 @@ pub record IsOwnAs (own x : Call) : Type 0 where
   pub bit : own.bit ≡ x.bit
   pub reply : own.reply ≡ x.reply
 
--- another bit, or another reply, where this many calls were made before
+-- the bit or the reply differs after this number of calls
 module _ (own x : Call) (n made : ℕ) where
   pub record IsDueCall (due : Due) : Type 0 where
     pub calls : due.calls ≡ made
@@ -61,7 +61,7 @@ ArePlayed x p =
     Stands x.code.tree x p.history.items
     × (map row_of p.printed.items ≡ printed_rows x.code.tree x.setup p.history.items)
 
--- what was seen of the calls that were played stays seen with the new ones
+-- observations of the calls played so far remain valid with the new ones
 abbrev pub Watches
     : {O : Type 0}
     → (O → O → Program → SetupOf → List Call → Type 0)
@@ -95,13 +95,13 @@ pub record IsRefusedAfter
   pub among : IsRefusedAmong t s h n calls f
   pub are : played ≡ h ++ among.good
 
--- why the calls of the line n are refused after h, where these were played
+-- why the calls of the line n are refused after h and the calls played
 abbrev pub IsLineRefused :
     Program → SetupOf → List Call → ℕ → List Call → List Call → ReplayFault → Type 0
 IsLineRefused t s h n calls played f =
     (f ≡ fault.Memory) ⊎ IsRefusedAfter t s h n calls played f
 
--- the lines of the calls that were played begin the text, and no line of calls is after them
+-- the lines of the calls that were played begin the text, and no line of calls follows them
 pub record IsBody
     {O : Type 0} (v : Version) (s : SetupOf) (text : List ℕ) (first : ℕ) (b : Body O)
     : Type 0 where
@@ -112,8 +112,8 @@ pub record IsBody
   pub ends : HasNoBodyLine v (threads s) (last_thread (map (λ x. x.thread) b.played.history.items))
       (drop b.size text)
 
--- the lines of calls that may be played begin the text, and a line is after them of whose calls
--- one is refused; those before it were played
+-- the lines of calls that may be played begin the text, then a line of which one call is refused;
+-- those before it were played
 pub record HasRefusedBody
     (t : Program) (v : Version) (s : SetupOf) (text : List ℕ) (first : ℕ) (played : List Call)
     (f : ReplayFault)
@@ -136,7 +136,7 @@ pub record FitsText (text : List ℕ) (o : Opened) : Type 0 where
   pub within : o.size ≤ length text
   pub few : o.lines + length (drop o.size text) ≤ length text
 
--- the head begins the text, and has this many bytes and lines
+-- the head begins the text, and has this number of bytes and lines
 pub record IsOpened (text : List ℕ) (o : Opened) : Type 0 where
   pub has : HasHead o.setup
   pub parts : text ≡ head_text o.version o.setup ++ drop o.size text
@@ -148,7 +148,7 @@ pub record IsPlayedTrace
   pub trace : IsTrace t o.version o.setup h text
   pub report : IsReport o.setup h r
 
--- the text with this head is refused, after these calls that are accepted
+-- the text with this head is refused after these accepted calls
 pub record IsRefusedOpened
     (t : Program) (text : List ℕ) (o : Opened) (kept : List Call) (f : ReplayFault) : Type 0 where
   pub refusal : IsReplayRefusal t text f

@@ -17,7 +17,7 @@ use Rattle.bp_trace.specs.declared.faults.DriveFault.{DriveFault}
 use Rattle.bp_trace.specs.declared.faults.DriveFault.TheVariants as drive
 use Rattle.bp_trace.specs.Drives.{IsDriven, IsBadLine, IsAfterFinish, IsScheduleRefusal}
 
--- the schedule drives to this history, to no other, and no line of it is refused
+-- the schedule drives to this history and no other, and no line of it is refused
 pub record DrivesTo (t : Program) (s : SetupOf) (schedule : List ℕ) (h : List Call) : Type 0 where
   pub driven : IsDriven t s schedule h
   pub alone : (g : List Call) → IsDriven t s schedule g → g ≡ h
@@ -41,7 +41,7 @@ RunsDriveToHistories =
     → IsBoundedRun t s steps d
     → DrivesTo t s (schedule_text (lines_of_history steps)) (history_of_run steps d.failed)
 
--- a schedule has at most one refusal beside memory
+-- a schedule has at most one refusal apart from memory
 abbrev pub OneScheduleRefusal : Type 0
 OneScheduleRefusal =
     (t : Program) (s : SetupOf) (schedule : List ℕ) (f g : DriveFault)
@@ -79,7 +79,7 @@ NoTwoHaveOneText =
     → text_of v s h ≡ text_of w r g
     → (v ≡ w) × (s ≡ r) × (h ≡ g)
 
--- a text has at most one refusal beside memory
+-- a text has at most one refusal apart from memory
 abbrev pub OneRefusal : Type 0
 OneRefusal =
     (t : Program) (text : List ℕ) (f g : ReplayFault)

@@ -1,4 +1,4 @@
--- How the lines of traces are read and written: devices, but for what is read of a head.
+-- How the lines of traces are read and written: devices, except for heads.
 use Rattle.std.proofs.Common.{refl}
 use Rattle.std.specs.Char.{is_ascii_digit}
 use Rattle.std.specs.Prelude.{if◌then◌else◌, ◌==◌, ℕ, Bool, true, false, List, [], ◌∷◌, ◌++◌, Option, None, Some, codes, decimal, ◌≡◌, ◌≢◌, ◌<◌, length, map, flat_map, ◌⊎◌, ◌+◌}
@@ -28,7 +28,7 @@ abbrev pub line_start : Bool → ℕ → List ℕ
 line_start is_first i =
     (if is_first then [] else codes "\n") ++ (decimal i ++ codes " ")
 
--- what begins a call after one of this thread, or after none
+-- the text before a call that follows one of this thread, or none
 abbrev pub opening : Option ℕ → ℕ → List ℕ
 opening None i = line_start true i
 opening (Some l) i = if l == i then [] else line_start false i
@@ -66,19 +66,19 @@ HasNoTail text =
 abbrev pub IsCallAt : ℕ → List ℕ → Call → Type 0
 IsCallAt n text x = (more : List ℕ) × (x.thread < n) × (text ≡ call_line x ++ more)
 
--- no line of a call of a thread below n does
+-- the line of no call of a thread below n begins the text
 abbrev pub HasNoCall : ℕ → List ℕ → Type 0
 HasNoCall n text = (x : Call) (more : List ℕ) → x.thread < n → text ≢ call_line x ++ more
 
 -- How the head of a trace is read.
 
--- the setup that a head says
+-- the setup that a head describes
 abbrev pub setup_of_head : Head → SetupOf
 setup_of_head head =
     setup_of (map (λ n. n.now) head.entries.items)
     head.init.items head.contexts head.calls head.seed
 
--- the head begins the text, and has this many bytes and lines
+-- the head begins the text, and has this number of bytes and lines
 pub record IsHeadOf (text : List ℕ) (read : Head) : Type 0 where
   pub has : HasHead (setup_of_head read)
   pub rest : List ℕ
@@ -86,7 +86,7 @@ pub record IsHeadOf (text : List ℕ) (read : Head) : Type 0 where
   pub size : read.size ≡ length (head_text read.version (setup_of_head read))
   pub lines : read.lines ≡ length (head_lines read.version (setup_of_head read))
 
--- the line that is malformed or missing; nothing is said of when memory is refused
+-- the line that is malformed or missing; it does not say when memory is refused
 abbrev pub IsHeadRefusal : List ℕ → ReplayFault → Type 0
 IsHeadRefusal text (fault.Head k) = BreaksAt head text k
 IsHeadRefusal text fault.Memory = Unit {0}
@@ -99,12 +99,12 @@ IsHeadRefusal text f = ⊥
 abbrev pub IsSymbolAt : List ℕ → Bool × Reply → Type 0
 IsSymbolAt text x = (more : List ℕ) × (text ≡ bit_digit x.0 ∷ letter_of x.1 ∷ more)
 
--- no bit and no letter of a reply do
+-- no bit and letter of a reply begin the text
 abbrev pub HasNoSymbol : List ℕ → Type 0
 HasNoSymbol text = (b : Bool) (r : Reply) (more : List ℕ) → text ≢ bit_digit b ∷ letter_of r ∷ more
 
--- the symbols at the front of the text have this size, and no other follows them; the calls
--- that they are for this thread were added
+-- the text begins with symbols of this size, and no other follows them; their calls of this thread
+-- were added
 pub record HasSymbols (i : ℕ) (text : List ℕ) (old new : List Call) (size : ℕ) : Type 0 where
   pub symbols : List Symbol
   pub more : List ℕ
@@ -132,7 +132,7 @@ HasNoBodyLine v n last text =
 
 -- How the line that ends a trace is read: a device of the reader, which no public clause names.
 
--- what has been read of a decimal after one more byte, if a decimal may begin so
+-- the state of reading a decimal after one more byte, if a decimal may begin with these bytes
 abbrev pub more_digits : ℕ → Option DecimalState
 more_digits byte = if is_ascii_digit byte then Some Digits else None
 
@@ -146,7 +146,7 @@ is_whole Start = false
 is_whole Zero = true
 is_whole Digits = true
 
--- a decimal of any length is a zero, or has digits of which the first is none
+-- a decimal of any length is a zero, or has digits of which the first is not 0
 abbrev pub any_decimal : Format (List ℕ)
 any_decimal = Span after_digit is_whole Start
 
@@ -172,12 +172,12 @@ pub record HasOtherLine (text : List ℕ) : Type 0 where
   pub some : text ≢ []
   pub ends : HasNoEnd text
 
--- what an end counts
+-- the counts of an end
 abbrev pub counts : ℕ → ℕ → EndCounts
 counts calls left_open = record { calls = calls; left_open = left_open }
 
--- Why what is after the calls of a trace is refused, where line n is due: it is not the end of so
--- many calls and open lines, alone.
+-- Why the text after the calls of a trace is refused at line n: it is not the end line of these
+-- counts of calls and open lines alone.
 module _ (rest : List ℕ) (calls left_open n : ℕ) where
   abbrev own : List ℕ
   own = end_line calls left_open

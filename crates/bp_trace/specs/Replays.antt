@@ -1,4 +1,4 @@
--- What a text is to a replay: the trace of a legal history, or what refuses it.
+-- A text as a replay sees it: the trace of a legal history, or one that is refused.
 use Rattle.std.specs.Prelude.{List, ◌≡◌, ◌≢◌, ◌⊎◌, ◌<◌, ◌≤◌, ℕ, ◌+◌, true, [], ◌∷◌, ◌++◌, Option, None, Some, length, map, codes, slice_index}
 use Rattle.std.specs.Str.Parse.{AllDigits}
 use Rattle.std.specs.List.{AllByRecursion}
@@ -39,17 +39,17 @@ module _ (t : Program) (s : SetupOf) (h : List Call) (x : Call) where
   abbrev pub IsOwnCall : Call → Type 0
   IsOwnCall own = IsNextCall t s h x.thread (given_bit s x.bit) own
 
-  -- why no call comes next; memory may be refused to whoever watches it, too
+  -- why no call comes next; memory may be refused to the watcher, too
   abbrev pub IsOwnRefusal : AskFault → Type 0
   IsOwnRefusal Memory = Unit {0}
   IsOwnRefusal f = IsAskRefusal t s h x.thread (given_bit s x.bit) f
 
--- the history is legal, and has the bits of the seed where there is one
+-- the history is legal, and has the bits of the seed if there is one
 pub record IsPlayable (t : Program) (s : SetupOf) (h : List Call) : Type 0 where
   pub legal : IsLegal t s h
   pub seeded : HasSeededBits s h
 
--- the text is the trace of such a history, of a setup that the program takes
+-- the text is the trace of such a history, of a setup that the program accepts
 pub record IsTrace
     (t : Program) (v : Version) (s : SetupOf) (h : List Call) (text : List ℕ) : Type 0 where
   pub head : HasHead s
@@ -57,13 +57,13 @@ pub record IsTrace
   pub playable : IsPlayable t s h
   pub is : text ≡ text_of v s h
 
--- how many lines the calls of a history have
+-- the number of lines of the calls of a history
 abbrev pub line_count : Version → List Call → ℕ
 line_count One h = length h
 line_count Two h = length (pieces_of h)
 
--- a line of calls of one of n threads that may follow a call of the last thread, or the head where
--- there is none; and the calls that it holds
+-- a line of calls of one of n threads that may follow a call of the last thread, or the head if
+-- there is none; and its calls
 module _ (n : ℕ) (last : Option ℕ) (line : List ℕ) (calls : List Call) where
   -- one call
   pub record IsCallLine : Type 0 where
@@ -99,7 +99,7 @@ pub record IsEndLine (line : List ℕ) : Type 0 where
   pub second : IsDecimal left_open
   pub is : line ≡ codes "end " ++ (calls ++ (codes " " ++ (left_open ++ codes "\n")))
 
--- What may be after the calls of a history, but its own end alone.
+-- The text that may be after the calls of a history, other than its own end alone.
 module _ (own rest : List ℕ) where
   -- another end
   pub record HasOtherEnd : Type 0 where
@@ -116,8 +116,8 @@ module _ (own rest : List ℕ) where
     pub some : more ≢ []
 
 -- Why the call x is refused on line n after the history h: its thread has made its last call; else
--- the machine's own call, which has the bit of the seed where there is one, has another bit; else
--- it has another reply.
+-- the machine's own call, with the bit of the seed if there is one, has another bit; else it has
+-- another reply.
 module _ (t : Program) (s : SetupOf) (h : List Call) (n : ℕ) (x : Call) where
   -- the machine's own call of the thread, after those of h
   pub record IsDue (due : Due) : Type 0 where
@@ -143,8 +143,8 @@ pub record IsRefusedAmong
   pub playable : IsPlayable t s (h ++ good)
   pub refused : IsCallFault t s (h ++ good) n call f
 
--- The text begins with the head of a setup that the program takes, and the whole lines of a history
--- that is legal; then comes the rest, whose first line has this number.
+-- The text begins with the head of a setup that the program accepts, and the whole lines of a legal
+-- history; then comes the rest, whose first line has this number.
 pub record Reaches
     (t : Program) (text : List ℕ) (v : Version) (s : SetupOf) (h : List Call) (n : ℕ)
     (rest : List ℕ)
@@ -155,12 +155,12 @@ pub record Reaches
   pub parts : text ≡ head_text v s ++ (calls_text v h ++ rest)
   pub number : n ≡ length (head_lines v s) + line_count v h + 1
 
--- what the end of a history counts
+-- the counts of the end of a history
 abbrev pub counts_of : SetupOf → List Call → EndCounts
 counts_of s h = record { calls = length h; left_open = open_lines s h }
 
--- Why the rest is refused: it is empty; it begins with no line that is due; with one whose calls
--- are refused; with the end of another history; or with the end, and something after it.
+-- Why the rest is refused: it is empty; no line that may follow begins it; it begins with one whose
+-- calls are refused; with the end of another history; or with the end, and more after it.
 module _
     (t : Program) (v : Version) (s : SetupOf) (h : List Call) (n : ℕ) (rest : List ℕ) where
   -- a line of calls that may follow those of h
@@ -176,7 +176,7 @@ module _
         → rest ≢ line ++ more
     pub ends : (line more : List ℕ) → IsEndLine line → rest ≢ line ++ more
 
-  -- a line begins it, of whose calls one is refused after those before it
+  -- a line begins it, one of whose calls is refused after those before it
   pub record HasRefusedCall (f : ReplayFault) : Type 0 where
     pub line : List ℕ
     pub calls : List Call
@@ -196,7 +196,7 @@ module _
       ((m ≡ n) × HasNoNextLine) ⊎ ((m ≡ n + 1) × HasMoreAfter own_end rest)
   IsRestRefused f = HasRefusedCall f
 
--- Each refusal, the first that applies. Nothing is said of when memory is refused, but that nothing
+-- Each refusal, the first that applies. It does not say when memory is refused, except that nothing
 -- before it is.
 module _ (t : Program) (text : List ℕ) where
   abbrev IsShort : Type 0
@@ -227,9 +227,9 @@ module _ (t : Program) (text : List ℕ) where
   IsReplayRefusal fault.Memory = IsShort
   IsReplayRefusal f = IsShort × HasRefusedRest f
 
--- Which calls of a text are accepted, where the text as a whole may be no trace.
+-- The calls of a text that are accepted even if the whole text is not a trace.
 
--- no calls of a text are accepted that has this fault: it has no head, or the setup is refused, or
+-- no calls of a text with this fault are accepted: it has no head, or the setup is refused, or
 -- memory was
 abbrev pub HasNoCalls : ReplayFault → Type 0
 HasNoCalls fault.TooLong = Unit {0}
@@ -240,7 +240,7 @@ HasNoCalls f = ⊥
 
 module _ (t : Program) (text : List ℕ) where
   -- These calls of the text are accepted: it begins with the head of a setup that the program
-  -- takes, and with whole lines of calls of its threads. These are the first of them, and may be
+  -- accepts, and with whole lines of calls of its threads. These are the first of them, and may be
   -- played.
   pub record IsAccepted (v : Version) (s : SetupOf) (h : List Call) : Type 0 where
     pub head : HasHead s
@@ -251,7 +251,7 @@ module _ (t : Program) (text : List ℕ) where
     pub rest : List ℕ
     pub parts : text ≡ head_text v s ++ (calls_text v (h ++ others) ++ rest)
 
-  -- and no more are: all others that are accepted are the first of these
+  -- no more are accepted: all others that are accepted are a prefix of these
   pub record IsLongestAccepted (v : Version) (s : SetupOf) (h : List Call) : Type 0 where
     pub accepted : IsAccepted v s h
     pub longest : (w : Version) (r : SetupOf) (g : List Call)
@@ -265,7 +265,7 @@ module _ (t : Program) (text : List ℕ) where
     pub history : List Call
     pub is : IsTrace t version setup history text
 
-  -- the text is refused for this fault, and this is the trace of its calls that are accepted
+  -- the text is refused for this fault, and this is the trace of its accepted calls
   pub record IsAcceptedTrace (x : AcceptedTrace) : Type 0 where
     pub version : Version
     pub setup : SetupOf
@@ -275,20 +275,20 @@ module _ (t : Program) (text : List ℕ) where
     pub calls : x.calls ≡ length history
     pub refused : IsReplayRefusal t text x.fault
 
--- What a replay answers: a setup, a history, what its steps printed, and its report.
+-- The result of a replay: a setup, a history, the values that its steps printed, and its report.
 
--- a row of the answer
+-- a row of the result
 abbrev pub row_of : Printed → PrintedRow
 row_of p = record { thread = p.thread; values = p.values.items }
 
--- the text is a trace, and this is what it says
+-- the text is a trace, and this is its contents
 pub record IsReplayed (t : Program) (text : List ℕ) (r : Replayed) : Type 0 where
   pub version : Version
   pub trace : IsTrace t version r.setup r.history.items text
   pub printed : map row_of r.printed.items ≡ printed_rows t r.setup r.history.items
   pub report : IsReport r.setup r.history.items r.report
 
--- so it was replayed, the session stands after its history, and the watcher has seen that
+-- it was replayed, the session stands after its history, and the watcher has seen that
 pub record IsWatched
     {O : Type 0} (sees : O → Program → SetupOf → List Call → Type 0) (t : Program) (text : List ℕ)
     (w : Watched O)
@@ -299,7 +299,7 @@ pub record IsWatched
   pub setup : w.session.setup ≡ w.replayed.setup
   pub seen : sees w.watcher t w.replayed.setup w.replayed.history.items
 
--- What a text is migrated to.
+-- The result of migrating a text.
 
 -- the bytes of the writer before and after a call
 module _ (t : Program) (text : List ℕ) (old new : Option (List ℕ)) where

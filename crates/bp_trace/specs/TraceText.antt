@@ -10,7 +10,7 @@ use Rattle.bp_trace.specs.declared.driving.ScheduleLine.{ScheduleLine}
 use Rattle.bp_trace.specs.declared.traces.Version.{Version}
 use Rattle.bp_trace.specs.declared.traces.Version.TheVariants.{One, Two}
 
--- Schedules: lines that say which thread makes the next call, and with which choice bit.
+-- Schedules: lines that give the thread of the next call, and its choice bit.
 
 -- the thread, a space, the bit and a line feed
 abbrev pub line_text : ScheduleLine → List ℕ
@@ -19,7 +19,7 @@ line_text x = decimal x.thread ++ 32 ∷ bit_digit x.bit ∷ 10 ∷ []
 abbrev pub schedule_text : List ScheduleLine → List ℕ
 schedule_text xs = flat_map line_text xs
 
--- what a schedule says of a call
+-- the schedule line of a call
 abbrev pub line_of_call : Call → ScheduleLine
 line_of_call x = record { thread = x.thread; bit = x.bit }
 
@@ -62,7 +62,7 @@ calls_of_pieces ps = flat_map calls_of_piece ps
 abbrev pub piece_of : Call → List Symbol → Piece
 piece_of x others = record { thread = x.thread; first = symbol_of x; others = others }
 
--- a call and then the pieces: it belongs to the first of them where that is of its thread
+-- a call, then the pieces: it joins the first piece if that is of its thread
 abbrev pub with_call : Call → List Piece → List Piece
 with_call x [] = piece_of x [] ∷ []
 with_call x (p ∷ ps) =
@@ -78,7 +78,7 @@ pieces_of (x ∷ xs) = with_call x (pieces_of xs)
 abbrev pub entry_line : List ℕ → List ℕ
 entry_line name = codes "entry " ++ (name ++ codes "\n")
 
--- a digit for each global, or a dash where there is none
+-- a digit for each global, or a dash if there is none
 abbrev pub init_digits : List Bool → List ℕ
 init_digits [] = codes "-"
 init_digits (b ∷ bs) = map bit_digit (b ∷ bs)
@@ -150,7 +150,7 @@ trace_text s h = text_of One s h
 abbrev pub trace_text_2 : SetupOf → List Call → List ℕ
 trace_text_2 s h = text_of Two s h
 
--- What the text of a trace can hold.
+-- The contents that the text of a trace can hold.
 
 -- no byte of the text is this one
 abbrev pub Without : ℕ → List ℕ → Type 0
@@ -164,14 +164,14 @@ pub record IsWritable (s : SetupOf) (h : List Call) : Type 0 where
   pub seed : (n : ℕ) → s.seed ≡ Some n → n < 2 ^ 64
   pub threads : AllByRecursion (λ x. x.thread < 2 ^ 64) h
 
--- Which setups have a head.
+-- Setups that have a head.
 
 -- a name that an entry line can hold
 pub record IsEntryName (name : List ℕ) : Type 0 where
   pub some : name ≢ []
   pub line : Without 10 name
 
--- the setup can be said in a head: each name is on its line, and the numbers have 64 bits
+-- a head can hold the setup: each name is on its line, and the numbers have 64 bits
 pub record HasHead (s : SetupOf) : Type 0 where
   pub names : AllByRecursion IsEntryName s.entries
   pub contexts : s.contexts < 2 ^ 64
