@@ -1,4 +1,4 @@
--- Desks, seats and taps as contracts see them, and what a board is made of.
+-- Desks, seats and taps as contracts see them, and the parts of a board.
 use denote.RawPtr.{Ptr, null_ptr}
 use Rattle.std.specs.Prelude.{[], None, ◌≡◌, ◌<◌, ◌≤◌, ℕ, List, true, length, is_some, refl, if◌then◌else◌, Bool, map, ◌∷◌, Option, Some, MatchOption}
 use Rattle.rtrb.specs.Shared.{Names}
@@ -20,9 +20,9 @@ use Rattle.bp_machine.specs.Histories.{open_lines, IsLegal, HasSeededBits}
 use Rattle.bp_machine.specs.Sessions.{SessionOf, Stands}
 use Rattle.bp_machine.specs.SessionCodes.{coded_setup, coded_call}
 
--- Which ring an end is of.
+-- The ring to which an end belongs.
 
--- what the two ends of one ring have in common
+-- the parts that the two ends of one ring share
 pub record RingOf : Type 0 where
   pub words : Ptr
   pub slots : Ptr
@@ -52,9 +52,9 @@ no_code = flat [] 0 [] (record { globals = []; procedures = [] })
 abbrev pub no_setup : SetupOf
 no_setup = setup_of [] [] 0 0 None
 
--- What a board is made of.
+-- The parts of a board.
 
--- for how many threads, the names of the two ledgers, the ring, and how many of its places are free
+-- the number of threads, the names of the two ledgers, the ring, and its number of free places
 pub record KitOf : Type 0 where
   pub threads : ℕ
   pub calls : ℕ
@@ -84,7 +84,7 @@ pub record IsNewKit
   pub untaken : received from ≡ []
   pub one_ring : consumer_ring from ≡ producer_ring to
 
--- the kit is the one that these names and parts of ledgers, and this ring, are of
+-- the kit has these names and parts of ledgers, and this ring
 pub record IsNamed
     (kit : KitOf) (calls call_parts lines line_parts : ℕ) (ring : RingOf) : Type 0 where
   pub calls_are : kit.calls ≡ calls
@@ -93,8 +93,8 @@ pub record IsNamed
   pub line_parts_are : kit.threads ≡ line_parts
   pub ring_is : kit.ring ≡ ring
 
--- Desks as contracts see them: a program's code, a setup, the history that was sent, and how many
--- places of the ring the desk knows to be free.
+-- Desks as contracts see them: a program's code, a setup, the history that was sent, and the number
+-- of places of the ring that the desk knows to be free.
 
 pub record DeskOf : Type 0 where
   pub code : Flat
@@ -105,8 +105,8 @@ pub record DeskOf : Type 0 where
 abbrev pub desk_of : SessionOf → List Call → ℕ → DeskOf
 desk_of x h free = record { code = x.code; setup = x.setup; history = h; free = free }
 
--- What a desk is whenever nobody is at work on it: its setup fits the code's program and has a
--- seed, and its history is legal and has the bits of that seed.
+-- A desk while nobody is at work on it: its setup fits the code's program and has a seed, and its
+-- history is legal and has the bits of that seed.
 pub record IsLegalDesk (d : DeskOf) : Type 0 where
   pub fits : Fits d.code.tree d.setup
   pub has_seed : is_some d.setup.seed ≡ true
@@ -122,7 +122,7 @@ pub record IsInBooks (x : SessionOf) (h : List Call) (made lines : ℕ) : Type 0
   pub made_is : made ≡ length h
   pub lines_are : lines ≡ open_lines x.setup h
 
--- a desk of this code and setup that has sent nothing, and knows this many places to be free
+-- a desk of this code and setup that has sent nothing, and knows this number of places to be free
 pub record IsNewDesk (code : Flat) (setup : SetupOf) (free : ℕ) (d : DeskOf) : Type 0 where
   pub code_is : d.code ≡ code
   pub setup_is : d.setup ≡ setup
@@ -141,7 +141,7 @@ coded_desk =
 
 -- Seats as contracts see them.
 
--- a thread, how many calls were made from its seat, and whether it may continue
+-- a thread, the number of calls made from its seat, and whether it may continue
 pub record SeatOf : Type 0 where
   pub thread : ℕ
   pub calls : ℕ
@@ -150,12 +150,11 @@ pub record SeatOf : Type 0 where
 abbrev pub seat_of : ℕ → ℕ → Bool → SeatOf
 seat_of thread calls is_open = record { thread = thread; calls = calls; is_open = is_open }
 
--- how many open lines a seat counts as
+-- the number of open lines that a seat counts as
 abbrev pub open_amount : Bool → ℕ
 open_amount is_open = if is_open then 1 else 0
 
--- a seat has one part of each ledger: of the first as much as it made calls, of the second one
--- where its line is open
+-- a seat has one part of each ledger: the first counts its calls, the second its open line
 pub record HasShares (call_parts made line_parts line : ℕ) (seat : SeatOf) : Type 0 where
   pub one_of_calls : call_parts ≡ 1
   pub made_is : made ≡ seat.calls
@@ -171,7 +170,7 @@ AreNewSeats n seats = seats ≡ map new_seat (range_with_len 0 n)
 
 -- Taps as contracts see them.
 
--- the calls that were taken, and once the board is gathered those that are left
+-- the calls that were taken, and the calls that are left once the board is gathered
 pub record TapOf : Type 0 where
   pub taken : List Call
   pub rest : Option (List Call)
@@ -179,14 +178,14 @@ pub record TapOf : Type 0 where
 abbrev pub tap_of : List Call → List Call → Option ℕ → TapOf
 tap_of taken known left = record { taken = taken; rest = option_map (λ _. known) left }
 
--- the next of the calls that are left
+-- the call is the next of those that are left
 pub record IsNextOf (cs : List Call) (c : Call) (new : Option (List Call)) : Type 0 where
   pub others : List Call
   pub are : new ≡ Some others
   pub first : cs ≡ c ∷ others
 
--- what is left after a look at the tap: nothing is said before the board is gathered; then the
--- calls that are left are given one by one
+-- the calls left after a look at the tap: unspecified before the board is gathered; then the calls
+-- that are left are given one by one
 abbrev pub IsTakenOf : Option (List Call) → Option Call → Option (List Call) → Type 0
 IsTakenOf old result new =
     MatchOption old

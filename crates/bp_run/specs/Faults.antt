@@ -1,4 +1,4 @@
--- What it is to a run that a text has no code.
+-- The meaning for a run of a text without a code.
 use Rattle.bp_code.specs.declared.texts.CodeFault.{CodeFault}
 use Rattle.bp_code.specs.declared.texts.CodeFault.TheVariants as code
 use Rattle.bp_run.specs.declared.answers.RunFault.{RunFault}

@@ -1,4 +1,4 @@
--- When a run has stopped, and what a board is gathered to.
+-- When a run has stopped, and the result of gathering a board.
 use Rattle.std.specs.Prelude.{⊤, ◌≡◌, ◌<◌, ℕ, Bool, true, false, List, [], ◌∷◌, Option, None, Some, ◌==◌, ◌↔◌, IsTrue, ◌++◌, length, not}
 use Rattle.std.specs.List.{sum_by, count_by, All}
 use Rattle.bp_language.specs.Ast.{Program}
@@ -11,7 +11,7 @@ use Rattle.bp_machine.specs.Setups.{SetupOf, threads}
 use Rattle.bp_machine.specs.declared.calls.Report.{Report}
 use Rattle.bp_run.specs.Desks.{SeatOf, open_amount, TapOf}
 
--- When a run has stopped: the lines that are open stand before calls.
+-- When a run has stopped: the open lines are before calls.
 
 -- the next step of a thread with this stack is a call
 abbrev pub goes_on_with_call : List Frame → Bool
@@ -22,7 +22,7 @@ goes_on_with_call (f ∷ fs) = is_call f.left
 abbrev pub is_at_call : Program → SetupOf → List Call → ℕ → Bool
 is_at_call t s h i = goes_on_with_call (stack_of (configuration_after t s h) i)
 
--- each thread whose line is open has a call as its next step: only there is memory refused
+-- each thread whose line is open has a call as its next step: memory is refused only there
 abbrev pub HaveStopped : Program → SetupOf → List Call → Type 0
 HaveStopped t s h =
     (i : ℕ) → i < threads s → is_finished s h i ≡ false → is_at_call t s h i ≡ true
@@ -45,15 +45,15 @@ pub record HasBeen (t : Program) (s : SetupOf) (Holds : List Call → Type 0) : 
   pub seeded : HasSeededBits s history
   pub held : Holds history
 
--- in which histories a refused call of thread i has its reason: memory is refused if the line is
--- open and the next step is a call, and else the line is finished already
+-- the histories in which a refused call of thread i has its reason: for memory the line is open and
+-- the next step is a call; otherwise the line is finished already
 abbrev pub TellsOfRefusal : Program → SetupOf → ℕ → AskFault → Type 0
 TellsOfRefusal t s i fault.Memory =
     HasBeen t s (λ h. (is_finished s h i ≡ false) × (is_at_call t s h i ≡ true))
 TellsOfRefusal t s i fault.Finished = HasBeen t s (λ h. is_finished s h i ≡ true)
 TellsOfRefusal t s i f = ⊤
 
--- What a board is gathered to.
+-- The result of gathering a board.
 
 abbrev pub calls_of_seats : List SeatOf → ℕ
 calls_of_seats seats = sum_by (λ s. s.calls) seats
@@ -66,8 +66,8 @@ pub record AreOnePerThread (n : ℕ) (seats : List SeatOf) : Type 0 where
   pub many : length seats ≡ n
   pub each : (i : ℕ) → i < n → count_by (λ s. s.thread == i) seats ≡ 1
 
--- the seat has counted the calls of its thread in the history, and is open exactly where the line
--- of its thread is not finished
+-- the seat has counted the calls of its thread in the history, and is open if and only if its
+-- thread's line is not finished
 pub record IsSeatOf (s : SetupOf) (h : List Call) (seat : SeatOf) : Type 0 where
   pub calls : seat.calls ≡ length (calls_of_thread seat.thread h)
   pub line : seat.is_open ≡ not (is_finished s h seat.thread)
@@ -76,10 +76,10 @@ pub record IsSeatOf (s : SetupOf) (h : List Call) (seat : SeatOf) : Type 0 where
 abbrev pub AreSeatsOf : SetupOf → List Call → List SeatOf → Type 0
 AreSeatsOf s h seats = All (IsSeatOf s h) seats
 
--- What was taken and what is left are one legal history, with the bits of the seed, which the
--- report is of; the tap gives what is left. The seats are one for each thread, and together they
--- have its calls and its open lines. It is said which thread stopped early, if one did, and whether
--- each seat agrees with the history.
+-- The calls taken and left are one legal history, with the bits of the seed, and the report is of
+-- it; the tap gives those that are left. The seats are one for each thread, and together they have
+-- its calls and its open lines. The result also tells which thread stopped early, if any, and
+-- whether each seat agrees with the history.
 pub record IsGathered
     (t : Program) (s : SetupOf) (taken : List Call) (seats : List SeatOf) (tap : TapOf) (r : Report)
     (early : Option ℕ) (agree : Bool)

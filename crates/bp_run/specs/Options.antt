@@ -24,7 +24,7 @@ options_fault o t = first_of (
     ∷ fault_if (has_bad_turn_or_ring o) OutOfRange
     ∷ [])
 
--- why the options are refused for a program: their first fault; or, where they have none, memory
+-- why the options are refused for a program: their first fault, or memory if they have none
 abbrev pub IsOptionsRefusal : OptionsOf → Program → SetupFault → Type 0
 IsOptionsRefusal o t Memory = options_fault o t ≡ None
 IsOptionsRefusal o t f = options_fault o t ≡ Some f

@@ -1,4 +1,4 @@
--- What a run of a program text has written and answered, and why it is refused.
+-- The text that a run of a program writes, its result, and why it is refused.
 use Rattle.std.specs.Prelude.{◌≡◌, ◌↔◌, IsTrue, ℕ, Bool, List, Option, length, map, None}
 use Rattle.std.specs.Io.KnownBytes.{Appends}
 use Rattle.bp_text.specs.Writing.{AppendsPart}
@@ -21,20 +21,20 @@ use Rattle.bp_run.specs.declared.answers.RunReport.{RunReport}
 use Rattle.bp_run.specs.declared.answers.RunFault.TheVariants as fault
 use Rattle.bp_run.specs.Options.{setup_under, options_fault, IsOptionsRefusal}
 
--- What the workers of a run counted.
+-- The counts of a run's workers.
 
--- the seat from which a worker counted so
+-- the seat from which a worker made these counts
 abbrev pub seat_of_worker : WorkerCount → SeatOf
 seat_of_worker w = seat_of w.thread w.calls w.is_open
 
--- What comes of playing a program on a setup by real threads.
+-- The result of playing a program on a setup by real threads.
 
 -- The bytes of the writer are those before and after the program t was played on the setup s.
 module _ (t : Program) (s : SetupOf) (old new : Option (List ℕ)) where
-  -- The trace of one history was written, and the report is of it. The history is legal, and its
-  -- choice bits are those of the seed. Its granted steps are a run of the program, within the
-  -- contexts that are allowed; a reported failure is a false assertion of that run. Each line is
-  -- finished, or the next step of its thread is a call: only there is memory refused.
+  -- The trace of one history was written, and the report is of it. The history is legal, with the
+  -- choice bits of the seed. Its granted steps are a run of the program, within the allowed
+  -- contexts; a reported failure is a false assertion of that run. Each line is finished, or the
+  -- next step of its thread is a call: memory is refused only there.
   pub record IsPlayed (r : Report) : Type 0 where
     pub history : List Call
     pub written : Appends old new (trace_text s history)
@@ -46,10 +46,10 @@ module _ (t : Program) (s : SetupOf) (old new : Option (List ℕ)) where
     pub failure : (i : ℕ) → r.outcome ≡ Failed i → IsRealFailure t s history i
     pub stopped : HaveStopped t s history
 
-  -- The same of a board whose seats came back so: one for each thread. Together they have counted
-  -- exactly the calls of the history, and those that are open are as many as the lines that it
-  -- leaves open. It is said whether each seat has counted the calls of its thread, and is open
-  -- exactly where its line is not finished.
+  -- So it was played on a board with these seats at its end: one for each thread. Together they
+  -- have counted exactly the calls of the history, and as many of them are open as lines in it.
+  -- `agree` tells whether each seat has counted its thread's calls, and is open if and only if its
+  -- line is not finished.
   pub record IsPlayedFrom (seats : List SeatOf) (agree : Bool) (r : Report) : Type 0 where
     pub played : IsPlayed r
     pub one_each : AreOnePerThread (threads s) seats
@@ -57,7 +57,7 @@ module _ (t : Program) (s : SetupOf) (old new : Option (List ℕ)) where
     pub left : open_seats seats ≡ r.left_open
     pub agreement : IsTrue agree ↔ AreSeatsOf s played.history seats
 
-  -- the same by these workers, and this is the report
+  -- these workers played it, and this is the report
   abbrev pub IsPlayedBy : RunReport → Type 0
   IsPlayedBy r = IsPlayedFrom (map seat_of_worker r.workers.items) r.counts_agree r.report
 
@@ -77,7 +77,7 @@ module _ (t : Program) (s : SetupOf) (old new : Option (List ℕ)) where
     pub seeded : HasSeededBits s history
     pub written : AppendsPart old new (trace_text s history)
 
-  -- why there is no report, and what was written
+  -- why there is no report, and the text written
   abbrev pub IsPlayRefusal : RunFault → Type 0
   IsPlayRefusal Start = new ≡ old
   IsPlayRefusal (Early thread) = IsEarly thread
@@ -93,8 +93,8 @@ pub record OfProgram (text : List ℕ) (Has : Program → Type 0) : Type 0 where
 
 -- The bytes of the writer are those before and after the program of the text was run.
 module _ (o : OptionsOf) (text : List ℕ) (old new : Option (List ℕ)) where
-  -- the program has no fault under the options, and it was played on its setup by these workers:
-  -- the trace of a history was written, and the report is of that history
+  -- the program has no fault under the options, and these workers played it on its setup: the trace
+  -- of a history was written, and the report is of that history
   pub record IsTraced (r : RunReport) (t : Program) : Type 0 where
     pub fine : options_fault o t ≡ None
     pub played : IsPlayedBy t (setup_under o t) old new r
@@ -118,7 +118,7 @@ module _ (o : OptionsOf) (text : List ℕ) (old new : Option (List ℕ)) where
   abbrev pub LacksMemory : Type 0
   LacksMemory = (new ≡ old) × OfProgram text (λ _. Unit {0})
 
-  -- why a run is refused, and what was written: the first of these that applies, memory aside
+  -- why a run is refused, and the text written: the first of these that applies, memory aside
   abbrev pub IsRunRefusal : RunFault → Type 0
   IsRunRefusal (fault.Program f) = (new ≡ old) × IsProgramRefusal text f
   IsRunRefusal (fault.Setup f) = AreOptionsRefused f

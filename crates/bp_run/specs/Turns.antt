@@ -1,4 +1,4 @@
--- What a call and a turn at a desk result in, and what the seat says of them.
+-- The results of a call and of a turn at a desk, and what the seat tells of them.
 use Rattle.std.specs.Prelude.{◌≡◌, ◌⊎◌, ℕ, ◌≤◌, ◌+◌, false, true, List, [], ◌∷◌, ◌++◌, None, length, not, ◌≢◌, ◌<◌, ⊤}
 use Rattle.std.specs.List.{AllByRecursion}
 use Rattle.bp_language.specs.Ast.{Program}
@@ -12,7 +12,7 @@ use Rattle.bp_machine.specs.Setups.{SetupOf}
 use Rattle.bp_machine.specs.declared.calls.Reply.TheVariants.{Stepped}
 use Rattle.bp_run.specs.Desks.{DeskOf, SeatOf}
 
--- What a call at a desk results in.
+-- The result of a call at a desk.
 
 -- Why a call of thread i is not made and sent after the history h: the machine refuses it, or the
 -- ring is full although the thread's line is open.
@@ -24,9 +24,9 @@ IsSendRefusal t s h i f = IsAskRefusal t s h i None f
 abbrev pub IsUnchanged : DeskOf → DeskOf → Type 0
 IsUnchanged old new = (new ≡ record old { free = new.free }) × (old.free ≤ new.free)
 
--- One call of the seat's thread was sent: the one that the machine makes next, with the bit of the
--- seed and this reply. It takes one free place at most. The seat counts it, and is open where the
--- line is; it has counted no more calls than were sent.
+-- One call of the seat's thread was sent: the next one that the machine makes, with the bit of the
+-- seed and this reply. It takes one free place at most. The seat counts it, and is open if the line
+-- is; it has counted no more calls than were sent.
 pub record IsAsked (old new : DeskOf) (seat after : SeatOf) (reply : Reply) : Type 0 where
   pub call : Call
   pub next : IsNextCall old.code.tree old.setup old.history seat.thread None call
@@ -39,35 +39,35 @@ pub record IsAsked (old new : DeskOf) (seat after : SeatOf) (reply : Reply) : Ty
   pub within : after.calls ≤ length new.history
   pub line : after.is_open ≡ not (is_finished new.setup new.history seat.thread)
 
--- the line of the seat's thread is finished, or the seat says so
+-- the line of the seat's thread is finished, or the seat is shut
 abbrev pub IsShut : DeskOf → SeatOf → Type 0
 IsShut d seat = (seat.is_open ≡ false) ⊎ (is_finished d.setup d.history seat.thread ≡ true)
 
--- the line of the seat's thread is open, and the seat says so
+-- the line of the seat's thread is open, and so is the seat
 abbrev pub IsOpen : DeskOf → SeatOf → Type 0
 IsOpen d seat = (seat.is_open ≡ true) × (is_finished d.setup d.history seat.thread ≡ false)
 
--- the next step of the seat's thread may take memory
+-- the next step of the seat's thread may need memory
 abbrev pub MayLackMemory : DeskOf → SeatOf → Type 0
 MayLackMemory d seat =
     IsAskRefusal d.code.tree d.setup d.history seat.thread None fault.Memory
 
--- Why a call is refused: the line is finished, or the seat says so; else memory may be refused
--- where its step is a call; and the ring may be full where no place is known to be free.
+-- Why a call is refused: the line is finished, or the seat is shut; else memory may be refused if
+-- its step is a call; and the ring may be full if no place is known to be free.
 abbrev pub IsDeskRefusal : DeskOf → SeatOf → AskFault → Type 0
 IsDeskRefusal d seat fault.Finished = IsShut d seat
 IsDeskRefusal d seat fault.Memory = IsOpen d seat × MayLackMemory d seat
 IsDeskRefusal d seat fault.Busy = IsOpen d seat × (d.free ≡ 0)
 IsDeskRefusal d seat f = ⊥
 
--- What a turn at a desk results in: the calls that it appends.
+-- The result of a turn at a desk: the calls that it appends.
 
--- steps of this thread
+-- the calls are steps of this thread
 abbrev pub AreSteps : ℕ → List Call → Type 0
 AreSteps i cs = AllByRecursion (λ x. (x.thread ≡ i) × (x.reply ≡ Stepped)) cs
 
--- The turn ended with this reply: after n calls, or since the reply is another than Stepped, or
--- since the line is finished. The calls before the last are steps.
+-- The turn ended with this reply: after n calls, or because the reply is not Stepped, or because
+-- the line is finished. The calls before the last are steps.
 pub record IsTurn (old new : DeskOf) (seat after : SeatOf) (n : ℕ) (reply : Reply)
     : Type 0 where
   pub steps : List Call
@@ -85,7 +85,7 @@ pub record IsTurn (old new : DeskOf) (seat after : SeatOf) (n : ℕ) (reply : Re
   pub counted : after.calls ≡ seat.calls + (length steps + 1)
   pub line : after.is_open ≡ not (is_finished new.setup new.history seat.thread)
 
--- The turn was cut short by this refusal; the steps before it stand.
+-- The turn was cut short by this refusal; the steps before it are kept.
 pub record IsCutTurn (old new : DeskOf) (seat after : SeatOf) (n : ℕ) (f : AskFault)
     : Type 0 where
   pub steps : List Call
@@ -98,7 +98,7 @@ pub record IsCutTurn (old new : DeskOf) (seat after : SeatOf) (n : ℕ) (f : Ask
   pub own : after.thread ≡ seat.thread
   pub counted : after.calls ≡ seat.calls + length steps
 
--- What the seat says of a turn, whatever others do at the desk.
+-- The seat after a turn, whatever others do at the desk.
 
 -- a desk refuses a call for these reasons alone
 abbrev pub IsDeskFault : AskFault → Type 0
@@ -108,7 +108,7 @@ IsDeskFault fault.Busy = ⊤
 IsDeskFault f = ⊥
 
 -- At least one and at most n calls were made. The seat is not open after a last reply; it is open
--- after a step only where all n calls were made.
+-- after a step only if all n calls were made.
 pub record IsSeatTurn (seat after : SeatOf) (n : ℕ) (reply : Reply) : Type 0 where
   pub own : after.thread ≡ seat.thread
   pub more : seat.calls < after.calls
@@ -116,8 +116,8 @@ pub record IsSeatTurn (seat after : SeatOf) (n : ℕ) (reply : Reply) : Type 0 w
   pub last : is_last reply ≡ true → after.is_open ≡ false
   pub whole : reply ≡ Stepped → after.is_open ≡ true → after.calls ≡ seat.calls + n
 
--- Fewer than n calls were made before the refusal, and none if the line was finished; else the
--- seat is still open.
+-- Fewer than n calls were made before the refusal, and none if the line was finished; else the seat
+-- is still open.
 pub record IsCutSeatTurn (seat after : SeatOf) (n : ℕ) (f : AskFault) : Type 0 where
   pub own : after.thread ≡ seat.thread
   pub some : seat.calls ≤ after.calls

@@ -1,4 +1,4 @@
--- What a worker leaves, and why it stops before its line is finished.
+-- A worker's results, and why it stops before its line is finished.
 use Rattle.std.specs.Prelude.{◌≡◌, ℕ, Bool, true, false, List, ◌++◌, Option, None, Some, length, flat_map, ⊤, ◌↔◌, IsTrue, Result, IfErr, MatchResult}
 use Rattle.std.specs.List.{All}
 use Rattle.bp_text.specs.declared.sinks.Sink.{Sink}
@@ -15,7 +15,7 @@ use Rattle.bp_trace.specs.TraceText.{head_text, call_line}
 use Rattle.bp_run.specs.declared.workers.Unfinished.{Unfinished}
 use Rattle.bp_run.specs.declared.workers.Unfinished.TheVariants.{Memory, Finished, Halted}
 
--- What a scribe has taken, and given to its sink.
+-- The calls that a scribe has taken, and the text given to its sink.
 
 -- a line for each call
 abbrev pub lines_of : List Call → List ℕ
@@ -29,14 +29,14 @@ pub record IsScribed
   pub grown : taken_now ≡ taken ++ more
   pub given : Given contents old new (lines_of more)
 
--- where all workers were started the sink was given the head and the calls that were taken; where
--- not, nothing was done with it
+-- if all workers were started, the sink was given the head and the calls that were taken; otherwise
+-- it was not touched
 abbrev pub IsStaged
     : {W : Type 0} → (W → Option (List ℕ)) → SetupOf → Sink W → Sink W → List Call → Bool → Type 0
 IsStaged contents s old new taken true = Given contents old new (head_text One s ++ lines_of taken)
 IsStaged contents s old new taken false = new ≡ old
 
--- how many calls are left in a gathered tap
+-- the number of calls left in a gathered tap
 abbrev pub rest_length : Option (List Call) → ℕ
 rest_length None = 0
 rest_length (Some cs) = length cs
@@ -59,8 +59,8 @@ TellsOfStop t s i Memory = TellsOfRefusal t s i fault.Memory
 TellsOfStop t s i Finished = TellsOfRefusal t s i fault.Finished
 TellsOfStop t s i Halted = ⊤
 
--- The worker of this thread has left its seat: not open where its work is done, else open, and then
--- it says why.
+-- The worker of this thread has left its seat: shut if its work is done, else open, with the
+-- reason.
 pub record IsWorked
     (code : Flat) (s : SetupOf) (thread : ℕ) (seat : SeatOf) (done : Result (Unit {0}) Unfinished)
     : Type 0 where
@@ -68,6 +68,6 @@ pub record IsWorked
   pub ended : MatchResult done (λ _. seat.is_open ≡ false) (λ _. seat.is_open ≡ true)
   pub stopped : IfErr done (TellsOfStop code.tree s thread)
 
--- it says whether all of the seats are shut
+-- the flag tells whether all of the seats are shut
 abbrev pub TellsShut : Bool → List SeatOf → Type 0
 TellsShut all_done seats = IsTrue all_done ↔ All (λ s. s.is_open ≡ false) seats
