@@ -25,12 +25,12 @@ use Rattle.bp_confirm.specs.Confirms.{IsStepRefusal}
 use Rattle.bp_confirm.specs.Inferred.{zeros, IsConfirmed, IsTaken}
 use Rattle.bp_confirm.specs.declared.choices.LastChoice.{LastChoice}
 
--- Lines of threads and variables that are declared, and the first of another one.
+-- Lines of threads and variables that are declared, and the first line of another one.
 
 abbrev pub AreDeclared : Program → Valuation → Type 0
 AreDeclared t vs = AllByRecursion (λ v. declares t v.0 ≡ true) vs
 
--- of these values, that of number n, from 0, is the first whose variable is not declared
+-- value n of these, from 0, is the first whose variable is not declared
 pub record IsFirstUndeclared (t : Program) (vs : Valuation) (n : ℕ) : Type 0 where
   pub before : Valuation
   pub value : List ℕ × Bool
@@ -60,12 +60,12 @@ pub record IsFirstStray
   pub number : n ≡ length before + 1
   pub is : Is line
 
--- it is of this thread, which the setup does not have
+-- the line is of this thread, which the setup does not have
 pub record IsOfNoThread (s : SetupOf) (thread : ℕ) (x : StepLineOf) : Type 0 where
   pub is : x.thread ≡ thread
   pub none : threads s ≤ thread
 
--- its value of this number, from 0, is the first of no variable
+-- value n of the line, from 0, is the first of an undeclared variable
 pub record IsOfNoVariable (t : Program) (s : SetupOf) (value : ℕ) (x : StepLineOf) : Type 0 where
   pub thread : x.thread < threads s
   pub variable : IsFirstUndeclared t x.values value
@@ -85,18 +85,18 @@ pub record AllowsAsUsed (s : SetupOf) (lines : List StepLineOf) (r : SetupOf) : 
   pub least : IsLeastWithin used (map thread_of lines)
   pub is : r ≡ record s { contexts = contexts_allowed used }
 
--- the setup of the trace: the given one, or one that allows as many contexts as are used
+-- the setup of the trace: the given one, or one that allows the number of contexts used
 abbrev pub IsSetupFor : SetupOf → List StepLineOf → ContextBound → SetupOf → Type 0
 IsSetupFor s lines Kept r = r ≡ s
 IsSetupFor s lines AsUsed r = AllowsAsUsed s lines r
 
--- A device: what a line names that is not declared.
+-- A device: the undeclared name or thread of a line.
 
 -- each of these texts says which variable is meant
 abbrev pub AreKnown : Program → List (Bor (List ℕ)) → Type 0
 AreKnown t names = AllByRecursion (λ name. declares t name.now ≡ true) names
 
--- line n is the first, and names this
+-- line n is the first with an undeclared thread or variable, which is this one
 abbrev pub IsStray : Program → SetupOf → List StepLineOf → ℕ → Stray → Type 0
 IsStray t s lines n (Thread thread) = IsFirstStray t s lines n (IsOfNoThread s thread)
 IsStray t s lines n (Variable value) = IsFirstStray t s lines n (IsOfNoVariable t s value)
@@ -108,27 +108,27 @@ fault_of_stray n (Variable value) = fault.NoVariable n value
 
 -- a text of steps, of a program in this setup
 module _ (t : Program) (s : SetupOf) (steps : List ℕ) where
-  -- it is neither empty nor too long
+  -- the text is neither empty nor too long
   abbrev pub HasFitLength : Type 0
   HasFitLength = (0 < length steps) × (length steps ≤ MAX_SCHEDULE)
 
-  -- and it has these lines
+  -- it also has these lines
   pub record AreRead (lines : List StepLineOf) : Type 0 where
     pub fit : HasFitLength
     pub has : HasLines steps lines
 
-  -- and each of them is of a thread of the setup and of variables of the program
+  -- each line is of a thread of the setup and of variables of the program
   pub record AreTold (lines : List StepLineOf) : Type 0 where
     pub read : AreRead lines
     pub declared : AreDeclaredLines t s lines
 
-  -- its first line that is not
+  -- the first line that is not
   pub record HasStray (n : ℕ) (Is : StepLineOf → Type 0) : Type 0 where
     pub lines : List StepLineOf
     pub read : AreRead lines
     pub stray : IsFirstStray t s lines n Is
 
-  -- why it has no such lines; nothing is said of when memory is refused
+  -- why it has no such lines; it does not say when memory is refused
   abbrev pub IsUntold : ConfirmFault → Type 0
   IsUntold fault.TooLong = MAX_SCHEDULE < length steps
   IsUntold fault.NoSteps = length steps ≡ 0
@@ -138,7 +138,7 @@ module _ (t : Program) (s : SetupOf) (steps : List ℕ) where
   IsUntold fault.Memory = HasFitLength
   IsUntold f = ⊥
 
-  -- its places are those of the text of the program, and this many contexts are allowed
+  -- its places are those of the text of the program, with this bound on contexts
   module _ (text : List ℕ) (bound : ContextBound) where
     -- this history takes the steps, in this setup, and its deadlock depends on these last bits
     pub record IsConfirmedText (setup : SetupOf) (h : List Call) (choices : List LastChoice)
@@ -172,7 +172,7 @@ module _ (t : Program) (s : SetupOf) (steps : List ℕ) where
           → IsConfirmedText x.session.setup x.history.items x.choices.items
       pub stands : Stands t x.session x.history.items
 
-    -- why the steps are not confirmed: the first that applies
+    -- why the steps are not confirmed: the first reason that applies
     abbrev pub IsStepsRefusal : ConfirmFault → Type 0
     IsStepsRefusal (fault.Step r) = IsRefusedText r
     IsStepsRefusal f = IsUntold f

@@ -24,21 +24,21 @@ use Rattle.bp_confirm.specs.declared.confirming.StepReason.TheVariants.{Elsewher
 use Rattle.bp_confirm.specs.declared.confirming.StepRefusal.{StepRefusal}
 use Rattle.bp_confirm.specs.Inferred.{IsAmbiguousOnStack, LastBits, FollowAfter}
 
--- Where a thread stands in the text of a program.
+-- The position of a thread in the text of a program.
 
--- it stands where a statement begins at this offset, or at a procedure's end; it has ended where it
--- has no instruction
+-- it is at the statement that begins at this offset, or at a procedure's end; without an
+-- instruction it has ended
 abbrev pub stand_at_start : List ℕ → Option (Option ℕ) → Stand
 stand_at_start text None = Ended
 stand_at_start text (Some None) = End
 stand_at_start text (Some (Some at)) = Statement (position_at text at)
 
--- where it stands if it goes on at the instruction of this number of a program of the text
+-- its position if it continues at the instruction of this number of a program of the text
 abbrev pub stand_of : List ℕ → Program → Option ℕ → Stand
 stand_of text t None = Ended
 stand_of text t (Some number) = stand_at_start text (slice_get (starts_of t) number)
 
--- A device: the same by the points of the instructions.
+-- A device: also by the points of the instructions.
 abbrev pub stand_at : Option Position → Stand
 stand_at None = End
 stand_at (Some position) = Statement position
@@ -51,10 +51,10 @@ abbrev pub stand_in : List SourcePoint → Option ℕ → Stand
 stand_in points None = Ended
 stand_in points (Some number) = stand_at_point (slice_get points number)
 
--- The last of the steps of a history that changed what a thread sees of a variable.
+-- The last step of a history that changed a thread's view of a variable.
 
--- seen k is what is seen after the first k steps; none of the steps after step m, up to step n,
--- changes it
+-- seen k is the view after the first k steps; none of the steps after step m, up to step n, changes
+-- it
 abbrev pub NoneChanges : (ℕ → Option Bool) → ℕ → ℕ → Type 0
 NoneChanges seen m n = (k : ℕ) → m < k → k ≤ n → seen k ≡ seen (k - 1)
 
@@ -65,22 +65,22 @@ pub record ChangesLast (seen : ℕ → Option Bool) (n k : ℕ) : Type 0 where
   pub changes : seen k ≢ seen (k - 1)
   pub last : NoneChanges seen k n
 
--- the last of the first n steps that changes it, from 1; none if no step does
+-- the last of the first n steps that changes it, from 1; None if no step does
 abbrev pub IsLastChange : (ℕ → Option Bool) → ℕ → Option ℕ → Type 0
 IsLastChange seen n None = NoneChanges seen 0 n
 IsLastChange seen n (Some k) = ChangesLast seen n k
 
--- what thread i sees of a variable after a history
+-- the value of a variable that thread i sees after a history
 abbrev pub seen_by : Program → SetupOf → ℕ → List ℕ → List Call → Option Bool
 seen_by t s i name h =
     let c = configuration_after t s h in value_seen c.globals (stack_of c i) name
 
--- and after the first k calls of it
+-- the value that it sees after the first k calls of the history
 abbrev pub seen_after : Program → SetupOf → List Call → ℕ → List ℕ → ℕ → Option Bool
 seen_after t s h i name k = seen_by t s i name (take k h)
 
--- After a history this is the first of these values that thread i does not see: what it sees in its
--- place, and the last call that changed what it sees of the name.
+-- After a history this is the first of these values that thread i does not see: the value that it
+-- sees instead, and the last call that changed its view of the name.
 pub record IsDifference
     (t : Program) (s : SetupOf) (h : List Call) (i : ℕ) (vs : Valuation) (d : Difference)
     : Type 0 where
@@ -89,7 +89,7 @@ pub record IsDifference
 
 -- When a history confirms reported steps, and why none does.
 
--- thread i goes on at the instruction of this number, or has no frame
+-- thread i continues at the instruction of this number, or has no frame
 abbrev pub GoesOnAt : Program → Configuration → ℕ → Option ℕ → Type 0
 GoesOnAt t c i None = stack_of c i ≡ []
 GoesOnAt t c i (Some number) = (top : Top) × IsTop t c i top × (top.number ≡ number)
@@ -110,7 +110,7 @@ module _ (t : Program) (s : SetupOf) (h : List Call) (x : StepOf) where
     pub ambiguous :
         IsAmbiguousOnStack t x.thread later (stack_of (configuration_after t s h) x.thread)
 
-  -- its thread may make a call; with either choice bit the reply is r, and that is no step
+  -- its thread may make a call; with either choice bit the reply is r, which is no step
   pub record IsAnswered (r : Reply) : Type 0 where
     pub call : Call
     pub thread : call.thread ≡ x.thread
@@ -118,13 +118,13 @@ module _ (t : Program) (s : SetupOf) (h : List Call) (x : StepOf) where
     pub each : (y : Call) → y.thread ≡ x.thread → IsAllowed t s h y → y.reply ≡ r
     pub refused : is_granted r ≡ false
 
-  -- a call takes it but for its values: this is the first that the thread does not see after it
+  -- a call takes it except for its values: this is the first that the thread does not see after it
   pub record SeesOther (d : Difference) : Type 0 where
     pub call : Call
     pub takes : IsStepOf t s h (record x { values = [] }) call
     pub differs : IsDifference t s (h ++ call ∷ []) x.thread x.values d
 
-  -- Why it is refused, before these later steps: the first of these.
+  -- Why it is refused, before these later steps: the first reason that applies.
   abbrev pub IsReason : List StepOf → StepReason → Type 0
   IsReason later Elsewhere = StandsAtPlace false
   IsReason later Finished = StandsAtPlace true × (is_finished s h x.thread ≡ true)
@@ -132,15 +132,15 @@ module _ (t : Program) (s : SetupOf) (h : List Call) (x : StepOf) where
   IsReason later (Differs d) = StandsAtPlace true × SeesOther d
   IsReason later Ambiguous = IsUnclear later
 
--- the reason says that nothing takes a step; an ambiguous one asks for a column
+-- the reason says that no call takes a step; an ambiguous one asks for a column
 abbrev pub ForStuck : StepReason → Type 0 → Type 0
 ForStuck Ambiguous P = Unit {0}
 ForStuck reason P = P
 
 -- Why the steps of these lines are not followed with these last bits: the history takes those
--- before line n, with the inferred bits; after it this is the first reason against the step of
--- line n, whose thread goes on at the instruction of this number, which is there in the text; and
--- no history of the program in its setup takes the first n steps, whatever its choice bits.
+-- before line n, with the inferred bits. After it this is the first reason against the step of line
+-- n, whose thread continues at the instruction of this number, at this position in the text. No
+-- history of the program in its setup takes the first n steps, whatever its choice bits.
 pub record IsStepRefusal
     (text : List ℕ) (t : Program) (s : SetupOf) (last : LastBits) (lines : List StepLineOf)
     (r : StepRefusal)
@@ -162,7 +162,7 @@ pub record IsStepRefusal
       ForStuck r.reason
       ((g : List Call) → Takes t s (steps_of text (before ++ step ∷ [])) g → ⊥)
 
--- the same, or memory was refused
+-- the steps are refused in this way, or memory was refused
 abbrev pub IsNotFollowed
     : List ℕ → Program → SetupOf → LastBits → List StepLineOf → StepFault → Type 0
 IsNotFollowed text t s last lines (fault.Refusal r) = IsStepRefusal text t s last lines r

@@ -28,7 +28,7 @@ use Rattle.bp_confirm.specs.Confirms.{stand_in, stand_of, GoesOnAt, IsStuck, IsR
 
 -- A device: the inferred bit by the two effects of an instruction.
 
--- a test decides what the instruction does
+-- a test decides the effect of the instruction
 abbrev pub has_test : Instruction → Bool
 has_test (If test m e) = true
 has_test (While test m e) = true
@@ -36,13 +36,13 @@ has_test (Assert test m) = true
 has_test (Assume test m) = true
 has_test i = false
 
--- a `?` decides which way it goes
+-- a `?` decides its successor
 abbrev pub is_fork : Instruction → Bool
 is_fork (If None m e) = true
 is_fork (While None m e) = true
 is_fork i = false
 
--- so it is with the next statement of a thread with this stack
+-- a `?` decides the way of the next statement of a thread with this stack
 abbrev pub is_fork_block : Block → Bool
 is_fork_block (Then label at (Branches Choose a b) r) = true
 is_fork_block (Then label at (Loops Choose a) r) = true
@@ -52,7 +52,7 @@ abbrev pub is_fork_on : List Frame → Bool
 is_fork_on [] = false
 is_fork_on (f ∷ fs) = is_fork_block f.left
 
--- the instructions of these numbers are at the place of the thread's next step, if it takes one
+-- the numbers of the instructions at the place of the thread's next step, if it takes one
 abbrev pub NextNumbers : Type 0
 NextNumbers = Option (ℕ → Bool)
 
@@ -60,7 +60,7 @@ abbrev pub bit_towards_number : NextNumbers → (taken other : ℕ) → Bool
 bit_towards_number None taken other = false
 bit_towards_number (Some there) taken other = there taken && not (there other)
 
--- with the bit 0, and with the bit 1
+-- the bit, by the effects with the bit 0 and with the bit 1
 abbrev pub bit_of_effects : NextNumbers → Bool → Effect → Effect → Bool
 bit_of_effects next follow Blocks (Continues n w) = true
 bit_of_effects next follow Fails (Continues n w) = follow
@@ -73,7 +73,7 @@ abbrev pub bit_of_instruction
 bit_of_instruction next last follow i d e =
     if is_none next && is_fork i then last else bit_of_effects next follow d e
 
--- two ways to the place
+-- both ways lead to the place
 abbrev pub are_both_there : NextNumbers → (taken other : ℕ) → Bool
 are_both_there None taken other = false
 are_both_there (Some there) taken other = not (taken == other) && (there taken && there other)
@@ -82,7 +82,7 @@ abbrev pub splits : NextNumbers → Effect → Effect → Bool
 splits next (Continues m v) (Continues n w) = are_both_there next n m
 splits next d e = false
 
--- A device: where the statement of each instruction begins, and in which procedure.
+-- A device: the place and the procedure of the statement of each instruction.
 
 -- procedures have numbers from k on; each ends where no statement begins
 abbrev pub points_from : List ℕ → ℕ → List (Option ℕ) → List SourcePoint
@@ -92,7 +92,7 @@ points_from text k (None ∷ starts) =
 points_from text k (Some at ∷ starts) =
     record { position = Some (position_at text at); procedure = k } ∷ points_from text k starts
 
--- those of the instructions of a program of this text
+-- the points of the instructions of a program of this text
 abbrev pub source_points_of : List ℕ → Program → List SourcePoint
 source_points_of text t = points_from text 0 (starts_of t)
 
@@ -104,21 +104,21 @@ is_point_at x (Some point) = is_at x point.position
 abbrev pub is_there : List SourcePoint → Location → ℕ → Bool
 is_there points x n = is_point_at x (slice_get points n)
 
--- A device: what later steps tell of the choice bit of a step.
+-- A device: the choice bit of a step, as later steps tell it.
 
--- of the next statement
+-- the inferred bit of the next statement
 abbrev pub IsInferred : Program → Block → Option Place → (last follow : Bool) → Inferred → Type 0
 IsInferred t left next last follow x =
     (x.bit ≡ bit_of_block left next last follow)
     × MatchBool x.is_clear (IsClear left next) (IsAmbiguous t left next)
 
--- of the next statement of a thread with this stack
+-- the inferred bit of the next statement of a thread with this stack
 abbrev pub IsInferredOn : Program → LastBits → ℕ → List StepOf → List Frame → Inferred → Type 0
 IsInferredOn t last i later stack x =
     (x.bit ≡ bit_of_stack last i later stack)
     × MatchBool x.is_clear (IsClearOnStack i later stack) (IsAmbiguousOnStack t i later stack)
 
--- A device: the last bits that are handed on.
+-- A device: the last bits that are passed on.
 
 abbrev pub last_bits : given.LastBits → LastBits
 last_bits (Each bit) = λ i. bit
@@ -139,7 +139,7 @@ pub record IsRefusedHere
   pub reason : IsReason t s h (step_of text x) later r.reason
   pub stuck : ForStuck r.reason (IsStuck t s h (step_of text x))
 
--- or memory is refused
+-- the step is refused so, or memory is refused
 abbrev pub IsNotTaken
     : List ℕ → Program → SetupOf → List Call → StepLineOf → List StepOf → ℕ → StepFault → Type 0
 IsNotTaken text t s h x later n (fault.Refusal r) = IsRefusedHere text t s h x later n r
@@ -161,7 +161,7 @@ refusal_of points x n number reason = fault.Refusal (record {
   reason = reason;
 })
 
--- what these later steps, which are among these lines, tell of the step x in a text, and the last
+-- the later steps, which are among these lines, tell this of the step x in a text, and of the last
 -- bit of its thread
 pub record TellsNext
     (text : List ℕ) (last : LastBits) (x : StepOf) (later : List StepOf) (lines : List StepLineOf)

@@ -12,17 +12,17 @@ use Rattle.bp_confirm.specs.declared.choices.LastChoice.{LastChoice}
 
 -- The choice bits that reported steps leave out, and how they are inferred from the later steps.
 
--- the bit that leads to the place of the thread's next step: 1 only where the statements after a 1
--- are there and those after a 0 are not; without a next step it is the last bit
+-- the bit that leads to the place of the thread's next step: 1 only if the statements after a 1 are
+-- at that place and those after a 0 are not; without a next step it is the last bit
 abbrev pub bit_towards : (last : Bool) → Option Place → Block → Block → Bool
 bit_towards last None taken other = last
 bit_towards last (Some p) taken other =
     p (start_of_block taken) && not (p (start_of_block other))
 
--- The bit of the next statement, where the thread's next step is at this place, its last bit is
--- this one, and steps follow or not. Where `?` decides it, an assumption is 1, an assertion is 1
--- unless it is the last step, and a branch or a loop goes where the next step is, or as the last
--- bit says. All other bits are 0.
+-- The bit of the next statement, if the thread's next step is at this place, its last bit is this
+-- one, and steps follow or not. If `?` decides it, an assumption is 1, an assertion is 1 unless it
+-- is the last step, and a branch or loop leads to the next step, or goes as the last bit says. All
+-- other bits are 0.
 abbrev pub bit_of_block : Block → Option Place → (last follow : Bool) → Bool
 bit_of_block (Then label at (Assumes Choose) r) next last follow = true
 bit_of_block (Then label at (Asserts Choose) r) next last follow = follow
@@ -32,7 +32,7 @@ bit_of_block (Then label at (Loops Choose a) r) next last follow =
     bit_towards last next (chain a (Then label at (Loops Choose a) r)) r
 bit_of_block b next last follow = false
 
--- both ways are at the place of the thread's next step only where they are the same
+-- both ways are at the place of the thread's next step only if they are the same
 abbrev pub IsClearWay : Option Place → Block → Block → Type 0
 IsClearWay None taken other = Unit {0}
 IsClearWay (Some p) taken other =
@@ -47,7 +47,7 @@ IsClear (Then label at (Loops Choose a) r) next =
     IsClearWay next (chain a (Then label at (Loops Choose a) r)) r
 IsClear b next = Unit {0}
 
--- what comes next on these ways are the statements of two instructions of the program
+-- these ways begin at two different instructions of the program
 pub record AreTwo (t : Program) (taken other : Block) : Type 0 where
   pub one : ℕ
   pub two : ℕ
@@ -82,7 +82,7 @@ some_follow (x ∷ xs) = true
 abbrev pub LastBits : Type 0
 LastBits = ℕ → Bool
 
--- 0 for each, and 1 for each
+-- 0 for each thread, and 1 for each
 abbrev pub zeros : LastBits
 zeros = λ i. false
 
@@ -105,8 +105,7 @@ IsAmbiguousOnStack t i later (f ∷ fs) = IsAmbiguous t f.left (next_place i lat
 
 -- in this setup, with these last bits
 module _ (t : Program) (s : SetupOf) (last : LastBits) where
-  -- the call takes the step x after the history h, with the bit that is inferred from the later
-  -- steps
+  -- the call takes the step x after the history h, with the bit inferred from the later steps
   pub record Follows (h : List Call) (x : StepOf) (later : List StepOf) (call : Call)
       : Type 0 where
     pub takes : IsStepOf t s h x call
@@ -114,33 +113,33 @@ module _ (t : Program) (s : SetupOf) (last : LastBits) where
         call.bit ≡ bit_of_stack last x.thread later (stack_of (configuration_after t s h) x.thread)
     pub clear : IsClearOnStack x.thread later (stack_of (configuration_after t s h) x.thread)
 
-  -- the calls follow the steps after the history h, and the later steps are these
+  -- the calls follow the steps after the history h, and these later steps come after them
   abbrev pub FollowAfter : List Call → List StepOf → List StepOf → List Call → Type 0
   FollowAfter h [] later [] = Unit {0}
   FollowAfter h (x ∷ xs) later (call ∷ calls) =
       Follows h x (xs ++ later) call × FollowAfter (h ++ call ∷ []) xs later calls
   FollowAfter h xs later calls = ⊥
 
-  -- the history takes these steps, one call for each, with the bits that are inferred; each call is
-  -- allowed, so the history is legal
+  -- the history takes these steps, one call for each, with the inferred bits; each call is allowed,
+  -- so the history is legal
   abbrev pub IsFollowed : List StepOf → List Call → Type 0
   IsFollowed steps h = FollowAfter [] steps [] h
 
 -- The choice bits of last steps at a `?`, of which no later step tells. Those of a deadlock are
--- preferred, and else they are 0.
+-- preferred; otherwise they are 0.
 
--- Which threads wait once each took 0. The bit of such a thread is 0, and that of any other is 1:
--- so a thread waits if one of its bits makes it wait.
+-- The bits by which threads wait, from the threads that wait after a 0. The bit of such a thread is
+-- 0, and that of any other is 1: so a thread waits if one of its bits makes it wait.
 abbrev pub waiting_bits : (after_0 : ℕ → Bool) → LastBits
 waiting_bits after_0 = λ i. not (after_0 i)
 
--- one of them holds alone
+-- exactly one of the two is true
 abbrev pub differ : Bool → Bool → Bool
 differ true b = not b
 differ false b = b
 
--- Which threads wait once each took 0, and once each took 1. A deadlock depends on the bit of each
--- thread that waits after one of them alone. These are those bits, of the threads below n.
+-- The threads below n whose last bit decides a deadlock, with that bit, from those that wait after
+-- a 0 and those that wait after a 1: a thread decides if it waits after one of the two alone.
 abbrev pub deciding : (after_0 after_1 : ℕ → Bool) → (n : ℕ) → List LastChoice
 deciding after_0 after_1 zero = []
 deciding after_0 after_1 (suc n) =
@@ -154,8 +153,8 @@ module _ (t : Program) (s : SetupOf) where
   abbrev pub waits_after : List Call → ℕ → Bool
   waits_after h = λ i. waits t (configuration_after t s h) i
 
-  -- the history takes the steps, one call for each, with the bits that are inferred and some last
-  -- bits; each last bit is 0 unless it ends in a deadlock
+  -- the history takes the steps, one call for each, with the inferred bits and some last bits; each
+  -- last bit is 0 unless it ends in a deadlock
   pub record IsTaken (steps : List StepOf) (h : List Call) : Type 0 where
     pub last : LastBits
     pub followed : IsFollowed t s last steps h
@@ -177,15 +176,15 @@ module _ (t : Program) (s : SetupOf) where
     pub is : h ≡ waiting
     pub depends : choices ≡ deciding (waits_after zeroed) (waits_after oned) (threads s)
 
-  -- or no such bits lead to one, and each is 0
+  -- no such bits lead to a deadlock, and each is 0
   pub record EndsOtherwise (zeroed waiting h : List Call) (choices : List LastChoice)
       : Type 0 where
     pub none : IsDeadlocked t (configuration_after t s waiting) → ⊥
     pub is : h ≡ zeroed
     pub depends : choices ≡ []
 
-  -- the history takes the steps, one call for each, with the bits that are inferred; if last bits
-  -- lead to a deadlock it ends in one, which depends on these of them
+  -- the history takes the steps, one call for each, with the inferred bits; if last bits lead to a
+  -- deadlock it ends in one, which depends on these bits
   pub record IsConfirmed (steps : List StepOf) (h : List Call) (choices : List LastChoice)
       : Type 0 where
     pub zeroed : List Call

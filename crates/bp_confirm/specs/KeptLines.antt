@@ -1,4 +1,4 @@
--- A device: the lines of a text of steps. Most of those with the same text are kept once.
+-- A device: the lines of a text of steps. Most lines with the same text are kept once.
 use Rattle.std.specs.Prelude.{◌≡◌, ◌<◌, ◌≤◌, ◌++◌, ℕ, List, [], length, map, get_or}
 use Rattle.std.specs.List.{AllByRecursion}
 use Rattle.bp_text.specs.Formats.{IsAt}
@@ -9,7 +9,7 @@ use Rattle.bp_confirm.specs.Steps.{StepLineOf, step_line}
 abbrev pub kept_lines : List KeptLine → List StepLineOf
 kept_lines kept = map (λ x. x.line) kept
 
--- what stands where no line is kept
+-- a default if no line is kept
 abbrev pub no_line : StepLineOf
 no_line = record { thread = 0; location = End; values = [] }
 
@@ -25,7 +25,7 @@ AreWithin lines places = AllByRecursion (λ k. k < length lines) places
 pub record IsKeptLine (x : KeptLine) : Type 0 where
   pub at : IsAt step_line x.text.now x.line []
 
--- one more is kept, or none
+-- one line more is kept, or none
 abbrev pub GrowsByOne : List KeptLine → List KeptLine → Type 0
 GrowsByOne old new = (more : List KeptLine) × (new ≡ old ++ more) × (length more ≤ 1)
 

@@ -25,7 +25,7 @@ use Rattle.bp_confirm.specs.ConfirmedTexts.{IsConfirmedText, IsStepsRefusal, Has
 
 -- Runs of a program that take reported steps, without the machine.
 
--- from c on the thread of the step moves as the call does, from the place of the step, and then it
+-- from c on the thread of the step moves as the call does, from the place of the step, and then
 -- sees the values
 pub record IsMoveOf (t : Program) (c : Configuration) (x : StepOf) (call : Call) : Type 0 where
   pub next : Configuration
@@ -34,7 +34,7 @@ pub record IsMoveOf (t : Program) (c : Configuration) (x : StepOf) (call : Call)
   pub move : Moves t c call.thread call.bit next
   pub values : SeesValues next x.thread x.values
 
--- so do these calls, one after the other, one for each step
+-- each of these calls is the move of one step, in order
 abbrev pub MovesTake : Program → Configuration → List StepOf → List Call → Type 0
 MovesTake t c [] [] = Unit {0}
 MovesTake t c (x ∷ xs) (call ∷ calls) =
@@ -87,7 +87,7 @@ RefusedHasNoRun =
     → IsStepRefusal text t s last lines r
     → ForStuck r.reason ((calls : List Call) → IsRunOfSteps t s (steps_of text lines) calls → ⊥)
 
--- nor does such a run take the steps up to the one that is refused
+-- nor does such a run take the steps up to the refused one
 abbrev pub RefusedFrontHasNoRun : Type 0
 RefusedFrontHasNoRun =
     (text : List ℕ) (t : Program) (s : SetupOf) (last : LastBits) (lines : List StepLineOf)
@@ -96,7 +96,7 @@ RefusedFrontHasNoRun =
     → let front = steps_of text (refused.before ++ refused.step ∷ []) in
     ForStuck r.reason ((calls : List Call) → IsRunOfSteps t s front calls → ⊥)
 
--- a step is refused as ambiguous only where its thread's next step has a line without a column
+-- a step is refused as ambiguous only if its thread's next step has a line without a column
 abbrev pub OnlyLinesAreAmbiguous : Type 0
 OnlyLinesAreAmbiguous =
     (text : List ℕ) (t : Program) (s : SetupOf) (last : LastBits) (lines : List StepLineOf)
@@ -127,11 +127,11 @@ OneReading =
     → HasLines text ys
     → xs ≡ ys
 
--- at most one first malformed line
+-- a text has at most one first malformed line
 abbrev pub OneBadLine : Type 0
 OneBadLine = (text : List ℕ) (m n : ℕ) → IsBadLine text m → IsBadLine text n → m ≡ n
 
--- and never both
+-- no text has both
 abbrev pub NoBadLineOfReadTexts : Type 0
 NoBadLineOfReadTexts =
     (text : List ℕ) (xs : List StepLineOf) (n : ℕ)
@@ -153,7 +153,7 @@ OneRefusal =
     → IsStepsRefusal t s steps text bound g
     → f ≡ g
 
--- and none where a history confirms them
+-- steps that a history confirms have no refusal
 abbrev pub NoRefusalOfConfirmed : Type 0
 NoRefusalOfConfirmed =
     (text : List ℕ) (t : Program) (s : SetupOf) (steps : List ℕ) (bound : ContextBound)
@@ -163,12 +163,12 @@ NoRefusalOfConfirmed =
     → IsStepsRefusal t s steps text bound f
     → f ≡ Memory
 
--- Laws: the text of a run's own steps is confirmed, if it is neither empty nor too long; and so is
--- a deadlock at its end.
+-- Laws: the text of a run's own steps is confirmed, if it is neither empty nor too long; so is a
+-- deadlock at its end.
 
 -- The text of the steps of a legal history is refused for memory alone, if it is neither empty nor
--- too long. The setup keeps the limit of threads; and where the trace allows as many contexts as
--- the steps use, it keeps that of contexts too.
+-- too long. The setup keeps the limit of threads, and also that of contexts if the trace allows the
+-- number that the steps use.
 abbrev pub OwnTextIsConfirmed : Type 0
 OwnTextIsConfirmed =
     (text : List ℕ) (t : Program) (s : SetupOf) (h : List Call) (bound : ContextBound)

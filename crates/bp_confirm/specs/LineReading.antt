@@ -8,7 +8,7 @@ use Rattle.bp_confirm.specs.declared.kept_lines.StepsFault.{StepsFault}
 use Rattle.bp_confirm.specs.declared.kept_lines.StepsFault.TheVariants as fault
 use Rattle.bp_confirm.specs.Steps.{StepLineOf, HasLines, IsBadLine, after_byte, value}
 
--- the first malformed line; nothing is said of when memory is refused
+-- the first malformed line; it does not say when memory is refused
 abbrev pub IsUnreadable : List ℕ → StepsFault → Type 0
 IsUnreadable text (fault.Line n) = IsBadLine text n
 IsUnreadable text fault.Memory = Unit {0}
@@ -23,7 +23,7 @@ abbrev pub value_on_line : List StepLineOf → (n k : ℕ) → Option (List ℕ 
 value_on_line lines zero k = None
 value_on_line lines (suc n) k = value_in (slice_get lines n) k
 
--- this is that value of a text of steps, if the text has lines
+-- the value is that of a text of steps, if the text has lines
 abbrev pub IsValueOnLine : (text : List ℕ) → (n k : ℕ) → Option (List ℕ × Bool) → Type 0
 IsValueOnLine text n k value =
     (lines : List StepLineOf) → HasLines text lines → value ≡ value_on_line lines n k
@@ -33,15 +33,15 @@ abbrev pub IsStepOnLine : (text : List ℕ) → (n : ℕ) → Option StepLineOf 
 IsStepOnLine text n step =
     (lines : List StepLineOf) → HasLines text lines → step ≡ slice_get lines (n - 1)
 
--- The values that a part of a line says, as its bytes are read one after the other.
+-- The values in a part of a line, as its bytes are read one after the other.
 
--- what the next byte is: a space, one more of a name or the equals sign after it, or its bit
+-- the kind of the next byte: a space, one more of a name or the equals sign after it, or its bit
 pub data Reading : Type 0 where
   Space : Reading
   Name : (front : List ℕ) → (state : NameState) → Reading
   Bit : (name : List ℕ) → Reading
 
--- a name goes on, or the byte was the equals sign after it
+-- a name continues, or the byte was the equals sign after it
 abbrev pub after_name : List ℕ → ℕ → Option NameState → Reading
 after_name front c None = Bit front
 after_name front c (Some state) = Name (front ++ c ∷ []) state
@@ -52,11 +52,11 @@ values_from Space (c ∷ cs) = values_from (Name [] Start) cs
 values_from (Name front state) (c ∷ cs) = values_from (after_name front c (after_byte state c)) cs
 values_from (Bit name) (c ∷ cs) = (name, c == 49) ∷ values_from Space cs
 
--- the values that the text says, if it says values
+-- the values of the text, if it lists values
 abbrev pub values_in : List ℕ → Valuation
 values_in text = values_from Space text
 
--- it does
+-- the text lists these values
 abbrev pub SaysValues : List ℕ → Type 0
 SaysValues text = AreAll value text (values_in text)
 

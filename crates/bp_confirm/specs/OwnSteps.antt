@@ -1,4 +1,4 @@
--- The steps that a run makes, and the lists that it makes in their order.
+-- The steps of a run, and the lists that it makes in order.
 use Rattle.std.specs.Prelude.{◌≡◌, ℕ, List, [], ◌∷◌, Option, None, Some, option_map, if◌then◌else◌, flat_map, map, ◌==◌, ◌&&◌, Bool, true, false, MatchOption, length, slice_get}
 use Rattle.std.specs.List.{list_all}
 use Rattle.std.specs.Option.{option_map_or}
@@ -30,23 +30,23 @@ abbrev pub location_at : Option Position → Location
 location_at None = End
 location_at (Some p) = Column p.line p.column
 
--- that of the statement that begins at this offset of a text
+-- the location of the statement that begins at this offset of a text
 abbrev pub exact_location : List ℕ → Option ℕ → Location
 exact_location text start = location_at (option_map (position_at text) start)
 
--- where the topmost frame goes on
+-- the offset at which the topmost frame continues
 abbrev pub next_start : List Frame → Option ℕ
 next_start [] = None
 next_start (f ∷ fs) = start_of_block f.left
 
--- the line says where the thread of the call stands, and no values
+-- the line has the thread's location before the call, and no values
 pub record IsOwnLine (text : List ℕ) (c : Configuration) (call : Call) (x : StepLineOf)
     : Type 0 where
   pub thread : x.thread ≡ call.thread
   pub location : x.location ≡ exact_location text (next_start (stack_of c call.thread))
   pub values : x.values ≡ []
 
--- these are the lines of steps that are made from c on
+-- these are the lines of the steps from c on
 abbrev pub AreOwnLines
     : List ℕ → Program → Configuration → List Call → List StepLineOf → Type 0
 AreOwnLines text t c [] [] = Unit {0}
@@ -66,7 +66,7 @@ own_step text c call = record {
   position = option_map (position_at text) (next_start (stack_of c call.thread));
 }
 
--- the steps of these calls, made from c on; a refused call makes none
+-- the steps of these calls from c on; a refused call makes none
 abbrev pub own_steps_from : List ℕ → Program → Configuration → List Call → List OwnStep
 own_steps_from text t c [] = []
 own_steps_from text t c (call ∷ calls) =
@@ -77,7 +77,7 @@ own_steps_from text t c (call ∷ calls) =
 abbrev pub own_steps : List ℕ → Program → SetupOf → List Call → List OwnStep
 own_steps text t s h = own_steps_from text t (start t s) h
 
--- a step as it is written, without values
+-- a step as written, without values
 abbrev pub line_of_step : OwnStep → StepLineOf
 line_of_step x = record { thread = x.thread; location = location_at x.position; values = [] }
 
@@ -102,7 +102,7 @@ pub record AreStepsOfTrace
   pub steps_are : steps ≡ own_steps text t setup history
   pub report : IsReport setup history r
 
--- law: the lines are the own lines of the run that the granted calls are
+-- law: the lines are the own lines of the run of the granted calls
 abbrev pub StepsAreOfTheRun : Type 0
 StepsAreOfTheRun =
     (text : List ℕ) (t : Program) (s : SetupOf) (h : List Call)
@@ -126,8 +126,8 @@ is_value (Some false) false = true
 abbrev pub sees_values : Configuration → ℕ → Valuation → Bool
 sees_values c i vs = list_all (λ v. is_value (value_seen c.globals (stack_of c i) v.0) v.1) vs
 
--- a step of thread i from c to d is the reported step x: its thread stands at the place before it,
--- and sees the values after it
+-- a step of thread i from c to d is the reported step x: the thread is at its place before it, and
+-- sees its values after it
 abbrev pub is_step : StepOf → Configuration → ℕ → Configuration → Bool
 is_step x c i d =
     (i == x.thread && stands_at x.place (stack_of c i)) && sees_values d i x.values

@@ -21,16 +21,16 @@ use Rattle.bp_confirm.specs.declared.step_lines.SeenValue.{SeenValue}
 
 -- Places, at which threads stand.
 
--- a test of what comes next: the statement that begins at this offset, or a procedure's end
+-- a test of the next statement, which begins at this offset, or of a procedure's end
 abbrev pub Place : Type 0
 Place = Option ℕ → Bool
 
--- whether a thread with this stack stands at the place: its topmost frame goes on there
+-- a thread with this stack is at the place: its topmost frame continues there
 abbrev pub stands_at : Place → List Frame → Bool
 stands_at p [] = false
 stands_at p (f ∷ fs) = p (start_of_block f.left)
 
--- whether a statement that begins at this position, or a procedure's end, is at the location
+-- a statement that begins at this position, or a procedure's end, is at the location
 abbrev pub is_at : Location → Option Position → Bool
 is_at End None = true
 is_at End (Some p) = false
@@ -39,14 +39,14 @@ is_at (Line n) (Some p) = p.line == n
 is_at (Column n m) None = false
 is_at (Column n m) (Some p) = p.line == n && p.column == m
 
--- the place that the location says in a text
+-- the place for the location in a text
 abbrev pub place_of : List ℕ → Location → Place
 place_of text x = λ start. is_at x (option_map (position_at text) start)
 
 -- Reported steps, and the histories that take them.
 
--- a reported step: its thread, the place at which the thread stands before it, and the values that
--- some variables have after it
+-- a reported step: its thread, the thread's place before it, and the values that some variables
+-- have after it
 pub record StepOf : Type 0 where
   pub thread : ℕ
   pub place : Place
@@ -56,7 +56,7 @@ pub record StepOf : Type 0 where
 abbrev pub qualified_values : (procedure : List ℕ) → Valuation → Valuation
 qualified_values p vs = map (λ v. (qualified p v.0, v.1)) vs
 
--- the value of a local of a procedure by its name, or by that after the procedure's and a dot
+-- the value of a local of a procedure by its name, or by its name after the procedure's and a dot
 abbrev pub own_value : (procedure : List ℕ) → Valuation → List ℕ → Option Bool
 own_value p locals x = option_or (lookup locals x) (lookup (qualified_values p locals) x)
 
@@ -65,7 +65,7 @@ abbrev pub local_seen : List Frame → List ℕ → Option Bool
 local_seen [] x = None
 local_seen (f ∷ fs) x = own_value f.procedure.name.text f.locals x
 
--- the value of a variable: a local hides a global of its name; none if there is neither
+-- the value of a variable: a local hides a global of its name; None if there is neither
 abbrev pub value_seen : Valuation → List Frame → List ℕ → Option Bool
 value_seen globals stack x = option_or (local_seen stack x) (lookup globals x)
 
@@ -75,8 +75,8 @@ SeesValues c i [] = Unit {0}
 SeesValues c i (v ∷ vs) =
     (value_seen c.globals (stack_of c i) v.0 ≡ Some v.1) × SeesValues c i vs
 
--- Of these values, that of number n, from 0, is the first that thread i does not see: it sees this
--- one in its place, or no variable of its name.
+-- Value n of these, from 0, is the first that thread i does not see: it sees this one instead, or
+-- no variable of its name.
 pub record IsFirstUnseen
     (c : Configuration) (i : ℕ) (vs : Valuation) (n : ℕ) (seen : Option Bool) : Type 0 where
   pub value : List ℕ × Bool
@@ -85,8 +85,8 @@ pub record IsFirstUnseen
   pub is_seen : seen ≡ value_seen c.globals (stack_of c i) value.0
   pub differs : seen ≢ Some value.1
 
--- the call takes the step after the history h: it may follow h, the thread stands at the place
--- before it, the machine grants it, and the thread sees the values after it
+-- the call takes the step after the history h: it may follow h, the thread is at the place before
+-- it, the machine grants it, and the thread sees the values after it
 pub record IsStepOf (t : Program) (s : SetupOf) (h : List Call) (x : StepOf) (call : Call)
     : Type 0 where
   pub thread : call.thread ≡ x.thread
@@ -106,24 +106,24 @@ TakeAfter t s h xs calls = ⊥
 abbrev pub Takes : Program → SetupOf → List StepOf → List Call → Type 0
 Takes t s steps h = TakeAfter t s [] steps h
 
--- where thread i stands before its next step
+-- the place of thread i before its next step
 abbrev pub next_place : ℕ → List StepOf → Option Place
 next_place i [] = None
 next_place i (x ∷ xs) = if x.thread == i then Some x.place else next_place i xs
 
--- The lines of reported steps, and what they say in the text of a program.
+-- The lines of reported steps, and their meaning in the text of a program.
 
 -- a variable's name and value
 abbrev pub value_of : SeenValue → List ℕ × Bool
 value_of v = (v.name.now, v.bit)
 
--- a step as it is written: its thread, its location before the step, and the values after it
+-- a step as written: its thread, its location before the step, and the values after it
 pub record StepLineOf : Type 0 where
   pub thread : ℕ
   pub location : Location
   pub values : Valuation
 
--- what the line says in the text of a program
+-- the step of the line in the text of a program
 abbrev pub step_of : List ℕ → StepLineOf → StepOf
 step_of text x = record {
   thread = x.thread;
@@ -160,7 +160,7 @@ after_byte Start b = outside_braces b
 after_byte Outside b = outside_braces b
 after_byte Inside b = if b == 10 then None else if b == 125 then Some Outside else Some Inside
 
--- it is not empty, and its braces are closed
+-- a name may end: it is not empty, and its braces are closed
 abbrev pub may_end : NameState → Bool
 may_end Start = false
 may_end Outside = true
