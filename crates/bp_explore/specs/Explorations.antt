@@ -1,4 +1,4 @@
--- What a program reaches, and what an exploration answers and finds.
+-- The configurations that a program reaches, and the results of an exploration.
 use Rattle.std.specs.Prelude.{◌≡◌, ◌⊎◌, ◌<◌, ℕ, zero, suc, true, List, None, length, max, ◌+◌, Bool, [], ◌∷◌, map, ◌≤◌, false, Option, Some}
 use Rattle.bp_language.specs.Ast.{Program}
 use Rattle.bp_flat.specs.Moves.{Configuration, Moves}
@@ -15,20 +15,20 @@ use Rattle.bp_explore.specs.declared.explorations.Finding.{Finding}
 use Rattle.bp_explore.specs.declared.explorations.Finding.TheVariants.{Failure, Deadlock}
 use Rattle.bp_explore.specs.declared.explorations.FoundRun.{FoundRun}
 
--- What an exploration finds: a run that ends in a false assertion or in a deadlock.
+-- The finding of an exploration: a run that ends in a false assertion or in a deadlock.
 
 -- in this configuration an assertion has failed, or the threads are deadlocked
 abbrev pub IsFinding : Program → Configuration → Finding → Type 0
 IsFinding t d Failure = d.failed ≡ true
 IsFinding t d Deadlock = IsDeadlocked t d
 
--- the most calls of one of the first n threads
+-- the largest number of calls of one of the first n threads
 abbrev pub most_calls : ℕ → List Call → ℕ
 most_calls zero h = 0
 most_calls (suc i) h = max (most_calls i h) (length (calls_of_thread i h))
 
 -- The setup of the trace of a run within k contexts: it has no seed, and allows the default number
--- of calls, or as many as some thread of the run makes if these are more.
+-- of calls, or the number that some thread of the run makes if it is larger.
 abbrev pub setup_of_run : SetupOf → ℕ → List Call → SetupOf
 setup_of_run s k h = record {
   entries = s.entries;
@@ -39,7 +39,7 @@ setup_of_run s k h = record {
 }
 
 -- The session is in the setup of the run's trace, and stands after the run's history. Each call of
--- the history is a granted step, and it ends in what was found.
+-- the history is a granted step, and the history ends in the finding.
 pub record IsFoundRun (c : Flat) (t : Program) (s : SetupOf) (r : FoundRun) : Type 0 where
   pub code : r.session.code ≡ c
   pub setup : r.session.setup ≡ setup_of_run s r.contexts r.history.items
@@ -47,11 +47,11 @@ pub record IsFoundRun (c : Flat) (t : Program) (s : SetupOf) (r : FoundRun) : Ty
   pub granted : granted_calls r.history.items ≡ r.history.items
   pub found : IsFinding t (configuration_after t r.session.setup r.history.items) r.finding
 
--- no setup allows a run with so many contexts, or with so many calls of a thread
+-- no setup allows a run with this number of contexts, or with this number of calls of a thread
 abbrev pub IsTooLong : ℕ → ℕ → Type 0
 IsTooLong contexts calls = (MAX_CONTEXTS < contexts) ⊎ (MAX_CALLS < calls)
 
--- what is answered if a run within k contexts ends in this finding
+-- the ending if a run within k contexts ends in this finding
 abbrev pub IsPlayed : Flat → Program → SetupOf → ℕ → Finding → Ending → Type 0
 IsPlayed c t s k f (Found r) = (r.contexts ≡ k) × (r.finding ≡ f) × IsFoundRun c t s r
 IsPlayed c t s k f (Unplayed contexts finding calls) =
@@ -62,21 +62,21 @@ IsPlayed c t s k f (Unfinished contexts reason) = ⊥
 
 -- Listed steps, and the runs that make them in their order, with any other steps between them.
 
--- how many steps are listed; whether a step of a thread, from one configuration to the next, is the
--- listed step of a number, from 0; and of which programs these are the configurations
+-- the number of listed steps; whether a step of a thread, from one configuration to the next, is
+-- the listed step of a number, from 0; and the programs of these configurations
 pub record ListedSteps : Type 1 where
   pub count : ℕ
   pub makes : (number : ℕ) → Configuration → (thread : ℕ) → Configuration → Bool
   pub is_of : Program → Type 0
 
 -- A step of thread i makes the listed step of number n. A step at which an assertion fails makes
--- none but the last one, since the run ends with it.
+-- only the last one, because the run ends with it.
 pub record IsMade (o : ListedSteps) (n : ℕ) (c : Configuration) (i : ℕ) (d : Configuration)
     : Type 0 where
   pub is : o.makes n c i d ≡ true
   pub last : d.failed ≡ true → n + 1 ≡ o.count
 
--- These calls are moves, one after the other, from c to d. Where the first m listed steps were made
+-- These calls are moves, one after the other, from c to d. If the first m listed steps were made
 -- before them, some of the moves make the listed steps from there on, in their order, so that the
 -- first n are made.
 pub data MakesFrom (t : Program) (o : ListedSteps)
@@ -99,8 +99,8 @@ abbrev pub MakesInOrder
     : Program → SetupOf → ListedSteps → List Call → ℕ → Configuration → Type 0
 MakesInOrder t s o steps n d = MakesFrom t o 0 (start t s) steps n d
 
--- Some run makes the first n listed steps in order: with whatever choices and number of steps,
--- within k contexts, and with room for a frame at each call.
+-- Some run makes the first n listed steps in order: with any choices and number of steps, within k
+-- contexts, and with room for a frame at each call.
 pub record CanMake (t : Program) (s : SetupOf) (o : ListedSteps) (k n : ℕ) : Type 0 where
   pub steps : List Call
   pub end : Configuration
@@ -108,9 +108,9 @@ pub record CanMake (t : Program) (s : SetupOf) (o : ListedSteps) (k n : ℕ) : T
   pub contexts : IsWithin k (map (λ x. x.thread) steps)
   pub room : EachHasRoom t (start t s) steps
 
--- What a program reaches within k contexts, and what it is safe from.
+-- The configurations that a program reaches within k contexts, and when it is safe.
 
--- A run from the start of the setup leads to d: with whatever choices and number of steps, within k
+-- A run from the start of the setup leads to d: with any choices and number of steps, within k
 -- contexts, and with room for a frame at each call.
 pub record IsReachable (t : Program) (s : SetupOf) (k : ℕ) (d : Configuration) : Type 0 where
   pub steps : List Call
@@ -126,21 +126,21 @@ IsSafe t s k = (d : Configuration) → IsReachable t s k d → d.failed ≡ fals
 abbrev pub HasNoDeadlock : Program → SetupOf → ℕ → Type 0
 HasNoDeadlock t s k = (d : Configuration) → IsReachable t s k d → IsDeadlocked t d → ⊥
 
--- as many contexts are within the bound, if there is one
+-- this number of contexts is within the bound, if there is one
 abbrev pub IsInBound : (bound : Option ℕ) → (contexts : ℕ) → Type 0
 IsInBound None k = Unit {0}
 IsInBound (Some n) k = k ≤ n
 
--- What an exploration answers.
+-- The result of an exploration.
 
--- Within k contexts there is nothing of what is looked for: no false assertion, and no deadlock if
--- that is looked for as well.
+-- Within k contexts there is no finding: no false assertion, and no deadlock if deadlocks are
+-- searched as well.
 pub record HasNone (t : Program) (s : SetupOf) (with_deadlock : Bool) (k : ℕ) : Type 0 where
   pub safe : IsSafe t s k
   pub live : with_deadlock ≡ true → HasNoDeadlock t s k
 
--- what is known of the fewest contexts in which something is found: there is nothing within fewer,
--- and a deadlock is found only where it is looked for and nothing fails within as many
+-- the fewest contexts with a finding: fewer have none, and a deadlock is found only if deadlocks
+-- are searched and no assertion fails within as many
 module _ (t : Program) (s : SetupOf) (with_deadlock : Bool) where
   abbrev pub HasNoneBelow : ℕ → Type 0
   HasNoneBelow k = (m : ℕ) → m < k → HasNone t s with_deadlock m
@@ -152,7 +152,7 @@ module _ (t : Program) (s : SetupOf) (with_deadlock : Bool) where
   abbrev pub IsFirst : ℕ → Finding → Type 0
   IsFirst k f = HasNoneBelow k × IsLooked k f
 
--- what is answered of a code that stands for the program, where this bound on contexts is given
+-- the result for a code that stands for the program, with this bound on contexts
 module _ (c : Flat) (t : Program) (s : SetupOf) (bound : Option ℕ) (with_deadlock : Bool) where
   abbrev pub IsExploration : Ending → Type 0
   IsExploration (Nothing last) = (k : ℕ) → HasNone t s with_deadlock k

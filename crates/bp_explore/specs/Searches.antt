@@ -1,4 +1,4 @@
--- Where an exploration begins, and how its search ends. How it works, which no public clause names.
+-- The start of an exploration, and its search's end. How it works, which no public clause names.
 use Rattle.std.specs.Prelude.{◌≡◌, ℕ, [], Option, MatchOption, if◌then◌else◌, ◌+◌, ◌↔◌, Bool, IsTrue, true, false, List, Some, slice_get, ◌⊎◌, ◌<◌, ◌≤◌, ◌∷◌, ◌++◌, length, map, None}
 use Rattle.bp_language.specs.Ast.{Program}
 use Rattle.bp_flat.specs.InstrEffects.{bits_of}
@@ -26,11 +26,11 @@ use Rattle.bp_explore.specs.declared.searches.SearchEnd.TheVariants.{Closed, Bou
 
 -- Steps as an exploration sees them.
 
--- the top of thread i, and none if its stack is empty
+-- the top of thread i, or None if its stack is empty
 abbrev pub IsTopOrNone : Program → Configuration → ℕ → Option Top → Type 0
 IsTopOrNone t c i top = MatchOption top (stack_of c i ≡ []) (IsTop t c i)
 
--- what is seen of a step shows that it goes from c to d
+-- the seen step goes from c to d
 pub record ShowsStep (t : Program) (x : SeenStep) (c d : Configuration) : Type 0 where
   pub before : IsTopOrNone t c x.thread x.before
   pub after : IsTopOrNone t d x.thread x.after
@@ -44,7 +44,7 @@ abbrev pub failures : ListedSteps
 failures = record { count = 1; makes = λ n c i d. d.failed; is_of = λ t. Unit {0} }
 
 -- After the first m, n listed steps are made with a step of thread i: one more if it makes that of
--- number m. This is so whatever the configurations are that it goes from and to.
+-- number m. This holds for all configurations that it goes from and to.
 pub record IsCount
     (o : ListedSteps) (m i n : ℕ) (AreShown : Program → Configuration → Configuration → Type 0)
     : Type 0 where
@@ -58,16 +58,16 @@ pub record IsCount
 abbrev pub IsCountedStep : ListedSteps → ℕ → SeenStep → ℕ → Type 0
 IsCountedStep o m step n = IsCount o m step.thread n (λ t c d. ShowsStep t step c d)
 
--- What a step of a thread leads to. How an exploration works, which no public clause names.
+-- The result of a step of a thread. How an exploration works, which no public clause names.
 
 -- no step, since the thread has ended, waits or has no room for a frame; a false assertion; or the
--- state after the step. The two have how many listed steps are made then.
+-- state after the step. The last two have the number of listed steps made so far.
 pub data Step : Type 0 where
   Stays : Step
   Fails : (made : ℕ) → Step
   Leads : (made : ℕ) → StateOf → Step
 
--- what is seen of a step of thread i from the state x to the state y, in which an assertion fails
+-- the count after a step of thread i from the state x to the state y, in which an assertion fails
 -- or not
 abbrev pub IsCountTo : ListedSteps → ℕ → ℕ → ℕ → StateOf → StateOf → Bool → Type 0
 IsCountTo o m i n x y failed =
@@ -81,8 +81,8 @@ module _ (o : ListedSteps) (m : ℕ) (x : StateOf) (i : ℕ) where
       let after = state_after x i stack d in
       (n : ℕ) × IsCountTo o m i n x after false × (y ≡ Leads n after)
 
-  -- what the next step of this stack, of thread i in the state x, leads to with this choice bit,
-  -- where m listed steps were made
+  -- the result of the next step of this stack, of thread i in the state x, with this choice bit,
+  -- after m listed steps
   pub record IsStepOn
       (code : List Instruction) (bit : Bool) (y : Step) (stack : List ActivationRecord)
       : Type 0 where
@@ -90,23 +90,23 @@ module _ (o : ListedSteps) (m : ℕ) (x : StateOf) (i : ℕ) where
     pub is : IsTransitionOn code x.globals bit true stack transition
     pub led : IsLed stack transition y
 
-  -- the same of thread i, where there is such a thread
+  -- the result of the next step of thread i, if it exists
   abbrev pub IsStep : List Instruction → Bool → Step → Type 0
   IsStep code bit y =
       (stack : List ActivationRecord)
       → slice_get x.stacks i ≡ Some stack
       → IsStepOn code bit y stack
 
-  -- what the next step of thread i leads to, if this is what it results in
+  -- the result of the next step of thread i, if this is its transition
   abbrev pub IsFollowed : Transition → Step → Type 0
   IsFollowed v y =
       (stack : List ActivationRecord) → slice_get x.stacks i ≡ Some stack → IsLed stack v y
 
--- Nodes that runs lead to. How an exploration works, which no public clause names.
+-- Nodes to which runs lead. How an exploration works, which no public clause names.
 
 module _ (t : Program) (s : SetupOf) (o : ListedSteps) where
-  -- a run leads to what the node shows, within its contexts and with a step of its last thread, and
-  -- makes as many listed steps, which are not all
+  -- a run leads to the node's configuration, within its contexts and with a step of its last
+  -- thread, and makes its number of listed steps, which are not all
   pub record IsReached (node : Node) : Type 0 where
     pub steps : List Call
     pub end : Configuration
@@ -125,7 +125,7 @@ module _ (t : Program) (s : SetupOf) (o : ListedSteps) where
   abbrev pub AreReached : List Node → Type 0
   AreReached nodes = (at : ℕ) (node : Node) → slice_get nodes at ≡ Some node → IsReached node
 
--- the nodes are reached if the old ones were, where a setup has at least n threads
+-- the nodes are reached if the old ones were, in a setup with at least n threads
 abbrev pub StayReached : Flat → ListedSteps → ℕ → List Node → List Node → Type 0
 StayReached c o n old new =
     (t : Program) (s : SetupOf)
@@ -143,7 +143,7 @@ node_with x n i level = record { state = x; made = n; last = Some i; level = lev
 abbrev pub MayAdd : List Node → Node → List Node → Type 0
 MayAdd old node new = (new ≡ old) ⊎ (new ≡ old ++ node ∷ [])
 
--- what a step of thread i leads to was added at most, and makes not all of the listed steps
+-- at most the step's node was added, and a step of thread i makes not all listed steps
 abbrev pub IsTaken : ListedSteps → List Node → ℕ → ℕ → Step → List Node → Type 0
 IsTaken o old i level Stays new = new ≡ old
 IsTaken o old i level (Fails n) new = new ≡ old
@@ -153,7 +153,7 @@ IsTaken o old i level (Leads n x) new =
 -- The nodes of an exploration: the states that were found, in order of their contexts. How an
 -- exploration works, which no public clause names.
 
--- the contexts that are used with a step of thread i from the node
+-- the number of contexts used with a step of thread i from the node
 abbrev pub level_with : Node → ℕ → ℕ
 level_with node i = node.level + contexts_opened node.last i
 
@@ -166,19 +166,19 @@ pub record Holds (nodes : List Node) (x : StateOf) (i n : ℕ) : Type 0 where
   pub made : node.made ≡ n
   pub last : node.last ≡ Some i
 
--- the same within this many contexts
+-- a node has it within this number of contexts
 pub record Has (nodes : List Node) (x : StateOf) (i n level : ℕ) : Type 0 where
   pub held : Holds nodes x i n
   pub low : held.node.level ≤ level
 
--- a step of thread i makes not all of the listed steps, and leads to a node within this many
--- contexts if no assertion fails
+-- a step of thread i does not make all of the listed steps, and leads to a node within this number
+-- of contexts if no assertion fails
 abbrev pub IsSeen : ListedSteps → List Node → ℕ → ℕ → Step → Type 0
 IsSeen o nodes i level Stays = Unit {0}
 IsSeen o nodes i level (Fails n) = n < o.count
 IsSeen o nodes i level (Leads n y) = (n < o.count) × Has nodes y i n level
 
--- so it is with either choice bit
+-- each step of thread i with either choice bit is seen
 abbrev pub IsExpanded : ListedSteps → List Instruction → List Node → Node → ℕ → ℕ → Type 0
 IsExpanded o code nodes node i level =
     (bit : Bool)
@@ -207,7 +207,7 @@ abbrev pub AreAtMost : List Node → ℕ → Type 0
 AreAtMost nodes k =
     (n : ℕ) (node : Node) → slice_get nodes n ≡ Some node → node.level ≤ k
 
--- the nodes were kept, and those that were added use this many contexts
+-- the nodes were kept, and the added ones use this number of contexts
 pub record IsGrown (old new : List Node) (level : ℕ) : Type 0 where
   pub longer : length old ≤ length new
   pub kept : (n : ℕ) (node : Node)
@@ -218,7 +218,7 @@ pub record IsGrown (old new : List Node) (level : ℕ) : Type 0 where
       → slice_get new n ≡ Some node
       → node.level ≡ level
 
--- all that is within k contexts was seen, and the nodes from p on use k contexts
+-- everything within k contexts was seen, and the nodes from p on use k contexts
 pub record IsExplored
     (o : ListedSteps) (code : List Instruction) (threads : ℕ) (nodes : List Node) (p k : ℕ)
     : Type 0 where
@@ -267,7 +267,7 @@ HasMade t s o nodes k =
 
 module _ (t : Program) (s : SetupOf) (o : ListedSteps) (with_deadlock : Bool) where
   -- within k contexts no run makes all listed steps, and no run whose last step is not a false
-  -- assertion leads to a deadlock, if that is looked for
+  -- assertion leads to a deadlock, if deadlocks are searched
   pub record HasNeither (k : ℕ) : Type 0 where
     pub none : CanMake t s o k o.count → ⊥
     pub live : with_deadlock ≡ true
@@ -280,7 +280,7 @@ module _ (t : Program) (s : SetupOf) (o : ListedSteps) (with_deadlock : Bool) wh
   abbrev pub HasNeitherBelow : ℕ → Type 0
   HasNeitherBelow k = (m : ℕ) → m < k → HasNeither m
 
-  -- the same, and no run makes n listed steps where the nodes have made fewer
+  -- there is neither, and no run makes n listed steps if the nodes have made fewer
   pub record IsExhausted (nodes : List Node) (k : ℕ) : Type 0 where
     pub neither : HasNeither k
     pub none_more : (n : ℕ) → HaveFewer o nodes n → CanMake t s o k n → ⊥
@@ -307,14 +307,14 @@ module _
   IsSearchEnd (Short contexts reason) =
       HasNeitherBelow t s o with_deadlock contexts × IsInBound bound contexts
 
--- a node has made this many listed steps
+-- a node has made this number of listed steps
 pub record HasOneMade (nodes : List Node) (made : ℕ) : Type 0 where
   pub at : ℕ
   pub node : Node
   pub is : slice_get nodes at ≡ Some node
   pub same : node.made ≡ made
 
--- this is the most that a node has made, and 0 if there is no node
+-- this is the most that a node has made, or 0 if there is no node
 pub record IsMostMade (nodes : List Node) (made : ℕ) : Type 0 where
   pub at_most : (at : ℕ) (node : Node) → slice_get nodes at ≡ Some node → node.made ≤ made
   pub attained : (made ≡ 0) ⊎ HasOneMade nodes made

@@ -1,4 +1,4 @@
--- What an exploration answers that looks for a run which makes listed steps in their order.
+-- The result of an exploration that searches for a run which makes listed steps in their order.
 use Rattle.std.specs.Prelude.{◌≡◌, ◌+◌, ℕ, List, [], ◌∷◌, ◌++◌, ◌<◌, Option, Some}
 use Rattle.bp_language.specs.Ast.{Program}
 use Rattle.bp_flat.specs.Moves.{Configuration, Moves}
@@ -12,8 +12,8 @@ use Rattle.bp_explore.specs.declared.explorations.ThroughEnding.{ThroughEnding}
 use Rattle.bp_explore.specs.declared.explorations.ThroughEnding.TheVariants.{Found, Unplayed, Missing, MissingWithin, Unfinished}
 use Rattle.bp_explore.specs.Explorations.{IsTooLong, setup_of_run, ListedSteps, IsMade, MakesInOrder, CanMake, IsInBound}
 
--- What an exploration finds that looks for listed steps: a run that makes them in their order, with
--- any other steps between them.
+-- The finding of a search for listed steps: a run that makes them in their order, with any other
+-- steps between them.
 
 -- the run of these steps makes all listed steps in order, the last of them with its last step
 pub record EndsInLast
@@ -41,7 +41,7 @@ pub record IsRunThrough
   pub made : let end = configuration_after t r.session.setup r.history.items in
       EndsInLast t s o r.history.items end
 
--- what is answered if a run within k contexts makes all listed steps
+-- the ending if a run within k contexts makes all listed steps
 abbrev pub IsPlayedThrough : Flat → Program → SetupOf → ListedSteps → ℕ → ThroughEnding → Type 0
 IsPlayedThrough c t s o k (Found r) = (r.contexts ≡ k) × IsRunThrough c t s o r
 IsPlayedThrough c t s o k (Unplayed contexts calls) =
@@ -55,7 +55,7 @@ module _ (t : Program) (s : SetupOf) (o : ListedSteps) where
   abbrev pub CannotMakeBelow : ℕ → Type 0
   CannotMakeBelow k = (m : ℕ) → m < k → CanMake t s o m o.count → ⊥
 
--- what is answered of a code that stands for the program, where this bound on contexts is given
+-- the result for a code that stands for the program, with this bound on contexts
 module _ (c : Flat) (t : Program) (s : SetupOf) (o : ListedSteps) (bound : Option ℕ) where
   abbrev pub IsThrough : ThroughEnding → Type 0
   IsThrough (Found r) =
