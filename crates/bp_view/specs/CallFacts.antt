@@ -1,4 +1,4 @@
--- What a call did and changed, as plain facts; and the session after the first calls of a history.
+-- A call's effects, as plain facts; and the session after the first calls of a history.
 use Rattle.std.specs.Prelude.{◌≡◌, ℕ, List, if◌then◌else◌, ◌==◌, nat_lt, [], ◌∷◌, length, take, Bool, ◌++◌, Option, None, Some, map, option_map, ◌&&◌, not, suc, false, MatchOption, codes, ◌≤◌, ◌<◌, ◌⊎◌, min}
 use Rattle.bp_text.specs.declared.lines.Position.{Position}
 use Rattle.bp_text.specs.Lines.{IsOneLine, position_at}
@@ -21,7 +21,7 @@ use Rattle.bp_view.specs.declared.call_facts.Next.{Next as NextFacts}
 use Rattle.bp_view.specs.declared.checkpoints.Checkpoint.{Checkpoint}
 use Rattle.bp_view.specs.declared.checkpoints.CheckpointWatcher.{CheckpointWatcher}
 
--- What facts show of a program and its text.
+-- The facts of a program and its text.
 
 -- these are the source statements, the globals and the procedures of the program
 pub record AreProgramFacts (t : Program) (text : List ℕ) (x : ProgramFacts) : Type 0 where
@@ -29,7 +29,7 @@ pub record AreProgramFacts (t : Program) (text : List ℕ) (x : ProgramFacts) : 
   pub globals : x.globals.now ≡ t.globals
   pub procedures : x.procs.now ≡ t.procedures
 
--- Which variables a call changed, by the configurations before and after it.
+-- The variables that a call changed, by the configurations before and after it.
 
 -- the variables whose values before and after differ, with their values after; both have the same
 -- names
@@ -42,7 +42,7 @@ changed (x ∷ xs) (y ∷ ys) = if same_bit x.1 y.1 then changed xs ys else y �
 abbrev pub arguments_of : Frame → Valuation
 arguments_of f = take (length f.procedure.formals) f.locals
 
--- what a call changed in the frame at the top of a stack, by the depths before and after it: the
+-- the changes of a call in the frame at the top of a stack, by the depths before and after it: the
 -- formals of a procedure that it entered, or the locals that have other values; nothing after a
 -- return
 abbrev pub frame_changed : Frame → Frame → (depth_before depth_after : ℕ) → Valuation
@@ -51,20 +51,20 @@ frame_changed f g m n =
     else if m == n then changed f.locals g.locals
     else []
 
--- A device: where the stacks have the same depth, their top frames are of the same procedure.
+-- A device: if the stacks have the same depth, their top frames are of the same procedure.
 abbrev pub IsSameCall : (before after : List Frame) → Type 0
 IsSameCall [] after = Unit {0}
 IsSameCall (f ∷ fs) [] = Unit {0}
 IsSameCall (f ∷ fs) (g ∷ gs) = length (f ∷ fs) ≡ length (g ∷ gs) → f.procedure ≡ g.procedure
 
--- A device: so it is with the stacks of thread i, and a call without a stack before or after it
--- changes no global.
+-- A device: this also holds of the stacks of thread i, and a call without a stack before or after
+-- it changes no global.
 pub record IsNext (c d : Configuration) (i : ℕ) : Type 0 where
   pub call : IsSameCall (stack_of c i) (stack_of d i)
   pub idle : stack_of c i ≡ [] → d.globals ≡ c.globals
   pub ended : stack_of d i ≡ [] → d.globals ≡ c.globals
 
--- What a call changed, as plain facts.
+-- The changes of a call, as plain facts.
 
 -- a variable, with the procedure of a local, and its value
 pub record Entry : Type 0 where
@@ -72,7 +72,7 @@ pub record Entry : Type 0 where
   pub name : List ℕ
   pub value : Bool
 
--- what a change says
+-- the entry of a change
 abbrev pub entry_of : Change → Entry
 entry_of x = record { owner = option_map (λ p. p.now) x.owner; name = x.name.now; value = x.value }
 
@@ -80,7 +80,7 @@ entry_of x = record { owner = option_map (λ p. p.now) x.owner; name = x.name.no
 abbrev pub owned : Option Procedure → Valuation → List Entry
 owned owner values = map (λ v. record { owner = owner; name = v.0; value = v.1 }) values
 
--- what a call changed in the frame at the top of a stack
+-- the changes of a call in the frame at the top of a stack
 abbrev pub frame_entries : Frame → Frame → (depth_before depth_after : ℕ) → List Entry
 frame_entries f g m n = owned (Some g.procedure) (frame_changed f g m n)
 
@@ -89,12 +89,12 @@ stack_entries [] after = []
 stack_entries (f ∷ fs) [] = []
 stack_entries (f ∷ fs) (g ∷ gs) = frame_entries f g (length (f ∷ fs)) (length (g ∷ gs))
 
--- what a call of thread i changed: globals, and the variables at the top of its stack
+-- the changes of a call of thread i: globals, and the variables at the top of its stack
 abbrev pub changes_between : (before after : Configuration) → ℕ → List Entry
 changes_between c d i =
     owned None (changed c.globals d.globals) ++ stack_entries (stack_of c i) (stack_of d i)
 
--- A device: the variable, where its values before and after differ.
+-- A device: the variable, if its values before and after differ.
 abbrev pub slot_entry : Option Procedure → List ℕ → (before after : Bool) → List Entry
 slot_entry owner name p q =
     if same_bit p q then [] else record { owner = owner; name = name; value = q } ∷ []
@@ -109,7 +109,7 @@ is_other (Some l) i = not (l == i)
 abbrev pub is_switch : List Call → Call → Bool
 is_switch h x = is_granted x.reply && is_other (last_thread (granted_threads h)) x.thread
 
--- the context of the step of the call x after h, where it is granted
+-- the context of the step of the call x after h, if it is granted
 abbrev pub IsContext : List Call → Call → Option ℕ → Type 0
 IsContext h x None = is_granted x.reply ≡ false
 IsContext h x (Some n) =
@@ -133,11 +133,10 @@ pub record IsReplayedCall (t : Program) (s : SetupOf) (h : List Call) (x : Call)
       let now = configuration_after t s h in
       Leads t now (configuration_after t s (h ++ x ∷ [])) x.thread m
 
--- What is shown of a call, as plain facts.
+-- The shown part of a call, as plain facts.
 
--- What a thread has next: where its statement begins, as it is printed and as a line and a column;
--- in which procedure; how many frames the stack has; the text of the statement, and whether it
--- reads a choice bit.
+-- The next statement of a thread: its start, as printed and as a line and a column; its procedure;
+-- the number of frames of the stack; the text of the statement, and whether it reads a choice bit.
 pub record Next : Type 0 where
   pub place : List ℕ
   pub position : Option Position
@@ -146,7 +145,7 @@ pub record Next : Type 0 where
   pub text : Option (List ℕ)
   pub reads : Bool
 
--- a thread that has ended has nothing next
+-- a thread that has ended has no next statement
 abbrev pub nothing_next : Next
 nothing_next =
     record {
@@ -158,8 +157,8 @@ nothing_next =
       reads = false;
     }
 
--- What is shown of a call: its number from 1, the call with its reply, its context, whether the
--- step before was another thread's, what its thread had next, and what it changed.
+-- The shown facts of a call: its number from 1, the call with its reply, its context, whether the
+-- step before was another thread's, its thread's next statement, and its changes.
 pub record ShownCall : Type 0 where
   pub number : ℕ
   pub call : Call
@@ -168,7 +167,7 @@ pub record ShownCall : Type 0 where
   pub next : Next
   pub changes : List Entry
 
--- what the values of src/ say
+-- the facts of the values of src/
 abbrev pub next_in : NextFacts → Next
 next_in x =
     record {
@@ -191,14 +190,14 @@ facts_in x =
       changes = map entry_of x.changes.now;
     }
 
--- a statement that comes next was tried: it made a step, or its assumption was 0
+-- the next statement was tried: it made a step, or its assumption was 0
 abbrev pub is_tried : Reply → Bool
 is_tried Stepped = Bool.true
 is_tried Failed = Bool.true
 is_tried Blocked = Bool.true
 is_tried r = false
 
--- the choice bit of a call whose statement reads one, where it was tried
+-- the choice bit of a call whose statement reads one, if it was tried
 abbrev pub choice_of : ShownCall → Option Bool
 choice_of f = if f.next.reads && is_tried f.call.reply then Some f.call.bit else None
 
@@ -213,7 +212,7 @@ pub record IsNextAt (text : List ℕ) (f : Frame) (depth : ℕ) (next : Next) : 
   pub statement : IsStatementAt text f.procedure (start_of_block f.left) shown next.reads
   pub one_line : IsOneLine shown
 
--- what a thread with this stack has next
+-- the next statement of a thread with this stack
 abbrev pub IsNextOf : List ℕ → List Frame → Next → Type 0
 IsNextOf text [] next = next ≡ nothing_next
 IsNextOf text (f ∷ fs) next = IsNextAt text f (length (f ∷ fs)) next
@@ -223,7 +222,7 @@ abbrev pub printed_by : Configuration → Call → Option (List Bool)
 printed_by c x =
     if is_granted x.reply then values_printed c.globals (stack_of c x.thread) else None
 
--- what the call x after the history h of a program changed
+-- the changes of the call x after the history h of a program
 abbrev pub changes_by : Program → SetupOf → (h : List Call) → Call → List Entry
 changes_by t s h x =
     changes_between (configuration_after t s h) (configuration_after t s (h ++ x ∷ [])) x.thread
@@ -251,13 +250,12 @@ module _ (t : Program) (s : SetupOf) (h : List Call) where
     pub stands : Stands t x.session (take x.made h)
     pub last : x.last ≡ last_thread (granted_threads (take x.made h))
 
-  -- these are the first n, or all where there are fewer
+  -- these are the first n calls, or all if there are fewer
   pub record IsCheckpointAfter (n : ℕ) (x : Checkpoint) : Type 0 where
     pub is : IsCheckpoint x
     pub made : x.made ≡ min n (length h)
 
-  -- A device: the history is as long as the first n calls that a checkpoint is wanted after, or
-  -- longer, where one was kept.
+  -- A device: a checkpoint after the first n calls was kept, or n is 0, or the history is shorter.
   abbrev pub IsKept : (n : ℕ) → Option Checkpoint → Type 0
   IsKept n None = (n ≡ 0) ⊎ (length h < n)
   IsKept n (Some x) = IsCheckpoint x × (x.made ≡ n)

@@ -1,5 +1,5 @@
--- The contexts of a history: what is shown of each, as plain facts, and a line for each: its
--- thread, its first and its last call, where its thread stands before and after it, and the globals
+-- The contexts of a history: the shown part of each, as plain facts, and a line for each: its
+-- thread, its first and its last call, its thread's places before and after it, and the globals
 -- that it changed.
 use Rattle.std.specs.Prelude.{◌≡◌, ◌-◌, ℕ, suc, List, [], ◌∷◌, ◌++◌, Option, None, Some, codes, decimal, length, map, ◌≤◌, slice_get, take, if◌then◌else◌, ◌==◌, MatchOption}
 use Rattle.std.specs.List.{concat}
@@ -43,8 +43,8 @@ pub record IsContextOf (n : ℕ) (h : List Call) (i first last : ℕ) : Type 0 w
       → IsStepIn n h k x
       → (x.thread ≡ i) × (first ≤ k) × (k ≤ last)
 
--- What is shown of a context: its number, its thread, the numbers of its first and its last call,
--- what its thread had next before the first and after the last, and what it changed.
+-- The shown facts of a context: its number, its thread, the numbers of its first and its last call,
+-- its thread's next statement before the first and after the last, and its changes.
 pub record ShownContext : Type 0 where
   pub number : ℕ
   pub thread : ℕ
@@ -54,7 +54,7 @@ pub record ShownContext : Type 0 where
   pub to : Next
   pub changes : List Entry
 
--- what the value of src/ says
+-- the facts of the value of src/
 abbrev pub context_in : ContextFacts → ShownContext
 context_in x =
     record {
@@ -75,8 +75,8 @@ changes_within t s h first last =
     let after = configuration_after t s (take (suc last) h) in
     owned None (changed before.globals after.globals)
 
--- The facts of context n of a history: its first and its last call, counted from 1; what its thread
--- had next before the first and after the last; and the globals whose values there differ.
+-- The facts of context n of a history: its first and its last call, counted from 1; its thread's
+-- next statement before the first and after the last; and the globals whose values there differ.
 pub record AreContextFacts
     (t : Program) (text : List ℕ) (s : SetupOf) (h : List Call) (n : ℕ) (f : ShownContext)
     : Type 0 where
@@ -90,7 +90,7 @@ pub record AreContextFacts
   pub to : IsNextOf text (stack_of (configuration_after t s (take (suc last) h)) f.thread) f.to
   pub changes : f.changes ≡ changes_within t s h first last
 
--- The contexts of a history, with where each begins and ends.
+-- The contexts of a history, with the points at which each begins and ends.
 
 -- the point has the top of thread i's stack in a configuration, and the globals
 pub record IsStandingPoint (t : Program) (c : Configuration) (i : ℕ) (x : StandingPoint)
@@ -98,7 +98,7 @@ pub record IsStandingPoint (t : Program) (c : Configuration) (i : ℕ) (x : Stan
   pub top : MatchOption x.top (stack_of c i ≡ []) (IsTop t c i)
   pub globals : c.globals ≡ valuation_of t.globals (bits_of x.globals)
 
--- the same span up to a later step
+-- the span, extended to a later step
 abbrev pub joined : Span → (step : Span) → Span
 joined x step = record {
   thread = x.thread;
@@ -108,14 +108,14 @@ joined x step = record {
   after = step.after;
 }
 
--- the spans with one more step: the last one goes on where it is of the same thread
+-- the spans with one more step, which extends the last one if it is of the same thread
 abbrev pub with_step : List Span → (step : Span) → List Span
 with_step [] step = step ∷ []
 with_step (x ∷ []) step =
     if x.thread == step.thread then joined x step ∷ [] else x ∷ step ∷ []
 with_step (x ∷ y ∷ xs) step = x ∷ with_step (y ∷ xs) step
 
--- how many contexts these spans are, and the thread of the last one
+-- the number of contexts of these spans, and the thread of the last one
 abbrev pub count_of : List Span → ContextCount
 count_of xs = record { used = length xs; last = last_thread (map (λ x. x.thread) xs) }
 
@@ -175,12 +175,12 @@ context_object f =
     ∷ key_text (codes "changes") ∷ list_text (entries_text Json f.changes)
     ∷ codes "}\n" ∷ [])
 
--- the same in a view of this format
+-- a context in a view of this format
 abbrev pub context_text : ViewFormat → Widths → ShownContext → List ℕ
 context_text Columns w f = context_line w f
 context_text Json w f = context_object f
 
--- what comes before the contexts: in JSON how many calls and contexts the history has
+-- the text before the contexts: in JSON the numbers of calls and contexts of the history
 abbrev pub contexts_head : ViewFormat → (calls contexts : ℕ) → List ℕ
 contexts_head Columns calls contexts = []
 contexts_head Json calls contexts =

@@ -1,4 +1,4 @@
--- Which calls of a history are asked for, and for how many calls a line stands.
+-- The calls of a history that are asked for, and the number of calls in each line.
 use Rattle.std.specs.Prelude.{if◌then◌else◌, ◌==◌, ◌&&◌, ◌+◌, nat_lt, ℕ, suc, Bool, true, false, List, [], ◌∷◌, ◌≡◌, ◌-◌, nat_le, ◌++◌, Option, None, Some, drop, length, max, replicate, reverse, take, unwrap_or, ◌||◌, bytes_eq, map, option_map, slice_get}
 use Rattle.std.specs.Borrow.{Bor}
 use Rattle.std.specs.List.{list_all, list_any, prefix_len, suffix_len}
@@ -23,14 +23,14 @@ abbrev pub is_same_wait : Call → Call → Bool
 is_same_wait x y =
     is_wait x.reply && (is_wait y.reply && (x.thread == y.thread && same_bit x.bit y.bit))
 
--- how many calls, from the first on, are the same wait as x
+-- the number of calls, from the first on, that are the same wait as x
 abbrev pub waits_like : Call → List Call → ℕ
 waits_like x [] = 0
 waits_like x (y ∷ ys) = if is_same_wait x y then suc (waits_like x ys) else 0
 
--- For how many calls the line of a call stands where its history goes back to the calls `before`,
--- the latest first, and on to the calls `after`. The last of more than three equal waits stands for
--- all of them, and the others have no line. Any other call has a line of its own.
+-- The number of calls in the line of a call, if its history has the calls `before`, the latest
+-- first, and `after` it. The last of more than three equal waits stands for all of them, and the
+-- others have no line. Any other call has a line of its own.
 abbrev pub calls_in_line : (folds : Bool) → Call → (before after : List Call) → ℕ
 calls_in_line false x before after = 1
 calls_in_line true x before after =
@@ -58,7 +58,7 @@ abbrev pub is_asked : CallFilter → ℕ → ℕ → ℕ → Bool
 is_asked f count n i =
     is_of_thread f.thread i && (is_late f.last count n && is_between f.from f.to n)
 
--- how many of `count` calls are before all those whose numbers are asked for
+-- the number of the `count` calls before all those whose numbers are asked for
 abbrev pub before_last : Option ℕ → ℕ → ℕ
 before_last None count = 0
 before_last (Some last) count = count - last
@@ -70,8 +70,8 @@ skipped f count = max (unwrap_or f.from 0 - 1) (before_last f.last count)
 abbrev pub last_number : CallFilter → ℕ → ℕ
 last_number f count = unwrap_or f.to count
 
--- for how many calls the line of call n stands, which is x in this whole history: calls whose
--- numbers are not asked for are in no line
+-- the number of calls in the line of call n, which is x in this whole history: calls whose numbers
+-- are not asked for are in no line
 abbrev pub calls_at : CallFilter → (whole : List Call) → (n : ℕ) → Call → ℕ
 calls_at f whole n x =
     let count = length whole in
@@ -79,7 +79,7 @@ calls_at f whole n x =
     let after = take (last_number f count - n) (drop n whole) in
     calls_in_line f.folds x (reverse before) after
 
--- that of x, which is the next call of this whole history after h
+-- the number of calls in the line of x, which is the next call of this whole history after h
 abbrev pub calls_of : CallFilter → (whole h : List Call) → Call → ℕ
 calls_of f whole h x = calls_at f whole (suc (length h)) x
 
@@ -107,25 +107,25 @@ StandForEachOnce =
 
 -- The names of the watched variables.
 
--- a text without the spaces that it begins with, and those that it ends with
+-- a text without its leading and trailing spaces
 abbrev pub trimmed : List ℕ → List ℕ
 trimmed text =
     let rest = drop (prefix_len (λ b. b == 32) text) text in
     take (length rest - suffix_len (λ b. b == 32) rest) rest
 
--- the names that are watched: those that a list has between its commas outside braces, each
--- without the spaces around it, and none without a list
+-- the watched names: those between a list's commas outside braces, each without the spaces around
+-- it, and none without a list
 abbrev pub watched_names : Option (Bor (List ℕ)) → List (List ℕ)
 watched_names None = []
 watched_names (Some list) = map trimmed (pieces false list.now)
 
--- a text names this variable, a local of a procedure or a global: by its own name, or where it is a
--- local by the qualified one
+-- a text names this variable, a local of a procedure or a global: by its own name, or a local by
+-- the qualified one
 abbrev pub is_of : (text : List ℕ) → (procedure : Option (List ℕ)) → (name : List ℕ) → Bool
 is_of text None x = bytes_eq text x
 is_of text (Some p) x = bytes_eq text x || bytes_eq text (qualified p x)
 
--- one of these texts says so
+-- one of these texts names this variable
 abbrev pub is_watched : List (List ℕ) → (procedure : Option (List ℕ)) → (name : List ℕ) → Bool
 is_watched texts p x = list_any (λ text. is_of text p x) texts
 
@@ -133,7 +133,7 @@ is_watched texts p x = list_any (λ text. is_of text p x) texts
 abbrev pub AreDeclared : Program → List (List ℕ) → Type 0
 AreDeclared t names = list_all (declares t) names ≡ true
 
--- name n, from 1, is the first of these that is none of a variable
+-- name n of these, from 1, is the first that no variable has
 pub record IsUndeclared (t : Program) (names : List (List ℕ)) (n : ℕ) : Type 0 where
   pub before : ℕ
   pub number : n ≡ suc before
@@ -146,7 +146,7 @@ pub record IsUndeclared (t : Program) (names : List (List ℕ)) (n : ℕ) : Type
 abbrev pub owner_name : Entry → Option (List ℕ)
 owner_name x = option_map (λ p. p.name.text) x.owner
 
--- one of these changes is of a variable that is watched, or none is watched by itself
+-- one of these changes is of a watched variable, or no variable is watched
 abbrev pub is_seen : (watched : List (List ℕ)) → List Entry → Bool
 is_seen [] changes = true
 is_seen (n ∷ ns) changes = list_any (λ x. is_watched (n ∷ ns) (owner_name x) x.name) changes

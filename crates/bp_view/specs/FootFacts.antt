@@ -1,4 +1,4 @@
--- What is shown of the end of a history, as plain facts.
+-- The shown part of the end of a history, as plain facts.
 use Rattle.std.specs.Prelude.{if◌then◌else◌, ◌≡◌, ◌↔◌, IsTrue, ℕ, zero, suc, Bool, List, [], ◌∷◌, ◌++◌, Option, None, Some, drop, flat_map, map, option_map}
 use Rattle.std.specs.List.{All}
 use Rattle.bp_language.specs.Ast.{Decision, Procedure, Program}
@@ -19,15 +19,15 @@ use Rattle.bp_view.specs.declared.foot_facts.ConditionFacts.{ConditionFacts}
 use Rattle.bp_view.specs.declared.foot_facts.FootFacts.{FootFacts}
 use Rattle.bp_view.specs.CallFacts.{entry_of, Entry}
 
--- What is shown of a condition, which is an assertion or an assumption: the thread that stands at
--- it, where it begins, its text, and the variables that it reads with their values.
+-- The shown facts of a condition, which is an assertion or an assumption: the thread that is at it,
+-- its start, its text, and the variables that it reads with their values.
 pub record ShownCondition : Type 0 where
   pub thread : ℕ
   pub position : Position
   pub text : List ℕ
   pub values : List Entry
 
--- What is shown of the end: the report, whether the threads are deadlocked, the assertion that
+-- The shown facts of the end: the report, whether the threads are deadlocked, the assertion that
 -- failed, and the assumptions at which threads wait in a deadlock.
 pub record ShownFoot : Type 0 where
   pub report : Report
@@ -35,7 +35,7 @@ pub record ShownFoot : Type 0 where
   pub failure : Option ShownCondition
   pub waits : List ShownCondition
 
--- what the values of src/ say
+-- the facts of the values of src/
 abbrev pub condition_in : ConditionFacts → ShownCondition
 condition_in x =
     record {
@@ -54,18 +54,18 @@ foot_in x =
       waits = map condition_in x.waits.items;
     }
 
--- the local of this name, else the global of this name, with its value; nothing where neither is
+-- the local of this name, else the global of this name, with its value; nothing if neither is
 -- declared
 abbrev pub resolved : Procedure → List ℕ → (local global : Option Bool) → List Entry
 resolved p name (Some b) global = record { owner = Some p; name = name; value = b } ∷ []
 resolved p name None (Some b) = record { owner = None; name = name; value = b } ∷ []
 resolved p name None None = []
 
--- what a name means in a procedure, with its value in a store
+-- the variable that a name means in a procedure, with its value in a store
 abbrev pub named_entry : Procedure → Store Valuation → List ℕ → List Entry
 named_entry p s name = resolved p name (lookup s.locals name) (lookup s.globals name)
 
--- the same of each of these names
+-- the variables of each of these names
 abbrev pub named_entries : Procedure → Store Valuation → List (List ℕ) → List Entry
 named_entries p s names = flat_map (named_entry p s) names
 
@@ -80,7 +80,7 @@ pub record AreConditionFacts
   pub statement : IsStatement (drop at text) x.text reads
   pub values : x.values ≡ named_entries p s (variables_read d)
 
--- thread i stands at a condition, which begins at this offset and has this decision
+-- thread i is at a condition, which begins at this offset and has this decision
 pub record IsAtCondition (c : Configuration) (i : ℕ) : Type 0 where
   pub frame : Frame
   pub below : List Frame
@@ -90,7 +90,7 @@ pub record IsAtCondition (c : Configuration) (i : ℕ) : Type 0 where
   pub decision : Decision
   pub decides : next_decision frame.left ≡ Some decision
 
--- these are the facts of the condition at which its thread stands
+-- these are the facts of the condition at which its thread is
 pub record AreStandingFacts (text : List ℕ) (c : Configuration) (x : ShownCondition) : Type 0 where
   pub stands : IsAtCondition c x.thread
   pub are :
@@ -120,7 +120,7 @@ module _ (t : Program) (text : List ℕ) (s : SetupOf) (h : List Call) where
         let d = failure.stands.decision in
         AreConditionFacts text failure.stands.at d frame.procedure store x
 
-  -- the same of the thread of a failed outcome; nothing where no assertion failed
+  -- these are the facts for a failed outcome; a clean one has none
   abbrev pub AreFailureFacts : Outcome → Option ShownCondition → Type 0
   AreFailureFacts Clean x = x ≡ None
   AreFailureFacts (Failed i) None = ⊥

@@ -8,9 +8,9 @@ use Rattle.bp_machine.specs.declared.calls.Call.{Call}
 use Rattle.bp_machine.specs.Setups.{SetupOf}
 use Rattle.bp_view.specs.CallFacts.{Entry, changes_by}
 
--- What the changes of a call make of the values before it.
+-- The values after a call, from its changes and the values before it.
 
--- the globals with a change; that of a local leaves them
+-- the globals with a change; one of a local leaves them
 abbrev pub global_with : Option Procedure → Valuation → List ℕ → Bool → Valuation
 global_with None g x b = update g x b
 global_with (Some p) g x b = g
@@ -19,7 +19,7 @@ abbrev pub globals_with : Valuation → List Entry → Valuation
 globals_with g [] = g
 globals_with g (e ∷ es) = globals_with (global_with e.owner g e.name e.value) es
 
--- the locals with a change; that of a global leaves them
+-- the locals with a change; one of a global leaves them
 abbrev pub local_with : Option Procedure → Valuation → List ℕ → Bool → Valuation
 local_with None l x b = l
 local_with (Some p) l x b = update l x b
@@ -40,9 +40,9 @@ locals_in es = flat_map (λ e. local_in e.owner e.name e.value) es
 abbrev pub variables_of : List Frame → List (Procedure × Valuation)
 variables_of fs = map (λ f. (f.procedure, f.locals)) fs
 
--- The frames of a stack after a call with these changes, where it then has depth n, with a frame of
--- p at its top. A frame that the call entered has the formals that the changes name, and 0 for each
--- declared local. The frame at the top that stays has the changes. One that was left is gone. Those
+-- The frames of a stack after a call with these changes, if it then has depth n, with a frame of p
+-- at its top. A frame that the call entered has the formals that the changes name, and 0 for each
+-- declared local. A top frame that stays has the changes. A frame that was left is gone. Those
 -- below have their values.
 abbrev pub variables_with
     : List (Procedure × Valuation) → (n : ℕ) → Procedure → List Entry
@@ -68,7 +68,7 @@ pub record AreReplayed (c d : Configuration) (i : ℕ) (es : List Entry) : Type 
   pub others : (j : ℕ) → j ≢ i → stack_of d j ≡ stack_of c j
 
 -- The changes of a call lead from the values before it to those after it, in a program in which no
--- two names of a kind are spelled alike.
+-- two names of a kind have the same text.
 abbrev pub ChangesReplay : Type 0
 ChangesReplay =
     (t : Program) (s : SetupOf) (h : List Call) (x : Call)

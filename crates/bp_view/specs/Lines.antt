@@ -1,4 +1,4 @@
--- The line of a call in columns, its object in JSON, and what both are made of.
+-- The line of a call in columns, its object in JSON, and the parts of both.
 use Rattle.std.specs.Prelude.{if◌then◌else◌, ℕ, Bool, true, false, List, [], ◌∷◌, ◌++◌, codes, ◌-◌, Option, None, Some, length, max, min, nat_lt, take, flat_map, map, option_map, ◌*◌, decimal, ◌==◌, ◌≡◌, ◌+◌}
 use Rattle.std.specs.List.{concat}
 use Rattle.bp_text.specs.Pieces.{string_text, bit_text, key_text, string_or_null, at_left, at_right, spaces, bit_or_null, list_text, number_or_null, truth_text}
@@ -21,14 +21,14 @@ use Rattle.bp_view.specs.declared.view_contexts.ViewContext.{ViewContext}
 
 -- The colours of a view's lines, for a terminal.
 
--- a failure is red, another step after one of another thread is yellow; all lines are plain where
--- no colours are wanted
+-- a failure is red, another step after one of another thread is yellow; all lines are plain if no
+-- colours are wanted
 abbrev pub colour_of : (wanted : Bool) → Reply → (switch : Bool) → Colour
 colour_of false reply switch = Plain
 colour_of true Failed switch = Red
 colour_of true reply switch = if switch then Yellow else Plain
 
--- the sign of a terminal with this code
+-- the escape sequence of a terminal with this code
 abbrev pub sign : List ℕ → List ℕ
 sign code = 27 ∷ 91 ∷ (code ++ codes "m")
 
@@ -42,15 +42,15 @@ closing Red = sign (codes "0")
 closing Yellow = sign (codes "0")
 closing Plain = []
 
--- How many columns a statement has, and how a text is cut.
+-- The columns of a statement, and how a text is cut.
 
--- the most bytes of a statement: where a line has this many columns, those that the other fields
+-- the most bytes of a statement: if a line has this number of columns, those that the other fields
 -- and a note leave, from LEAST_STATEMENT to MAX_STATEMENT
 abbrev pub statement_room : Option ℕ → ℕ
 statement_room None = MAX_STATEMENT
 statement_room (Some columns) = max LEAST_STATEMENT (min MAX_STATEMENT (columns - OTHER_COLUMNS))
 
--- at most this many bytes: a longer text is cut, and ends with two dots
+-- at most `room` bytes: a longer text is cut, and ends with two dots
 abbrev pub shortened : (room : ℕ) → List ℕ → List ℕ
 shortened room statement =
     if nat_lt room (length statement) then take (room - 2) statement ++ codes ".." else statement
@@ -69,7 +69,7 @@ assignment_text owner name value =
     codes " " ∷ owner_text owner
     ∷ name ∷ codes "=" ∷ bit_text value ∷ [])
 
--- the same as an object of JSON after a comma
+-- a variable as an object of JSON after a comma
 abbrev pub variable_object : Option Procedure → List ℕ → Bool → List ℕ
 variable_object owner name value =
     concat (
@@ -78,25 +78,25 @@ variable_object owner name value =
     ∷ key_text (codes "value") ∷ bit_text value
     ∷ codes "}" ∷ [])
 
--- the same in a view of this format
+-- a variable in a view of this format
 abbrev pub variable_text : ViewFormat → Option Procedure → List ℕ → Bool → List ℕ
 variable_text Columns owner name value = assignment_text owner name value
 variable_text Json owner name value = variable_object owner name value
 
--- the same of an entry, and of several
+-- an entry in this format, and several
 abbrev pub entry_text : ViewFormat → Entry → List ℕ
 entry_text format x = variable_text format x.owner x.name x.value
 
 abbrev pub entries_text : ViewFormat → List Entry → List ℕ
 entries_text format xs = flat_map (entry_text format) xs
 
--- the same of the variables of an owner
+-- the variables of an owner in this format
 abbrev pub variables_text : ViewFormat → Option Procedure → Valuation → List ℕ
 variables_text format owner values = entries_text format (owned owner values)
 
 -- The line of a call in columns.
 
--- what is said of a reply
+-- the note of a reply
 abbrev pub reply_note : Reply → List ℕ
 reply_note Stopped = codes " stopped"
 reply_note Ended = codes " ended"
@@ -106,12 +106,12 @@ reply_note Blocked = codes " waits"
 reply_note Failed = codes " failed"
 reply_note Stepped = []
 
--- the number of the context of a step, and a sign where a call made none
+-- the number of the context of a step, or a dash if a call made none
 abbrev pub context_text : Option ℕ → List ℕ
 context_text None = codes "-"
 context_text (Some n) = decimal n
 
--- a sign before a step after which another thread's was the last
+-- a sign before a step that follows another thread's
 abbrev pub mark_text : Bool → List ℕ
 mark_text switch = if switch then codes ">" else codes " "
 
@@ -123,25 +123,25 @@ field_texts w f =
     ∷ at_right w.thread (decimal f.call.thread) ∷ codes " "
     ∷ at_right w.context (context_text f.context) ∷ codes " " ∷ []
 
--- the text of a statement as its column of so much room has them, after two columns for each frame
--- of a stack, for MAX_INDENTS frames at most
+-- the text of a statement as its column of `room` bytes has it, after two columns for each frame of
+-- a stack, for MAX_INDENTS frames at most
 abbrev pub indented : (room depth : ℕ) → (statement : Option (List ℕ)) → List ℕ
 indented room depth None = []
 indented room depth (Some statement) =
     concat (spaces (2 * min depth MAX_INDENTS) ∷ shortened room statement ∷ [])
 
--- a choice bit, where one is shown
+-- a choice bit, if one is shown
 abbrev pub choice_text : Option Bool → List ℕ
 choice_text None = []
 choice_text (Some bit) = if bit then codes " ?=1" else codes " ?=0"
 
--- for how many calls a line stands, where these are several
+-- the number of calls in a line, if there are several
 abbrev pub times_text : ℕ → List ℕ
 times_text calls =
     if nat_lt 1 calls then concat (codes " " ∷ decimal calls ∷ codes " times" ∷ []) else []
 
--- the note of a call: its choice bit, the note of its reply, for how many calls the line stands,
--- and what it changed
+-- the note of a call: its choice bit, the note of its reply, the number of calls in the line, and
+-- its changes
 abbrev pub note_text : ShownCall → (calls : ℕ) → List ℕ
 note_text f calls =
     concat (
@@ -150,7 +150,7 @@ note_text f calls =
     ∷ times_text calls
     ∷ entries_text Columns f.changes ∷ [])
 
--- a note after a lead; none is left where there is no note
+-- a note after a lead; both are left out without a note
 abbrev pub led : (lead note : List ℕ) → List ℕ
 led lead [] = []
 led lead (b ∷ bs) = lead ++ b ∷ bs
@@ -171,9 +171,9 @@ call_text w f calls =
     ∷ led (spaces (w.notes - length statement)) (note_text f calls)
     ∷ [])
 
--- The same in at most this many columns. The place and the statement have those that the fields
--- and the note leave, and are cut at their end: the statement first, and then the place. Only
--- what has no room even so is cut from the note.
+-- The text of a call in at most `columns` columns. The place and the statement have those that the
+-- fields and the note leave, and are cut at their end: the statement first, and then the place. The
+-- note is cut only if it has no room even then.
 abbrev pub narrow_text : (columns : ℕ) → Widths → ShownCall → (calls : ℕ) → List ℕ
 narrow_text columns w f calls =
     let fields = concat (field_texts w f) in
@@ -182,7 +182,7 @@ narrow_text columns w f calls =
     shortened columns (
     concat (fields ∷ at_left room (shortened room (standing_text w f)) ∷ note ∷ []))
 
--- the text of a call, in at most this many columns
+-- the text of a call, in at most this number of columns
 abbrev pub fitted_text : Option ℕ → Widths → ShownCall → (calls : ℕ) → List ℕ
 fitted_text None w f calls = call_text w f calls
 fitted_text (Some columns) w f calls =
@@ -199,14 +199,14 @@ line_text w colour f calls =
     ∷ closing colour
     ∷ codes "\n" ∷ [])
 
--- in the colour of its reply, where colours are wanted
+-- the line of a call in the colour of its reply, if colours are wanted
 abbrev pub column_line : (has_colour : Bool) → Widths → ShownCall → (calls : ℕ) → List ℕ
 column_line has_colour w f calls =
     line_text w (colour_of has_colour f.call.reply f.switch) f calls
 
 -- The object of a call in JSON.
 
--- what is said of a reply
+-- the name of a reply
 abbrev pub reply_name : Reply → List ℕ
 reply_name Stopped = codes "stopped"
 reply_name Ended = codes "ended"
@@ -216,8 +216,8 @@ reply_name Blocked = codes "waits"
 reply_name Failed = codes "failed"
 reply_name Stepped = codes "stepped"
 
--- the texts of the members of a call that have one value each: its own, what its thread has next,
--- and the reply
+-- the texts of the members of a call that have one value each: its own, its thread's next
+-- statement, and the reply
 abbrev pub member_texts : ShownCall → List (List ℕ)
 member_texts f =
     codes "{\"kind\":\"call\""
@@ -241,7 +241,7 @@ abbrev pub printed_text : Option (List Bool) → List ℕ
 printed_text None = codes "null"
 printed_text (Some values) = list_text (flat_map bit_item values)
 
--- a call: the members that have one value each, what it changed and what it printed
+-- a call: the members that have one value each, its changes and its printed values
 abbrev pub call_object : ShownCall → (printed : Option (List Bool)) → List ℕ
 call_object f printed =
     concat (
@@ -250,13 +250,13 @@ call_object f printed =
     ∷ key_text (codes "printed") ∷ printed_text printed
     ∷ codes "}\n" ∷ [])
 
--- A device: the fields of a line before its place, of which a text is kept from line to line.
+-- A device: the fields of a line before its place, whose text is kept from line to line.
 
--- the digits of a number before its last, where this is a tenth of the number
+-- the digits of a number before its last, from a tenth of the number
 abbrev pub tens_digits : ℕ → List ℕ
 tens_digits tens = if tens == 0 then [] else decimal tens
 
--- the same in the column of the number
+-- those digits in the column of the number
 abbrev pub tens_text : FrontKey → List ℕ
 tens_text k = at_right (k.number_width - 1) (tens_digits k.tens)
 
@@ -271,15 +271,15 @@ turn_texts k =
 abbrev pub front_text : FrontKey → (mark digit : ℕ) → List ℕ
 front_text k mark digit = mark ∷ (tens_text k ++ digit ∷ concat (turn_texts k))
 
--- How wide the columns of a view are: one width of each for all its lines.
+-- The widths of the columns of a view: one width of each for all its lines.
 
 -- the length of the longest of these texts
 abbrev pub longest : List (List ℕ) → ℕ
 longest [] = 0
 longest (x ∷ xs) = max (length x) (longest xs)
 
--- What the widths of a view follow from: its number of calls, the places and the texts of the
--- statements of its program, the number of its procedures, and how many columns a line may have.
+-- The quantities that determine the widths of a view: its number of calls, the places and the texts
+-- of the statements of its program, the number of its procedures, and the columns of a line.
 pub record Extent : Type 0 where
   pub calls : ℕ
   pub places : List (List ℕ)
@@ -299,8 +299,8 @@ extent calls places statements procedures columns =
 
 -- The widths of a view: those of the greatest number of a call, of the number of threads, of the
 -- limit of the contexts, and of the longest place. The notes begin after the longest statement as
--- its column has it, where it is moved by two columns for each procedure, up to the most by which
--- one is moved. Lines and statements are cut where lines may have only this many columns.
+-- its column has it, moved by two columns for each procedure, up to the maximum. Lines and
+-- statements are cut if the columns of a line are limited.
 pub record AreWidths (s : SetupOf) (e : Extent) (w : Widths) : Type 0 where
   pub number : w.number ≡ length (decimal e.calls)
   pub thread : w.thread ≡ length (decimal (threads s))

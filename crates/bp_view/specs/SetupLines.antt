@@ -14,7 +14,7 @@ use Rattle.bp_view.specs.Lines.{variables_text}
 
 -- The headings over the columns of a view.
 
--- each column is as wide as its heading at least
+-- each column is at least as wide as its heading
 abbrev pub under_headings : Widths → Widths
 under_headings w =
     record w {
@@ -34,7 +34,7 @@ headings_line w =
     ∷ codes " " ∷ at_left w.place (codes "place")
     ∷ codes "  statement\n" ∷ [])
 
--- objects have none
+-- the headings in this format; objects have none
 abbrev pub headings_in : ViewFormat → Widths → List ℕ
 headings_in Columns w = headings_line (under_headings w)
 headings_in Json w = []
@@ -49,7 +49,7 @@ abbrev pub thread_lines : ℕ → List (List ℕ) → List ℕ
 thread_lines i [] = []
 thread_lines i (e ∷ es) = thread_line i e ++ thread_lines (suc i) es
 
--- the values of the globals, and no line where there are none
+-- the values of the globals, or no line if there are none
 abbrev pub globals_line : Valuation → List ℕ
 globals_line [] = []
 globals_line (x ∷ xs) =
@@ -65,8 +65,8 @@ limit_lines s =
     codes "contexts at most " ∷ decimal s.contexts ∷ codes "\n"
     ∷ codes "calls of a thread at most " ∷ decimal s.calls ∷ codes "\n" ∷ [])
 
--- where the threads begin, the globals with their first values, the limits and the seed, and an
--- empty line
+-- the entries of the threads, the globals with their initial values, the limits and the seed, and
+-- an empty line
 abbrev pub head_lines : List Name → SetupOf → List ℕ
 head_lines globals s =
     concat (
@@ -74,7 +74,7 @@ head_lines globals s =
     ∷ globals_line (binding globals s.init)
     ∷ limit_lines s ∷ seed_line s.seed ∷ codes "\n" ∷ [])
 
--- the same as an object of JSON, which says the version of the format
+-- the setup as an object of JSON, with the version of the format
 abbrev pub head_object : List Name → SetupOf → List ℕ
 head_object globals s =
     concat (

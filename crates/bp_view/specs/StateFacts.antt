@@ -1,4 +1,4 @@
--- What is shown of a state, as plain facts.
+-- The shown part of a state, as plain facts.
 use Rattle.std.specs.Prelude.{if◌then◌else◌, ℕ, List, [], ◌∷◌, Option, None, Some, ◌≡◌, suc, Bool, length, map, option_map}
 use Rattle.bp_text.specs.declared.lines.Position.{Position}
 use Rattle.bp_text.specs.Lines.{position_at}
@@ -20,7 +20,7 @@ use Rattle.bp_view.specs.declared.state_facts.FrameFacts.{FrameFacts}
 use Rattle.bp_view.specs.declared.state_facts.StateFacts.{StateFacts}
 use Rattle.bp_view.specs.declared.state_facts.ThreadFacts.{ThreadFacts}
 
--- How a thread stands after a history.
+-- A thread's status after a history.
 
 -- the reply to the last of the calls
 abbrev pub last_reply : List Call → Option Reply
@@ -39,9 +39,9 @@ standing_after (Some reply.Blocked) = OutOfCalls
 standing_after (Some reply.Stepped) = OutOfCalls
 standing_after None = OutOfCalls
 
--- How thread i stands after the history h, by the first that applies: it makes no further call; its
--- next statement is an assumption of 0, whatever its choice bit is; an assertion failed. If none
--- does, it goes on.
+-- The status of thread i after the history h, by the first that applies: it makes no further call;
+-- its next statement is an assumption of 0, whatever its choice bit is; an assertion failed. If
+-- none does, it continues.
 abbrev pub standing : Program → SetupOf → List Call → ℕ → Standing
 standing t s h i =
     let now = configuration_after t s h in
@@ -50,9 +50,9 @@ standing t s h i =
     else if now.failed then Stopped
     else Open
 
--- What is shown of a frame: how many frames are above it; its procedure; where its next statement
--- begins, as it is printed and as a line and a column; the text of that statement; and its
--- variables with their values.
+-- The shown facts of a frame: the number of frames above it; its procedure; the start of its next
+-- statement, as printed and as a line and a column; the text of that statement; and its variables
+-- with their values.
 pub record ShownFrame : Type 0 where
   pub above : ℕ
   pub procedure : Procedure
@@ -61,13 +61,13 @@ pub record ShownFrame : Type 0 where
   pub text : List ℕ
   pub locals : Valuation
 
--- what is shown of a thread: its number, how it stands, and the frames of its stack from the top
+-- the shown facts of a thread: its number, its status, and the frames of its stack from the top
 pub record ShownThread : Type 0 where
   pub thread : ℕ
   pub standing : Standing
   pub frames : List ShownFrame
 
--- What is shown of a state: how many calls were made, and how many the history has; whether an
+-- The shown facts of a state: the number of calls made, and of the whole history; whether an
 -- assertion failed; the globals with their values; and the threads.
 pub record ShownState : Type 0 where
   pub number : ℕ
@@ -76,7 +76,7 @@ pub record ShownState : Type 0 where
   pub globals : Valuation
   pub threads : List ShownThread
 
--- what the values of src/ say
+-- the facts of the values of src/
 abbrev pub frame_in : FrameFacts → ShownFrame
 frame_in x =
     record {
@@ -136,7 +136,7 @@ module _ (t : Program) (text : List ℕ) (s : SetupOf) (h : List Call) where
   AreThreadsFacts i [] = Unit {0}
   AreThreadsFacts i (x ∷ xs) = AreThreadFacts i x × AreThreadsFacts (suc i) xs
 
-  -- these are the facts of the state, where the whole history has this many calls
+  -- these are the facts of the state, if the whole history has this number of calls
   pub record AreStateFacts (count : ℕ) (x : ShownState) : Type 0 where
     pub number : x.number ≡ length h
     pub count_is : x.count ≡ count

@@ -23,7 +23,7 @@ use Rattle.bp_view.specs.SetupLines.{globals_line}
 
 -- The text of a condition, which is an assertion or an assumption, from its facts.
 
--- where in a file a statement begins, its text, and the line of its values
+-- the place of a statement in a file, its text, and the line of its values
 abbrev pub condition_lines : (file : List ℕ) → Position → (statement values : List ℕ) → List ℕ
 condition_lines file position statement values =
     concat (
@@ -33,7 +33,7 @@ condition_lines file position statement values =
     ∷ codes ": " ∷ statement
     ∷ led (codes "\nvalues") values ∷ [])
 
--- the same as the members of an object
+-- a condition as the members of an object
 abbrev pub condition_members : Position → (statement values : List ℕ) → List ℕ
 condition_members position statement values =
     concat (
@@ -43,13 +43,13 @@ condition_members position statement values =
     ∷ key_text (codes "values") ∷ list_text values
     ∷ [])
 
--- what is said of a condition in a view of this format; for people its place is in a file
+-- the text of a condition in a view of this format; for people its place is in a file
 abbrev pub condition_text : ViewFormat → (file : List ℕ) → ShownCondition → List ℕ
 condition_text Columns file x =
     condition_lines file x.position x.text (entries_text Columns x.values)
 condition_text Json file x = condition_members x.position x.text (entries_text Json x.values)
 
--- the object of the thread that stands at it, and what is said of it
+-- the object of the thread that is at it, with the members of the condition
 abbrev pub condition_object : ShownCondition → List ℕ
 condition_object x =
     concat (
@@ -57,7 +57,7 @@ condition_object x =
 
 -- The text of a frame of a stack, from its facts.
 
--- what comes before the procedure of a frame below n others: those below the top go on after
+-- the text before the procedure of a frame below n others: those below the top continue after
 -- returns
 abbrev pub lead : ℕ → List ℕ
 lead n = if n == 0 then codes "in " else codes "then in "
@@ -77,7 +77,7 @@ frame_lines x values =
     ∷ led (codes "\nvalues") values
     ∷ codes "\n" ∷ [])
 
--- the same as an object of JSON after a comma
+-- a frame as an object of JSON after a comma
 abbrev pub frame_object : ShownFrame → (values : List ℕ) → List ℕ
 frame_object x values =
     concat (
@@ -95,9 +95,9 @@ frame_text Json x = frame_object x (locals_text Json x)
 abbrev pub frames_text : ViewFormat → List ShownFrame → List ℕ
 frames_text format xs = flat_map (frame_text format) xs
 
--- The text of a state, from its facts: the values of the globals, and how each thread stands.
+-- The text of a state, from its facts: the values of the globals, and the status of each thread.
 
--- how a thread stands, for people
+-- the status of a thread, for people
 abbrev pub standing_text : Standing → List ℕ
 standing_text standing.Finished = codes " is finished"
 standing_text standing.Failed = codes " failed"
@@ -108,7 +108,7 @@ standing_text standing.Stopped = codes " is stopped"
 standing_text standing.Waiting = codes " waits"
 standing_text standing.Open = codes " goes on"
 
--- and in JSON
+-- the status of a thread in JSON
 abbrev pub standing_name : Standing → List ℕ
 standing_name standing.Finished = codes "finished"
 standing_name standing.Failed = codes "failed"
@@ -126,7 +126,7 @@ thread_lines x frames =
     codes "\nthread " ∷ decimal x.thread
     ∷ standing_text x.standing ∷ codes "\n" ∷ frames ∷ [])
 
--- the same as an object of JSON after a comma
+-- a thread as an object of JSON after a comma
 abbrev pub thread_object : ShownThread → (frames : List ℕ) → List ℕ
 thread_object x frames =
     concat (
@@ -142,7 +142,7 @@ thread_text Json x = thread_object x (frames_text Json x.frames)
 abbrev pub threads_text : ViewFormat → List ShownThread → List ℕ
 threads_text format xs = flat_map (thread_text format) xs
 
--- that an assertion of a thread failed, and no line where none did
+-- a line for a thread's failed assertion, or no line if none failed
 abbrev pub failed_line : Outcome → List ℕ
 failed_line Clean = []
 failed_line (Failed i) =
@@ -173,7 +173,7 @@ state_members x =
     ∷ key_text (codes "failed") ∷ number_or_null (failed_thread x.outcome)
     ∷ key_text (codes "globals") ∷ [])
 
--- the same as an object of JSON
+-- a state as an object of JSON
 abbrev pub state_object : ShownState → (threads : List ℕ) → List ℕ
 state_object x threads =
     concat (
@@ -196,8 +196,8 @@ pub record IsStateText
   pub facts_are : AreStateFacts t text s h count facts
   pub is : said ≡ state_text format facts
 
--- the state after the first n calls of the history of a trace of the program, or after all where
--- there are no more, and the report of the whole history
+-- the state after the first n calls of the history of a trace of the program, or after all if there
+-- are fewer, and the report of the whole history
 pub record IsStateOfTrace
     (format : ViewFormat) (n : ℕ) (t : Program) (text trace : List ℕ) (said : List ℕ)
     (report : Report)

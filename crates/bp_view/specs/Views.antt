@@ -38,7 +38,7 @@ use Rattle.bp_view.specs.ContextLines.{AreContextLines}
 
 -- The text of the foot of a view, from its facts: the report of the history.
 
--- the thread whose assertion failed, and what is said of the assertion, which is in this file
+-- the thread whose assertion failed, and the text of the assertion, which is in this file
 abbrev pub failure_text : ViewFormat → (file : List ℕ) → ShownCondition → List ℕ
 failure_text Columns file x =
     concat (
@@ -46,7 +46,7 @@ failure_text Columns file x =
     ∷ condition_text Columns file x ∷ [])
 failure_text Json file x = condition_object x
 
--- what is said where no assertion failed, and the threads are deadlocked or not
+-- the outcome if no assertion failed, and the threads are deadlocked or not
 abbrev pub clean_text : ViewFormat → (deadlocked : Bool) → List ℕ
 clean_text Columns true = codes "deadlock"
 clean_text Columns false = codes "no assertion failed"
@@ -58,7 +58,7 @@ abbrev pub outcome_text
 outcome_text format file deadlocked None = clean_text format deadlocked
 outcome_text format file deadlocked (Some x) = failure_text format file x
 
--- a thread that waits, after a line feed or a comma, and what is said of its assumption
+-- a thread that waits, after a line feed or a comma, and the text of its assumption
 abbrev pub wait_text : ViewFormat → (file : List ℕ) → ShownCondition → List ℕ
 wait_text Columns file x =
     concat (
@@ -102,7 +102,7 @@ pub record IsFoot
   pub facts_are : AreFootFacts t text s h r facts
   pub is : foot ≡ foot_text format file facts
 
--- The end of a view: its foot, and the state after the last call where that is asked for.
+-- The end of a view: its foot, and the state after the last call if that is asked for.
 
 -- a state after a foot: for people there is an empty line between them
 abbrev pub after_foot : ViewFormat → List ℕ → List ℕ
@@ -111,7 +111,7 @@ after_foot Json state = state
 
 -- Of a program and its text, in a setup; at the end of the history h.
 module _ (format : ViewFormat) (t : Program) (text : List ℕ) (s : SetupOf) (h : List Call) where
-  -- the state after the last call, where it is asked for; nothing where it is not
+  -- the state after the last call if it is asked for, else nothing
   abbrev pub IsStateIf : Bool → List ℕ → Type 0
   IsStateIf true said =
       (state : List ℕ)
@@ -119,7 +119,7 @@ module _ (format : ViewFormat) (t : Program) (text : List ℕ) (s : SetupOf) (h 
       × IsStateText format t text s h (length h) state
   IsStateIf false said = said ≡ []
 
--- the foot with the report of a history, and the state after its last call where that is asked for
+-- the foot with the report of a history, and the state after its last call if that is asked for
 pub record IsEnd
     (o : ViewOptions) (file : List ℕ)
     (t : Program) (text : List ℕ) (s : SetupOf) (h : List Call) (r : Report) (end : List ℕ)
@@ -130,7 +130,7 @@ pub record IsEnd
   pub state_is : IsStateIf o.format t text s h o.has_state state
   pub is : end ≡ foot ++ state
 
--- Which calls a view shows, by its options.
+-- The calls that a view shows, by its options.
 
 -- equal waits have one line: objects are never folded
 abbrev pub folds_in : ViewFormat → Bool → Bool
@@ -156,9 +156,9 @@ pub record IsShownTrace (t : Program) (text trace : List ℕ) (x : ShownTrace) :
   pub is : IsReplayed t trace x.replayed
   pub short : length trace ≤ MAX_TRACE
 
--- A device: the context that a view is made in.
+-- A device: the context in which a view is made.
 
--- the context has what the lines show of the program and its text
+-- the context has the facts of the program and its text that the lines show
 pub record IsViewContextOf (t : Program) (text : List ℕ) (x : ViewContext) : Type 0 where
   pub program : AreProgramFacts t text x.program
   pub filter : x.filter ≡ filter_of x.options
@@ -169,7 +169,7 @@ abbrev pub IsThere : Option ℕ → (n : ℕ) → Type 0
 IsThere None n = Unit {0}
 IsThere (Some i) n = i < n
 
--- the line of a call in this format, where it stands for this many calls: columns show no printed
+-- the line of a call in this format, if it stands for this number of calls: columns show no printed
 -- values, and objects no calls
 abbrev pub line_in
     : ViewFormat → (has_colour : Bool) → Widths → ShownCall → (calls : ℕ)
@@ -191,12 +191,12 @@ module _
         let printed = printed_by (configuration_after t s h) x in
         line ≡ line_in o.format o.has_colour w facts calls printed
 
-  -- that line where it is shown, else nothing
+  -- that line if it is shown, else nothing
   abbrev pub IsViewLineIf : Bool → List Call → Call → List ℕ → Type 0
   IsViewLineIf true h x line = IsViewLine h x line
   IsViewLineIf false h x line = line ≡ []
 
-  -- that call has a line: it is asked for, it changed what is watched, and the line stands for it
+  -- that call has a line: it is asked for, changed a watched variable, and the line stands for it
   abbrev pub has_line : List Call → Call → Bool
   has_line h x =
       is_asked (filter_of o) (length whole) (suc (length h)) x.thread
@@ -260,7 +260,7 @@ module _
   abbrev pub IsViewed : Report → Type 0
   IsViewed report = IsWritten (λ view. IsViewOfTrace t text trace o file view report) old new
 
-  -- the trace has no thread i, of which alone the calls were to be shown
+  -- the trace has no thread i, whose calls alone were to be shown
   pub record HasNoThread (i : ℕ) : Type 0 where
     pub replayed : Replayed
     pub is : IsReplayed t trace replayed
@@ -306,7 +306,7 @@ pub record HasMade (t : Program) (h : List Call) (w : ViewWriter) : Type 0 where
   pub last : w.last ≡ last_thread (granted_threads h)
   pub made : w.made ≡ length h
 
--- A device: of this context a view can be made, with this report: a code stands for the program,
+-- A device: a view can be made in this context, with this report: a code stands for the program,
 -- and the history may be played.
 pub record IsViewable
     (c : Flat) (t : Program) (text : List ℕ) (s : SetupOf) (r : Report) (x : ViewContext)
@@ -328,7 +328,7 @@ OneView =
     → IsView t text s h r o file w
     → v ≡ w
 
--- and at most one state within this many calls
+-- there is at most one state within this number of calls
 abbrev pub OneState : Type 0
 OneState =
     (format : ViewFormat) (t : Program) (text : List ℕ) (s : SetupOf) (h : List Call) (count : ℕ)
@@ -337,7 +337,7 @@ OneState =
     → IsStateText format t text s h count w
     → v ≡ w
 
--- and at most one list of its contexts
+-- there is at most one list of its contexts
 abbrev pub OneListOfContexts : Type 0
 OneListOfContexts =
     (format : ViewFormat) (t : Program) (text : List ℕ) (s : SetupOf) (h : List Call)
