@@ -21,12 +21,12 @@ refuses_context r = false
 abbrev pub has_refusal : List Call → Bool
 has_refusal h = nat_le 1 (count_by (λ x. refuses_context x.reply) h)
 
--- where a stack continues
+-- the place at which a stack continues
 abbrev pub place_on : List Frame → Option Place
 place_on [] = None
 place_on (f ∷ fs) = Some (place f.procedure f.left)
 
--- where thread i continues
+-- the place at which thread i continues
 abbrev pub next_place : Configuration → ℕ → Option Place
 next_place c i = place_on (stack_of c i)
 
@@ -72,7 +72,7 @@ pub record HasStep (h : List Call) (i : ℕ) : Type 0 where
 abbrev pub is_marked : List Bool → ℕ → Bool
 is_marked marks n = slice_index_or marks n false
 
--- Of this many marks, those of what P holds of are set. Mark n is that of what stands at n.
+-- `count` marks, set for the things with the property P. Mark n is that of the thing at n.
 pub record AreMarks
     {X : Type 0} (at : ℕ → Option X) (P : X → Type 0) (count : ℕ) (marks : List Bool)
     : Type 0 where
@@ -85,9 +85,9 @@ pub record AreMarks
 abbrev pub place_of : Program → ℕ → Option Place
 place_of t n = slice_get (places_of t.procedures) n
 
--- What follows are devices of the proofs.
+-- The rest are devices of the proofs.
 
--- the old marks, and those of what P holds of, are set
+-- the old marks, and those of things with the property P, are set
 pub record MarksGrow
     {X : Type 0} (at : ℕ → Option X) (P : X → Type 0) (old new : List Bool) : Type 0 where
   pub size : length new ≡ length old
@@ -109,7 +109,7 @@ abbrev pub marks_after : Option ℕ → Reply → List Bool → List Bool
 marks_after None r marks = marks
 marks_after (Some n) r marks = if refuses_context r then marks else slice_set marks n true
 
--- Keys of runs: numbers of 64 bits, by which runs with the same steps are told.
+-- Keys of runs: numbers of 64 bits, which tell runs apart by their steps.
 
 -- the key after a step of this thread that the instruction of this number makes
 abbrev pub key_with : (key thread number : ℕ) → ℕ
@@ -134,7 +134,7 @@ pub data IsKey (t : Program) (s : SetupOf) : List Call → ℕ → Type 0 where
       → IsNumberOf t (next_place (configuration_after t s h) call.thread) number
       → IsKey t s (h ++ call ∷ []) (key_after key call.thread number call.reply)
 
--- the same key with the instructions that are next for the first n threads
+-- the key extended by the next instructions of the first n threads
 pub data IsEndKey (t : Program) (c : Configuration) (start : ℕ) : ℕ → ℕ → Type 0 where
   no_thread : IsEndKey t c start 0 start
   one_thread :
@@ -143,13 +143,13 @@ pub data IsEndKey (t : Program) (c : Configuration) (start : ℕ) : ℕ → ℕ 
       → IsNumberOf t (next_place c n) number
       → IsEndKey t c start (n + 1) (key_at_end key n number)
 
--- the key of a run: that of its steps, and then of the instructions that are next in its end
+-- the key of a run: that of its steps, then of the next instructions at its end
 pub record IsRunKey (t : Program) (s : SetupOf) (h : List Call) (key : ℕ) : Type 0 where
   pub steps : ℕ
   pub of_steps : IsKey t s h steps
   pub of_end : IsEndKey t (configuration_after t s h) steps (threads s) key
 
--- Threads that wait, and where.
+-- Threads that wait, and their places.
 
 -- the threads below n that wait, in ascending order
 abbrev pub waiting_below : Program → Configuration → ℕ → List ℕ
@@ -161,12 +161,12 @@ waiting_below t c (suc n) =
 abbrev pub IsNext : Program → Configuration → Waiting → Type 0
 IsNext t c x = IsNumberOf t (next_place c x.thread) (Some x.number)
 
--- these are the threads below n that wait, in ascending order, and where each does
+-- these are the threads below n that wait, in ascending order, each with its place
 pub record AreWaiting (t : Program) (c : Configuration) (n : ℕ) (xs : List Waiting) : Type 0 where
   pub threads : map (λ x. x.thread) xs ≡ waiting_below t c n
   pub each : All (IsNext t c) xs
 
--- thread i waits there
+-- thread i waits at this instruction
 pub record IsWait (t : Program) (c : Configuration) (i : ℕ) (x : Waiting) : Type 0 where
   pub waiting : waits t c i ≡ true
   pub thread : x.thread ≡ i

@@ -27,14 +27,14 @@ pub record IsOtherEnd (t : Program) (s : SetupOf) (h : List Call) : Type 0 where
   pub clean : outcome_of h ≡ Clean
   pub lives : IsDeadlocked t (configuration_after t s h) → ⊥
 
--- the history ends so: at this instruction an assertion failed, or it is a deadlock in which these
+-- the history has this end: an assertion failed at this instruction, or a deadlock in which these
 -- threads wait, or neither
 abbrev pub IsEnd : Program → SetupOf → List Call → HistoryEnd → Type 0
 IsEnd t s h (Failure number) = FailsAt t s h number
 IsEnd t s h (Deadlock waiting) = DeadlocksAt t s h waiting.items
 IsEnd t s h Other = IsOtherEnd t s h
 
--- so ends the history at which the session stands
+-- the history at which the session stands has this end
 abbrev pub EndsIn : SessionOf → HistoryEnd → Type 0
 EndsIn x end = (h : List Call) → Stands x.code.tree x h → IsEnd x.code.tree x.setup h end
 
@@ -42,7 +42,7 @@ EndsIn x end = (h : List Call) → Stands x.code.tree x h → IsEnd x.code.tree 
 abbrev pub unseeded : SetupOf → SetupOf
 unseeded s = record s { seed = None }
 
--- and with this many contexts
+-- the setup without a seed, and with this number of contexts
 abbrev pub budgeted : SetupOf → ℕ → SetupOf
 budgeted s k = record s { contexts = k; seed = None }
 
@@ -60,7 +60,7 @@ pub record IsShrunk (t : Program) (s : SetupOf) (h : List Call) (end : HistoryEn
   pub calls : length g.history.items ≤ length h
   pub contexts : (n : ℕ) → IsLeastWithin n (granted_threads h) → g.report.contexts ≤ n
 
--- What follows are devices of the proofs.
+-- The rest are devices of the proofs.
 
 -- a legal history with this end, and its report
 pub record IsDriven (t : Program) (s : SetupOf) (end : HistoryEnd) (d : Driven) : Type 0 where
@@ -80,11 +80,11 @@ pub record IsSearch (x : Search) : Type 0 where
   pub unseeded_is : x.session.setup.seed ≡ None
   pub driven : IsDriven x.session.code.tree x.session.setup x.end x.best
 
--- g is what the best history of a search is shrunk to at the end
+-- g is the result of shrinking the best history of a search at the end
 abbrev pub IsShrunkOf : Program → SetupOf → Search → Shrunk → Type 0
 IsShrunkOf t s x g = IsShrunk t s x.best.history.items x.end g
 
--- the search y goes on from x
+-- the search y continues from x
 pub record GoesOn (x y : Search) : Type 0 where
   pub search : IsSearch y
   pub code : y.session.code ≡ x.session.code

@@ -1,4 +1,4 @@
--- What the runs of a test came to, counted.
+-- Counts and statistics of the runs of a test.
 use Rattle.std.specs.Prelude.{◌≡◌, ◌==◌, ◌^◌, ◌+◌, ◌-◌, if◌then◌else◌, ℕ, min, max, Bool, true, false, not, ◌&&◌, nat_le, List, [], ◌∷◌, Some, length, take, fold, count_by, sum_by, slice_index_or, Any, ◌/◌, ◌≤◌, nat_lt, zero, suc, cond, nat_eq, ◌||◌}
 use Rattle.std.specs.List.{list_any}
 use Rattle.std.specs.Set.{distinct_count}
@@ -19,8 +19,8 @@ use Rattle.bp_test.specs.declared.counts.Share.{Share}
 use Rattle.bp_test.specs.declared.tallies.ContextsUsed.{ContextsUsed}
 use Rattle.bp_test.specs.declared.counts.Distinct.{Distinct}
 
--- a run that was made: its history, the report of that, whether it ended in a deadlock, and whether
--- each thread then was at the end of its program
+-- a run that was made: its history and report, whether it ended in a deadlock, and whether each
+-- thread then was at the end of its program
 pub record MadeRun : Type 0 where
   pub history : List Call
   pub report : Report
@@ -31,12 +31,12 @@ abbrev pub made : List Call → Report → (deadlocked returned : Bool) → Made
 made h r deadlocked returned =
     record { history = h; report = r; deadlocked = deadlocked; returned = returned }
 
--- a count as it is kept, in 64 bits
+-- a count as stored, in 64 bits
 abbrev pub capped : ℕ → ℕ
 capped n = min n (2 ^ 64 - 1)
 
 -- Each run ended in one of these ways, the first that applies: an assertion failed; its threads are
--- deadlocked; some lines are open; a thread was refused a context; each thread came to its end;
+-- deadlocked; some lines are open; a thread was refused a context; each thread reached its end;
 -- none of these.
 abbrev pub fails : MadeRun → Bool
 fails r = is_failure r.report.outcome
@@ -76,8 +76,8 @@ is_full r = false
 abbrev pub has_full_stack : List Call → Bool
 has_full_stack h = list_any (λ x. is_full x.reply) h
 
--- What a run lacked that ended too early, which is neither deadlocked nor finished: the first of
--- contexts, room on a stack, and calls.
+-- The resource that a run lacked which ended too early, neither deadlocked nor finished: the first
+-- of contexts, room on a stack, and calls.
 abbrev pub is_early : MadeRun → Bool
 is_early r = lives r && not (is_finished_run r)
 
@@ -90,7 +90,7 @@ is_without_frames r = is_early r && (not (lacks_contexts r) && has_full_stack r.
 abbrev pub is_without_calls : MadeRun → Bool
 is_without_calls r = is_early r && (not (lacks_contexts r) && not (has_full_stack r.history))
 
--- how many runs ended in each way, and how many of them lacked what
+-- the number of runs that ended in each way, and that lacked each resource
 abbrev pub ends_of : List MadeRun → Ends
 ends_of runs =
     record {
@@ -104,18 +104,18 @@ ends_of runs =
       lacking_calls = capped (count_by is_without_calls runs);
     }
 
--- how many calls a run made
+-- the number of calls of a run
 abbrev pub calls_of : MadeRun → ℕ
 calls_of r = r.report.calls
 
 abbrev pub longest_of : List MadeRun → ℕ
 longest_of runs = fold (λ most r. max most (calls_of r)) 0 runs
 
--- how many runs used k contexts
+-- the number of runs that used k contexts
 abbrev pub using_contexts : ℕ → List MadeRun → ℕ
 using_contexts k runs = count_by (λ r. r.report.contexts == k) runs
 
--- the tally of these runs, but for the instructions that they reached
+-- the tally of these runs, except for the instructions that they reached
 pub record IsCounted (s : SetupOf) (runs : List MadeRun) (x : Tally) : Type 0 where
   pub count : x.runs ≡ capped (length runs)
   pub calls : x.calls ≡ capped (sum_by calls_of runs)
@@ -146,9 +146,9 @@ pub record IsTally (t : Program) (s : SetupOf) (runs : List MadeRun) (x : Tally)
   pub reached : HasReached t s runs x.reached.items
   pub keys : AreKeys t s (take MAX_KEYS runs) x.keys.items
 
--- What follows are devices of the proofs.
+-- The rest are devices of the proofs.
 
--- counts of runs and of more of them
+-- the sums of two counts of runs
 abbrev pub ends_sum : Ends → Ends → Ends
 ends_sum a b =
     record {
@@ -162,20 +162,20 @@ ends_sum a b =
       lacking_calls = capped (a.lacking_calls + b.lacking_calls);
     }
 
--- the counts with what one more run lacked
+-- the counts with the resource that one more run lacked
 abbrev pub with_lack : (refused full : Bool) → Ends → Ends
 with_lack true full x = record x { lacking_contexts = capped (x.lacking_contexts + 1) }
 with_lack false true x = record x { lacking_frames = capped (x.lacking_frames + 1) }
 with_lack false false x = record x { lacking_calls = capped (x.lacking_calls + 1) }
 
--- count k after this many runs used some number of contexts
+-- count k after `runs` runs used `used` contexts
 abbrev pub count_with : (used runs : ℕ) → List ℕ → ℕ → ℕ
 count_with used runs counts k =
     if used == k then capped (slice_index_or counts k 0 + runs) else slice_index_or counts k 0
 
--- The counts of the runs of a test that people read.
+-- The counts of the runs of a test as people read them.
 
--- how many runs used at most k contexts
+-- the number of runs that used at most k contexts
 abbrev pub within_contexts : ℕ → List MadeRun → ℕ
 within_contexts k runs = count_by (λ r. nat_le r.report.contexts k) runs
 
@@ -185,20 +185,20 @@ pub record IsLeastFor (runs : List MadeRun) (n k : ℕ) : Type 0 where
   pub least : (m : ℕ) → n ≤ within_contexts m runs → k ≤ m
 
 -- the least, the middle and the greatest number of contexts: one run used no more, at least half of
--- them did not, and none used more; each 0 where there is no run
+-- them did not, and none used more; each 0 if there is no run
 pub record AreContextsUsed (runs : List MadeRun) (x : ContextsUsed) : Type 0 where
   pub least : IsLeastFor runs (min 1 (length runs)) x.least
   pub middle : IsLeastFor runs ((length runs + 1) / 2) x.middle
   pub most : IsLeastFor runs (length runs) x.most
 
--- how many of this many threads made a step in some run
+-- the number of `count` threads that made a step in some run
 pub record IsShareOfThreads (count : ℕ) (runs : List MadeRun) (x : Share) : Type 0 where
   pub marks : List Bool
   pub are : AreMarks (λ i. Some i) (λ i. Any (λ r. HasStep r.history i) runs) count marks
   pub all : x.all ≡ count
   pub reached : x.reached ≡ count_by (λ is_set. is_set) marks
 
--- the counts of these runs, but for the shares of statements and assertions
+-- the counts of these runs, except for the shares of statements and assertions
 pub record AreCounts (s : SetupOf) (runs : List MadeRun) (x : Counts) : Type 0 where
   pub count : x.runs ≡ length runs
   pub calls : x.calls ≡ capped (sum_by calls_of runs)
@@ -207,9 +207,9 @@ pub record AreCounts (s : SetupOf) (runs : List MadeRun) (x : Counts) : Type 0 w
   pub contexts : AreContextsUsed runs x.contexts
   pub threads : IsShareOfThreads (threads s) runs x.threads
 
--- What follows are devices of the proofs.
+-- The rest are devices of the proofs.
 
--- the numbers after some runs used this many contexts, where `before` runs used fewer
+-- the numbers after some runs used this number of contexts, if `before` runs used fewer
 abbrev pub contexts_with : (contexts before half : ℕ) → ContextsUsed → ContextsUsed
 contexts_with contexts before half x =
     record {
@@ -222,26 +222,26 @@ abbrev pub share_of_marks : List Bool → Share
 share_of_marks marks =
     record { reached = count_by (λ is_set. is_set) marks; all = length marks }
 
--- How many runs of a test were different, by their keys.
+-- The number of different runs of a test, by their keys.
 
--- how many of these keys are this one
+-- the number of these keys that are this one
 abbrev pub count_of : ℕ → List ℕ → ℕ
 count_of key keys = count_by (λ k. k == key) keys
 
--- how many keys there are, how many different ones, and how many of them are there once
+-- the numbers of keys, of different ones, and of those that occur once
 pub record AreDistinct (keys : List ℕ) (x : Distinct) : Type 0 where
   pub runs : x.runs ≡ distinct_count nat_eq keys
   pub of : x.of ≡ length keys
   pub once : x.once ≡ count_by (λ key. count_of key keys == 1) keys
 
--- the same of the first runs of a test, by their keys
+-- these counts for the first runs of a test, by their keys
 pub record AreDistinctRuns (t : Program) (s : SetupOf) (runs : List MadeRun) (x : Distinct)
     : Type 0 where
   pub keys : List ℕ
   pub are : AreKeys t s (take MAX_KEYS runs) keys
   pub distinct : AreDistinct keys x
 
--- What follows are devices of the proofs.
+-- The rest are devices of the proofs.
 
 -- neither neighbour of the key at this place is that key
 abbrev pub is_alone : List ℕ → ℕ → Bool
@@ -250,7 +250,7 @@ is_alone keys n =
     (n == 0 || not (slice_index_or keys (n - 1) 0 == key))
     && (n + 1 == length keys || not (slice_index_or keys (n + 1) 0 == key))
 
--- how many of the first n places are so
+-- the number of the first n places with such a key
 abbrev pub alone_before : List ℕ → ℕ → ℕ
 alone_before keys zero = 0
 alone_before keys (suc n) = alone_before keys n + cond (is_alone keys n) 1 0

@@ -1,4 +1,4 @@
--- What a test of a program finds.
+-- The finding of a test of a program.
 use Rattle.std.specs.Prelude.{◌≡◌, ℕ, List, ◌⊎◌, ◌<◌, true, [], ◌↔◌, ◌≤◌, ◌+◌, ◌-◌, ◌%◌, ◌^◌, suc, max, min, Bool, ◌∷◌, ◌++◌, Option, None, Some, length, IsTrue, MatchOption, ◌*◌, ◌||◌, ◌&&◌, Result, slice_index_or, IfOk, IfSome}
 use Rattle.bp_text.specs.Writing.{AppendsAll, AppendsPart}
 use Rattle.bp_language.specs.Ast.{Program}
@@ -29,9 +29,9 @@ use Rattle.bp_test.specs.Reached.{AreWaiting}
 use Rattle.bp_test.specs.declared.waves.Block.{Block}
 use Rattle.bp_test.specs.declared.plans.Plan.{Plan}
 
--- Where an assertion failed.
+-- The place at which an assertion failed.
 
--- an assertion failed after this history, and its thread stands at the instruction of this number
+-- an assertion failed after this history, and its thread is at the instruction of this number
 pub record FailsAt (t : Program) (s : SetupOf) (h : List Call) (number : ℕ) : Type 0 where
   pub thread : ℕ
   pub failed : outcome_of h ≡ Failed thread
@@ -60,7 +60,7 @@ IsOver t s h = (is_failure (outcome_of h) ≡ true) ⊎ EachRests t s h
 abbrev pub RestsIn : SessionOf → ℕ → Type 0
 RestsIn x i = (h : List Call) → Stands x.code.tree x h → Rests x.code.tree x.setup h i
 
--- how many jobs make the runs: as many as are asked for, and at least one
+-- the number of jobs that make the runs: as many as asked for, and at least one
 abbrev pub jobs_of : TestOptions → ℕ
 jobs_of x = max 1 (min x.jobs MAX_JOBS)
 
@@ -79,13 +79,13 @@ pub record IsDeadlock (t : Program) (s : SetupOf) (h : List Call) : Type 0 where
   pub clean : outcome_of h ≡ Clean
   pub deadlocked : IsDeadlocked t (configuration_after t s h)
 
--- what a test looks for: an assertion failed, or the history is a deadlock, where that is asked for
+-- a finding of a test: an assertion failed, or the history is a deadlock if deadlocks are searched
 -- too
 abbrev pub IsSought : Program → SetupOf → Bool → List Call → Type 0
 IsSought t s with_deadlock h =
     (is_failure (outcome_of h) ≡ true) ⊎ ((with_deadlock ≡ true) × IsDeadlock t s h)
 
--- a run that came to its end: its history is over, and has this report; and it is told whether its
+-- a run that reached its end: its history is over, and has this report; the run tells whether its
 -- threads are deadlocked, and whether each is at the end of its program
 pub record IsMadeRun (t : Program) (s : SetupOf) (r : MadeRun) : Type 0 where
   pub sample : IsSample t s r.history
@@ -94,21 +94,21 @@ pub record IsMadeRun (t : Program) (s : SetupOf) (r : MadeRun) : Type 0 where
   pub deadlock : IsTrue r.deadlocked ↔ IsDeadlocked t (configuration_after t s r.history)
   pub returns : IsTrue r.returned ↔ HaveReturned (configuration_after t s r.history) (threads s)
 
--- a run that is not what a test looks for
+-- a run that the test does not search for
 pub record IsCleanRun (t : Program) (s : SetupOf) (with_deadlock : Bool) (r : MadeRun)
     : Type 0 where
   pub made : IsMadeRun t s r
   pub clean : outcome_of r.history ≡ Clean
   pub lives : with_deadlock ≡ true → IsDeadlocked t (configuration_after t s r.history) → ⊥
 
--- a run that a test looks for
+-- a run that the test searches for
 pub record IsSoughtRun (t : Program) (s : SetupOf) (with_deadlock : Bool) (r : MadeRun)
     : Type 0 where
   pub made : IsMadeRun t s r
   pub sought : IsSought t s with_deadlock r.history
 
--- these are the runs from number n on, each with its own seed: each came to its end, and is not
--- what the test looks for
+-- these are the runs from number n on, each with its own seed: each reached its end, and the test
+-- does not search for it
 abbrev pub AreCleanRuns : Program → SetupOf → Bool → (seed n : ℕ) → List MadeRun → Type 0
 AreCleanRuns t s with_deadlock seed n [] = Unit {0}
 AreCleanRuns t s with_deadlock seed n (r ∷ rs) =
@@ -119,8 +119,8 @@ AreCleanRuns t s with_deadlock seed n (r ∷ rs) =
 abbrev pub Wait : Program → SetupOf → List Call → List Waiting → Type 0
 Wait t s h xs = AreWaiting t (configuration_after t s h) (threads s) xs
 
--- These are the runs up to the one that was found: the first of those from one number to before
--- another that the test looks for. It is known at which instruction it fails, if it does.
+-- These are the runs up to the finding: the first one from `from` to before `to` that the test
+-- searches for. Its failed instruction is known, if it has one.
 pub record IsFoundRun (t : Program) (s : SetupOf) (with_deadlock : Bool) (seed from to : ℕ)
     (f : FoundRun) (runs : List MadeRun) : Type 0 where
   pub others : List MadeRun
@@ -138,8 +138,8 @@ pub record IsFoundRun (t : Program) (s : SetupOf) (with_deadlock : Bool) (seed f
       (FailsAt t (setup_of_run s seed f.run) f.history.items)
   pub waiting : Wait t (setup_of_run s seed f.run) f.history.items f.waiting.items
 
--- what was found among the runs from one number to before another, and the runs up to it; all of
--- them, where none was found
+-- the finding among the runs from one number to before another, and the runs up to it, or all of
+-- them without a finding
 abbrev pub IsFirstFound
     : Program → SetupOf → Bool → (seed from to : ℕ) → Option FoundRun → List MadeRun → Type 0
 IsFirstFound t s with_deadlock seed from to None runs =
@@ -147,14 +147,14 @@ IsFirstFound t s with_deadlock seed from to None runs =
 IsFirstFound t s with_deadlock seed from to (Some f) runs =
     IsFoundRun t s with_deadlock seed from to f runs
 
--- what was found, and the tally of the runs up to it
+-- the finding, and the tally of the runs up to it
 pub record IsTallied (t : Program) (s : SetupOf) (with_deadlock : Bool) (seed from to : ℕ)
     (found : Option FoundRun) (tally : Tally) : Type 0 where
   pub runs : List MadeRun
   pub first : IsFirstFound t s with_deadlock seed from to found runs
   pub tallied : IsTally t s runs tally
 
--- what was found in a run with this report
+-- the finding for a run with this report
 abbrev pub found_by : ℕ → Report → Outcome → Found
 found_by run r (Failed i) = found.Failed run r
 found_by run r Clean = found.Deadlock run r
@@ -169,8 +169,8 @@ HasFailed t s h (Some number) = (is_failure (outcome_of h) ≡ true) × FailsAt 
 
 -- the bytes of the writer before and after the test
 module _ (t : Program) (s : SetupOf) (x : TestOptions) (old new : Option (List ℕ)) where
-  -- the first run that the test looks for, of which this holds, after these others; its trace was
-  -- written
+  -- the first run that the test searches for, of which this holds, after these others; its trace
+  -- was written
   pub record IsWrittenRun (Holds : SetupOf → List Call → Type 0) (run : ℕ) (report : Report)
       (runs : List MadeRun) : Type 0 where
     pub history : List Call
@@ -191,7 +191,7 @@ module _ (t : Program) (s : SetupOf) (x : TestOptions) (old new : Option (List �
   abbrev pub AreAll : List MadeRun → Type 0
   AreAll runs = (length runs ≤ x.runs) × (x.seconds ≡ None → length runs ≡ x.runs)
 
-  -- what was found, at which instruction an assertion failed, if one did, the threads that wait
+  -- the finding, the instruction at which an assertion failed, if one did, the threads that wait
   -- then, and the runs up to it
   abbrev pub IsFound : Found → Option ℕ → List Waiting → List MadeRun → Type 0
   IsFound found.Nothing failed waiting runs =
@@ -207,14 +207,14 @@ module _ (t : Program) (s : SetupOf) (x : TestOptions) (old new : Option (List �
       × (failed ≡ None)
       × IsWrittenRun (λ z h. IsDeadlock t z h × Wait t z h waiting) run report runs
 
-  -- what was found, and the tally of the runs up to it, that one included
+  -- the finding, and the tally of the runs up to it, that one included
   pub record IsTest (tested : Tested) : Type 0 where
     pub runs : List MadeRun
     pub few : length runs < 2 ^ 64
     pub found : IsFound tested.found tested.failed tested.waiting.items runs
     pub tallied : IsTally t s runs tested.tally
 
-  -- a proper prefix of the trace of the first run that the test looks for was written
+  -- a proper prefix of the trace of the first run that the test searches for was written
   pub record IsCutRun : Type 0 where
     pub run : ℕ
     pub history : List Call
@@ -236,16 +236,16 @@ module _ (t : Program) (s : SetupOf) (x : TestOptions) (old new : Option (List �
 
 -- Blocks of runs that are made side by side.
 
--- a test looks for a run with this report, which ended in a deadlock or not
+-- a test searches for a run with this report, which ended in a deadlock or not
 abbrev pub is_sought : Bool → Report → Bool → Bool
 is_sought with_deadlock r deadlocked = is_failure r.outcome || (with_deadlock && deadlocked)
 
--- where block n of a wave with blocks of this size begins, in a test of this many runs
+-- the start of block n of a wave with blocks of this size, in a test of this number of runs
 abbrev pub start_of_block : (from size n runs : ℕ) → ℕ
 start_of_block from size n runs = min (from + n * size) runs
 
--- Runs were to be made from one number to before another, and were made to before this one: up to
--- the one that was found, or all of them, if there is no deadline and none was found.
+-- Runs were to be made from one number to before another, and were made to before `end`: up to the
+-- finding, or all of them if there is no deadline and no finding.
 abbrev pub IsEnd : (deadline : Option ℕ) → (from to : ℕ) → Option FoundRun → (end : ℕ) → Type 0
 IsEnd deadline from to found end =
     (from ≤ end)
@@ -254,7 +254,7 @@ IsEnd deadline from to found end =
     × IfSome found (λ f. end ≡ f.run + 1)
 
 module _ {E : Type 0} (c : Flat) (s : SetupOf) (p : Plan) (from size runs : ℕ) where
-  -- what block n of a wave came to
+  -- the result of block n of a wave
   abbrev pub IsBlock : ℕ → Result Block E → Type 0
   IsBlock n r =
       let start = start_of_block from size n runs in
@@ -271,7 +271,7 @@ module _ {E : Type 0} (c : Flat) (s : SetupOf) (p : Plan) (from size runs : ℕ)
   AreBlocks m rs =
       (n : ℕ) (d : Result Block E) → n < length rs → IsBlock (m + n) (slice_index_or rs n d)
 
--- what was found, and the tally of the runs up to it, where these others were made before
+-- the finding, and the tally of the runs up to it, after these runs made before
 pub record IsTalliedAfter (before : List MadeRun) (t : Program) (s : SetupOf) (with_deadlock : Bool)
     (seed from to : ℕ) (found : Option FoundRun) (tally : Tally) : Type 0 where
   pub runs : List MadeRun
