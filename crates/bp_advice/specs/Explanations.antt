@@ -1,4 +1,4 @@
--- Explanations: their parts, and what explains a fault of a program.
+-- Explanations: their parts, and how a fault of a program is explained.
 use Rattle.std.specs.Prelude.{if◌then◌else◌, ◌≡◌, ◌==◌, ◌||◌, ◌&&◌, nat_le, ℕ, Bool, true, List, [], ◌∷◌, ◌++◌, Option, None, Some, All, map, decimal, ◌≢◌, ◌⊎◌, length, ◌≤◌, take, drop}
 use Rattle.bp_text.specs.Pieces.{displayed}
 use Rattle.bp_text.specs.Lines.{IsOneLine, position_at}
@@ -39,11 +39,11 @@ ExplainsPlace file text at e = IsAt file (place_of text at) e
 abbrev pub ExplainsLine : List ℕ → ℕ → Explanation → Type 0
 ExplainsLine file n e = IsAt file (Line n) e
 
--- nothing explains a fault
+-- no explanation fits a fault
 abbrev pub IsUnexplained : (Explanation → Type 0) → Type 0
 IsUnexplained Explains = (e : Explanation) → Explains e → ⊥
 
--- this explains a fault; there is none where nothing does
+-- this explains a fault; it is None if nothing does
 abbrev pub IsExplanationOf : (Explanation → Type 0) → Option Explanation → Type 0
 IsExplanationOf Explains (Some e) = Explains e
 IsExplanationOf Explains None = IsUnexplained Explains
@@ -52,7 +52,7 @@ IsExplanationOf Explains None = IsUnexplained Explains
 abbrev pub is_plain : ℕ → Bool
 is_plain b = b == 10 || (nat_le 32 b && nat_le b 126)
 
--- how a byte is shown
+-- the byte that is shown for a byte
 abbrev pub shown : ℕ → ℕ
 shown b = if is_plain b then b else if b == 9 || b == 13 then 32 else 63
 
@@ -70,7 +70,7 @@ numbers_of Whole = []
 numbers_of (Line n) = after_colon n
 numbers_of (At p) = after_colon p.line ++ after_colon p.column
 
--- what stands between a place and a sentence on it: a colon and a space
+-- the text between a place and a sentence on it: a colon and a space
 abbrev pub separator : List ℕ
 separator = 58 ∷ 32 ∷ []
 
@@ -78,16 +78,16 @@ separator = 58 ∷ 32 ∷ []
 abbrev pub head_of : List ℕ → Place → List ℕ
 head_of file place = displayed file ++ numbers_of place ++ separator
 
--- the sentence of an explanation, as it is shown
+-- the sentence of an explanation, as shown
 abbrev pub sentence_of : Explanation → List ℕ
 sentence_of e = map shown e.sentence.items
 
--- the lines of an explanation, as they are shown: its head and its sentence, and then its excerpt
+-- the lines of an explanation, as shown: its head and its sentence, and then its excerpt
 abbrev pub lines_of : Explanation → List ℕ
 lines_of e =
     map shown (head_of e.file.now e.place ++ e.sentence.items ++ 10 ∷ e.excerpt.items)
 
--- With which tokens a text may continue.
+-- The tokens with which a text may continue.
 
 -- the text is a program
 pub record IsProgram (text : List ℕ) : Type 0 where
@@ -108,8 +108,8 @@ pub record MayFollowAs (front : List ℕ) (kind : TokenKind) : Type 0 where
   pub real : IsReal (record { kind = kind; at = 0; text = token })
   pub follows : MayFollow front token
 
--- A kind is offered after the front where a token of it may follow, and nowhere else. For names one
--- is tried: where they are not offered, that one may not follow.
+-- A kind is offered after the front if a token of it may follow, and only then. For names one is
+-- tried: if names are not offered, that one may not follow.
 pub record IsJudged (front : List ℕ) (kind : TokenKind) (offered : Type 0) : Type 0 where
   pub only : offered → MayFollowAs front kind
   pub all : kind ≢ Name → MayFollowAs front kind → offered
@@ -117,24 +117,24 @@ pub record IsJudged (front : List ℕ) (kind : TokenKind) (offered : Type 0) : T
   pub real : IsReal (record { kind = kind; at = 0; text = name })
   pub tried : MayFollow front name → offered
 
--- What explains a fault of a program.
+-- How a fault of a program is explained.
 
--- a semicolon is missing at this place, before the token that cannot come at `at`: a program may go
--- on with one there, and from there to the token is white and comments alone
+-- a semicolon is missing at this place, before the token that cannot come at `at`: a program may
+-- continue with one there, and only white and comments are from there to the token
 pub record MissesSemicolon (text : List ℕ) (at place : ℕ) : Type 0 where
   pub before : place ≤ at
   pub gap : HasTokens (drop place (take at text)) []
   pub follows : MayFollow (take place text) (59 ∷ [])
 
--- the explanation is of this place of a token that cannot come there, or of one where a semicolon
--- is missing
+-- the explanation is of this place of a token that cannot come there, or of a place with a missing
+-- semicolon
 abbrev pub ExplainsSyntax : List ℕ → List ℕ → ℕ → Explanation → Type 0
 ExplainsSyntax file text at e =
     (place : ℕ) × ((place ≡ at) ⊎ MissesSemicolon text at place)
     × ExplainsPlace file text (Some place) e
 
--- the explanation of a fault of a program's text: none of refused memory, and of a text that is too
--- long, which was not read whole
+-- the explanation of a fault of a program's text: none for refused memory, or for a text that is
+-- too long and so was not read whole
 abbrev pub ExplainsProgram : List ℕ → List ℕ → ProgramFault → Explanation → Type 0
 ExplainsProgram file text (Read read.Memory) e = ⊥
 ExplainsProgram file text (Read read.TooLong) e = ⊥
