@@ -1,4 +1,4 @@
--- What the arguments after each command ask for.
+-- The task for the arguments after each command.
 use Rattle.std.specs.Prelude.{◌≡◌, if◌then◌else◌, List, codes, ℕ, None, Some, true, false, option_map, ◌+◌, ◌-◌, ◌^◌, Option, is_some, length, min}
 use Rattle.clap.specs.Walk.{Row, one_of, first_of}
 use Rattle.bp_machine.specs.Setups.{start_with}
@@ -28,7 +28,7 @@ pub record IsCheckArgumentsOf (rows : List Row) (task : CheckTask) : Type 0 wher
   pub json : IsFlagOf (one_of (codes "json") rows) task.json
   pub explain : IsExplainingOf rows task.explain
 
--- the listing is JSON where that is asked for, and else has the source where that is
+-- the listing is JSON if asked for, and otherwise has the source if asked for
 abbrev pub IsFormOf : List Row → ListingForm → Type 0
 IsFormOf rows form.Json = IsFlagOf (one_of (codes "json") rows) true
 IsFormOf rows form.Sourced =
@@ -78,12 +78,12 @@ pub record IsRunOf (rows : List Row) (task : RunTask) : Type 0 where
   pub spread : IsFlagOf (one_of (codes "spread") rows) task.spread
   pub explain : IsExplainingOf rows task.explain
 
--- what is shown is JSON where that is asked for
+-- the view is JSON if asked for
 abbrev pub IsViewFormatOf : List Row → ViewFormat → Type 0
 IsViewFormatOf rows Json = IsFlagOf (one_of (codes "json") rows) true
 IsViewFormatOf rows Columns = IsFlagOf (one_of (codes "json") rows) false
 
--- the calls that are shown are those of the arguments, without colours and in lines of any width
+-- the calls to show are those of the arguments, without colours and in lines of any width
 pub record IsViewOf (rows : List Row) (options : ViewOptions) : Type 0 where
   pub thread : options.thread ≡ given_number 32 (codes "thread") rows
   pub last : options.last ≡ given_number 64 (codes "last") rows
@@ -97,7 +97,7 @@ pub record IsViewOf (rows : List Row) (options : ViewOptions) : Type 0 where
   pub columns : options.columns ≡ None
   pub format : IsViewFormatOf rows options.format
 
--- the files of `show` and what is shown are those of its arguments
+-- the files of `show` and its view are those of its arguments
 pub record IsShowOf (rows : List Row) (task : ShowTask) : Type 0 where
   pub program : task.program.now ≡ value_of (codes "FILE") rows
   pub trace : task.trace.now ≡ value_of (codes "TRACE") rows
@@ -108,11 +108,11 @@ pub record IsShowOf (rows : List Row) (task : ShowTask) : Type 0 where
   pub options : IsViewOf rows task.options
   pub explain : IsExplainingOf rows task.explain
 
--- how many contexts a test of this many threads allows by default; a setup has at most MAX_THREADS
+-- the number of contexts that a test allows by default; a setup has at most MAX_THREADS threads
 abbrev pub contexts_for : ℕ → ℕ
 contexts_for threads = min threads MAX_THREADS + 1
 
--- how many runs a test of this many seconds makes at most by default: as many as 64 bits count
+-- the most runs that a test of this number of seconds makes by default: as many as 64 bits count
 abbrev pub runs_within : (seconds : Option ℕ) → ℕ
 runs_within None = DEFAULT_RUNS
 runs_within (Some seconds) = 2 ^ 64 - 1

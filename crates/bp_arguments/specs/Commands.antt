@@ -1,5 +1,5 @@
--- What the arguments of the command line ask for. The rules of `clap` say how they are told apart
--- as commands, options and values.
+-- The task for the arguments of the command line. The rules of `clap` divide them into commands,
+-- options and values.
 use Rattle.std.specs.Prelude.{◌≡◌, true, List, [], ◌∷◌, Option, Some, None, codes, map, pos}
 use Rattle.clap.specs.Faults.{fault_of}
 use Rattle.clap.specs.Kinds.{Kinds, or_else}
@@ -28,7 +28,7 @@ use Rattle.bp_tasks.specs.declared.tasks.Task.TheVariants.{Bundle, Check, Code, 
 use Rattle.bp_tasks.specs.declared.tasks.TestTask.{TestTask}
 use Rattle.bp_tasks.specs.declared.tasks.TraceTask.{TraceTask}
 
--- an argument that has to be there
+-- a required argument
 abbrev pub required_rule : Text → Rule
 required_rule name = record (new_rule name) { required = true }
 
@@ -71,7 +71,7 @@ row_rule (row.Number name help) = number_rule name.now
 row_rule (row.LongNumber name help) = long_number_rule name.now
 row_rule (row.Text name value help) = option_rule name.now
 
--- what each command on a file takes first: `FILE [--explain] [--no-explain]`
+-- the first arguments of each command on a file: `FILE [--explain] [--no-explain]`
 abbrev pub file_rules : List Rule
 file_rules =
     required_rule (codes "FILE")
@@ -83,7 +83,7 @@ file_rules =
 abbrev pub trace_rules : List Rule
 trace_rules = required_rule (codes "TRACE") ∷ []
 
--- what each command takes after that
+-- the further arguments of each command
 abbrev pub command_rules : Named → List Rule
 -- `[--json]`
 command_rules name.Check = flag_rule (codes "json") ∷ []
@@ -167,7 +167,7 @@ command_rules name.Replay = trace_rules
 command_rules name.Migrate = trace_rules
 command_rules name.Shrink = trace_rules
 
--- what it takes under the heading 'Advanced'; `run`: `[--turn N] [--ring N] [--spread]`
+-- its arguments under the heading 'Advanced'; `run`: `[--turn N] [--ring N] [--spread]`
 abbrev pub advanced_rules : Named → List Rule
 advanced_rules name.Run =
     number_rule (codes "turn")
@@ -195,12 +195,12 @@ with_commands a (c ∷ cs) = with_commands (with_subcommand a c.top) cs
 abbrev pub btrun_app : App
 btrun_app = with_commands program_app (map command_app NAMED)
 
--- the arguments name no command, or one of those that there are
+-- the arguments name no command, or an existing one
 abbrev pub IsOurs : Option (Text × List Row) → Type 0
 IsOurs None = Unit {0}
 IsOurs (Some command) = IsNamed command.0
 
--- the task is what a command asks for, with its arguments
+-- the task is that of a command with its arguments
 abbrev pub IsTaskOfCommand : Named → List Row → Task → Type 0
 IsTaskOfCommand name.Check rows task =
     (t : CheckTask) × (task ≡ Check t) × IsCheckArgumentsOf rows t
@@ -221,13 +221,13 @@ IsTaskOfCommand name.Migrate rows task =
 IsTaskOfCommand name.Shrink rows task =
     (t : TraceTask) × (task ≡ Shrink t) × IsTraceArgumentsOf rows t
 
--- what the arguments ask for, by the command that they name; without one, a bundle
+-- the task of the arguments, by the command that they name; without one, a bundle
 abbrev pub IsTaskOf : Option (Text × List Row) → Task → Type 0
 IsTaskOf None task = task ≡ Bundle
 IsTaskOf (Some (name, rows)) task =
     (command : Named) × (name ≡ command_name command) × IsTaskOfCommand command rows task
 
--- why arguments are refused: as `clap` says, or else for options that are wrong together or by
+-- why arguments are refused: the error of `clap`, or else options that are wrong together or by
 -- value
 abbrev pub arguments_fault : List Text → Kinds
 arguments_fault arguments =

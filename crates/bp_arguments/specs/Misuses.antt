@@ -1,4 +1,4 @@
--- What is wrong with options that `clap` takes one by one.
+-- Errors in options that `clap` accepts one by one.
 use Rattle.std.specs.Prelude.{if◌then◌else◌, ◌&&◌, ℕ, Bool, true, false, List, [], ◌∷◌, ◌++◌, Option, Some, None, codes, map, nat_lt, find, option_and_then}
 use Rattle.std.specs.Option.{option_map_or}
 use Rattle.std.specs.Str.{bytes_eq}
@@ -47,7 +47,7 @@ is_on_line rows o =
 abbrev pub are_on_line : List Row → OptionName × OptionName → Bool
 are_on_line rows pair = is_on_line rows pair.0 && is_on_line rows pair.1
 
--- the options that choose calls, or what stands with them
+-- the options that choose calls, or that change their lines
 abbrev pub on_calls : List OptionName
 on_calls =
     option.Thread
@@ -81,7 +81,7 @@ clashes =
 abbrev pub clash_in : List Row → Option (OptionName × OptionName)
 clash_in rows = find (are_on_line rows) clashes
 
--- the numbers where the first is the greater one
+-- the numbers if the first is the greater one
 abbrev pub descending : Option ℕ → Option ℕ → Option (ℕ × ℕ)
 descending (Some m) (Some n) = if nat_lt n m then Some (m, n) else None
 descending _ _ = None
@@ -90,13 +90,13 @@ abbrev pub backwards_in : List Row → Option (ℕ × ℕ)
 backwards_in rows =
     descending (given_number 64 (codes "from") rows) (given_number 64 (codes "to") rows)
 
--- what is wrong with two options, or with the calls from one to another
+-- the error in two options, or in the calls from one to another
 abbrev pub pair_misuse : Option (OptionName × OptionName) → Option (ℕ × ℕ) → Option Misuse
 pair_misuse (Some pair) backwards = Some (Together pair.0 pair.1)
 pair_misuse None (Some calls) = Some (Backwards calls.0 calls.1)
 pair_misuse None None = None
 
--- what is wrong with the options of a command: the first that applies
+-- the error in the options of a command: the first that applies
 abbrev pub misuse_in : List Row → Option Misuse
 misuse_in rows =
     if has_bad_init rows then Some BadInit

@@ -1,4 +1,4 @@
--- What is said where arguments ask for no task.
+-- The answer to arguments that ask for no task.
 use Rattle.std.specs.Prelude.{if◌then◌else◌, Bool, true, false, List, [], ◌∷◌, codes, ◌≡◌, ◌⊎◌, Result, MatchResult}
 use Rattle.std.specs.Str.{bytes_eq}
 use Rattle.clap.specs.Walk.{Text}
@@ -8,7 +8,7 @@ use Rattle.clap.specs.declared.error.kind.ErrorKind.TheVariants.{OutOfMemory, Di
 use Rattle.bp_arguments.specs.declared.no_tasks.NoTask.{NoTask}
 use Rattle.bp_arguments.specs.declared.no_tasks.NoTask.TheVariants.{Memory, Printed, Refused}
 
--- What arguments ask for where they are refused.
+-- The kind of answer to arguments that are refused.
 
 -- a word asks for JSON; after a word `--` none does
 abbrev pub asks_for_json : List Text → Bool
@@ -28,19 +28,19 @@ abbrev pub IsRefused : NoTask → Type 0
 IsRefused (Refused refusal) = Unit {0}
 IsRefused _ = ⊥
 
--- what an error of `clap` of this kind comes to
+-- the answer to an error of `clap` of this kind
 abbrev pub IsOfKind : ErrorKind → NoTask → Type 0
 IsOfKind OutOfMemory none = none ≡ Memory
 IsOfKind DisplayHelp none = IsPrinted none
 IsOfKind DisplayVersion none = IsPrinted none
 IsOfKind _ none = IsRefused none
 
--- one of these kinds came
+-- the answer is for one of these kinds
 abbrev pub IsOfOne : Kinds → NoTask → Type 0
 IsOfOne [] none = ⊥
 IsOfOne (k ∷ ks) none = IsOfKind k none ⊎ IsOfOne ks none
 
--- A task is answered only where no kind comes. Else one of them came, or memory was refused.
+-- A task is the result only without kinds. Otherwise an answer is for one of them or for memory.
 abbrev pub EndsBy : {T : Type 0} → Kinds → Result T NoTask → Type 0
 EndsBy kinds r =
     MatchResult r (λ _. kinds ≡ []) (λ none. (none ≡ Memory) ⊎ IsOfOne kinds none)

@@ -1,4 +1,4 @@
--- The names of the commands, and what the values of arguments say: numbers, bits, names.
+-- The names of the commands, and the values of arguments: numbers, bits, names.
 use Rattle.std.specs.Prelude.{◌≡◌, codes, if◌then◌else◌, ◌^◌, ◌==◌, ◌&&◌, ◌||◌, ℕ, Bool, false, true, not, List, [], ◌∷◌, Option, Some, None, map, nat_lt, option_and_then, unwrap_or, is_some, bytes_eq}
 use Rattle.clap.specs.Walk.{Text, Row, all_of, first_of, one_of}
 use Rattle.std.specs.List.{list_all}
@@ -33,9 +33,9 @@ command_name Shrink = codes "shrink"
 abbrev pub IsNamed : Text → Type 0
 IsNamed name = (command : Named) × (name ≡ command_name command)
 
--- What the values of arguments say: numbers, bits, names.
+-- The values of arguments: numbers, bits, names.
 
--- the value of an argument, empty where it has none
+-- the value of an argument, or an empty text if it has none
 abbrev pub value_of : Text → List Row → Text
 value_of id rows = unwrap_or (first_of id rows) []
 
@@ -55,11 +55,11 @@ number_in bits text = if is_number_text bits text then Some (number_of text) els
 abbrev pub given_number : ℕ → Text → List Row → Option ℕ
 given_number bits name rows = option_and_then (number_in bits) (one_of name rows)
 
--- the same, and this number if there is none
+-- the number of an option, or this default if there is none
 abbrev pub number_or : (default : ℕ) → ℕ → Text → List Row → ℕ
 number_or default bits name rows = unwrap_or (given_number bits name rows) default
 
--- a flag is up where it is given; `clap` has a text for either
+-- a flag is up if it is given; `clap` has a text for either
 abbrev pub IsFlagOf : Option Text → Bool → Type 0
 IsFlagOf text flag =
     (text ≡ Some (codes "true") → flag ≡ true)
@@ -73,7 +73,7 @@ is_bits text = list_all (λ b. b == 48 || b == 49) text
 abbrev pub bits_in : Text → List Bool
 bits_in text = map (λ b. b == 49) text
 
--- the entries, which are `main` where none are given
+-- the entries, which are `main` if none are given
 abbrev pub entries_in : List Row → List Text
 entries_in rows = unwrap_or (all_of (codes "ENTRY") rows) (codes "main" ∷ [])
 
@@ -89,7 +89,7 @@ names_given text = if gives_names text then named_bits text else []
 abbrev pub is_init : Text → Bool
 is_init text = if gives_names text then are_named_bits text else is_bits text
 
--- the initial bits, where they are given in order of declaration
+-- the initial bits, if they are given in order of declaration
 abbrev pub init_in : List Row → Option (List Bool)
 init_in rows = option_and_then bits_given (first_of (codes "init") rows)
 
@@ -97,7 +97,7 @@ init_in rows = option_and_then bits_given (first_of (codes "init") rows)
 abbrev pub named_in : List Row → List NamedBitOf
 named_in rows = option_map_or names_given (first_of (codes "init") rows) []
 
--- what a run starts from, with this many contexts if no other number is given
+-- the start of a run, with this number of contexts if no other is given
 abbrev pub start_in : (contexts : ℕ) → List Row → StartOf
 start_in contexts rows =
     start_with (entries_in rows) (init_in rows) (number_or contexts 32 (codes "contexts") rows)
@@ -119,7 +119,7 @@ verdict_named text =
 abbrev pub expected_in : List Row → Option Verdict
 expected_in rows = option_and_then verdict_named (first_of (codes "expect") rows)
 
--- what is expected is no verdict
+-- the expected verdict is not a verdict
 abbrev pub has_bad_verdict : List Row → Bool
 has_bad_verdict rows =
     option_map_or (λ t. not (is_some (verdict_named t))) (first_of (codes "expect") rows) false
