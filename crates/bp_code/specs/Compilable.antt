@@ -9,7 +9,7 @@ use Rattle.bp_flat.specs.Moves.{from_label, procedure_named}
 use Rattle.bp_code.specs.declared.layout.Layout.{Layout}
 use Rattle.bp_code.specs.Compiled.{HasSlot, procedures_size}
 
--- What the table of a procedure's layout has. Only private contracts name it.
+-- The table of a procedure's layout. Only private contracts name it.
 
 -- the sizes of the statements of a block, at any depth, in the order of the text, and of those
 -- inside a statement
@@ -23,20 +23,19 @@ abbrev mutual
   inner_sizes (Loops d a) = block_sizes a
   inner_sizes s = []
 
--- in a table that begins at the statement of number start, these sizes are those from the
--- statement of number n on
+-- in a table that begins at the statement of number start, these sizes are those from the statement
+-- of number n on
 pub record AreSizesAt (table : List ℕ) (start n : ℕ) (sizes : List ℕ) : Type 0 where
   pub index : ℕ
   pub number : start + index ≡ n
   pub rest : List ℕ
   pub are : drop index table ≡ sizes ++ rest
 
--- the same in the table of a layout
+-- these sizes in the table of a layout
 abbrev pub AreSizesOf : Layout → ℕ → List ℕ → Type 0
 AreSizesOf layout n sizes = AreSizesAt layout.sizes.items layout.start n sizes
 
--- What holds of each name in a statement, by what it is the name of. Only private contracts name
--- it.
+-- Properties of each name in a statement, by its kind. Only private contracts name them.
 
 -- of a variable, of a label, and of a called procedure with the arguments of the call
 module _ (IsVariable IsLabel : Name → Type 0) (IsCallee : Name → List Expression → Type 0) where
@@ -58,7 +57,7 @@ module _ (IsVariable IsLabel : Name → Type 0) (IsCallee : Name → List Expres
     IsResolvedIn (Calls x es) = NamesInExpressions IsVariable es × IsCallee x es
 
 module _ (t : Program) (p : Procedure) where
-  -- a label that stands in the procedure
+  -- a label of the procedure
   abbrev pub IsLabel : Name → Type 0
   IsLabel x = IsSome (from_label p.body Done x.text)
 

@@ -1,5 +1,5 @@
--- What a program is compiled to: its instructions in text order, one for each statement, numbered
--- from 0 over all procedures, and one return after each procedure's statements.
+-- The code of a program: its instructions in text order, one for each statement, numbered from 0
+-- over all procedures, and one return after each procedure's statements.
 use Rattle.std.specs.Prelude.{ℕ, List, Option, IsSome, option_map, if◌then◌else◌, ◌+◌, [], ◌∷◌, ◌++◌, None, Some, length, map, unwrap_or}
 use Rattle.std.specs.Option.{option_or}
 use Rattle.bp_language.specs.Ast.{Name, Procedure, variables, Expression, Constant, Variable, Negation, Operation, Decision, Choose, Decide, Block, Done, Then, Statement, Skips, GoesTo, Returns, Assigns, Branches, Loops, Asserts, Assumes, Prints, Calls, Program}
@@ -12,7 +12,7 @@ use Rattle.bp_flat.specs.Moves.{has_label}
 
 -- Slots of variables.
 
--- the slot of a variable: its place among the formals and then the locals, or else among the
+-- the slot of a variable: its index among the formals and then the locals, or else among the
 -- globals
 abbrev pub slot_of : List Name → Procedure → List ℕ → Option Slot
 slot_of globals p x =
@@ -23,14 +23,14 @@ slot_of globals p x =
 abbrev pub HasSlot : List Name → Procedure → Name → Type 0
 HasSlot globals p x = IsSome (slot_of globals p x.text)
 
--- what the names in a procedure's statements mean: the number of its first instruction goes with it
+-- the meaning of the names in a procedure's statements, and the number of its first instruction
 pub record Environment : Type 0 where
   pub globals : List Name
   pub procedure : Procedure
   pub start : ℕ
   pub headings : List Heading
 
--- the number of the first statement with this label, where the block's first instruction has the
+-- the number of the first statement with this label, if the block's first instruction has the
 -- number n
 abbrev mutual
   pub label_number : Block → ℕ → List ℕ → Option ℕ
@@ -46,8 +46,8 @@ abbrev mutual
   inner_number (Loops d a) n x = label_number a (n + 1) x
   inner_number s n x = None
 
--- where control goes into a block whose first instruction would have the number n, when next
--- follows the block
+-- the number at which control enters a block whose first instruction would have the number n, if
+-- next follows the block
 abbrev pub block_entry : Block → ℕ → ℕ → ℕ
 block_entry Done n next = next
 block_entry (Then label at s t) n next = n
@@ -77,11 +77,11 @@ module _ (environment : Environment) where
   abbrev pub callee_in : List ℕ → ℕ
   callee_in x = unwrap_or (option_map (λ h. h.entry) (heading_named environment.headings x)) 0
 
-  -- the number of a label that stands in the procedure
+  -- the number of a label of the procedure
   abbrev pub label_in : List ℕ → ℕ
   label_in x = unwrap_or (label_number environment.procedure.body environment.start x) 0
 
-  -- a block from the number n on, and a statement at the number n, where next follows it
+  -- a block from the number n on, and a statement at the number n, if next follows it
   abbrev mutual
     pub block_code : Block → ℕ → ℕ → List Instruction
     block_code Done n next = []
@@ -127,7 +127,7 @@ abbrev pub headings_from : ℕ → List Procedure → List Heading
 headings_from n [] = []
 headings_from n (p ∷ ps) = heading_of p n ∷ headings_from (n + block_size p.body + 1) ps
 
--- what the names in a procedure mean whose instructions begin at the number n
+-- the meaning of the names in a procedure whose instructions begin at the number n
 abbrev pub environment_at : List Name → List Heading → Procedure → ℕ → Environment
 environment_at globals headings p n =
     record { globals = globals; procedure = p; start = n; headings = headings }

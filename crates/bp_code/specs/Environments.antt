@@ -1,4 +1,4 @@
--- What an environment of src/ stands for. Only private contracts name it.
+-- The environment for one of src/. Only private contracts name it.
 use Rattle.bp_code.specs.declared.environments.Environment.{Environment}
 use Rattle.bp_code.specs.Compiled as compiled
 

@@ -1,4 +1,4 @@
--- Blocks whose names mean something in an environment. Only private contracts name them.
+-- Blocks whose names have a meaning in an environment. Only private contracts name them.
 use Rattle.std.specs.Prelude.{◌≤◌, List, IsSome, length}
 use Rattle.bp_language.specs.Ast.{Name, Expression, Block, Statement}
 use Rattle.bp_flat.specs.declared.limits.TheConstants.{SLOTS}

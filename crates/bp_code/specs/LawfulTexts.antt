@@ -15,12 +15,12 @@ pub record IsLawfulText (text : List ℕ) (t : Program) : Type 0 where
   pub derived : IsTextOf text t
   pub lawful : IsLawful t
 
--- the text has a fault; or it is that of a program with one
+-- the text has a fault, or its program has one
 abbrev pub IsProgramRefusal : List ℕ → ProgramFault → Type 0
 IsProgramRefusal text (Read f) = IsReadRefusal text f
 IsProgramRefusal text (Check f at) = (t : Program) × IsTextOf text t × IsRefusal t f at
 
--- why there is no code of the text
+-- why the text has no code
 abbrev pub IsCodeRefusal : List ℕ → CodeFault → Type 0
 IsCodeRefusal text (code.Program f) = IsProgramRefusal text f
 IsCodeRefusal text code.Memory = (t : Program) × IsLawfulText text t

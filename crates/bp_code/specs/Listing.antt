@@ -15,7 +15,7 @@ line front numbers = front ++ (flat_map number_field numbers ++ codes "\n")
 abbrev pub heading_line : Heading → List ℕ
 heading_line h = line (codes "proc " ++ h.name) (h.formals ∷ h.locals ∷ [])
 
--- what an instruction does
+-- the operation of an instruction
 abbrev pub instruction_word : Instruction → List ℕ
 instruction_word (Skip m) = codes "skip"
 instruction_word (Goto m) = codes "goto"
@@ -41,7 +41,7 @@ successors (Assume test m) = m ∷ []
 successors (Print values m) = m ∷ []
 successors (Call c arguments m) = c ∷ m ∷ []
 
--- the instruction's number, what it does, and the numbers of its successors
+-- the instruction's number, its operation, and the numbers of its successors
 abbrev pub instruction_line : ℕ → Instruction → List ℕ
 instruction_line n i = line (decimal n ++ (codes " " ++ instruction_word i)) (successors i)
 
@@ -55,7 +55,7 @@ module _ (instructions : List Instruction) where
   abbrev pub lines_between : ℕ → ℕ → List ℕ
   lines_between n end = instruction_lines n (take (end - n) (drop n instructions))
 
-  -- where the instructions of a procedure end: at the entry of the next one, or with the code
+  -- the end of the instructions of a procedure: the entry of the next one, or the end of the code
   abbrev pub end_before : List Heading → ℕ
   end_before [] = length instructions
   end_before (next ∷ later) = next.entry

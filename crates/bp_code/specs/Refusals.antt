@@ -19,12 +19,12 @@ pub record IsLeast (Is : CheckFault → ℕ → Type 0) (f : CheckFault) (at : �
 
 -- How a program is refused.
 
--- a refusal reports the least fault of the program; nothing is said of memory
+-- a refusal reports the least fault of the program; it does not say when memory is refused
 abbrev pub IsRefusal : Program → CheckFault → ℕ → Type 0
 IsRefusal p Memory at = at ≡ 0
 IsRefusal p f at = IsLeast (IsFault p) f at
 
--- How many refusals a program has.
+-- The number of refusals of a program.
 
 -- a program has at most one refusal, memory aside
 abbrev pub OneRefusal : Type 0

@@ -14,10 +14,10 @@ use Rattle.bp_language.specs.declared.limits.TheConstants.{MAX_OWN_NAMES}
 use Rattle.bp_code.specs.Refusals.{IsLeast}
 use Rattle.bp_code.specs.declared.checks.Found.{Found}
 
--- A device: sets of faults of the parts of a program, of which the whole set is made. No public
+-- A device: sets of faults of the parts of a program, which together are the whole set. No public
 -- contract names them.
 
--- the names that references are of
+-- the names to which the references refer
 abbrev pub names_of : List (Bor Name) → List Name
 names_of ns = map (λ n. n.now) ns
 
@@ -31,11 +31,11 @@ all_labelled ss = map (λ s. labelled_of s.now) ss
 abbrev pub Only : CheckFault → (ℕ → Type 0) → CheckFault → ℕ → Type 0
 Only fault Is g at = (g ≡ fault) × Is at
 
--- a name that is used so, and that is not declared, as a fault
+-- a name with this use that is not declared, as a fault
 abbrev pub IsStray : List Name → (Name → Type 0) → CheckFault → ℕ → Type 0
 IsStray declared Uses = Only UnknownVariable (IsStrayIn declared Uses)
 
--- a fault of a statement that is no stray name
+-- a fault of a statement that is not an undeclared name
 abbrev pub IsMisuse : List Procedure → List Name → Statement → CheckFault → ℕ → Type 0
 IsMisuse qs ls s UnknownProcedure at = CallsNone qs s at
 IsMisuse qs ls s UnknownLabel at = JumpsNowhere ls s at
@@ -79,30 +79,30 @@ abbrev pub IsFaultOfProcedures :
 IsFaultOfProcedures globals qs some g at =
     (q : Procedure) × Among some q × IsProcedureFault globals qs q g at
 
--- Maps from names to where they come first in a list.
+-- Maps from names to their first index in a list.
 
--- what a map has at a text
+-- the value of a map at a text
 abbrev pub index_in : BTreeMap (Bor (List ℕ)) ℕ → List ℕ → Option ℕ
 index_in m text = get_by (λ k. slice_cmp nat_cmp text k.now) m
 
--- the map has, at each text, the index of the first name that is spelled so
+-- the map has, at each text, the index of the first name with this text
 abbrev pub HasFirstIndices : BTreeMap (Bor (List ℕ)) ℕ → List Name → Type 0
 HasFirstIndices m ns = (text : List ℕ) → index_in m text ≡ first_index ns text
 
 -- A device: the least of a set of faults, as the code finds it. No public contract names it.
 
--- the least of the set, or none if it is empty
+-- the least of the set, or None if it is empty
 abbrev pub Finds : (CheckFault → ℕ → Type 0) → Option Found → Type 0
 Finds Is o =
     MatchOption o ((g : CheckFault) (at : ℕ) → Is g at → ⊥) (λ f. IsLeast Is f.fault f.at)
 
--- whether f comes before g or at once with it, by place and then by number
+-- f comes before g, or is equal to it, by place and then by number
 abbrev pub is_not_after : Found → Found → Bool
 is_not_after f g =
     nat_lt f.at g.at
     || (nat_eq f.at g.at && nat_le (check_fault_number f.fault) (check_fault_number g.fault))
 
--- the least of two faults, where there are two
+-- the least of two faults, if there are two
 abbrev pub least_of : Option Found → Option Found → Option Found
 least_of None o = o
 least_of (Some f) None = Some f
