@@ -1,4 +1,4 @@
--- What a command is, what its inputs hold, and what it answers and writes.
+-- Commands, their inputs, their results and their output.
 use Rattle.std.specs.Prelude.{◌≡◌, ℕ, ◌+◌, ◌≤◌, List, Option, length, ⊤, ◌⊎◌, [], Result, MatchResult}
 use Rattle.std.specs.Io.KnownBytes.{Consumes, IsAtEnd, Keeps}
 use Rattle.std.specs.declared.io.ErrorKind.{ErrorKind}
@@ -12,7 +12,7 @@ use Rattle.bp_messages.specs.FaultTable.{fault_of_input, fault_of_text}
 use Rattle.bp_messages.specs.declared.faults.Fault.TheVariants.{Write}
 use Rattle.bp_commands.specs.declared.limits.TheConstants.{MAX_BUNDLE}
 
--- What reading an input within its limit takes and answers.
+-- The bytes that reading an input within its limit takes, and its result.
 
 -- why an input is not opened or read, by the kind of the system's error
 abbrev pub reading_fault_of : ErrorKind → InputFault
@@ -36,21 +36,21 @@ pub record IsTooLong (limit : ℕ) (old new : Option (List ℕ)) : Type 0 where
   pub taken : Consumes old new bytes
   pub long : length bytes ≡ limit + 1
 
--- nothing is said of when a read fails or memory is refused
+-- it does not say when a read fails or memory is refused
 abbrev pub IsInputRefusal : ℕ → Option (List ℕ) → Option (List ℕ) → InputFault → Type 0
 IsInputRefusal limit old new Device = ⊤
 IsInputRefusal limit old new TooLong = IsTooLong limit old new
 IsInputRefusal limit old new Memory = TookAtMost old new limit
 
--- The inputs of a command: what they hold where they are read, and why they are not read.
+-- The inputs of a command: their contents if they are read, and why they are not.
 
--- what was read of the inputs, and for which faults they are not read
+-- the contents of the inputs, and the faults for which they are not read
 pub record Inputs (X : Type 0) : Type 1 where
   pub Holds : X → Type 0
   pub Unread : Fault → Type 0
 
--- The bytes that a reader had left before and after it was read, where they are known. At most one
--- byte more than the limit is taken. Nothing is said of when a read fails or memory is refused.
+-- The bytes left to a reader before and after it was read, if they are known. At most one byte more
+-- than the limit is taken. It does not say when a read fails or memory is refused.
 module _ (fault_of : InputFault → Fault) (limit : ℕ) (old new : Option (List ℕ)) where
   pub record IsRefusedInput (f : Fault) : Type 0 where
     pub cause : InputFault
@@ -80,7 +80,7 @@ module _ (old new : Option (List ℕ)) where
   abbrev pub text_alone : Inputs (List ℕ)
   text_alone = record { Holds = IsText; Unread = IsTextUnread }
 
--- what a program and an input beside it hold
+-- the contents of a program and an input beside it
 pub record Pair : Type 0 where
   pub text : List ℕ
   pub input : List ℕ
@@ -101,17 +101,17 @@ module _ (limit : ℕ) (text_old text_new old new : Option (List ℕ)) where
     pub whole : IsText text_old text_new text
     pub unread : IsReadRefused limit old new f
 
-  -- the text was not read, and the input beside it not touched
+  -- the text was not read, and the input beside it was not touched
   abbrev pub IsPairUnread : Fault → Type 0
   IsPairUnread f = ((new ≡ old) × IsTextUnread text_old text_new f) ⊎ IsInputUnread f
 
   abbrev pub text_and : Inputs Pair
   text_and = record { Holds = IsPairIn; Unread = IsPairUnread }
 
--- What a command is, and what it answers and writes.
+-- Commands, and their results and output.
 
--- A command: the texts that it may write of its inputs; what it reports where it has written one
--- whole; for which faults it refuses the inputs; and which faults end it after this was written.
+-- A command: the texts that it may write of its inputs; its report after a whole one; the faults
+-- for which it refuses the inputs; and the faults that end it after a text was written.
 pub record Command (X R : Type 0) : Type 1 where
   pub Writes : X → List ℕ → Type 0
   pub Reports : X → List ℕ → R → Type 0
@@ -166,13 +166,13 @@ module _ {X R : Type 0} (command : Command X R) (old new : Option (List ℕ)) wh
     abbrev pub IsNotDone : Fault → Type 0
     IsNotDone f = (Keeps old new × inputs.Unread f) ⊎ IsRefused f
 
--- what a command answers of given inputs
+-- the result of a command on given inputs
 abbrev pub AnswersOf
     : {X R : Type 0} → Command X R → X → Option (List ℕ) → Option (List ℕ) → Result R Fault → Type 0
 AnswersOf command given old new r =
     MatchResult r (IsDoneWith command old new given) (IsRefusedWith command old new given)
 
--- what a command answers of inputs that it reads
+-- the result of a command on inputs that it reads
 abbrev pub Answers
     : {X R : Type 0}
     → Command X R → Inputs X → Option (List ℕ) → Option (List ℕ) → Result R Fault

@@ -24,7 +24,7 @@ use Rattle.bp_commands.specs.Programs.{IsNotOpened, IsOpened}
 use Rattle.bp_commands.specs.FaultReports.{AnswerRule}
 use Rattle.bp_commands.specs.declared.confirming.Confirmation.{Confirmation}
 
--- how a run ends, by the facts of its end
+-- the verdict on a run, by the facts of its end
 abbrev pub verdict_of : ShownFoot → Verdict
 verdict_of x = if is_some x.failure then Failure else if x.deadlocked then Deadlock else Run
 
@@ -58,17 +58,17 @@ choice_text false c =
 abbrev pub choices_text : (json : Bool) → List LastChoice → List ℕ
 choices_text json choices = flat_map (choice_text json) choices
 
--- what is said of a deadlock before the last bits on which it depends
+-- the text on a deadlock before the last bits on which it depends
 abbrev pub deadlock_lead : (choices : List ℕ) → List ℕ
 deadlock_lead [] = codes "the steps are a run of the program; they end in a deadlock"
 deadlock_lead choices = codes "the steps are a run of the program; they may end in a deadlock, by"
 
--- the line of a deadlock; no word stands before the first of these bits
+-- the line of a deadlock; no word comes before the first of these bits
 abbrev pub deadlock_line : (choices : List ℕ) → List ℕ
 deadlock_line choices =
     concat (deadlock_lead choices ∷ drop 4 choices ∷ codes "\n" ∷ [])
 
--- what a user reads of a verdict
+-- the line of a verdict for people
 abbrev pub verdict_line : (choices : List ℕ) → Verdict → List ℕ
 verdict_line choices Failure =
     codes "the steps are a run of the program; an assertion fails at the last one\n"
@@ -81,7 +81,7 @@ abbrev pub line_as : (expected : Option Verdict) → (choices : List ℕ) → Ve
 line_as None choices Failure = []
 line_as expected choices v = verdict_line choices v
 
--- what is said of it to programs
+-- the verdict as shown to programs
 abbrev pub confirmation_shown : Confirmation → ShownVerdict
 confirmation_shown x = record {
   word = verdict_word x.verdict;
@@ -103,8 +103,8 @@ of_confirm = record {
   summary = confirm_summary;
 }
 
--- this is the verdict on the steps of a program, which the history takes, as is asked for;
--- its deadlock depends on these last bits
+-- this is the verdict on the steps of a program, which the history takes, under the options; its
+-- deadlock depends on these last bits
 pub record IsConfirmation
     (text : List ℕ) (t : Program) (s : SetupOf) (h : List Call) (choices : List LastChoice)
     (task : ConfirmTask) (x : Confirmation)
@@ -119,7 +119,7 @@ pub record IsConfirmation
   pub waits : x.waits.items ≡ waits_text Json [] facts.waits
   pub choices_are : x.choices.items ≡ choices_text task.json choices
 
--- Reported steps of the program of a text are confirmed, as is asked for.
+-- Reported steps of the program of a text are confirmed, under the options of the task.
 module _ (x : ConfirmTask) (given : Pair) where
   -- a history takes the steps, and its trace is written
   pub record IsOfSteps (written : List ℕ) : Type 0 where
@@ -133,13 +133,13 @@ module _ (x : ConfirmTask) (given : Pair) where
         IsConfirmedText program start given.input given.text x.bound setup history choices
     pub is : written ≡ trace_text setup history
 
-  -- and this is the verdict
+  -- this is also the verdict
   pub record IsStepsReport (written : List ℕ) (answer : Confirmation) : Type 0 where
     pub trace : IsOfSteps written
     pub verdict :
         IsConfirmation given.text trace.program trace.setup trace.history trace.choices x answer
 
-  -- the program takes the setup, and no history is written that takes the steps
+  -- the program accepts the setup, and no history is written that takes the steps
   pub record AreStepsRefused (f : Fault) : Type 0 where
     pub program : Program
     pub start : SetupOf
@@ -148,7 +148,7 @@ module _ (x : ConfirmTask) (given : Pair) where
     pub why : IsStepsRefusal program start given.input given.text x.bound cause
     pub is : f ≡ fault_of_steps cause
 
--- it writes the trace of the history that takes the steps
+-- the command writes the trace of the history that takes the steps
 abbrev pub confirms : ConfirmTask → Command Pair Confirmation
 confirms x = record {
   Writes = IsOfSteps x;

@@ -55,7 +55,7 @@ facts_through (Missing last made) = missed_end last true None
 facts_through (MissingWithin k made) = missed_end k false None
 facts_through (Unfinished k reason) = missed_end k false (Some reason)
 
--- how many of the n steps are made, where that is known
+-- the number of the n steps that are made, if known
 abbrev pub made_through : (n : ℕ) → ThroughEnding → Option ℕ
 made_through n (Found r) = Some n
 made_through n (Unplayed k calls) = Some n
@@ -63,7 +63,7 @@ made_through n (Missing last m) = Some m
 made_through n (MissingWithin k m) = Some m
 made_through n (Unfinished k reason) = None
 
--- the exit status if nothing was found: 5 if not all was seen, and 4 if no run makes listed steps
+-- the exit status if nothing was found: 5 if not all was explored, 4 if no run makes listed steps
 abbrev pub status_missed : Option Reason → Option ListedSteps → ℕ
 status_missed (Some reason) steps = 5
 status_missed None (Some steps) = 4

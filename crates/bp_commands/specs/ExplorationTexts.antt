@@ -1,4 +1,4 @@
--- What is said of an exploration on standard error.
+-- The report of an exploration on standard error.
 use Rattle.std.specs.Prelude.{if◌then◌else◌, ◌==◌, ◌+◌, ◌-◌, ◌/◌, ◌%◌, ℕ, nat_le, nat_lt, Bool, true, false, List, [], ◌∷◌, ◌++◌, Option, None, Some, codes, decimal, option_map}
 use Rattle.std.specs.List.{concat}
 use Rattle.bp_text.specs.Pieces.{displayed, key_text, list_text, number_or_null, string_or_null, string_text, truth_text}
@@ -48,7 +48,7 @@ abbrev pub steps_text : ℕ → List ℕ
 steps_text n =
     concat (codes "makes the " ∷ count_of n (codes "listed step") ∷ codes " in this order" ∷ [])
 
--- the first steps that no run makes, where the first m are made
+-- the first steps that no run makes, if the first m are made
 abbrev pub first_text : (m : ℕ) → List ℕ
 first_text m =
     if m == 0 then codes "makes the first listed step"
@@ -58,9 +58,9 @@ first_text m =
     ∷ codes " listed steps in this order; a run makes " ∷ grouped m
     ∷ codes " of them" ∷ [])
 
--- What no run does that was looked through.
+-- The end that no explored run has.
 
--- it makes no more of n listed steps, where so many of them are made, if that is known
+-- the listed steps that no run makes: the first ones if `made` is known, else all n
 abbrev pub unmade_text : (n : ℕ) → (made : Option ℕ) → List ℕ
 unmade_text n None = steps_text n
 unmade_text n (Some m) = first_text m
@@ -69,7 +69,7 @@ abbrev pub end_text : (with_deadlock : Bool) → List ℕ
 end_text false = codes "fails"
 end_text true = codes "fails or ends in a deadlock"
 
--- what is looked for: an end, or listed steps
+-- the aim of the search: an end, or listed steps
 abbrev pub sought_by : Option ListedSteps → (with_deadlock : Bool) → List ℕ
 sought_by None with_deadlock = end_text with_deadlock
 sought_by (Some steps) with_deadlock = unmade_text steps.count steps.made
@@ -77,7 +77,7 @@ sought_by (Some steps) with_deadlock = unmade_text steps.count steps.made
 abbrev pub sought_text : Exploration → List ℕ
 sought_text x = sought_by x.steps x.task.now.options.with_deadlock
 
--- why not all was seen, and what helps
+-- why not everything was explored, and the remedy
 abbrev pub reason_text : Reason → List ℕ
 reason_text States = codes "note: no more states are kept; raise --states\n"
 reason_text Stopped = codes "note: the time was over; raise --time\n"
@@ -86,7 +86,7 @@ reason_text Memory = codes "note: memory was refused\n"
 abbrev pub were_text : ℕ → List ℕ
 were_text n = if n == 1 then codes " was" else codes " were"
 
--- runs of k contexts were not looked through
+-- runs of k contexts were not explored
 abbrev pub unfinished_text : Exploration → Reason → List ℕ
 unfinished_text x reason =
     let k = x.facts.contexts in
@@ -98,7 +98,7 @@ unfinished_text x reason =
     ∷ codes "\n" ∷ reason_text reason
     ∷ [])
 
--- no run does so, of any number of contexts
+-- no run does so, with any number of contexts
 abbrev pub anywhere_by : Option ListedSteps → Exploration → List ℕ
 anywhere_by None x =
     concat (
@@ -120,7 +120,7 @@ abbrev pub of_program : Option ListedSteps → (file : List ℕ) → List ℕ
 of_program None file = concat (codes " of " ∷ displayed file ∷ [])
 of_program (Some steps) file = []
 
--- no run does so within as many contexts
+-- no run does so within this number of contexts
 abbrev pub within_text : Exploration → List ℕ
 within_text x =
     concat (
@@ -139,17 +139,17 @@ missed_by None false x = within_text x
 abbrev pub missed_text : Exploration → List ℕ
 missed_text x = codes "no run" ++ missed_by x.facts.reason x.facts.complete x
 
--- What was found.
+-- The finding.
 
 abbrev pub finding_text : FoundKind → List ℕ
 finding_text Failure = codes "an assertion fails"
 finding_text other = codes "deadlock"
 
--- what is said of the last step if an assertion fails in it
+-- the note on the last step if an assertion fails in it
 abbrev pub made_end : (failed : Bool) → (outcome : List ℕ) → List ℕ
 made_end failed outcome = if failed then codes "\n" ++ outcome else []
 
--- a run that ends in what was found, and a run that makes listed steps
+-- a run that ends in the finding, and a run that makes listed steps
 abbrev pub run_by : Option ListedSteps → (trace : Bool) → Exploration → List ℕ
 run_by None true x = x.outcome.items ++ x.waits.items
 run_by None false x = finding_text x.facts.found
@@ -167,12 +167,12 @@ traceless_by false (Some n) steps =
     ++ (it_text steps ++ (codes ": a thread makes " ++ count_of n (codes "call")))
 traceless_by trace calls steps = []
 
--- what no run within fewer contexts does
+-- the end that no run within fewer contexts has
 abbrev pub less_by : Option ListedSteps → (with_deadlock : Bool) → List ℕ
 less_by None with_deadlock = end_text with_deadlock
 less_by (Some steps) with_deadlock = codes "makes them"
 
--- what is known of runs within fewer contexts than k; nothing if k is 1 or 0
+-- the result for runs within fewer contexts than k; nothing if k is 1 or 0
 abbrev pub below_text : Exploration → (k : ℕ) → List ℕ
 below_text x k =
     if nat_le k 1 then []
@@ -181,7 +181,7 @@ below_text x k =
     codes "no run within " ∷ contexts_text (k - 1)
     ∷ codes " " ∷ less_by x.steps x.task.now.options.with_deadlock ∷ codes "\n" ∷ [])
 
--- it was found within as many contexts, and no fewer
+-- it was found within this number of contexts, and no fewer
 abbrev pub found_text : Exploration → List ℕ
 found_text x =
     codes "within "
@@ -191,13 +191,13 @@ found_text x =
     ++ (traceless_by x.facts.trace x.facts.calls x.steps
     ++ (codes "\n" ++ below_text x x.facts.contexts)))))
 
--- What is said of an exploration.
+-- The report of an exploration.
 
 abbrev pub ending_by : FoundKind → Exploration → List ℕ
 ending_by Nothing x = missed_text x
 ending_by other x = found_text x
 
--- how many states were cut off at a full stack
+-- the number of states that were cut off at a full stack
 abbrev pub cut_text : ℕ → List ℕ
 cut_text n =
     if n == 0 then []
@@ -248,7 +248,7 @@ exploration_object x =
     ∷ [])
     ++ (last_members x.steps x.waits.items ++ codes "}\n")
 
--- as JSON or not
+-- the report, as JSON or not
 abbrev pub exploration_text : Exploration → List ℕ
 exploration_text x =
     if x.task.now.json then exploration_object x else exploration_lines x

@@ -39,7 +39,7 @@ abbrev pub format_of : (json : Bool) → ViewFormat
 format_of true = Json
 format_of false = Columns
 
--- the most contexts of the runs that are looked through, if there is a bound
+-- the most contexts of the runs to explore, if there is a bound
 abbrev pub bound_of : ContextBound → (contexts : ℕ) → Option ℕ
 bound_of Kept k = Some k
 bound_of AsUsed k = None
@@ -49,7 +49,7 @@ abbrev pub IsNothingSaid : ExploreTask → (outcome waits : List ℕ) → (faile
 IsNothingSaid x outcome waits failed =
     (failed ≡ false) × (outcome ≡ clean_text (format_of x.json) false) × (waits ≡ [])
 
--- Of the program of a text: what was found has this outcome and these waits, as is asked for.
+-- Of the program of a text: the finding has this outcome and these waits, under the task.
 module _ (text : List ℕ) (t : Program) (x : ExploreTask) (outcome waits : List ℕ) where
   -- they say how a history ends: which assertion failed, if one did, or which threads wait in a
   -- deadlock
@@ -67,9 +67,9 @@ module _ (text : List ℕ) (t : Program) (x : ExploreTask) (outcome waits : List
   IsFindingSaid failed (Found r) = IsEndSaid r.session.setup r.history.items failed
   IsFindingSaid failed other = IsNothingSaid x outcome waits failed
 
--- The runs of the program of a text are looked through, as is asked for.
+-- The runs of the program of a text are explored, under the options of the task.
 module _ (x : ExploreTask) (text : List ℕ) where
-  -- this is what they come to, and what is written of it
+  -- this is the result, and the text written of it
   pub record IsExplorationTrace (written : List ℕ) : Type 0 where
     pub program : Program
     pub setup : SetupOf
@@ -82,7 +82,7 @@ module _ (x : ExploreTask) (text : List ℕ) where
         IsExploration code program setup bound x.options.with_deadlock ending
     pub is : written ≡ trace_of ending
 
-  -- and what is said of it
+  -- this is also its report
   pub record IsOfExploration (written : List ℕ) (answer : Exploration) : Type 0 where
     pub trace : IsExplorationTrace written
     pub task : answer.task.now ≡ x
@@ -92,14 +92,14 @@ module _ (x : ExploreTask) (text : List ℕ) where
         let outcome = answer.outcome.items in
         IsFindingSaid text trace.program x outcome answer.waits.items answer.failed trace.ending
 
-  -- the program takes the setup, and memory was refused
+  -- the program accepts the setup, and memory was refused
   pub record LacksMemory (f : Fault) : Type 0 where
     pub program : Program
     pub setup : SetupOf
     pub opened : IsOpened x.start x.named text program setup
     pub is : f ≡ Memory
 
--- it writes the trace of the run that was found, or nothing
+-- the command writes the trace of the run that was found, or nothing
 abbrev pub explores : ExploreTask → Command (List ℕ) Exploration
 explores x = record {
   Writes = IsExplorationTrace x;

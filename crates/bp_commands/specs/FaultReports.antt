@@ -1,4 +1,4 @@
--- How a run ends, and what is told and explained of a refusal.
+-- How a run ends, and how a refusal is told and explained.
 use Rattle.std.specs.Prelude.{◌≡◌, ℕ, List, [], ◌∷◌, Option, None, Result, Ok, Err, Bool, false, if◌then◌else◌, ◌⊎◌, ◌++◌, Some, IsErr, IsErrAnd, Vec}
 use Rattle.std.specs.declared.alloc.AllocError.{AllocError}
 use Rattle.std.specs.declared.alloc.Global.{Global}
@@ -24,13 +24,13 @@ use Rattle.bp_commands.specs.declared.explanations.SecondInput.{SecondInput}
 use Rattle.bp_commands.specs.declared.explanations.SecondInput.TheVariants as second
 use Rattle.bp_commands.specs.Commands.{Inputs, Pair, text_alone_of}
 
--- How a run ends: its exit status, and what it leaves on standard error.
+-- How a run ends: its exit status, and its text on standard error.
 
 -- an assertion failed
 abbrev pub report_failed : Report → Bool
 report_failed r = is_failure r.outcome
 
--- what a command's answers say: the exit status, and what a user reads on standard error
+-- the exit status and the text on standard error for a command's answer
 pub record AnswerRule (T : Type 0) : Type 0 where
   pub status : T → ℕ
   pub summary : T → List ℕ
@@ -39,7 +39,7 @@ pub record AnswerRule (T : Type 0) : Type 0 where
 abbrev pub of_report : AnswerRule Report
 of_report = record { status = λ r. exit_status (report_failed r) None; summary = λ _. [] }
 
--- nor has what a run by workers answers
+-- the answer of a run by workers has none either
 abbrev pub of_run : AnswerRule RunReport
 of_run = record { status = λ r. exit_status (report_failed r.report) None; summary = λ _. [] }
 
@@ -47,18 +47,18 @@ of_run = record { status = λ r. exit_status (report_failed r.report) None; summ
 abbrev pub done : {T : Type 0} → AnswerRule T
 done = record { status = λ _. exit_status false None; summary = λ _. [] }
 
--- nothing was to be explained
+-- there was nothing to explain
 abbrev pub nothing_explained : Explained
 nothing_explained = record { lines = Ok tt; told = Ok tt }
 
--- a summary was written, and whether it was written whole was told; nothing was written where
--- there is none
+-- a summary was written, with a result that tells whether it was written whole; an empty one was
+-- not written
 abbrev pub HasSummary
     : List ℕ → Option (List ℕ) → Option (List ℕ) → Result (Unit {0}) WriteFault → Type 0
 HasSummary [] old new told = (new ≡ old) × (told ≡ Ok tt)
 HasSummary (b ∷ bs) old new told = Writes old new (b ∷ bs) told
 
--- the line of a fault was written, and whether it was written whole was told
+-- the line of a fault was written, with a result that tells whether it was written whole
 abbrev pub HasFaultLine
     : Fault → Option (List ℕ) → Option (List ℕ) → Result (Unit {0}) WriteFault → Type 0
 HasFaultLine f old new told = Writes old new (fault_line f) told
@@ -74,8 +74,8 @@ module _
       × HasSummary (rule.summary answer) old new e.told
   IsEndOf (Err f) e old new = (e.status ≡ status_of f) × IsReported f old new e.told
 
--- What `--explain` adds after the line of a fault: the explanation of that fault in the text that
--- was read, or else its words.
+-- The text that `--explain` adds after the line of a fault: the explanation of that fault in the
+-- text that was read, or else its sentence.
 
 -- this explains a fault of the program's text in the file of this name
 abbrev pub ExplainsText : List ℕ → List ℕ → Fault → Explanation → Type 0
@@ -90,7 +90,7 @@ ExplainsInput second.Schedule name schedule (Schedule f) e = ExplainsSchedule na
 ExplainsInput second.Steps name steps (Steps f) e = ExplainsSteps name f e
 ExplainsInput kind name input f e = ⊥
 
--- this explains a fault of either
+-- this explains a fault of either input
 abbrev pub ExplainsPair : SecondInput → List ℕ → List ℕ → Pair → Fault → Explanation → Type 0
 ExplainsPair kind name input_name given f e =
     ExplainsText name given.text f e ⊎ ExplainsInput kind input_name given.input f e
@@ -101,7 +101,7 @@ pub record IsSentenceLine (said : List ℕ) : Type 0 where
   pub one_line : IsOneLine sentence
   pub is : said ≡ sentence ++ 10 ∷ []
 
--- the text is the lines of what explains a fault, or its sentence; there is none where nothing does
+-- the text is the lines of an explanation, or its sentence, or None without an explanation
 abbrev pub IsTextOf
     : (in_lines : Bool) → (Explanation → Type 0) → Option (Vec ℕ Global) → Type 0
 IsTextOf in_lines Explains (Some text) =
@@ -109,44 +109,44 @@ IsTextOf in_lines Explains (Some text) =
     × (text.items ≡ (if in_lines then lines_of e else sentence_of e))
 IsTextOf in_lines Explains None = IsUnexplained Explains
 
--- the message is the sentence of what explains a fault, where anything does
+-- the message is the sentence of an explanation, if there is one
 abbrev pub IsSentence : (Explanation → Type 0) → List ℕ → Type 0
 IsSentence Explains message =
     ((e : Explanation) × Explains e × (message ≡ sentence_of e)) ⊎ IsUnexplained Explains
 
--- the same, or memory for the sentence was refused
+-- it is that message, or memory for the sentence was refused
 abbrev pub IsMessage : (Explanation → Type 0) → Explained → List ℕ → Type 0
 IsMessage Explains told message =
     ((told.lines ≡ Ok tt) × IsSentence Explains message) ⊎ IsErr told.lines
 
--- what is said is the lines of what explains a fault, and a sentence where nothing does
+-- the text is the lines of an explanation, or a sentence if nothing explains the fault
 abbrev pub AreLinesOf : (Explanation → Type 0) → List ℕ → Type 0
 AreLinesOf Explains said =
     ((e : Explanation) × Explains e × (said ≡ lines_of e))
     ⊎ (IsUnexplained Explains × IsSentenceLine said)
 
--- the same, or a sentence where memory for the lines was refused
+-- it is that text, or a sentence if memory for the lines was refused
 abbrev pub IsSaid : (Explanation → Type 0) → Explained → List ℕ → Type 0
 IsSaid Explains told said =
     ((told.lines ≡ Ok tt) × AreLinesOf Explains said)
     ⊎ (IsErr told.lines × IsSentenceLine said)
 
--- what is said where these lines were made, or memory for them was refused
+-- the text if these lines were made, or memory for them was refused
 abbrev pub IsSaidFor
     : Result (Option (Vec ℕ Global)) AllocError → Explained → List ℕ → Type 0
 IsSaidFor (Ok (Some lines)) told said = (told.lines ≡ Ok tt) × (said ≡ lines.items)
 IsSaidFor (Ok None) told said = (told.lines ≡ Ok tt) × IsSentenceLine said
 IsSaidFor (Err refused) told said = IsErr told.lines × IsSentenceLine said
 
--- No line of an explanation was to be written. In JSON its sentence is in the object, and otherwise
--- nothing was to be explained.
+-- No line of an explanation was to be written. In JSON its sentence is in the object; otherwise
+-- there was nothing to explain.
 abbrev pub IsUntold : {R : Type 0} → FaultFormat → Result R Fault → Explained → Type 0
 IsUntold format.Json (Err f) e = e.told ≡ Ok tt
 IsUntold other _ e = e ≡ nothing_explained
 
--- Standard error has these bytes before and after what is added. After a refusal that this format
--- explains by lines that is what is said of it, and whether it was written whole was told.
--- Otherwise nothing is added.
+-- Standard error has these bytes before and after the addition. After a refusal that this format
+-- explains by lines, those lines are added, with a result that tells whether they were written
+-- whole. Otherwise nothing is added.
 abbrev pub IsTold
     : {R : Type 0} → FaultFormat → (Fault → Explained → List ℕ → Type 0) → Result R Fault
     → Explained → Option (List ℕ) → Option (List ℕ) → Type 0
@@ -158,25 +158,25 @@ IsTold other IsSaid done e old new = (new ≡ old) × IsUntold other done e
 abbrev pub AreReadOr : {X R : Type 0} → Inputs X → X → Result R Fault → Type 0
 AreReadOr inputs given done = inputs.Holds given ⊎ IsErrAnd done inputs.Unread
 
--- these inputs were not read; the fault that is told is why, or that the output was not written
+-- these inputs were not read; the reported fault is why, or that the output was not written
 abbrev pub AreUnread : {X : Type 0} → Inputs X → Fault → Type 0
 AreUnread inputs told = (why : Fault) × inputs.Unread why × ((told ≡ why) ⊎ (told ≡ Write))
 
--- these inputs were read, or the fault that is told is of inputs that were not
+-- these inputs were read, or the reported fault is of inputs that were not
 abbrev pub AreReadOrNot : {X : Type 0} → Inputs X → X → Fault → Type 0
 AreReadOrNot inputs given f = inputs.Holds given ⊎ AreUnread inputs f
 
--- What is said of a fault: it is of the inputs that were read, or of why they were not.
+-- The text on a fault: it is of the inputs that were read, or of why they were not.
 module _ {X : Type 0} (inputs : Inputs X) (Explains : X → Fault → Explanation → Type 0) where
   pub record IsSaidOfRead (f : Fault) (e : Explained) (said : List ℕ) : Type 0 where
     pub given : X
     pub read : AreReadOrNot inputs given f
     pub is : IsSaid (Explains given f) e said
 
--- What is told of a refusal on standard error, in each format.
+-- The report of a refusal on standard error, in each format.
 
--- The fault is reported in this format: its line was written, or one of these objects in its place;
--- and whether it was written whole was told.
+-- The fault is reported in this format: its line was written, or one of these objects instead; the
+-- result tells whether it was written whole.
 abbrev pub IsReported
     : FaultFormat → (Fault → List ℕ → Type 0) → Fault
     → Option (List ℕ) → Option (List ℕ) → Result (Unit {0}) WriteFault → Type 0
@@ -184,14 +184,14 @@ IsReported format.Json IsObject f old new told =
     (object : List ℕ) × IsObject f object × Writes old new object told
 IsReported other IsObject f old new told = HasFaultLine f old new told
 
--- the file that a fault of a command on one program is in
+-- the file of a fault of a command on one program
 abbrev pub IsFileOfText : List ℕ → Fault → Option (List ℕ) → Type 0
 IsFileOfText name Device file = file ≡ Some name
 IsFileOfText name (Program f) file = file ≡ Some name
 IsFileOfText name f file = file ≡ None
 
--- The file that a fault of a command on a program and an input beside it is in. Which of them could
--- not be read is not said.
+-- The file of a fault of a command on a program and an input beside it. It does not say which of
+-- them could not be read.
 abbrev pub IsFileOfPair : SecondInput → List ℕ → List ℕ → Fault → Option (List ℕ) → Type 0
 IsFileOfPair kind name input_name Device file = (file ≡ Some name) ⊎ (file ≡ Some input_name)
 IsFileOfPair kind name input_name (Program f) file = file ≡ Some name
@@ -213,14 +213,14 @@ module _ (IsIn : Fault → Option (List ℕ) → Type 0) (given : Pair) where
     pub value_is : let r = fault_row f in IsValueIn given.input r.detail value
     pub is : object ≡ fault_object f file given.text value message
 
-  -- its object, whose message is the sentence of what explains it
+  -- its object, whose message is the sentence of its explanation
   module _ (Explains : Fault → Explanation → Type 0) where
     pub record IsObjectIn (e : Explained) (f : Fault) (object : List ℕ) : Type 0 where
       pub message : List ℕ
       pub said : IsMessage (Explains f) e message
       pub is : IsObjectWith f message object
 
--- what is told of faults of these inputs: what explains one, and its object
+-- the report of faults of these inputs: the explanation of one, and its object
 pub record FaultReport (X : Type 0) : Type 1 where
   pub Explains : X → Fault → Explanation → Type 0
   pub IsObject : X → Explained → Fault → List ℕ → Type 0
@@ -254,8 +254,8 @@ module _
     pub read : AreReadOrNot inputs given f
     pub is : IsObject given e f object
 
--- A run ended so: its summary was written, or its refusal in this format, by an object in JSON.
--- Then what is said of the refusal was, where the format explains it by lines.
+-- A run ended in this way: its summary was written, or its refusal in this format, as an object in
+-- JSON. Then the explanation of the refusal was, if the format explains by lines.
 abbrev pub IsConcluded
     : {R : Type 0} → AnswerRule R → FaultFormat → (Explained → Fault → List ℕ → Type 0)
     → (Fault → Explained → List ℕ → Type 0) → Result R Fault → RunEnd

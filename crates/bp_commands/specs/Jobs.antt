@@ -1,4 +1,4 @@
--- Runs of commands, from their inputs to the exit status, and what they leave on both streams.
+-- Runs of commands, from their inputs to the exit status, and their text on both streams.
 use Rattle.std.specs.Prelude.{ℕ, List, Option, None, Some, ◌≡◌, ◌≢◌, ◌⊎◌, [], Result, Err}
 use Rattle.std.specs.Io.KnownBytes.{append_known, Keeps}
 use Rattle.bp_machine.specs.declared.calls.Report.{Report}
@@ -12,37 +12,37 @@ use Rattle.bp_commands.specs.declared.run_ends.RunEnd.{RunEnd}
 use Rattle.bp_commands.specs.declared.explanations.SecondInput.{SecondInput}
 use Rattle.bp_commands.specs.FaultReports.{of_report, AnswerRule, IsSaidOfRead, FaultReport, on_bytes, on_pair, on_text, IsConcluded, IsObjectRead}
 
--- What is left of files.
+-- The bytes left of files.
 
--- what is left of a file that is opened or not
+-- the bytes left of a file that is opened or not
 abbrev pub rest_of
     : {A : Type 0} → Option (List ℕ) → (A → Option (List ℕ)) → Option A → Option (List ℕ)
 rest_of unopened remaining None = unopened
 rest_of unopened remaining (Some file) = remaining file
 
--- the inputs of a command on the program of one file and the input of another; this is left of them
+-- the inputs of a command on two files, a program and another, with these bytes left of them
 abbrev pub pair_of_files
     : ℕ → Option (List ℕ) → Option (List ℕ) → Option (List ℕ) × Option (List ℕ) → Inputs Pair
 pair_of_files limit text input left = text_and limit text left.0 input left.1
 
--- What is left where a command wrote through a buffer.
+-- The output of a command that wrote through a buffer.
 
--- the output has the bytes, but for one or more at their end
+-- the output has the bytes, except for one or more at their end
 pub record LacksEnd (held now : Option (List ℕ)) : Type 0 where
   pub lost : List ℕ
   pub some : lost ≢ []
   pub rest : Keeps held (append_known now lost)
 
--- The output has all that the buffer held, also before a refusal, and the answer is the command's;
--- or it lacks some of the end, and the answer is that it was not written.
+-- The output has everything that the buffer held, also before a refusal, and the answer is the
+-- command's; or it lacks some of the end, and the answer is that it was not written.
 abbrev pub IsFlushed
     : {T : Type 0}
     → Result T Fault → Option (List ℕ) → Result T Fault → Option (List ℕ) → Type 0
 IsFlushed done held answer now =
     (Keeps held now × (answer ≡ done)) ⊎ (LacksEnd held now × (answer ≡ Err Write))
 
--- a command on the inputs that it may leave unread in part, how it ends, what is told of faults of
--- the inputs, and in which format
+-- a command on inputs that it may leave unread in part, how it ends, the reports of faults of the
+-- inputs, and their format
 pub record Job : Type 1 where
   pub Left : Type 0
   pub Given : Type 0
@@ -53,7 +53,7 @@ pub record Job : Type 1 where
   pub report : FaultReport Given
   pub format : FaultFormat
 
--- what the output and standard error hold
+-- the contents of the output and of standard error
 pub record Held : Type 0 where
   pub output : Option (List ℕ)
   pub errors : Option (List ℕ)
@@ -61,8 +61,8 @@ pub record Held : Type 0 where
 abbrev pub held : (output errors : Option (List ℕ)) → Held
 held output errors = record { output = output; errors = errors }
 
--- The streams held this before and after a run was ended by this answer: the output took what the
--- command wrote, or not all of its end; and standard error has its summary, or its refusal.
+-- The streams held this before and after a run was ended by this answer: the output took the
+-- command's text, or not all of its end; and standard error has its summary, or its refusal.
 module _
     {R : Type 0} (rule : AnswerRule R) (format : FaultFormat)
     (IsObject : Explained → Fault → List ℕ → Type 0)
@@ -72,7 +72,7 @@ module _
     pub flushed : IsFlushed done before.output final after.output
     pub concluded : IsConcluded rule format IsObject IsSaid final end before.errors after.errors
 
--- The streams held this before and after the job was done: its command answered of the inputs, and
+-- The streams held this before and after the job was done: its command answered on the inputs, and
 -- the run was ended by that answer; a refusal names the inputs read.
 pub record IsRun (job : Job) (before after : Held) (end : RunEnd) : Type 0 where
   pub left : job.Left

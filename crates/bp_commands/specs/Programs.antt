@@ -1,4 +1,4 @@
--- The commands `check` and `code`, and programs that take a setup whose globals have bits by name.
+-- The commands `check` and `code`, and programs with a setup whose globals have bits by name.
 use Rattle.std.specs.Prelude.{if◌then◌else◌, ◌≡◌, ℕ, Bool, List, [], ◌∷◌, length, codes, decimal, ◌⊎◌, None}
 use Rattle.std.specs.List.{concat}
 use Rattle.bp_language.specs.Ast.{Program}
@@ -39,11 +39,11 @@ pub record IsUnlawful (text : List ℕ) (f : Fault) : Type 0 where
   pub why : IsProgramRefusal text cause
   pub is : f ≡ fault_of_program cause
 
--- what is written of a program, as JSON or not
+-- the text written of a program, as JSON or not
 abbrev pub check_text : (json : Bool) → Program → List ℕ
 check_text json t = if json then program_object t else check_line t
 
--- it writes the numbers of procedures and globals, or their names as JSON
+-- the command writes the numbers of procedures and globals, or their names as JSON
 abbrev pub checks : (json : Bool) → Command (List ℕ) (Unit {0})
 checks json = record {
   Writes = IsOfProgram (check_text json);
@@ -58,7 +58,7 @@ checks json = record {
 abbrev pub listing_of : Program → List ℕ
 listing_of p = listing_text (flat_of p)
 
--- this is the listing of a program's code, that with the source of each instruction, or the same
+-- this is the listing of a program's code, the one with the source of each instruction, or the one
 -- in JSON
 abbrev pub IsListingText : ListingForm → (text : List ℕ) → Program → List ℕ → Type 0
 IsListingText Lines text t written = written ≡ listing_of t
@@ -77,7 +77,7 @@ pub record HasNoCode (text : List ℕ) (f : Fault) : Type 0 where
   pub why : IsCodeRefusal text cause
   pub is : f ≡ fault_of_code cause
 
--- it writes the listing of the program's code in this form
+-- the command writes the listing of the program's code in this form
 abbrev pub lists : ListingForm → Command (List ℕ) (Unit {0})
 lists form = record {
   Writes = IsListed form;
@@ -88,7 +88,7 @@ lists form = record {
 
 -- The start of a run, in which globals may have their initial bits by name.
 
--- the start in which these globals have their bits, where any are named
+-- the start in which these globals have their bits, if any are named
 abbrev pub start_asked : StartOf → List NamedBitOf → Program → StartOf
 start_asked start [] t = start
 start_asked start (n ∷ ns) t = start_by_names start (n ∷ ns) t
@@ -100,13 +100,13 @@ module _ (start : StartOf) (named : List NamedBitOf) (text : List ℕ) where
     pub lawful : IsLawfulText text t
     pub known : AreGlobals t named
 
-  -- the program takes this setup
+  -- the program accepts this setup
   pub record IsOpened (t : Program) (s : SetupOf) : Type 0 where
     pub of : IsProgramWith t
     pub setup : s ≡ setup_from (start_asked start named t) None t
     pub fine : setup_fault t s ≡ None
 
-  -- it does not take its setup
+  -- it does not accept its setup
   pub record IsSetupRefused (f : Fault) : Type 0 where
     pub program : Program
     pub of : IsProgramWith program

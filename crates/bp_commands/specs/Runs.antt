@@ -24,7 +24,7 @@ seeded o s = record s { seed = Some o.seed }
 -- The program of a text is run by real threads, under these options, in whose start these globals
 -- have their bits by name.
 module _ (o : OptionsOf) (named : List NamedBitOf) (text : List ℕ) where
-  -- the program takes the setup, and the turn and the ring are in range
+  -- the program accepts the setup, and the turn and the ring are in range
   pub record IsRunnable : Type 0 where
     pub program : Program
     pub setup : SetupOf
@@ -39,14 +39,14 @@ module _ (o : OptionsOf) (named : List NamedBitOf) (text : List ℕ) where
     pub bits : HasSeededBits (seeded o runnable.setup) history
     pub is : written ≡ trace_text (seeded o runnable.setup) history
 
-  -- what an empty output has after a run by the workers of this report
+  -- an empty output and the report of the workers after a run
   pub record IsRunReport (written : List ℕ) (report : RunReport) : Type 0 where
     pub runnable : IsRunnable
     pub played :
         let setup = seeded o runnable.setup in
         IsPlayedBy runnable.program setup (Some []) (Some written) report
 
-  -- what an empty output has after a run in which a worker stopped early: the trace of a history
+  -- an empty output after a run in which a worker stopped early has the trace of a history
   pub record IsStoppedEarly (written : List ℕ) (f : Fault) : Type 0 where
     pub runnable : IsRunnable
     pub thread : ℕ
@@ -55,7 +55,7 @@ module _ (o : OptionsOf) (named : List NamedBitOf) (text : List ℕ) where
         IsEarly runnable.program setup (Some []) (Some written) thread
     pub is : f ≡ Early thread
 
-  -- the program takes the setup, but the turn or the ring is out of range
+  -- the program accepts the setup, but the turn or the ring is out of range
   pub record HasBadNumbers (f : Fault) : Type 0 where
     pub program : Program
     pub setup : SetupOf
@@ -70,7 +70,7 @@ module _ (o : OptionsOf) (named : List NamedBitOf) (text : List ℕ) where
   abbrev pub IsRunRefused : Fault → Type 0
   IsRunRefused f = IsNotOpened o.start named text f ⊎ (HasBadNumbers f ⊎ IsNotStarted f)
 
--- it writes the trace of the history that the workers make
+-- the command writes the trace of the history that the workers make
 abbrev pub runs : OptionsOf → List NamedBitOf → Command (List ℕ) RunReport
 runs o named = record {
   Writes = IsOfRun o named;

@@ -29,7 +29,7 @@ use Rattle.bp_commands.specs.declared.shows.Screen.{Screen}
 use Rattle.bp_commands.specs.declared.trace_commands.TraceCommand.{TraceCommand}
 use Rattle.bp_commands.specs.declared.trace_commands.TraceCommand.TheVariants.{Replay, Migrate, Shrink, Show}
 
--- the view of a history with these options, whose foot says its report
+-- the view of a history with these options, whose foot has its report
 pub record IsViewText
     (o : ViewOptions) (file : List ℕ) (text : List ℕ) (t : Program) (s : SetupOf)
     (h : List Call) (written : List ℕ)
@@ -40,7 +40,7 @@ pub record IsViewText
   pub declared : AreDeclared t (watched_names o.watch)
   pub is : IsView t text s h report o file written
 
--- the state after the first n calls of a history, or after all where there are no more
+-- the state after the first n calls of a history, or after all if there are fewer
 abbrev pub IsStateOf : ViewFormat → ℕ → TextRule
 IsStateOf format n text t s h written = IsStateText format t text s (take n h) (length h) written
 
@@ -52,7 +52,7 @@ AreContextsOf format text t s h written = AreContextLines format t text s h writ
 abbrev pub AreStepsOf : TextRule
 AreStepsOf text t s h written = written ≡ own_steps_text (own_steps text t s h)
 
--- the trace has no thread of a number, of which alone the calls are to be shown
+-- the trace has no thread of a number, whose calls alone are to be shown
 pub record HasNoThread (o : ViewOptions) (given : Pair) (f : Fault) : Type 0 where
   pub program : Program
   pub setup : SetupOf
@@ -63,7 +63,7 @@ pub record HasNoThread (o : ViewOptions) (given : Pair) (f : Fault) : Type 0 whe
   pub past : threads setup ≤ thread
   pub is : f ≡ NoThread thread
 
--- the trace has the thread that is asked for, and a watched name is that of no variable
+-- the trace has the thread that is asked for, and a watched name is not that of a variable
 pub record HasNoVariable (o : ViewOptions) (given : Pair) (f : Fault) : Type 0 where
   pub program : Program
   pub setup : SetupOf
@@ -74,7 +74,7 @@ pub record HasNoVariable (o : ViewOptions) (given : Pair) (f : Fault) : Type 0 w
   pub undeclared : IsUndeclared program (watched_names o.watch) number
   pub is : f ≡ NoVariable number
 
--- it writes a view of the history, each line as it is made, of a program in this file
+-- the command writes a view of the history, each line as it is made, of a program in this file
 abbrev pub shows : ViewOptions → (file : List ℕ) → Command Pair Report
 shows o file = record {
   Writes = IsOfTrace (IsViewText o file);
@@ -85,15 +85,15 @@ shows o file = record {
   Spoils = IsBegun (IsViewText o file);
 }
 
--- it writes the state after n calls of the history
+-- the command writes the state after n calls of the history
 abbrev pub states : ViewFormat → ℕ → Command Pair Report
 states format n = on_trace (IsStateOf format n)
 
--- it writes a line for each context of the history
+-- the command writes a line for each context of the history
 abbrev pub lists_contexts : ViewFormat → Command Pair Report
 lists_contexts format = on_trace (AreContextsOf format)
 
--- it writes a line for each step of the history
+-- the command writes a line for each step of the history
 abbrev pub lists_steps : Command Pair Report
 lists_steps = on_trace AreStepsOf
 
@@ -115,18 +115,18 @@ on_screen options screen =
       columns = screen.columns;
     }
 
--- what a task asks for, of a trace that is accepted
+-- the command of a task, on a trace that is accepted
 abbrev pub shows_part : ShowTask → Screen → Command Pair Report
 shows_part x screen =
     shows_as (on_screen x.options screen) x.program.now x.contexts x.steps x.at
 
--- `show --valid`: what is shown of the accepted calls of a trace.
+-- `show --valid`: the view of the accepted calls of a trace.
 
--- after how many calls a trace is refused, and for what; none of a trace that is accepted
+-- the number of calls after which a trace is refused, and its fault; None for an accepted trace
 abbrev pub Refusal : Type 0
 Refusal = Option (ℕ × Fault)
 
--- the last line of what is shown of a trace that is refused after this many calls
+-- the last line of the view of a trace that is refused after this number of calls
 abbrev pub refusal_text : ViewFormat → (calls : ℕ) → List ℕ
 refusal_text Columns calls =
     concat (codes "the trace is refused after call " ∷ decimal calls ∷ codes "\n" ∷ [])
@@ -143,7 +143,7 @@ pub record IsWholeTrace (given : Pair) : Type 0 where
   pub lawful : IsLawfulText given.text program
   pub trace : IsSomeTrace program given.input
 
--- the trace is refused for this fault, and the part has that of its accepted calls, so many
+-- the trace is refused for this fault, and the part has that of its accepted calls
 pub record IsAcceptedPart (given part : Pair) (calls : ℕ) (f : Fault) : Type 0 where
   pub program : Program
   pub lawful : IsLawfulText given.text program
@@ -165,7 +165,7 @@ pub record OfPart (given : Pair) (Holds : Pair → Refusal → Type 0) : Type 0 
   pub is : IsPart given part refusal
   pub holds : Holds part refusal
 
--- no calls can be accepted: the text has no head of a setup that the program takes, or memory was
+-- no calls can be accepted: the text has no head of a setup that the program accepts, or memory was
 -- refused
 pub record HasNoPart (given : Pair) (f : Fault) : Type 0 where
   pub program : Program
@@ -181,7 +181,7 @@ module _ (format : ViewFormat) (command : Command Pair Report) where
   IsShown part shown =
       command.Writes part shown ⊎ ((report : Report) × command.Reports part shown report)
 
-  -- what it shows of the accepted calls, and the last line
+  -- its view of the accepted calls, and the last line
   abbrev pub IsShownWithLine : (text : List ℕ) → Pair → Refusal → Type 0
   IsShownWithLine text part refusal =
       (shown : List ℕ) × IsShown part shown × (text ≡ shown ++ last_line format refusal)
@@ -192,7 +192,7 @@ module _ (format : ViewFormat) (command : Command Pair Report) where
   IsRefusedAfter text f part (Some refusal) =
       IsShownWithLine text part (Some refusal) × (f ≡ refusal.1)
 
-  -- the command on the accepted calls of a trace; of a refused one a last line says so
+  -- the command on the accepted calls of a trace; for a refused one a last line says so
   abbrev pub on_valid_calls : Command Pair Report
   on_valid_calls = record {
     Writes = λ given text. OfPart given (IsShownWithLine text);
@@ -214,7 +214,7 @@ valid_if false format command = command
 abbrev pub shows_task : ShowTask → Screen → Command Pair Report
 shows_task x screen = valid_if x.valid x.options.format (shows_part x screen)
 
--- what is done with a trace
+-- the command for a trace
 abbrev pub trace_command : TraceCommand → Command Pair Report
 trace_command Replay = replays
 trace_command Migrate = migrates

@@ -22,7 +22,7 @@ use Rattle.bp_messages.specs.SummaryObjects.{summary_objects}
 use Rattle.bp_source.specs.SourceStatements.{AreStatements}
 use Rattle.bp_source.specs.StatementLines.{positions_of, AreStatementLines, AreUnreachedObjects}
 
--- what a user reads of a test, as JSON or not
+-- the summary of a test for a user, as JSON or not
 abbrev pub summary_of : TestReport → List ℕ
 summary_of x = if x.json then summary_objects x else summary_text x
 
@@ -30,7 +30,7 @@ summary_of x = if x.json then summary_objects x else summary_text x
 abbrev pub of_test : AnswerRule TestReport
 of_test = record { status = λ x. exit_status (has_found x.found) None; summary = summary_of }
 
--- the lines of the program's statements, as JSON or not, where they are to be listed
+-- the lines of the program's statements, as JSON or not, if they are to be listed
 abbrev pub AreListedAs
     : (unreached json : Bool) → (file text : List ℕ) → Program → List (List ℕ) → Type 0
 AreListedAs false json file text t lines = lines ≡ []
@@ -40,16 +40,16 @@ AreListedAs true true file text t lines = AreUnreachedObjects file text t lines
 abbrev pub AreListed : TestTask → (text : List ℕ) → Program → List (List ℕ) → Type 0
 AreListed x text t lines = AreListedAs x.unreached x.json x.program.now text t lines
 
--- the program of a text is tested, as is asked for
+-- the program of a text is tested, under the options of the task
 module _ (x : TestTask) (text : List ℕ) where
-  -- the program takes the setup, and no more jobs are asked for than there may be
+  -- the program accepts the setup, and no more jobs are asked for than the maximum
   pub record IsTestable : Type 0 where
     pub program : Program
     pub setup : SetupOf
     pub opened : IsOpened x.start x.named text program setup
     pub few : x.options.jobs ≤ MAX_JOBS
 
-  -- the trace of the first run that the test looks for
+  -- the trace of the first run that the test searches for
   pub record IsOfTest (written : List ℕ) : Type 0 where
     pub testable : IsTestable
     pub run : ℕ
@@ -60,8 +60,8 @@ module _ (x : TestTask) (text : List ℕ) where
         IsWrittenRun t testable.setup x.options (Some []) (Some written)
         (λ s h. IsSought t s x.options.with_deadlock h) run report runs
 
-  -- what an empty output has after the test, and what is answered: what was found, and the counts
-  -- and the marks of the runs up to it, that one included
+  -- an empty output after the test, and the answer: the finding, and the counts and the marks of
+  -- the runs up to it, that one included
   pub record IsTestReport (written : List ℕ) (tested : TestReport) : Type 0 where
     pub testable : IsTestable
     pub runs : List MadeRun
@@ -82,7 +82,7 @@ module _ (x : TestTask) (text : List ℕ) where
     pub json_is : tested.json ≡ x.json
     pub lines : AreListed x text testable.program (map (λ v. v.items) tested.lines.items)
 
-  -- the program takes the setup, but there may not be so many jobs
+  -- the program accepts the setup, but the number of jobs is over the maximum
   pub record HasManyJobs (f : Fault) : Type 0 where
     pub program : Program
     pub setup : SetupOf
@@ -97,8 +97,8 @@ module _ (x : TestTask) (text : List ℕ) where
   abbrev pub IsTestRefused : Fault → Type 0
   IsTestRefused f = IsNotOpened x.start x.named text f ⊎ (HasManyJobs f ⊎ LacksMemory f)
 
--- It writes the trace of the first run that the test looks for, or nothing. The statements that no
--- run reached are listed or not, and the summary is JSON or not.
+-- The command writes the trace of the first run that the test searches for, or nothing. The
+-- statements that no run reached are listed or not, and the summary is JSON or not.
 abbrev pub tests : TestTask → Command (List ℕ) TestReport
 tests x = record {
   Writes = IsOfTest x;

@@ -27,8 +27,8 @@ abbrev pub trace_through : ThroughEnding → List ℕ
 trace_through (Found r) = trace_text r.session.setup r.history.items
 trace_through other = []
 
--- of the program of a text: what is said of the run that was found, and whether an assertion fails
--- in its last step
+-- of the program of a text: the report of the run that was found, and whether an assertion fails in
+-- its last step
 abbrev pub IsRunSaid
     : (text : List ℕ) → Program → ExploreTask → (outcome waits : List ℕ) → (failed : Bool)
     → ThroughEnding → Type 0
@@ -36,15 +36,15 @@ IsRunSaid text t x outcome waits failed (Found r) =
     IsEndSaid text t x outcome waits r.session.setup r.history.items failed
 IsRunSaid text t x outcome waits failed other = IsNothingSaid x outcome waits failed
 
--- The runs of the program of a text are looked through for one that makes the steps of another
--- text, as is asked for.
+-- The runs of the program of a text are searched for one that makes the steps of another text,
+-- under the options of the task.
 module _ (x : ExploreTask) (given : Pair) where
-  -- the program takes this setup, and these are the steps
+  -- the program accepts this setup, and these are the steps
   pub record AreListed (t : Program) (s : SetupOf) (lines : List StepLineOf) : Type 0 where
     pub opened : IsOpened x.start x.named given.text t s
     pub told : AreTold t s given.input lines
 
-  -- this is what they come to, and what is written of it
+  -- this is the result, and the text written of it
   pub record IsThroughTrace (written : List ℕ) : Type 0 where
     pub program : Program
     pub setup : SetupOf
@@ -59,7 +59,7 @@ module _ (x : ExploreTask) (given : Pair) where
         IsThrough code program setup steps bound ending
     pub is : written ≡ trace_through ending
 
-  -- and what is said of it
+  -- this is also its report
   pub record IsOfThrough (written : List ℕ) (answer : Exploration) : Type 0 where
     pub trace : IsThroughTrace written
     pub task : answer.task.now ≡ x
@@ -71,7 +71,7 @@ module _ (x : ExploreTask) (given : Pair) where
         let outcome = answer.outcome.items in
         IsRunSaid given.text trace.program x outcome answer.waits.items answer.failed trace.ending
 
-  -- the program takes the setup, and the steps are none of its threads and variables
+  -- the program accepts the setup, and the steps are not of its threads and variables
   pub record AreStepsUntold (f : Fault) : Type 0 where
     pub program : Program
     pub setup : SetupOf
@@ -80,7 +80,7 @@ module _ (x : ExploreTask) (given : Pair) where
     pub why : IsUntold program setup given.input cause
     pub is : f ≡ fault_of_steps cause
 
-  -- the program takes the setup, there are steps, and memory was refused
+  -- the program accepts the setup, there are steps, and memory was refused
   pub record LacksMemoryThrough (f : Fault) : Type 0 where
     pub program : Program
     pub setup : SetupOf
@@ -92,7 +92,7 @@ module _ (x : ExploreTask) (given : Pair) where
   IsThroughRefused f =
       IsNotOpened x.start x.named given.text f ⊎ (AreStepsUntold f ⊎ LacksMemoryThrough f)
 
--- it writes the trace of the run that was found, or nothing
+-- the command writes the trace of the run that was found, or nothing
 abbrev pub explores_through : ExploreTask → Command Pair Exploration
 explores_through x = record {
   Writes = IsThroughTrace x;

@@ -28,12 +28,12 @@ use Rattle.bp_commands.specs.Programs.{HasNoCode, IsNotOpened, IsOpened}
 
 -- The commands on a trace of a program, `replay` and `migrate` among them.
 
--- What a command writes of a history, as a rule on the program text, the program, the setup, the
--- history and what is written of them.
+-- The text that a command writes of a history, as a rule on the program text, the program, the
+-- setup, the history and the text.
 abbrev pub TextRule : Type 1
 TextRule = List ℕ → Program → SetupOf → List Call → List ℕ → Type 0
 
--- what a replay shows of a history: what its steps printed, and its outcome
+-- the text of a replayed history: the values that its steps printed, and its outcome
 abbrev pub IsReplayText : TextRule
 IsReplayText text t s h written = written ≡ shown_text (printed_rows t s h) (outcome_of h)
 
@@ -57,18 +57,18 @@ module _ (is_text : TextRule) where
     pub legal : IsTraceOf given.text given.input program setup history
     pub is : is_text given.text program setup history written
 
-  -- and this is its report
+  -- this is also its report
   pub record IsTraceReport (given : Pair) (written : List ℕ) (report : Report) : Type 0 where
     pub trace : IsOfTrace given written
     pub reported : IsReport trace.setup trace.history report
 
-  -- memory was refused where a beginning of such a text was written
+  -- memory was refused after a beginning of such a text was written
   pub record IsBegun (given : Pair) (begun : List ℕ) (f : Fault) : Type 0 where
     pub rest : List ℕ
     pub whole : IsOfTrace given (begun ++ rest)
     pub is : f ≡ Memory
 
--- the text is that of a lawful program, and the other text is no trace of it
+-- the text is that of a lawful program, and the other text is not a trace of it
 pub record IsNoTrace (given : Pair) (f : Fault) : Type 0 where
   pub program : Program
   pub lawful : IsLawfulText given.text program
@@ -85,15 +85,15 @@ on_trace is_text = record {
   Spoils = λ _ _ _. ⊥;
 }
 
--- it writes what the steps printed, and the outcome
+-- the command writes the values that the steps printed, and the outcome
 abbrev pub replays : Command Pair Report
 replays = on_trace IsReplayText
 
--- it writes the trace of version 2 of the same history
+-- the command writes the trace of version 2 of the same history
 abbrev pub migrates : Command Pair Report
 migrates = on_trace IsMigrationText
 
--- a command on a trace of the program of this code is answered so
+-- this is the answer of a command on a trace of the program of this code
 abbrev pub AnswersByCode
     : Command Pair Report → Flat → (trace : List ℕ) → Option (List ℕ) → Option (List ℕ)
     → Result Report Fault → Type 0
@@ -111,7 +111,7 @@ IsSeparated bytes rest = (bytes ≡ 37 ∷ 10 ∷ rest) ⊎ ((bytes ≡ 37 ∷ [
 abbrev pub HasNoSeparator : List ℕ → Type 0
 HasNoSeparator bytes = (rest : List ℕ) → IsSeparated bytes rest → ⊥
 
--- the bytes end a line: they are none, or a line feed is the last of them
+-- the bytes end a line: there are none, or the last of them is a line feed
 abbrev pub ends_line : List ℕ → Bool
 ends_line [] = true
 ends_line (b ∷ []) = b == 10
@@ -157,12 +157,12 @@ module _ (start : StartOf) (named : List NamedBitOf) (given : Pair) where
     pub driven : IsDriven program setup given.input history
     pub is : written ≡ trace_text setup history
 
-  -- and this is its report
+  -- this is also its report
   pub record IsScheduleReport (written : List ℕ) (report : Report) : Type 0 where
     pub trace : IsOfSchedule written
     pub reported : IsReport trace.setup trace.history report
 
-  -- the program takes the setup, and the schedule does not drive it
+  -- the program accepts the setup, and the schedule does not drive it
   pub record IsScheduleRefused (f : Fault) : Type 0 where
     pub program : Program
     pub setup : SetupOf
@@ -171,7 +171,7 @@ module _ (start : StartOf) (named : List NamedBitOf) (given : Pair) where
     pub why : IsScheduleRefusal program setup given.input cause
     pub is : f ≡ fault_of_schedule cause
 
--- it writes the trace of the history to which the schedule drives the program
+-- the command writes the trace of the history to which the schedule drives the program
 abbrev pub drives : StartOf → List NamedBitOf → Command Pair Report
 drives start named = record {
   Writes = IsOfSchedule start named;
@@ -189,7 +189,7 @@ pub record OfBundle (Holds : Pair → Type 0) (bytes : List ℕ) : Type 0 where
   pub parted : IsParted bytes parts.text parts.input
   pub holds : Holds parts
 
--- it drives the program of the bundle by its schedule, from the defaults
+-- the command drives the program of the bundle by its schedule, from the defaults
 abbrev pub bundles : Command (List ℕ) Report
 bundles =
     let drives = drives default_start [] in
@@ -200,7 +200,7 @@ bundles =
       Spoils = λ _ _ _. ⊥;
     }
 
--- What `shrink` writes of a trace that ends in a failure or a deadlock, and its refusals.
+-- The text that `shrink` writes of a trace that ends in a failure or a deadlock, and its refusals.
 
 -- two histories of a program, each of its own setup
 module _ (t : Program) (s z : SetupOf) (h g : List Call) where
@@ -218,8 +218,8 @@ module _ (t : Program) (s z : SetupOf) (h g : List Call) where
 
 -- The trace of a history in which the same assertion of the same thread failed as in h, or which
 -- ends in the same deadlock, by no more calls and no more contexts. Each of its calls made a step.
--- Its setup is that of h but for the seed, of which there is none, and the contexts, which are
--- those that it uses.
+-- Its setup is that of h except for the seed, which it lacks, and the contexts, which are those
+-- that it uses.
 pub record IsShrunkText
     (text : List ℕ) (t : Program) (s : SetupOf) (h : List Call) (written : List ℕ)
     : Type 0 where
@@ -258,7 +258,7 @@ IsEndRefusal t s h NoFailure = IsOtherEnd t s h
 IsEndRefusal t s h Memory = IsDeadlock t s h
 IsEndRefusal t s h f = ⊥
 
--- it writes such a trace, and reports the history of the one that was read
+-- the command writes such a trace, and reports the history of the trace that was read
 abbrev pub shrinks : Command Pair Report
 shrinks = record {
   Writes = IsOfTrace IsShrunkText;
