@@ -1,4 +1,4 @@
--- What explains a fault of a trace, of a schedule and of reported steps.
+-- How a fault of a trace, of a schedule and of reported steps is explained.
 use Rattle.std.specs.Prelude.{if◌then◌else◌, ◌≡◌, ◌+◌, ◌==◌, ◌≤◌, nat_lt, ℕ, List, ◌++◌, length, Option, IsSomeAnd}
 use Rattle.bp_text.specs.Lines.{position_at}
 use Rattle.bp_machine.specs.declared.limits.TheConstants.{MAX_THREADS, MAX_CONTEXTS}
@@ -20,10 +20,10 @@ use Rattle.bp_confirm.specs.declared.confirming.ConfirmFault.{ConfirmFault}
 use Rattle.bp_confirm.specs.declared.confirming.ConfirmFault.TheVariants as confirm
 use Rattle.bp_explain.specs.declared.heads.TheConstants.{FIRST_ENTRY}
 
--- The lines of a trace's head that the faults of a setup are about.
+-- The lines of a trace's head to which the faults of a setup refer.
 
--- the trace begins with the head of a setup, and is no longer than a trace may be: of a longer one
--- the head is not read
+-- the trace begins with the head of a setup, and is no longer than a trace may be: the head of a
+-- longer one is not read
 pub record BeginsWithHead (trace : List ℕ) : Type 0 where
   pub fits : length trace ≤ MAX_TRACE
   pub version : Version
@@ -32,7 +32,7 @@ pub record BeginsWithHead (trace : List ℕ) : Type 0 where
   pub has : HasHead setup
   pub parts : trace ≡ head_text version setup ++ rest
 
--- what is read of a trace: the head of each setup with whose head it begins
+-- the head that is read of a trace: of each setup with whose head the trace begins
 abbrev pub IsReadHead : List ℕ → Option Head → Type 0
 IsReadHead trace head = (b : BeginsWithHead trace) → IsSomeAnd head (λ h. setup_of_head h ≡ b.setup)
 
@@ -52,7 +52,7 @@ module _ (s : SetupOf) where
   range_line_number =
       if nat_lt MAX_CONTEXTS s.contexts then contexts_line_number else calls_line_number
 
-  -- the line of the first entry that is not there, or is one too many
+  -- the line of the first entry that is missing, or is one too many
   abbrev pub threads_line_number : ℕ
   threads_line_number = if threads s == 0 then FIRST_ENTRY else FIRST_ENTRY + MAX_THREADS
 
@@ -65,19 +65,19 @@ IsSetupLine trace setup.InitLength n = (b : BeginsWithHead trace) → n ≡ init
 IsSetupLine trace setup.OutOfRange n = (b : BeginsWithHead trace) → n ≡ range_line_number b.setup
 IsSetupLine trace setup.Memory n = Unit {0}
 
--- What explains a fault of a trace, of a schedule and of reported steps.
+-- How a fault of a trace, of a schedule and of reported steps is explained.
 
--- the explanation of a fault of a setup that a trace says
+-- the explanation of a fault of a setup in a trace
 abbrev pub ExplainsSetup : List ℕ → List ℕ → SetupFault → Explanation → Type 0
 ExplainsSetup file trace fault e =
     (n : ℕ) × IsSetupLine trace fault n × ExplainsLine file n e
 
--- the explanation is of the line after a trace, where its end is due
+-- the explanation is of the line after a trace, at which its end line is expected
 abbrev pub ExplainsNoEnd : List ℕ → List ℕ → Explanation → Type 0
 ExplainsNoEnd file trace e =
     let last = position_at trace (length trace) in ExplainsLine file last.line e
 
--- the explanation of a fault of a trace: none of refused memory, and of a trace that is too long
+-- the explanation of a fault of a trace: none for refused memory, or for a trace that is too long
 abbrev pub ExplainsTrace : List ℕ → List ℕ → ReplayFault → Explanation → Type 0
 ExplainsTrace file trace replay.TooLong e = ⊥
 ExplainsTrace file trace replay.Memory e = ⊥
@@ -90,8 +90,8 @@ ExplainsTrace file trace (replay.AfterFinish n made) e = ExplainsLine file n e
 ExplainsTrace file trace (replay.Bit n due) e = ExplainsLine file n e
 ExplainsTrace file trace (replay.Reply n due) e = ExplainsLine file n e
 
--- the explanation of a fault of a schedule: none of refused memory, of an output that failed, or
--- of a schedule that is too long
+-- the explanation of a fault of a schedule: none for refused memory, an output that failed, or a
+-- schedule that is too long
 abbrev pub ExplainsSchedule : List ℕ → DriveFault → Explanation → Type 0
 ExplainsSchedule file drive.TooLong e = ⊥
 ExplainsSchedule file (drive.Line n) e = ExplainsLine file n e
@@ -99,7 +99,7 @@ ExplainsSchedule file (drive.AfterFinish n) e = ExplainsLine file n e
 ExplainsSchedule file drive.Memory e = ⊥
 ExplainsSchedule file drive.Write e = ⊥
 
--- the explanation of a fault of reported steps: none of refused memory, and of steps that are too
+-- the explanation of a fault of reported steps: none for refused memory, or for steps that are too
 -- long; a list without a step is explained at its first line
 abbrev pub ExplainsSteps : List ℕ → ConfirmFault → Explanation → Type 0
 ExplainsSteps file confirm.TooLong e = ⊥
