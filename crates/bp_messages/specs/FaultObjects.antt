@@ -20,15 +20,15 @@ use Rattle.bp_messages.specs.declared.step_objects.VerdictFacts.{VerdictFacts}
 use Rattle.bp_messages.specs.declared.faults.Fault.{Fault}
 use Rattle.bp_messages.specs.FaultTable.{fault_row, RowOf}
 
--- What the object of a fault says of a step that is not taken.
+-- The object of a fault on a step that is not taken.
 
--- the line and the column that a location names: neither is named by the end of a procedure
+-- the line and the column that a location names: the end of a procedure names neither
 abbrev pub place_named : Location → Option ℕ × Option ℕ
 place_named location.End = (None, None)
 place_named (location.Line n) = (Some n, None)
 place_named (location.Column n m) = (Some n, Some m)
 
--- the position of the statement at which a thread stands
+-- the position of the statement at which a thread is
 abbrev pub position_of_stand : Stand → Option Position
 position_of_stand (stand.Statement position) = Some position
 position_of_stand other = None
@@ -42,12 +42,12 @@ abbrev pub reply_text : StepReason → Option (List ℕ)
 reply_text (Refused r) = Some (letter_of r ∷ [])
 reply_text reason = None
 
--- the bit that the thread sees in place of a value
+-- the bit that the thread sees instead of a value
 abbrev pub seen_in : StepReason → Option Bool
 seen_in (Differs d) = d.seen
 seen_in reason = None
 
--- the line of the last step that changed what the thread sees of the variable of the value
+-- the line of the last step that changed the thread's view of the variable of the value
 abbrev pub changed_in : StepReason → Option ℕ
 changed_in (Differs d) = d.changed
 changed_in reason = None
@@ -59,18 +59,18 @@ name_of_value value = option_map (λ v. v.0) value
 abbrev pub bit_in : Option (List ℕ × Bool) → Option Bool
 bit_in value = option_map (λ v. v.1) value
 
--- the value on line n of these steps that the reason is about, where it is about one
+-- the value on line n of these steps that the reason is about, if any
 abbrev pub IsValueFor : (steps : List ℕ) → (n : ℕ) → StepReason → Option (List ℕ × Bool) → Type 0
 IsValueFor steps n (Differs d) value = IsValueOnLine steps n d.place value
 IsValueFor steps n reason value = value ≡ None
 
--- the value on a line of these steps that a fault names, where it names one
+-- the value on a line of these steps that a fault names, if any
 abbrev pub IsValueIn : (steps : List ℕ) → Detail → Option (List ℕ × Bool) → Type 0
 IsValueIn steps (Step r) value = IsValueFor steps r.line r.reason value
 IsValueIn steps d value = value ≡ None
 
--- the member of a step that is not taken: the place that its line names, the one at which its
--- thread stands, and the reply or the value that refuses it
+-- the member of a step that is not taken: the place that its line names, its thread's own place,
+-- and the reply or the value that refuses it
 abbrev pub step_object : StepRefusal → Option (List ℕ × Bool) → List ℕ
 step_object r value =
     let named = place_named r.location in
@@ -95,9 +95,9 @@ step_text d value = codes ",\"step\":null"
 
 -- The object of the verdict on reported steps.
 
--- What is said of it: its word, how many steps a run makes, the contexts that they use if all are
--- confirmed, the assertion that failed, the threads that wait in a deadlock, and the last bits on
--- which it depends.
+-- The shown facts of a verdict: its word, the number of steps that a run makes, and the contexts
+-- that they use if all are confirmed; the assertion that failed, the threads that wait in a
+-- deadlock, and the last bits on which it depends.
 pub record ShownVerdict : Type 0 where
   pub word : List ℕ
   pub steps : ℕ
@@ -106,7 +106,7 @@ pub record ShownVerdict : Type 0 where
   pub waits : List ℕ
   pub choices : List ℕ
 
--- what the values of src/ say
+-- the facts of the values of src/
 abbrev pub shown_verdict : VerdictFacts → ShownVerdict
 shown_verdict x = record {
   word = x.verdict.now;
@@ -129,7 +129,7 @@ verdict_object x =
     ∷ key_text (codes "choices") ∷ list_text x.choices
     ∷ codes "}\n" ∷ [])
 
--- a run makes this many steps, and no run makes the next one as well
+-- a run makes this number of steps, and no run makes the next one as well
 abbrev pub refuted_after : ℕ → ShownVerdict
 refuted_after n = record {
   word = codes "refuted";
@@ -162,12 +162,12 @@ thread_of (ThreadOn n k) = Some k
 thread_of (Step r) = Some r.thread
 thread_of d = None
 
--- the letter of the reply that is wanted
+-- the letter of the expected reply
 abbrev pub letter_text : Detail → Option (List ℕ)
 letter_text (Wanted n r) = Some (letter_of r ∷ [])
 letter_text d = None
 
--- a name, where there is one
+-- a name, if there is one
 abbrev pub name_in : Option (Bor (List ℕ)) → Option (List ℕ)
 name_in name = option_map (λ text. text.now) name
 

@@ -38,8 +38,8 @@ use Rattle.bp_messages.specs.declared.fault_table.Detail.{Detail}
 use Rattle.bp_messages.specs.declared.fault_table.Detail.TheVariants.{Nothing, Byte, Thread, Line, ThreadOn, Step, Wanted}
 use Rattle.bp_messages.specs.declared.fault_table.Row.{Row}
 
--- What the faults of the libraries are to a command. Refused memory, a failed write and an input
--- that is too long are each one value.
+-- The faults of the libraries as a command reports them. Refused memory, a failed write and an
+-- input that is too long are each one value.
 
 -- an input beside the program, or a bundle
 abbrev pub fault_of_input : InputFault → Fault
@@ -105,7 +105,7 @@ abbrev pub fault_of_test : TestFault → Fault
 fault_of_test test.Memory = Memory
 fault_of_test test.Write = Write
 
--- a fault's number, its name, and what it names
+-- a fault's number, its name, and the detail that it names
 pub record RowOf : Type 0 where
   pub number : ℕ
   pub name : List ℕ
@@ -218,22 +218,22 @@ is_of_the_machine n = n == 7 || (n == 51 || nat_le 53 n && nat_le n 55)
 abbrev pub is_of_a_step : ℕ → Bool
 is_of_a_step n = nat_le 58 n && nat_le n 62
 
--- the exit status of a run that a fault of this number ended, or in which an assertion failed, or
--- which was clean
+-- the exit status of a run that ended by a fault of this number, or with a failed assertion, or
+-- cleanly
 abbrev pub exit_status : (has_failed : Bool) → Option ℕ → ℕ
 exit_status failed (Some n) =
     if is_of_the_machine n then 3 else if is_of_a_step n then 4 else 2
 exit_status true None = 1
 exit_status false None = 0
 
--- the exit status of a run that the fault ended
+-- the exit status of a run that ended by the fault
 abbrev pub status_of : Fault → ℕ
 status_of f = exit_status false (Some (fault_row f).number)
 
 abbrev pub fault_head : ℕ → List ℕ → List ℕ
 fault_head n name = concat (codes "btrun: " ∷ decimal n ∷ codes " " ∷ name ∷ [])
 
--- the bit that a thread sees, or a dash where it sees no variable of the name
+-- the bit that a thread sees, or a dash if it sees no variable of the name
 abbrev pub seen_text : Option Bool → List ℕ
 seen_text None = codes "-"
 seen_text (Some bit) = bit_text bit

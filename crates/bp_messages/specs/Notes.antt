@@ -1,4 +1,4 @@
--- Where a test may mislead: what it did not look at, and what it was not asked for.
+-- Possible caveats of a test: what it did not explore, and what it did not search for.
 use Rattle.std.specs.Prelude.{if◌then◌else◌, ◌*◌, ◌/◌, ◌==◌, ℕ, List, [], ◌∷◌, Option, None, Some, codes, decimal, Bool, true, false, not, ◌&&◌, nat_le, nat_lt}
 use Rattle.std.specs.List.{concat}
 use Rattle.bp_text.specs.Pieces.{key_text, truth_text}
@@ -10,14 +10,14 @@ use Rattle.bp_messages.specs.declared.limits.TheConstants.{NOTED_SHARE}
 use Rattle.bp_messages.specs.declared.notes.Notes.{Notes}
 use Rattle.bp_messages.specs.declared.summaries.TestReport.{TestReport}
 
--- How many new runs of a test would be new. Good and Turing estimate it by the share of the runs
+-- The share of further runs that would be new. Good and Turing estimate it by the share of the runs
 -- that were seen once.
 
--- how many of a hundred new runs, rounded down, if there were runs
+-- the number of new runs among a hundred further ones, rounded down, if there were runs
 abbrev pub new_percent : Distinct → Option ℕ
 new_percent x = if x.of == 0 then None else Some (capped (x.once * 100) / x.of)
 
--- what is said if these were seen once, and so many of a hundred new runs would be new
+-- the text if `once` runs were seen once, and `percent` of a hundred further runs would be new
 abbrev pub novelty_said : (once percent : ℕ) → List ℕ
 novelty_said once percent =
     if once == 0 then
@@ -35,7 +35,7 @@ novelty_of once (Some percent) = novelty_said once percent
 abbrev pub novelty_note : Distinct → List ℕ
 novelty_note x = novelty_of x.once (new_percent x)
 
--- a test found what it looks for
+-- a test found a run that it searches for
 abbrev pub has_found : Found → Bool
 has_found Nothing = false
 has_found (Failed run report) = true
@@ -45,7 +45,7 @@ has_found (Deadlock run report) = true
 abbrev pub are_many : (count runs : ℕ) → Bool
 are_many count runs = nat_lt 0 count && nat_le runs (capped (count * NOTED_SHARE))
 
--- A test which does not look for deadlocks may mislead by those it met, and one that found nothing
+-- A test which does not search for deadlocks may mislead by those it met, and one without a finding
 -- by the rest: its bounds, that it made no run, or that there was nothing to find.
 abbrev pub notes_of : TestReport → Notes
 notes_of x =
@@ -65,7 +65,7 @@ notes_of x =
       full_stack = is_clean && are_many x.counts.ends.lacking_frames runs;
     }
 
--- how many of the runs came to this
+-- the number of runs with this property
 abbrev pub count_note : (count runs : ℕ) → (said : List ℕ) → List ℕ
 count_note count runs said =
     concat (
@@ -76,7 +76,7 @@ count_note count runs said =
 abbrev pub note_if : Bool → List ℕ → List ℕ
 note_if applies note = if applies then note else []
 
--- a line for each note that applies; if nothing was found, also on how many new runs would be new
+-- a line for each note that applies; if nothing was found, also on the share of new runs
 abbrev pub notes_text : TestReport → List ℕ
 notes_text tested =
     let notes = notes_of tested in
@@ -100,7 +100,7 @@ notes_text tested =
     (codes "ended with a full stack of 1,024 frames\n"))
     ∷ [])
 
--- which notes apply, as the last member of an object
+-- the notes that apply, as the last member of an object
 abbrev pub notes_members : Notes → List ℕ
 notes_members x =
     concat (

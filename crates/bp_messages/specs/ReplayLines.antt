@@ -15,7 +15,7 @@ row_head thread = concat (codes "print " ∷ decimal thread ∷ codes " " ∷ []
 abbrev pub row_line : PrintedRow → List ℕ
 row_line r = row_head r.thread ++ (flat_map bit_text r.values ++ codes "\n")
 
--- the line of a row of an answer
+-- the line of a row of a replay's result
 abbrev pub printed_line : Printed → List ℕ
 printed_line p = row_line (row_of p)
 

@@ -1,4 +1,4 @@
--- What a user reads of a test on standard error.
+-- The summary of a test on standard error.
 use Rattle.std.specs.Prelude.{if◌then◌else◌, ◌==◌, ℕ, Bool, not, List, [], Option, None, Some, codes, decimal, true, false, ◌∷◌, ◌++◌, flat_map, option_map, slice_index_or, Vec, slice_get}
 use Rattle.std.specs.List.{concat}
 use Rattle.std.specs.declared.alloc.Global.{Global}
@@ -16,7 +16,7 @@ use Rattle.bp_messages.specs.declared.summaries.TestReport.{TestReport}
 use Rattle.bp_messages.specs.declared.failures.FailedAssertion.{FailedAssertion}
 use Rattle.bp_messages.specs.Notes.{notes_text}
 
--- How many runs a test was to make, after those that it made.
+-- The number of runs that a test was to make, after the number of runs made.
 
 -- a number of runs is a limit, unless it is the greatest one
 abbrev pub is_limit : ℕ → Bool
@@ -32,7 +32,7 @@ of_word runs = if is_limit runs then codes " of " else []
 abbrev pub limit_text : ℕ → List ℕ
 limit_text runs = if is_limit runs then decimal runs else []
 
--- What a test was asked for: its program, and what each run started from.
+-- The request for a test: its program, and the start of each run.
 
 -- a name as it is, or as a string of JSON
 abbrev pub name_text : (json : Bool) → List ℕ → List ℕ
@@ -53,7 +53,7 @@ names_text json before between (name ∷ names) =
 abbrev pub bits_text : List Bool → List ℕ
 bits_text bits = flat_map bit_text bits
 
--- the same, or a dash where there is none
+-- the digits, or a dash if there is none
 abbrev pub init_text : List Bool → List ℕ
 init_text [] = codes "-"
 init_text (bit ∷ bits) = bits_text (bit ∷ bits)
@@ -70,13 +70,13 @@ bounds_text x =
 abbrev pub settings_text : TestReport → List ℕ
 settings_text x = codes ", init " ++ (init_text x.setup.init ++ bounds_text x)
 
--- the line from which the test can be made again
+-- the line from which the test can be repeated
 abbrev pub asked_line : TestReport → List ℕ
 asked_line x =
     concat (codes "test of " ∷ displayed x.file.items ∷ codes ": threads" ∷ [])
     ++ (names_text false (codes " ") (codes " ") x.setup.entries ++ settings_text x)
 
--- the same as members of an object, with what else was asked for
+-- the bounds as members of an object, with the rest of the request
 abbrev pub bounds_members : TestReport → List ℕ
 bounds_members x =
     concat (
@@ -99,13 +99,13 @@ asked_member x =
     ∷ key_text (codes "entries") ∷ [])
     ++ (names_text true (codes "[") (codes ",") x.setup.entries ++ settings_members x)
 
--- Which threads wait at the end of a run, and where.
+-- The threads that wait at the end of a run, and their places.
 
--- where the statement of an instruction begins, where those of all begin there
+-- the position of the statement of an instruction, from the positions of all
 abbrev pub position_of : List (Option Position) → (number : ℕ) → Option Position
 position_of positions number = slice_index_or positions number None
 
--- a thread that waits, after these words, and where in a file
+-- a thread that waits, after these words, and its place in a file
 abbrev pub wait_text : (file before verb : List ℕ) → (thread : ℕ) → Option Position → List ℕ
 wait_text file before verb i None = concat (before ∷ decimal i ∷ [])
 wait_text file before verb i (Some p) =
@@ -153,9 +153,9 @@ abbrev pub waits_member : List (Option Position) → List Waiting → List ℕ
 waits_member positions xs =
     codes ",\"waiting\":[" ++ (wait_objects [] positions xs ++ codes "]")
 
--- Which assertion failed in the run that a test found, and where.
+-- The assertion that failed in the run that a test found, and its place.
 
--- the assertion of thread i at instruction n, where that begins somewhere
+-- the assertion of thread i at instruction n, if that has a position
 abbrev pub failure_at : (i n : ℕ) → Option Position → Option FailedAssertion
 failure_at i n None = None
 failure_at i n (Some p) = Some (record { thread = i; number = n; position = p })
@@ -168,7 +168,7 @@ abbrev pub failure_in : List (Option Position) → Option ℕ → Outcome → Op
 failure_in positions number outcome.Clean = None
 failure_in positions number (outcome.Failed i) = failure_by positions i number
 
--- the assertion that failed, where one did
+-- the assertion that failed, if one did
 abbrev pub failure_found : List (Option Position) → Option ℕ → Found → Option FailedAssertion
 failure_found positions number Nothing = None
 failure_found positions number (Failed run report) = failure_in positions number report.outcome
@@ -186,7 +186,7 @@ abbrev pub statement_of : List (Vec ℕ Global) → Option FailedAssertion → L
 statement_of statements None = []
 statement_of statements (Some x) = items_of (slice_get statements x.number)
 
--- the run of how many in which it failed, and where in a file the assertion is
+-- the number of the run in which it failed, and the place of the assertion in a file
 abbrev pub failure_text
     : Option FailedAssertion → (statement file : List ℕ) → (run runs : ℕ) → List ℕ
 failure_text None statement file run runs =
@@ -216,7 +216,7 @@ failure_member (Some x) statement =
     ∷ key_text (codes "statement") ∷ string_text statement
     ∷ codes "}" ∷ [])
 
--- a deadlock in a run of this test, and where its threads wait
+-- a deadlock in a run of this test, and the places at which its threads wait
 abbrev pub deadlock_text : TestReport → (run : ℕ) → List ℕ
 deadlock_text x run =
     let runs = x.options.runs in
@@ -241,12 +241,12 @@ nothing_text phrase made runs k =
     ∷ codes " runs within " ∷ decimal k
     ∷ codes " contexts: the time is over\n" ∷ [])
 
--- what was looked for and not found
+-- the end that was searched for and not found
 abbrev pub nothing_phrase : Bool → List ℕ
 nothing_phrase false = codes "no assertion failed"
 nothing_phrase true = codes "no assertion failed and no deadlock"
 
--- the first line: what was found
+-- the first line: the finding
 abbrev pub finding_text : TestReport → Found → List ℕ
 finding_text x Nothing =
     let phrase = nothing_phrase x.options.with_deadlock in
@@ -257,11 +257,11 @@ finding_text x (Failed run report) =
     failure_text failure statement x.file.items run x.options.runs
 finding_text x (Deadlock run report) = deadlock_text x run
 
--- what was found, and what was asked for
+-- the finding and the request
 abbrev pub head_text : TestReport → List ℕ
 head_text x = finding_text x x.found ++ asked_line x
 
--- how many runs were made, how they ended, and what they reached
+-- the number of runs made, how they ended, and the statements and threads that they reached
 abbrev pub counts_text : Counts → List ℕ
 counts_text x =
     concat (
@@ -284,7 +284,7 @@ counts_text x =
     ∷ codes " of " ∷ decimal x.threads.all
     ∷ codes "\n" ∷ [])
 
--- how many of the runs were different
+-- the number of different runs
 abbrev pub distinct_text : Distinct → List ℕ
 distinct_text x =
     concat (
@@ -298,7 +298,7 @@ abbrev pub line_unless : Bool → Vec ℕ Global → List ℕ
 line_unless true line = []
 line_unless false line = line.items
 
--- those of these lines whose statements were not reached
+-- the lines, of these, whose statements were not reached
 abbrev pub unreached_text : List (Vec ℕ Global) → List Bool → List ℕ
 unreached_text [] marks = []
 unreached_text (line ∷ lines) [] = []

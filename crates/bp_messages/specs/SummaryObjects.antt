@@ -1,5 +1,5 @@
--- What a tool reads of a test on standard error: an object of what was found and of what the runs
--- reached, and one for each statement that no run reached.
+-- The report of a test on standard error for tools: an object of the finding and of the reached
+-- statements, and one for each statement that no run reached.
 use Rattle.std.specs.Prelude.{ℕ, List, [], ◌∷◌, ◌++◌, Option, None, Some, codes, decimal}
 use Rattle.std.specs.List.{concat}
 use Rattle.bp_test.specs.declared.counts.Counts.{Counts}
@@ -22,7 +22,7 @@ found_run Nothing = None
 found_run (Failed run report) = Some run
 found_run (Deadlock run report) = Some run
 
--- what was found, and in which run
+-- the finding, and its run
 abbrev pub finding_members : Found → List ℕ
 finding_members found =
     concat (
@@ -30,7 +30,7 @@ finding_members found =
     ∷ key_text (codes "found") ∷ string_text (found_name found)
     ∷ key_text (codes "run") ∷ number_or_null (found_run found) ∷ [])
 
--- how many runs were made, how they ended, and what those lacked that ended too early
+-- the number of runs made, how they ended, and the resources that those lacked that ended too early
 abbrev pub ends_members : Counts → List ℕ
 ends_members x =
     concat (
@@ -47,7 +47,7 @@ ends_members x =
     ∷ key_text (codes "frames") ∷ decimal x.ends.lacking_frames
     ∷ codes "}" ∷ [])
 
--- how many contexts the runs used, and what they reached
+-- the number of contexts that the runs used, and the statements and threads that they reached
 abbrev pub reach_members : Counts → List ℕ
 reach_members x =
     concat (
@@ -65,11 +65,11 @@ reach_members x =
 abbrev pub counts_members : Counts → List ℕ
 counts_members x = ends_members x ++ reach_members x
 
--- what was asked for, and what the runs came to
+-- the request, and the counts of the runs
 abbrev pub runs_members : TestReport → List ℕ
 runs_members x = asked_member x ++ counts_members x.counts
 
--- how many of the runs were different, and how many new ones would be new
+-- the number of different runs, and the share of further ones that would be new
 abbrev pub distinct_member : Distinct → List ℕ
 distinct_member x =
     concat (
