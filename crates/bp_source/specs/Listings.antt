@@ -20,7 +20,7 @@ name_at ps n = option_map (λ p. p.name.text) (slice_get ps n)
 
 -- The line and the column of a place, as objects of JSON have them.
 
--- the line of a place, where there is one
+-- the line of a place, if there is one
 abbrev pub line_of : Option Position → Option ℕ
 line_of position = option_map (λ p. p.line) position
 
@@ -30,7 +30,7 @@ column_of position = option_map (λ p. p.column) position
 -- The code of a program in JSON: an object of the code with its procedures, and one for each of its
 -- instructions.
 
--- the word for what an instruction does, as the listing has it
+-- the word for the operation of an instruction, as in the listing
 abbrev pub operation_name : Kind → List ℕ
 operation_name Skip = codes "skip"
 operation_name Goto = codes "goto"
@@ -54,7 +54,7 @@ heading_item h =
     ∷ key_text (codes "entry") ∷ decimal h.entry
     ∷ codes "}" ∷ [])
 
--- a code: its procedures in the order of the text, and how many instructions it has
+-- a code: its procedures in the order of the text, and its number of instructions
 abbrev pub code_object : Flat → List ℕ
 code_object c =
     concat (
@@ -63,8 +63,8 @@ code_object c =
     ∷ key_text (codes "instructions") ∷ decimal (length c.instructions)
     ∷ codes "}\n" ∷ [])
 
--- an instruction: its number, its procedure, what it does, the numbers of the next one, of the
--- other one where a test is 0, and of a callee's first, and the place and the text of its
+-- an instruction: its number, its procedure, its operation; the numbers of the next instruction, of
+-- the other one for a test of 0, and of a callee's first; and the place and the text of its
 -- statement, as its source statement shows them
 abbrev pub instruction_object : List Procedure → ℕ → Instruction → SourceStatement → List ℕ
 instruction_object ps n i statement =
@@ -114,7 +114,7 @@ sourced_line instruction statement =
     ++ codes " " ++ statement.excerpt.text.items
     ++ codes "\n"
 
--- a line of a listing, where the first of these source statements is that of the next instruction
+-- a line of a listing, if the first of these source statements is that of the next instruction
 abbrev pub line_with : List ℕ → List SourceStatement → List ℕ
 line_with instruction [] = plain_line instruction
 line_with instruction (statement ∷ statements) =

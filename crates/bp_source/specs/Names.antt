@@ -1,4 +1,4 @@
--- Names of variables, lists of them, and what decides an assertion.
+-- Names of variables, lists of them, and the deciders of assertions.
 use Rattle.std.specs.Prelude.{◌==◌, ◌&&◌, if◌then◌else◌, ℕ, suc, Bool, true, false, not, List, [], ◌∷◌, Option, None, Some, bytes_eq, ◌||◌, ◌++◌, is_some, codes, option_map}
 use Rattle.std.specs.Borrow.{Bor}
 use Rattle.std.specs.List.{onto_first, list_any}
@@ -10,7 +10,7 @@ use Rattle.bp_flat.specs.StandsFor.{variables}
 
 -- The pieces of a text that is cut at its commas. A comma inside braces cuts nothing.
 
--- what follows a byte is inside braces, where the byte itself is inside or outside
+-- the next byte is inside braces, if this byte is inside or outside
 abbrev pub is_braced_after : (braced : Bool) → ℕ → Bool
 is_braced_after true b = not (b == 125)
 is_braced_after false b = b == 123
@@ -22,13 +22,12 @@ pieces braced (b ∷ bs) =
     if not braced && b == 44 then [] ∷ pieces false bs
     else onto_first b (pieces (is_braced_after braced b) bs)
 
--- A device: the pieces of the text that is left, and none where nothing is.
+-- A device: the pieces of the text that is left, or none if nothing is.
 abbrev pub pieces_left : Option (Bor (List ℕ)) → List (List ℕ)
 pieces_left None = []
 pieces_left (Some text) = pieces false text.now
 
--- A device: how many bytes are before the first comma outside braces, or in all where there is
--- none.
+-- A device: the number of bytes before the first comma outside braces, or of all if there is none.
 abbrev pub piece_size : (braced : Bool) → List ℕ → ℕ
 piece_size braced [] = 0
 piece_size braced (b ∷ bs) =
@@ -41,7 +40,7 @@ module _ (names : List (List ℕ)) where
   abbrev pub is_named : List ℕ → Bool
   is_named x = list_any (λ n. bytes_eq n x) names
 
--- A device: the same of names by reference.
+-- A device: also for names by reference.
 abbrev pub is_among : List (Bor (List ℕ)) → List ℕ → Bool
 is_among names x = list_any (λ n. bytes_eq n.now x) names
 
@@ -65,10 +64,10 @@ abbrev pub declares : Program → List ℕ → Bool
 declares t x =
     (is_some (first_index t.globals x) || has_local t.procedures x) || has_qualified t.procedures x
 
--- What decides the assertions and the assumptions of a program, and the variables that a decider
+-- The deciders of the assertions and the assumptions of a program, and the variables that a decider
 -- reads.
 
--- one more name, where it is none of these
+-- the names with this one, if it is not among them
 abbrev pub with_name : List (List ℕ) → List ℕ → List (List ℕ)
 with_name names x = if is_named names x then names else names ++ x ∷ []
 
@@ -84,18 +83,18 @@ abbrev pub variables_read : Decision → List (List ℕ)
 variables_read Choose = []
 variables_read (Decide e) = names_after [] e
 
--- a device: what decides a statement, where it is an assertion or an assumption
+-- a device: the decision of a statement, if it is an assertion or an assumption
 abbrev pub decision_in : Statement → Option Decision
 decision_in (Asserts d) = Some d
 decision_in (Assumes d) = Some d
 decision_in s = None
 
--- a device: the same of the statement that comes next
+-- a device: the decision of the next statement
 abbrev pub next_decision : Block → Option Decision
 next_decision Done = None
 next_decision (Then label at s rest) = decision_in s
 
--- a device: the same of the statements of a block, at any depth, and of those inside a statement
+-- a device: the decisions of a block's statements, at any depth, and of those inside a statement
 abbrev mutual
   pub block_decisions : Block → List (Option Decision)
   block_decisions Done = []

@@ -1,4 +1,4 @@
--- What is shown of each instruction.
+-- The source statement of each instruction.
 use Rattle.std.specs.Prelude.{ℕ, List, ◌++◌, Option, None, Some, codes, decimal, if◌then◌else◌, ◌≡◌, ◌||◌, Bool, true, false, [], ◌∷◌, bytes_eq, map, drop, option_map, slice_get}
 use Rattle.std.specs.List.{list_any}
 use Rattle.bp_text.specs.declared.lines.Position.{Position}
@@ -10,25 +10,25 @@ use Rattle.bp_flat.specs.StandsFor.{Place, places_of, start_of_block}
 use Rattle.bp_syntax.specs.Lexer.{TakesLexeme}
 use Rattle.bp_source.specs.declared.source_statements.SourceStatement.{SourceStatement}
 
--- How a view prints where a statement begins.
+-- How a view prints the start of a statement.
 
 -- LINE:COLUMN
 abbrev pub position_text : Position → List ℕ
 position_text p = decimal p.line ++ codes ":" ++ decimal p.column
 
--- that of the statement that begins at this offset; a procedure's end has none
+-- the place of the statement that begins at this offset; a procedure's end has none
 abbrev pub place_text : List ℕ → Option ℕ → List ℕ
 place_text text None = codes "-"
 place_text text (Some at) = position_text (position_at text at)
 
 -- The text of a statement on one line, as a view shows it.
 
--- a lexeme: its kind, none for a byte that begins no lexeme, and its bytes
+-- a lexeme: its kind, None for a byte that begins no lexeme, and its bytes
 pub record Lexeme : Type 0 where
   pub kind : Option LexemeKind
   pub bytes : List ℕ
 
--- `;`, `then` and `do` end the text that is shown of a statement
+-- `;`, `then` and `do` end the text shown of a statement
 abbrev pub is_ending : List ℕ → Bool
 is_ending bytes =
     bytes_eq bytes (codes ";") || bytes_eq bytes (codes "then") || bytes_eq bytes (codes "do")
@@ -42,7 +42,7 @@ pub data IsAtEnd : (text : List ℕ) → Type 0 where
       → is_ending bytes ≡ true
       → IsAtEnd text
 
--- the text begins with this lexeme of a statement, and then comes the rest
+-- the text begins with this lexeme of a statement, followed by the rest
 pub record Takes (text : List ℕ) (kind : Option LexemeKind) (bytes rest : List ℕ) : Type 0 where
   pub takes : TakesLexeme text kind bytes rest
   pub goes_on : is_ending bytes ≡ false
@@ -62,7 +62,7 @@ is_gap (Some White) = true
 is_gap (Some Comment) = true
 is_gap kind = false
 
--- bytes on one line, after a space where a gap comes before them
+-- bytes on one line, after a space if a gap comes before them
 abbrev pub spaced : (gap : Bool) → List ℕ → List ℕ
 spaced gap bytes = (if gap then codes " " else []) ++ map on_one_line bytes
 
@@ -79,14 +79,14 @@ lexemes_text gap (l ∷ ls) =
 abbrev pub is_choice : List ℕ → Bool
 is_choice bytes = bytes_eq bytes (codes "?")
 
--- the statement with which the text begins is shown so, and reads a choice bit or not
+-- the statement that begins the text has this shown text, and reads a choice bit or not
 pub record IsStatement (text shown : List ℕ) (reads : Bool) : Type 0 where
   pub lexemes : List Lexeme
   pub lexemes_are : HasLexemes text lexemes
   pub shown_is : shown ≡ lexemes_text false lexemes
   pub reads_is : reads ≡ list_any (λ l. is_choice l.bytes) lexemes
 
--- what is said at the end of a procedure with this name
+-- the text shown at the end of a procedure with this name
 pub record IsEnd (name shown : List ℕ) (reads : Bool) : Type 0 where
   pub shown_is : shown ≡ codes "end of " ++ map on_one_line name
   pub reads_none : reads ≡ false
@@ -97,8 +97,8 @@ abbrev pub IsStatementAt : List ℕ → Procedure → Option ℕ → List ℕ �
 IsStatementAt text p None shown reads = IsEnd p.name.text shown reads
 IsStatementAt text p (Some at) shown reads = IsStatement (drop at text) shown reads
 
--- The source statement shows where the next statement of a place in the program begins, and its
--- text on one line. It has the number of the procedure.
+-- The source statement has the start of the next statement of a place in the program, and its text
+-- on one line. It has the number of the procedure.
 pub record IsSourceStatement
     (text : List ℕ) (ps : List Procedure) (x : Place) (statement : SourceStatement)
     : Type 0 where

@@ -12,7 +12,7 @@ use Rattle.bp_source.specs.Listings.{column_of, line_of}
 use Rattle.bp_source.specs.declared.statements.Said.{Said}
 use Rattle.bp_source.specs.declared.statements.Said.TheVariants.{Line, Unreached, Text}
 
--- the file, the place and the text of a statement that begins somewhere; nothing where none does
+-- the file, the place and the text of a statement with a start; nothing without one
 abbrev pub statement_line : Option ℕ → (file place shown : List ℕ) → List ℕ
 statement_line None file place shown = []
 statement_line (Some at) file place shown =
@@ -22,7 +22,7 @@ abbrev pub line_of_statement : List ℕ → SourceStatement → List ℕ
 line_of_statement file statement =
     statement_line statement.start file statement.place.items statement.excerpt.text.items
 
--- where the next statement of a place begins; a procedure's end begins nowhere
+-- the position of the next statement of a place; a procedure's end has none
 abbrev pub position_of : (text : List ℕ) → Place → Option Position
 position_of text x = option_map (position_at text) (start_of_block x.left)
 
@@ -39,7 +39,7 @@ pub record AreStatementLines (file text : List ℕ) (t : Program) (lines : List 
 
 -- Objects in JSON that name the statements of a program that no run reached.
 
--- the object of a statement that no run reached, which begins somewhere; nothing where none does
+-- the object of a statement with a start that no run reached; nothing without one
 abbrev pub unreached_object
     : Option ℕ → (file : List ℕ) → Option Position → (shown : List ℕ) → List ℕ
 unreached_object None file position shown = []
@@ -63,15 +63,15 @@ pub record AreUnreachedObjects (file text : List ℕ) (t : Program) (objects : L
   pub are : AreSourceStatements text t statements
   pub objects_are : objects ≡ map (object_of_statement file) statements
 
--- A device: what is said of each statement of a program: its line, its object, or its text.
+-- A device: the rendering of each statement of a program: its line, its object, or its text.
 
--- what is said of a statement of the source
+-- the rendering of a statement of the source
 abbrev pub said_of : Said → SourceStatement → List ℕ
 said_of (Line file) statement = line_of_statement file.now statement
 said_of (Unreached file) statement = object_of_statement file.now statement
 said_of Text statement = statement.excerpt.text.items
 
--- that of each instruction of the program
+-- the rendering for each instruction of the program
 pub record AreSaid (said : Said) (text : List ℕ) (t : Program) (texts : List (List ℕ))
     : Type 0 where
   pub statements : List SourceStatement
