@@ -13,7 +13,7 @@ use Rattle.bp_syntax.specs.declared.tokens.Token.{Token as BorrowedToken}
 
 -- The first lexeme of a text, and the cut that begins with it.
 
--- the lexeme of these bytes at a place: a lexeme of this kind, or a byte where none fits
+-- the lexeme of these bytes at a place: a lexeme of this kind, or a byte if none fits
 abbrev pub lexeme_of : Option LexemeKind → ℕ → List ℕ → Lexeme
 lexeme_of (Some kind) at bytes = Fit kind at bytes
 lexeme_of None at [] = Bad at
@@ -24,8 +24,8 @@ abbrev pub IsFirst : Option LexemeKind → List ℕ → ℕ → Type 0
 IsFirst (Some kind) text size = IsLongest text kind size
 IsFirst None text size = NoneFits text × (size ≡ 1)
 
--- the lexeme of this kind and these bytes begins the text, and then comes the rest: each cut of the
--- rest becomes one of the text by this lexeme before it
+-- the lexeme of this kind and these bytes begins the text, and the rest follows: each cut of the
+-- rest, with this lexeme before it, is one of the text
 pub record TakesLexeme (text : List ℕ) (kind : Option LexemeKind) (bytes rest : List ℕ)
     : Type 0 where
   pub size : ℕ
@@ -39,14 +39,14 @@ pub record TakesLexeme (text : List ℕ) (kind : Option LexemeKind) (bytes rest 
 
 -- A device: the lexer as the code does it. No public contract names it.
 
--- a lexeme of the kind, once begun, continues with such bytes
+-- a lexeme of the kind, once begun, continues with this byte
 abbrev pub is_continuation : LexemeKind → ℕ → Bool
 is_continuation lexeme.Identifier b = is_word_byte b
 is_continuation lexeme.Comment b = is_comment_byte b
 is_continuation lexeme.Braced b = is_braced_byte b
 is_continuation _ b = false
 
--- how many bytes that pass the test s begins with
+-- the number of bytes at the start of s that pass the test
 abbrev pub run : (ℕ → Bool) → List ℕ → ℕ
 run test [] = 0
 run test (b ∷ bs) = if test b then suc (run test bs) else 0
@@ -58,7 +58,7 @@ comment (b ∷ bs) =
     if b == 47 then Some (lexeme.Comment, suc (suc (run is_comment_byte bs)))
     else None
 
--- the symbol that s begins with
+-- the symbol at the start of s
 abbrev pub first_symbol : ℕ → List ℕ → Option (LexemeKind × ℕ)
 first_symbol b [] = if is_some (symbol b) then Some (lexeme.Symbol, 1) else None
 first_symbol b (c ∷ cs) =
@@ -66,7 +66,7 @@ first_symbol b (c ∷ cs) =
     else if is_some (symbol b) then Some (lexeme.Symbol, 1)
     else None
 
--- the longest lexeme that b and then s begin with, where that is no braced name, and its length
+-- the longest lexeme at the start of b and then s, if that is not a braced name, and its length
 abbrev pub unbraced_lexeme : ℕ → List ℕ → Option (LexemeKind × ℕ)
 unbraced_lexeme b s =
     if is_letter b then Some (lexeme.Identifier, suc (run is_word_byte s))
@@ -79,7 +79,7 @@ unbraced_lexeme b s =
 abbrev pub IsNameless : ℕ → List ℕ → Type 0
 IsNameless n s = (k m : ℕ) → k < n → fits lexeme.Braced (take m (drop k s)) ≢ true
 
--- s begins so
+-- s begins with this first lexeme
 abbrev pub IsFirstLexeme : List ℕ → FirstLexeme → Type 0
 IsFirstLexeme s (first.Fits lexeme n) = IsLongest s lexeme n
 IsFirstLexeme s (first.OpenBrace n) =
@@ -95,7 +95,7 @@ IsScanFault text _ = ⊥
 
 -- A device: the count of tokens in succession as the code does it. No public contract names it.
 
--- the place of the first token too many, where this many come before these
+-- the place of the first token too many, if n tokens come before these
 abbrev pub first_too_many : ℕ → List Token → Option ℕ
 first_too_many n [] = None
 first_too_many n (t ∷ ts) =
@@ -105,14 +105,14 @@ first_too_many n (t ∷ ts) =
 
 -- A device: the count of the depth as the code does it. No public contract names it.
 
--- the place of the first token that goes too deep, where the depth is n before these
+-- the place of the first token that is too deep, if the depth is n before these
 abbrev pub first_too_deep : ℕ → List Token → Option ℕ
 first_too_deep n [] = None
 first_too_deep n (t ∷ ts) =
     if nat_le (depth_after t.kind n) NESTING_LIMIT then first_too_deep (depth_after t.kind n) ts
     else Some t.at
 
--- What the tokens of src/ are seen as: a token of the code borrows its text.
+-- The models of the tokens of src/: a token of the code borrows its text.
 
 abbrev pub token_of : BorrowedToken → Token
 token_of t = record { kind = t.kind; at = t.at; text = t.text.now }

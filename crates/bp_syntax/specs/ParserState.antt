@@ -1,5 +1,5 @@
--- A device: the parser as the code does it, by what it still wants, and how a token changes that.
--- No public contract names it.
+-- A device: the parser as the code does it, by the phrases that it still expects, and how a token
+-- changes them. No public contract names it.
 use Rattle.std.specs.Prelude.{◌≡◌, ℕ, Bool, true, false, if◌then◌else◌, List, [], ◌∷◌, ◌++◌, Option, Some, None, Result, MatchResult}
 use denote.Enum.Bare.{sameb}
 use Rattle.bp_language.specs.Ast.{Name, Expression, Constant, Variable, Negation, Operation, Decision, Choose, Decide, Block, Done, Then, Statement, Skips, GoesTo, Returns, Assigns, Branches, Loops, Asserts, Assumes, Prints, Calls, Procedure, Program}
@@ -20,7 +20,7 @@ use Rattle.bp_syntax.specs.declared.parser.Stop.TheVariants as stop
 abbrev pub is_same_kind : TokenKind → TokenKind → Bool
 is_same_kind a b = sameb the_type a b
 
--- the operator of the precedence that a kind of token is
+-- the operator of the precedence for a kind of token
 abbrev pub operator : Precedence → TokenKind → Option Op
 operator Equality kind.Equal = Some op.Equal
 operator Equality kind.Differ = Some op.Differ
@@ -29,7 +29,7 @@ operator Exclusion kind.Caret = Some op.Xor
 operator Disjunction kind.Bar = Some op.Or
 operator _ _ = None
 
--- what is wanted next, and what from it on
+-- the expected next phrase, and all from it on
 pub data Wanted : Type 0 where
   Complete : (p : Program) → Wanted
   WordThen : (k : TokenKind) (next : Wanted) → Wanted
@@ -50,7 +50,7 @@ pub data Wanted : Type 0 where
   MoreDecls : (ns : List Name) (next : List Name → Wanted) → Wanted
   MoreProcs : (ps : List Procedure) (next : List Procedure → Wanted) → Wanted
 
--- one name or more, which follow those
+-- one or more further names, after these
 abbrev pub NamesThen : List Name → (List Name → Wanted) → Wanted
 NamesThen ns next = NameThen (λ n. MoreNames (ns ++ n ∷ []) next)
 
@@ -72,7 +72,7 @@ OperandThen s next = UnThen (λ e. MoreTighter s e next)
 abbrev pub BinaryThen : Precedence → (Expression → Wanted) → Wanted
 BinaryThen s next = OperandThen s (λ e. MoreOperands s e next)
 
--- what is wanted in an expression after its first operand
+-- the expected phrases in an expression after its first operand
 abbrev pub wanted_after_un : (Expression → Wanted) → Expression → Wanted
 wanted_after_un next e =
     MoreOperands Equality e (λ a.
@@ -98,11 +98,11 @@ wanted_in_un kind.Name next x = Some (next (Variable (name_of x)))
 wanted_in_un kind.Open next x = Some (ExprThen (λ e. WordThen kind.Close (next e)))
 wanted_in_un _ next x = None
 
--- a decider in brackets, and what ends its statement
+-- a decider in brackets, and the end of its statement
 abbrev pub ConditionThen : (Decision → Wanted) → Wanted
 ConditionThen next = WordThen kind.Open (DeciderThen (λ d. WordThen kind.Close (next d)))
 
--- the same between two words
+-- a decider in brackets between two words
 abbrev pub ConditionBetween : TokenKind → TokenKind → (Decision → Wanted) → Wanted
 ConditionBetween before after next =
     WordThen before (ConditionThen (λ d. WordThen after (next d)))
@@ -111,7 +111,7 @@ ConditionBetween before after next =
 abbrev pub StmtsTo : TokenKind → (Block → Wanted) → Wanted
 StmtsTo end next = StmtsThen (λ b. WordThen end (next b))
 
--- expressions in brackets, and what ends their statement
+-- expressions in brackets, and the end of their statement
 abbrev pub ListedThen : (List Expression → Wanted) → Wanted
 ListedThen next =
     WordThen kind.Open (AnyExprsThen (λ es.
@@ -219,7 +219,7 @@ BodyThen n next =
     StmtsThen (λ b.
     WordThen kind.End (next (procedure_of n fs ls b))))))))
 
--- the formals of a procedure, and what begins its body
+-- the formals of a procedure, and the word that begins its body
 abbrev pub FormalsThen : (List Name → Wanted) → Wanted
 FormalsThen next =
     WordThen kind.Open (AnyNamesThen (λ fs. WordThen kind.Close (WordThen kind.Begin (next fs))))
@@ -236,12 +236,12 @@ is_un_start kind.Name = true
 is_un_start kind.Open = true
 is_un_start _ = false
 
--- on by an operator, or else otherwise
+-- continues by an operator, or otherwise
 abbrev pub wanted_by_operator : Option Op → (Op → Wanted) → Option Wanted → Option Wanted
 wanted_by_operator None go other = other
 wanted_by_operator (Some o) go other = Some (go o)
 
--- what is wanted after a token, if it may come
+-- the phrases expected after a token, if it may come
 abbrev pub wanted_after : Wanted → Token → Option Wanted
 wanted_after (Complete p) x = None
 wanted_after (WordThen k next) x = if is_same_kind x.kind k then Some next else None
@@ -309,7 +309,7 @@ program_at_end _ = None
 abbrev pub whole_program : Wanted
 whole_program = MoreDecls [] (λ gs. MoreProcs [] (λ ps. Complete (program_of gs ps)))
 
--- a program, or what is left where no token may come
+-- a program, or the tokens left before one that may not come
 pub data ParseResult : Type 0 where
   Got : (p : Program) → ParseResult
   Stops : (left : List Token) → ParseResult
@@ -326,7 +326,7 @@ abbrev pub parse_result : Wanted → List Token → ParseResult
 parse_result w [] = result_at_end (program_at_end w)
 parse_result w (x ∷ ts) = result_after (wanted_after w x) (λ v. parse_result v ts) (Stops (x ∷ ts))
 
--- why a function of the parser stops: the outcome is where, unless memory ran out
+-- why a function of the parser stops: the outcome has the place, unless memory ran out
 abbrev pub IsStop : Stop → ParseResult → List Token → Type 0
 IsStop stop.Unexpected o left = o ≡ Stops left
 IsStop stop.Memory o left = Unit {0}
@@ -343,8 +343,8 @@ ReadsBy r before old new after =
 abbrev pub Parses : List Token → Program → Type 0
 Parses ts p = parse_result whole_program ts ≡ Got p
 
--- a phrase is read: whatever is wanted after it, reading continues from there with what the phrase
--- means
+-- a phrase is read: whatever is expected after it, reading continues from there with the meaning of
+-- the phrase
 abbrev pub ReadsPhrase :
     {T X : Type 0} → Result T Stop → ((X → Wanted) → Wanted)
     → List Token → List Token → (T → X) → Type 0

@@ -1,4 +1,4 @@
--- How the texts that are those of no program are refused, and laws of texts.
+-- How texts are refused that are not those of a program, and laws of texts.
 use Rattle.std.specs.Prelude.{ℕ, Option, None, Some, ◌≡◌, List, [], ◌∷◌, ◌++◌, ◌⊎◌, length, ◌<◌, ◌≤◌, ◌≢◌, All}
 use Rattle.bp_language.specs.Ast.{Program}
 use Rattle.bp_language.specs.Tokens.{Token, AllReal, HasTokens, HasBadByte, HasOpenName, IsSpelled, Lexeme, IsCut}
@@ -21,7 +21,7 @@ read_fault_number (fault.TooManyTokens at) = 5
 read_fault_number (fault.Syntax at) = 6
 read_fault_number fault.Memory = 7
 
--- the byte of the text that the fault names, where it names one
+-- the byte of the text that the fault names, if any
 abbrev pub read_fault_place : ReadFault → Option ℕ
 read_fault_place fault.TooLong = None
 read_fault_place (fault.BadByte at) = Some at
@@ -31,7 +31,7 @@ read_fault_place (fault.TooManyTokens at) = Some at
 read_fault_place (fault.Syntax at) = Some at
 read_fault_place fault.Memory = None
 
--- Tokens that begin a program, and where tokens stop doing so.
+-- Tokens that begin a program, and the first token that cannot continue one.
 
 -- a program of the grammar begins with these tokens
 pub record Opens (ts : List Token) : Type 0 where
@@ -50,15 +50,15 @@ pub record BreaksAt (P : List Token → Type 0) (ts : List Token) (at : ℕ) : T
   pub after : P (front ++ token ∷ []) → ⊥
   pub place : token.at ≡ at
 
--- the first token after which no program can continue is here; or the text ends too early, and this
--- is its length
+-- the first token after which no program can continue is at this place; or the text ends too early,
+-- and this is its length
 abbrev pub HasSyntaxFault : List ℕ → List Token → ℕ → Type 0
 HasSyntaxFault text ts at =
     BreaksAt Opens ts at ⊎ (Opens ts × ((p : Program) → Derives ts p → ⊥) × (at ≡ length text))
 
--- How the texts that are those of no program are refused.
+-- How texts are refused that are not those of a program.
 
--- how a text is refused: for its first fault; for memory only where it is not too long
+-- how a text is refused: for its first fault; for memory only if it is not too long
 abbrev pub IsRefusal : List ℕ → ReadFault → Type 0
 IsRefusal text fault.TooLong = TEXT_LIMIT < length text
 IsRefusal text (fault.BadByte at) = (length text ≤ TEXT_LIMIT) × HasBadByte text at
@@ -115,6 +115,6 @@ NoRefusalOfPrograms =
     → IsRefusal text e
     → e ≡ Memory
 
--- what is spelled as a name holds no line feed
+-- a text that is a name holds no line feed
 abbrev pub NamesOnOneLine : Type 0
 NamesOnOneLine = (s : List ℕ) → IsSpelled s → All (λ b. b ≢ 10) s
