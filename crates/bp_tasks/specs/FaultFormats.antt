@@ -1,4 +1,4 @@
--- In which form a task reports its faults.
+-- The form in which a task reports its faults.
 use Rattle.std.specs.Prelude.{if◌then◌else◌, ◌&&◌, ◌||◌, Bool, true, false, not}
 use Rattle.bp_tasks.specs.declared.tasks.Explaining.{Explaining}
 use Rattle.bp_tasks.specs.declared.tasks.FaultFormat.{FaultFormat}
@@ -48,7 +48,7 @@ reporting (Show task) = (is_viewed_in_json task.options.format, task.explain)
 reporting (Migrate task) = (false, task.explain)
 reporting (Shrink task) = (false, task.explain)
 
--- as JSON where that is asked for, and else with their explanation where that is
+-- as JSON if asked for, and otherwise with their explanation if that is asked for
 abbrev pub fault_format : Task → (on_terminal : Bool) → FaultFormat
 fault_format task on_terminal =
     let asked = reporting task in

@@ -20,7 +20,7 @@ named_bit name bit = record { name = name; bit = bit }
 abbrev pub values_of : List NamedBit → List NamedBitOf
 values_of items = map (λ it. named_bit it.name.now it.bit) items
 
--- Which start has the bits of globals by name, and when names are none of globals.
+-- The start that has the bits of globals by name, and when names are not those of globals.
 
 -- this gives a global of this name the bit 1
 abbrev pub is_set : NamedBitOf → List ℕ → Bool
@@ -47,7 +47,7 @@ has_global t it = is_some (first_index t.globals it.name)
 abbrev pub AreGlobals : Program → List NamedBitOf → Type 0
 AreGlobals t named = list_all (has_global t) named ≡ true
 
--- name n, from 1, is the first of these that is none of a global
+-- name n of these, from 1, is the first that no global has
 pub record IsUnknown (t : Program) (named : List NamedBitOf) (n : ℕ) : Type 0 where
   pub before : ℕ
   pub number : n ≡ suc before
@@ -62,7 +62,7 @@ pub record IsUnknown (t : Program) (named : List NamedBitOf) (n : ℕ) : Type 0 
 abbrev pub gives_names : List ℕ → Bool
 gives_names text = list_any (λ b. b == 61) text
 
--- what is before the last two bytes of a piece, and these
+-- the bytes of a piece before the last two
 abbrev pub name_in : List ℕ → List ℕ
 name_in piece = take (length piece - 2) piece
 

@@ -1,10 +1,10 @@
--- What a run by real threads starts from.
+-- The start of a run by real threads.
 use Rattle.std.specs.Prelude.{ℕ}
 use Rattle.bp_machine.specs.Setups.{StartOf, default_start}
 use Rattle.bp_tasks.specs.declared.limits.TheConstants.{DEFAULT_RING, DEFAULT_SEED, DEFAULT_TURN}
 
--- what each run starts from, the calls of a turn, the seed of the choice bits, and the calls that
--- the ring holds
+-- the start of each run, the calls of a turn, the seed of the choice bits, and the calls that the
+-- ring holds
 pub record OptionsOf : Type 0 where
   pub start : StartOf
   pub turn : ℕ
