@@ -17,7 +17,7 @@ pub data Format : Type 0 → Type 1 where
   Word : (w : List ℕ) → Format (Unit {0})
   -- a decimal number of 64 bits below a bound, with all of its digits
   Number : (bound : ℕ) → Format ℕ
-  -- a byte for each value, which tells it
+  -- a byte for each value, which determines it
   Letter :
       {A : Type 0}
       → (byte : A → ℕ)
@@ -38,13 +38,13 @@ pub data Format : Type 0 → Type 1 where
   Line : {A : Type 0} → (F : Format A) → Format A
   -- two values, one after the other
   Then : {A B : Type 0} → (F : Format A) → (G : Format B) → Format (A × B)
-  -- two values, the second of a format that the first one tells
+  -- two values, the second of a format that the first one determines
   Chain : {A B : Type 0} → (F : Format A) → (G : A → Format B) → Format (A × B)
-  -- a value of the first format, or one of the second where there is none of the first
+  -- a value of the first format, or one of the second if there is none of the first
   Either : {A B : Type 0} → (F : Format A) → (G : Format B) → Format (A ⊎ B)
   -- as many values as there are
   Many : {A : Type 0} → (F : Format A) → Format (List A)
-  -- values that are written as others, which tell them
+  -- values that are written as others, which determine them
   As :
       {A B : Type 0}
       → (f : B → A)
@@ -71,7 +71,7 @@ SpanFits next may_end s [] rest = (may_end s ≡ true) × Stops (next s) rest
 SpanFits {S} next may_end s (b ∷ bs) rest =
     (t : S) × (next s b ≡ Some t) × SpanFits next may_end t bs rest
 
--- what is written
+-- the text of either value
 abbrev pub text_of_either : {A B : Type 0} → (A → List ℕ) → (B → List ℕ) → A ⊎ B → List ℕ
 text_of_either f g (inl x) = f x
 text_of_either f g (inr y) = g y
@@ -121,7 +121,7 @@ pub record IsAt {A : Type 0} (F : Format A) (text : List ℕ) (x : A) (rest : Li
   pub fits : Fits F x rest
   pub parts : text ≡ text_of F x ++ rest
 
--- no value is
+-- no value is at the front of the text
 pub record HasNone {A : Type 0} (F : Format A) (text : List ℕ) : Type 0 where
   pub none : Lacks (text_of F) (Fits F) text
 
@@ -137,7 +137,7 @@ pub record IsBad {A : Type 0} (F : Format A) (text : List ℕ) (n : ℕ) : Type 
   pub some : rest ≢ []
   pub number : n ≡ length front + 1
 
--- what a reader answers: the value at the front of the text and what is after it, or none
+-- the result of a reader: the value at the front of the text and the text after it, or None
 abbrev pub Finds : {A : Type 0} → Format A → List ℕ → Option (A × Bor (List ℕ)) → Type 0
 Finds F text answer = MatchOption answer (HasNone F text) (λ p. IsAt F text p.0 p.1.now)
 
@@ -147,12 +147,12 @@ abbrev pub FindsPart :
 FindsPart F text answer =
     MatchOption answer (HasNone F text) (λ p. IsAt F text p.0.now p.1.now)
 
--- and what is after a word
+-- the text after a word
 abbrev pub FindsAfter : List ℕ → List ℕ → Option (Bor (List ℕ)) → Type 0
 FindsAfter w text answer =
     MatchOption answer (HasNone (Word w) text) (λ rest. IsAt (Word w) text tt rest.now)
 
--- the same, where what is left is kept
+-- the result of a reader that keeps the rest of the text
 abbrev pub Reads : {A : Type 0} → Format A → List ℕ → List ℕ → Option A → Type 0
 Reads F old new answer = MatchOption answer (HasNone F old) (λ x. IsAt F old x new)
 
@@ -169,9 +169,9 @@ bit_again true = refl
 abbrev pub bit : Format Bool
 bit = Letter bit_digit (λ c. c == 49) bit_again
 
--- Formats of several lines: where a text stops being one of them.
+-- Formats of several lines, and the line at which a text breaks one of them.
 
--- how many lines a value has
+-- the number of lines of values
 abbrev pub lines_of_each : {A : Type 0} → (A → ℕ) → List A → ℕ
 lines_of_each f [] = 0
 lines_of_each f (x ∷ xs) = f x + lines_of_each f xs

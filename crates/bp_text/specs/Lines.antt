@@ -14,7 +14,7 @@ abbrev pub IsOneLine : List ℕ → Type 0
 IsOneLine [] = Unit {0}
 IsOneLine (b ∷ bs) = ((b == 10) ≡ false) × IsOneLine bs
 
--- a space stands for a line end
+-- the byte, with a space in place of a line end
 abbrev pub on_one_line : ℕ → ℕ
 on_one_line b = if b == 10 then 32 else b
 

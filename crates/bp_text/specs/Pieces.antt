@@ -43,7 +43,7 @@ string_byte b =
 abbrev pub string_text : List ℕ → List ℕ
 string_text text = codes "\"" ++ (flat_map string_byte text ++ codes "\"")
 
--- what stands between the quotation marks of a string is read as this text
+-- the text between the quotation marks of a string is read as this text
 pub data IsReadAs : (inside text : List ℕ) → Type 0 where
   ends : IsReadAs [] []
   -- a byte that stands for itself
@@ -78,7 +78,7 @@ abbrev pub is_turning : (second third : ℕ) → Bool
 is_turning second third =
     second == 128 && is_among 170 third 174 || second == 129 && is_among 166 third 169
 
--- How many bytes of UTF-8 the control character has that begins with these bytes, or 0 if none
+-- The number of bytes of UTF-8 of the control character that begins with these bytes, or 0 if none
 -- does: one of ASCII, one of U+0080 to U+009F, or one that turns the direction of a text.
 abbrev pub control_size : (first second third : ℕ) → ℕ
 control_size first second third =
@@ -87,19 +87,19 @@ control_size first second third =
     else if first == 226 && is_turning second third then 3
     else 0
 
--- the same of a text
+-- the size of the control character that begins a text
 abbrev pub size_of_control : List ℕ → ℕ
 size_of_control text =
     control_size (slice_index text 0) (slice_index text 1) (slice_index text 2)
 
--- how many bytes of a control character come next: some are left of one, or one begins
+-- the number of bytes of a control character that come next: those left of one, or of a new one
 abbrev pub control_bytes : (left : ℕ) → List ℕ → ℕ
 control_bytes left text = if left == 0 then size_of_control text else left
 
 abbrev pub displayed_byte : (control : ℕ) → (byte : ℕ) → ℕ
 displayed_byte control byte = if control == 0 then byte else 63
 
--- the text after some bytes, of which the last began a control character that has some left
+-- the text after some bytes, if `left` bytes are left of the last control character
 abbrev pub displayed_after : (left : ℕ) → List ℕ → List ℕ
 displayed_after left [] = []
 displayed_after left (b ∷ bs) =
@@ -115,11 +115,11 @@ abbrev pub HasNoControl : List ℕ → Type 0
 HasNoControl [] = Unit {0}
 HasNoControl (b ∷ bs) = (size_of_control (b ∷ bs) ≡ 0) × HasNoControl bs
 
--- none is left of a text that is displayed
+-- a displayed text has none
 abbrev pub NoControlIsDisplayed : Type 0
 NoControlIsDisplayed = (text : List ℕ) → HasNoControl (displayed text)
 
--- Which digits are the decimal of a number of 64 bits.
+-- The digits that are the decimal of a number of 64 bits.
 
 -- the digits are the decimal of this number, which has 64 bits
 pub record IsNumber (digits : List ℕ) (n : ℕ) : Type 0 where
@@ -130,7 +130,7 @@ pub record IsNumber (digits : List ℕ) (n : ℕ) : Type 0 where
 abbrev pub IsNoNumber : List ℕ → Type 0
 IsNoNumber digits = (n : ℕ) → n < 2 ^ 64 → digits ≢ decimal n
 
--- What the pieces of a text say.
+-- The texts of pieces.
 
 abbrev pub string_or_null : Option (List ℕ) → List ℕ
 string_or_null None = codes "null"
@@ -158,7 +158,7 @@ list_text items = concat (codes "[" ∷ drop 1 items ∷ codes "]" ∷ [])
 abbrev pub key_text : List ℕ → List ℕ
 key_text key = concat (codes ",\"" ∷ key ∷ codes "\":" ∷ [])
 
--- what a piece says
+-- the text of a piece
 abbrev pub piece_text : Piece → List ℕ
 piece_text (Bytes bytes) = bytes.now
 piece_text (Number n) = decimal n

@@ -1,4 +1,4 @@
--- What a call that writes a text leaves in its writer, and what a sink was given.
+-- The text that a call leaves in its writer, and the text given to a sink.
 use Rattle.std.specs.Prelude.{ℕ, ◌<◌, List, Option, Result, MatchResult, length, take, ◌++◌, ◌≡◌, Bool, true, false, Ok, Err}
 use Rattle.std.specs.Io.KnownBytes.{Appends}
 use Rattle.std.specs.Borrow.{MutBor}
@@ -6,7 +6,7 @@ use Rattle.bp_text.specs.declared.sinks.WriteFault.{WriteFault}
 use Rattle.bp_text.specs.declared.sinks.WriteFault.TheVariants.{Write}
 use Rattle.bp_text.specs.declared.sinks.Sink.{Sink}
 
--- What a call that writes a text leaves in its writer, where the writer's bytes are known.
+-- The text that a writing call leaves in its writer, if the writer's bytes are known.
 
 -- the whole text was appended
 pub record AppendsAll (old new : Option (List ℕ)) (text : List ℕ) : Type 0 where
@@ -23,7 +23,7 @@ abbrev pub Writes
     : {T E : Type 0} → Option (List ℕ) → Option (List ℕ) → List ℕ → Result T E → Type 0
 Writes old new text r = MatchResult r (λ _. AppendsAll old new text) (λ _. AppendsPart old new text)
 
--- What is left in a writer of a text that is written as it is made.
+-- The part that a writer has of a text that is written as it is made.
 
 -- A text of this kind was to be written; the bytes of the writer are those before and after it.
 module _ (IsText : List ℕ → Type 0) (old new : Option (List ℕ)) where
@@ -33,7 +33,7 @@ module _ (IsText : List ℕ → Type 0) (old new : Option (List ℕ)) where
     pub is : IsText text
     pub written : AppendsAll old new text
 
-  -- a beginning of it was written, which may be nothing or all
+  -- a beginning of it was written, which may be empty or the whole
   pub record IsBegun : Type 0 where
     pub begun : List ℕ
     pub rest : List ℕ
@@ -46,9 +46,9 @@ module _ (IsText : List ℕ → Type 0) (old new : Option (List ℕ)) where
     pub is : IsText text
     pub written : AppendsPart old new text
 
--- What a sink has when it was given texts.
+-- The contents of a sink after texts.
 
--- since `first` the writer took all of the text; or, where a write was refused, a proper prefix
+-- since `first` the writer took all of the text; or, if a write was refused, a proper prefix
 abbrev pub HasTaken : Option (List ℕ) → Option (List ℕ) → Bool → List ℕ → Type 0
 HasTaken first now false text = AppendsAll first now text
 HasTaken first now true text = AppendsPart first now text
