@@ -1,4 +1,4 @@
--- How runs end whose arguments ask for no task: the exit status, and what is left on both streams.
+-- How runs end whose arguments ask for no task: the exit status, and the text on both streams.
 use Rattle.std.specs.Prelude.{ℕ, List, [], ◌∷◌, codes, ◌≡◌, ◌⊎◌, Bool, true, false, Option, Result, Ok, Err, string_bytes}
 use Rattle.std.specs.List.{concat}
 use Rattle.std.specs.declared.io.ErrorKind.{ErrorKind as IoErrorKind}
@@ -16,13 +16,13 @@ use Rattle.bp_arguments.specs.declared.no_tasks.NoTask.TheVariants.{Memory, Prin
 use Rattle.bp_arguments.specs.declared.no_tasks.Refusal.{Refusal}
 use Rattle.bp_arguments.specs.NoTasks.{IsRefused}
 
--- What is said of refused arguments to programs.
+-- The object on refused arguments, for programs.
 
 -- a member that is null
 abbrev pub no_member : List ℕ → List ℕ
 no_member key = concat (key_text key ∷ codes "null" ∷ [])
 
--- the object on refused arguments, which say this; the fault has no number and no place
+-- the object on refused arguments, with this message; the fault has no number and no place
 abbrev pub refusal_object : (message : List ℕ) → List ℕ
 refusal_object message =
     concat (
@@ -40,12 +40,12 @@ refusal_object message =
     ∷ codes "}\n"
     ∷ [])
 
--- what is said of arguments that are not read; for a text on them there may be no memory
+-- the answer to arguments that are not read; a text on them may lack memory
 abbrev pub IsUnread : IoErrorKind → NoTask → Type 0
 IsUnread io.OutOfMemory none = none ≡ Memory
 IsUnread _ none = (none ≡ Memory) ⊎ IsRefused none
 
--- memory was refused, which a line says
+-- memory was refused, and a line says so
 pub record IsLackOfMemory (old new : Option (List ℕ)) (end : RunEnd) : Type 0 where
   pub status : end.status ≡ 3
   pub line : HasFaultLine fault.Memory old new end.told
@@ -63,7 +63,7 @@ pub record IsPrintedWhole (text : List ℕ) (before after : Held) (end : RunEnd)
   pub status : end.status ≡ 0
   pub silent : after.errors ≡ before.errors
 
--- the output refused a part of the text, which a line says
+-- the output refused a part of the text, and a line says so
 pub record IsPrintedInPart (text : List ℕ) (before after : Held) (end : RunEnd) : Type 0 where
   pub printed : Writes before.output after.output text in_part
   pub status : end.status ≡ 3
@@ -73,12 +73,12 @@ abbrev pub IsPrintedEnd : List ℕ → Held → Held → RunEnd → Type 0
 IsPrintedEnd text before after end =
     IsPrintedWhole text before after end ⊎ IsPrintedInPart text before after end
 
--- why arguments are refused: for programs an object, and else a text
+-- why arguments are refused: an object for programs, otherwise a text
 abbrev pub refusal_text : (json : Bool) → Refusal → List ℕ
 refusal_text true refusal = refusal_object (string_bytes refusal.message)
 refusal_text false refusal = string_bytes refusal.text
 
--- why the arguments are refused was told, and nothing was printed
+-- the reason for refusing the arguments was told, and nothing was printed
 pub record IsRefusalEnd (text : List ℕ) (before after : Held) (end : RunEnd) : Type 0 where
   pub printed : after.output ≡ before.output
   pub status : end.status ≡ 2

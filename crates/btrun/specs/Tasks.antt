@@ -1,4 +1,4 @@
--- What a run does, by its task.
+-- The job of a run, by its task.
 use Rattle.std.specs.Prelude.{Bool, List, Option, None, Some, option_map, ℕ}
 use Rattle.bp_commands.specs.Programs.{checks, lists}
 use Rattle.bp_commands.specs.Commands.{Command, Pair}
@@ -21,22 +21,22 @@ use Rattle.bp_tasks.specs.declared.tasks.ExploreTask.{ExploreTask}
 use Rattle.bp_tasks.specs.declared.tasks.Task.{Task}
 use Rattle.bp_tasks.specs.declared.tasks.Task.TheVariants.{Bundle, Check, Code, Drive, Confirm, Run, Test, Explore, Replay, Show, Migrate, Shrink}
 
--- The files have these bytes by their paths. Lines are shown so on standard output, and faults are
--- reported in this format.
+-- The files have these bytes by their paths. Standard output shows lines on this screen, and faults
+-- are reported in this format.
 module _ (bytes : List ℕ → Option (List ℕ)) (screen : Screen) (format : FaultFormat) where
   -- a command on the program of a file and a trace of it
   abbrev pub on_trace : Command Pair Report → (program trace : List ℕ) → Job
   on_trace command program trace =
       on_files bytes format command of_report MAX_TRACE Trace program trace
 
-  -- a program is explored as a task asks, or for a run through the steps of a file
+  -- a program is explored under the options of a task, or for a run through the steps of a file
   abbrev pub explore_job : ExploreTask → (through : Option (List ℕ)) → Job
   explore_job task None = on_file bytes format (explores task) of_exploration task.program.now
   explore_job task (Some steps) =
       let command = explores_through task in
       on_files bytes format command of_exploration MAX_SCHEDULE Steps task.program.now steps
 
-  -- what a task asks for; standard input has these bytes
+  -- the job of a task; standard input has these bytes
   abbrev pub job_in : (input : Option (List ℕ)) → Task → Job
   job_in input Bundle = on_bundle format input
   job_in input (Check task) =
@@ -60,7 +60,7 @@ module _ (bytes : List ℕ → Option (List ℕ)) (screen : Screen) (format : Fa
   job_in input (Show task) =
       on_trace (shows_task task screen) task.program.now task.trace.now
 
--- the same, where standard error is a terminal or not
+-- the job of a task, if standard error is a terminal or not
 abbrev pub job_of
     : (bytes : List ℕ → Option (List ℕ)) → Screen → (on_terminal : Bool)
     → (input : Option (List ℕ)) → Task → Job
