@@ -1,4 +1,4 @@
-//! Expressions, and what decides a branch.
+//! Expressions and deciders.
 ghost use Rattle.std.specs.Prelude.{◌≡◌, IfOk, map};
 ghost use Rattle.bp_language.specs.Views.{expression_of};
 
@@ -9,17 +9,17 @@ use std::marker::Model;
 /// An operator on two bits.
 #[derive(Clone, Copy, Debug, PartialEq, Eq)]
 pub enum Op {
-    /// 1 where both are equal.
+    /// 1 if both are equal.
     Equal,
-    /// 1 where they differ.
+    /// 1 if they differ.
     Differ,
-    /// 1 where both are 1.
+    /// 1 if both are 1.
     And,
-    /// 1 where exactly one is 1.
+    /// 1 if exactly one is 1.
     Xor,
-    /// 1 where at least one is 1.
+    /// 1 if at least one is 1.
     Or,
-    /// 0 only where the left is 1 and the right is 0.
+    /// 0 only if the left is 1 and the right is 0.
     Implies,
 }
 
@@ -69,7 +69,7 @@ impl Sub {
         })
     }
 
-    /// The expression in the box.
+    /// Returns the expression in the box.
     pub fn get(&self) -> &Expr
         ensures { expression_of result.now ≡ self.now }
     {
@@ -77,7 +77,7 @@ impl Sub {
     }
 }
 
-/// What decides a branch, a loop, an assertion or an assumption.
+/// The test of a branch, a loop, an assertion or an assumption.
 #[derive(Drop)]
 pub enum Decider {
     /// `?`: the choice bit of the call.
@@ -115,7 +115,7 @@ impl Exprs {
         Exprs { items }
     }
 
-    /// The expressions, in order.
+    /// Returns the expressions, in order.
     pub fn as_slice(&self) -> &[Expr]
         ensures { map expression_of result.now ≡ self.now }
     {

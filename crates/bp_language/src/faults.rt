@@ -3,7 +3,7 @@ ghost use Rattle.std.specs.Prelude.{◌≡◌};
 
 use thiserror::Error;
 
-/// Why a program is refused. Each says at which place of the text.
+/// Why a program is refused, at a place of the text.
 #[derive(Clone, Copy, Debug, PartialEq, Eq, Error)]
 pub enum CheckFault {
     /// At a global's name that an earlier global has.
@@ -27,10 +27,10 @@ pub enum CheckFault {
     /// At the name after `goto`.
     #[error("there is no such label in the procedure")]
     UnknownLabel,
-    /// At the called name, where arguments and formals differ in number.
+    /// At the called name, if arguments and formals differ in number.
     #[error("arguments and formals differ in number")]
     Arity,
-    /// At the first target, where targets and right sides differ in number.
+    /// At the first target, if targets and right sides differ in number.
     #[error("right sides and targets differ in number")]
     Lengths,
     /// At a target that appears earlier on the same left side.
@@ -47,7 +47,7 @@ pub enum CheckFault {
 impl CheckFault {
     ghost use Rattle.bp_language.specs.Faults.{check_fault_number};
 
-    /// The number that users know the fault by.
+    /// Returns the number by which users know the fault.
     pub fn number(&self) -> u32
         ensures { result ≡ check_fault_number self.now }
     {

@@ -1,5 +1,5 @@
-//! The language of programs: what its definitions in `specs/` name, the kinds of tokens, the limits
-//! and the faults. They say which texts are those of lawful programs, apart from any code.
+//! The language of programs: the Rust types of `specs/`, the kinds of tokens, the limits and the
+//! faults. The definitions say which texts are those of lawful programs, apart from any code.
 #![tactic(auto)]
 
 pub mod exprs;

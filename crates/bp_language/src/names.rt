@@ -3,7 +3,7 @@ ghost use Rattle.std.specs.Prelude.{◌≡◌, string_bytes};
 
 use std::marker::Model;
 
-/// A name as it is spelled, braces included, and its place in the text.
+/// A name as written, braces included, and its place in the text.
 #[derive(Drop)]
 pub struct Name {
     text: String,
@@ -23,21 +23,21 @@ impl Model for Name {
 }
 
 impl Name {
-    /// The name with this spelling whose first byte is the byte `at` of the program text, from 0.
+    /// Makes a name of this text, whose first byte is the byte `at` of the program text, from 0.
     pub fn new(text: String, at: u32) -> Name
         ensures { result ≡ record { text = string_bytes text; at = at } }
     {
         Name { text, at }
     }
 
-    /// The spelling, braces included. Two names are equal where their spellings are.
+    /// Returns the text, braces included. Two names are equal if their texts are.
     pub fn text(&self) -> &str
         ensures { result.now ≡ self.now.text }
     {
         self.text.as_str()
     }
 
-    /// The offset of the first byte in the program text.
+    /// Returns the offset of the first byte in the program text.
     pub fn at(&self) -> u32
         ensures { result ≡ self.now.at }
     {
@@ -72,7 +72,7 @@ impl Names {
         Names { items }
     }
 
-    /// The names, in order.
+    /// Returns the names, in order.
     pub fn as_slice(&self) -> &[Name]
         ensures { result.now ≡ self.now }
     {

@@ -1,4 +1,4 @@
-//! Procedures: what a text declares of each, and its statements.
+//! Procedures: their declared names and statements.
 ghost use Rattle.std.specs.Prelude.{◌≡◌};
 
 use crate::names::{Name, Names};
@@ -33,7 +33,7 @@ impl Model for Proc {
 impl Proc {
     ghost use Rattle.bp_language.specs.Blocks.{block_of};
 
-    /// Puts a procedure together. Whether its names are lawful is not checked here.
+    /// Puts a procedure together, without checking whether its names are lawful.
     pub fn new(name: Name, formals: Names, locals: Names, body: Block) -> Proc
         ensures { result ≡ record { name = name; formals = formals; locals = locals; body = body } }
     {
@@ -45,28 +45,28 @@ impl Proc {
         }
     }
 
-    /// The name that calls and entries use for the procedure.
+    /// Returns the name that calls and entries use for the procedure.
     pub fn name(&self) -> &Name
         ensures { result.now ≡ self.now.name }
     {
         &self.name
     }
 
-    /// The formals, in order of declaration.
+    /// Returns the formals, in order of declaration.
     pub fn formals(&self) -> &[Name]
         ensures { result.now ≡ self.now.formals }
     {
         self.formals.as_slice()
     }
 
-    /// The declared locals, in order of declaration.
+    /// Returns the declared locals, in order of declaration.
     pub fn locals(&self) -> &[Name]
         ensures { result.now ≡ self.now.locals }
     {
         self.locals.as_slice()
     }
 
-    /// The statements: at least one in a program that was read.
+    /// Returns the statements: at least one in a program that was read.
     pub fn body(&self) -> &[Stmt]
         ensures { block_of result.now ≡ self.now.body }
     {
@@ -101,7 +101,7 @@ impl Procs {
         Procs { items }
     }
 
-    /// The procedures, in order.
+    /// Returns the procedures, in order.
     pub fn as_slice(&self) -> &[Proc]
         ensures { result.now ≡ self.now }
     {

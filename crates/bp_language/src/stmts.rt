@@ -16,7 +16,7 @@ pub struct Stmt {
     form: Form,
 }
 
-/// What a statement does.
+/// The form of a statement.
 #[cycle(stmt)]
 #[derive(Drop)]
 pub enum Form {
@@ -64,28 +64,28 @@ impl Model for Block {
 }
 
 impl Stmt {
-    /// The statement whose first token after its label, if it has one, begins at the byte `at`.
+    /// Makes the statement whose first token after any label begins at the byte `at`.
     pub fn new(label: Option<Name>, at: u32, form: Form) -> Stmt
         ensures { result ≡ record { label = label; at = at; form = form } }
     {
         Stmt { label, at, form }
     }
 
-    /// The label, if the statement has one.
+    /// Returns the label, if the statement has one.
     pub fn label(&self) -> Option<&Name>
         ensures { option_copied result ≡ self.now.label }
     {
         self.label.as_ref()
     }
 
-    /// The offset of the statement's first token after its label.
+    /// Returns the offset of the statement's first token after its label.
     pub fn at(&self) -> u32
         ensures { result ≡ self.now.at }
     {
         self.at
     }
 
-    /// What the statement does, with its operands and the blocks inside it.
+    /// Returns the form of the statement, with its operands and the blocks inside it.
     pub fn form(&self) -> &Form
         ensures { result.now ≡ self.now.form }
     {
@@ -101,7 +101,7 @@ impl Block {
         Block { items }
     }
 
-    /// The statements, in order.
+    /// Returns the statements, in order.
     pub fn as_slice(&self) -> &[Stmt]
         ensures { block_of result.now ≡ self.now }
     {

@@ -1,6 +1,6 @@
 //! The kinds of lexemes and of tokens.
 
-/// What the scan tells apart. Reserved words are identifiers here.
+/// The kind of a lexeme. Reserved words are identifiers here.
 #[derive(Clone, Copy, Debug, PartialEq, Eq)]
 pub enum LexemeKind {
     White,
@@ -11,7 +11,7 @@ pub enum LexemeKind {
     Symbol,
 }
 
-/// What a token is: a name, a constant, a symbol or a reserved word.
+/// The kind of a token: a name, a constant, a symbol or a reserved word.
 #[derive(Clone, Copy, Debug, PartialEq, Eq)]
 pub enum TokenKind {
     Name,
