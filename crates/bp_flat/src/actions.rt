@@ -1,4 +1,4 @@
-//! What instructions do.
+//! Actions of instructions.
 ghost use Rattle.std.specs.Prelude.{◌≡◌};
 ghost use Rattle.bp_flat.specs.Steps.{with_slots, formula_values};
 ghost use Rattle.bp_flat.specs.InstrEffects.{store_of};
@@ -18,7 +18,7 @@ pub struct Assignment {
 }
 
 impl Assignment {
-    /// The store after it: all right sides are evaluated before the first target is written.
+    /// Returns the store after it: evaluates all right sides before writing the first target.
     #[inline(always)]
     pub fn store_after(&self, store: &Store) -> Store
         ensures { let bits = formula_values (store_of store.now) self.now.values in
@@ -37,7 +37,7 @@ impl Assignment {
     }
 }
 
-/// A test with two ways: to `next` where it is 1, to `other` where it is 0.
+/// A test with two ways: to `next` if it is 1, to `other` if it is 0.
 #[derive(Drop)]
 pub struct Branch {
     pub test: Test,
@@ -54,8 +54,8 @@ pub struct Call {
     pub next: u32,
 }
 
-/// What one instruction does, with the numbers of its successors. The next instruction follows it,
-/// or follows where its test is 1; the other one follows where its test is 0.
+/// The action of one instruction, with the numbers of its successors. The next instruction follows
+/// it, or follows if its test is 1; the other one follows if its test is 0.
 #[derive(Drop)]
 pub enum Action {
     Skip { next: u32 },

@@ -48,8 +48,8 @@ impl Model for Code {
 }
 
 impl Code {
-    /// The code of a program with these headings, globals and instructions. Fails only if memory is
-    /// refused.
+    /// Makes the code of a program from headings, globals and instructions. Fails only on
+    /// allocation.
     pub fn new(
         alloc: Global,
         headings: Vec<Heading>,
@@ -78,21 +78,21 @@ impl Code {
         &self.parts
     }
 
-    /// How many instructions there are. Each has a number below that.
+    /// Returns the number of instructions. Each has a number below that.
     pub fn len(&self) -> usize
         ensures { result ≡ length self.now.instructions }
     {
         self.parts().instrs.len()
     }
 
-    /// The instruction of this number.
+    /// Returns the instruction of this number.
     pub fn get(&self, number: u32) -> Option<&Instr>
         ensures { option_copied result ≡ slice_get self.now.instructions number }
     {
         self.parts().instrs.get(number as usize)
     }
 
-    /// The heading of the first procedure of this name, which may be any bytes.
+    /// Returns the heading of the first procedure of this name, which may be any bytes.
     pub fn heading_of(&self, name: &[u8]) -> Option<&Heading>
         ensures heading { option_copied result ≡ heading_named self.now.headings name.now }
         ensures program { let found = procedure_named self.now.tree.procedures name.now in
@@ -102,7 +102,7 @@ impl Code {
         find_heading(self.parts().headings.as_slice(), name)
     }
 
-    /// The number of the first instruction of the first procedure of this name.
+    /// Returns the number of the first instruction of the first procedure of this name.
     pub fn entry(&self, name: &str) -> Option<u32>
         ensures heading { result
             ≡ option_map (λ h. h.entry) (heading_named self.now.headings name.now) }
@@ -116,7 +116,7 @@ impl Code {
         }
     }
 
-    /// How many formals the first procedure of this name has.
+    /// Returns the number of formals of the first procedure of this name.
     pub fn formals(&self, name: &str) -> Option<u32>
         ensures heading { result
             ≡ option_map (λ h. h.formals) (heading_named self.now.headings name.now) }
@@ -130,7 +130,7 @@ impl Code {
         }
     }
 
-    /// How many globals there are.
+    /// Returns the number of globals.
     pub fn globals(&self) -> u32
         ensures value { result ≡ self.now.globals }
         ensures program { result ≡ length self.now.tree.globals }
@@ -139,35 +139,35 @@ impl Code {
         self.parts().globals
     }
 
-    /// The procedures in text order.
+    /// Returns the procedures in text order.
     pub fn headings(&self) -> &[Heading]
         ensures { result.now ≡ self.now.headings }
     {
         self.parts().headings.as_slice()
     }
 
-    /// The instructions in order of number.
+    /// Returns the instructions in order of number.
     pub fn instrs(&self) -> &[Instr]
         ensures { result.now ≡ self.now.instructions }
     {
         self.parts().instrs.as_slice()
     }
 
-    /// The program that the code stands for.
+    /// Returns the program that the code stands for.
     pub fn checked(&self) -> &Checked
         ensures { result.now ≡ self.now.tree }
     {
         &self.parts().checked
     }
 
-    /// The law that a code stands for its program, which is the lawful program of some text.
+    /// Proves that a code stands for its program, which is the lawful program of some text.
     pub fn is_of_a_program(&self)
         ensures { IsOfProgram self.now }
     {
         let _ = &self.parts;
     }
 
-    /// A copy, which shares the parts. Fails only if too many share them.
+    /// Returns a copy that shares the parts. Fails only if too many copies share them.
     pub fn try_copy(&self) -> Result<Code, AllocError>
         ensures { IfOk result (λ c. c ≡ self.now) }
     {

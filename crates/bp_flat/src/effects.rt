@@ -7,7 +7,7 @@ use crate::actions::Action;
 use crate::instrs::Instr;
 use crate::stores::Store;
 
-/// What an instruction does to its thread.
+/// The effect of an instruction on its thread.
 #[derive(Clone, Copy, Debug, PartialEq, Eq)]
 pub enum Effect {
     /// The topmost frame continues at `next`, and the globals and its locals are these.
@@ -22,7 +22,7 @@ pub enum Effect {
         next: u32,
         locals: u128,
     },
-    /// The topmost frame is taken off.
+    /// The topmost frame is removed.
     Returns,
     /// An assertion of 0.
     Fails,
@@ -31,8 +31,7 @@ pub enum Effect {
 }
 
 impl Instr {
-    /// The effect of this instruction on its thread, where it sees this store and the choice bit is
-    /// this one.
+    /// Returns the effect of this instruction on its thread, with this store and choice bit.
     #[inline(always)]
     pub fn effect(&self, store: Store, bit: bool) -> Effect
         ensures { let now = store_of store in

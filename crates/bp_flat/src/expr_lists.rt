@@ -32,21 +32,21 @@ impl Model for SlotExprs {
 }
 
 impl SlotExprs {
-    /// These expressions.
+    /// Wraps these expressions.
     pub fn new(items: Vec<SlotExpr>) -> SlotExprs
         ensures { result ≡ map formula_of items.items }
     {
         SlotExprs { items }
     }
 
-    /// The expressions in order.
+    /// Returns the expressions in order.
     pub fn as_slice(&self) -> &[SlotExpr]
         ensures { map formula_of result.now ≡ self.now }
     {
         self.items.as_slice()
     }
 
-    /// The values in order.
+    /// Returns the values in order.
     pub fn values(&self, alloc: Global, store: Store) -> Result<Vec<bool>, AllocError>
         ensures { IfOk result (λ v. v.items ≡ formula_values (store_of store) self.now) }
     {
@@ -81,7 +81,7 @@ impl Model for Arguments {
 }
 
 impl Arguments {
-    /// These arguments.
+    /// Wraps these arguments.
     pub fn new(values: SlotExprs) -> Arguments
         requires { length values ≤ SLOTS }
         ensures { result ≡ values }
@@ -89,14 +89,14 @@ impl Arguments {
         Arguments { values }
     }
 
-    /// The arguments in order.
+    /// Returns the arguments in order.
     pub fn values(&self) -> &SlotExprs
         ensures { result.now ≡ self.now }
     {
         &self.values
     }
 
-    /// The locals of the callee's new frame: the arguments in the slots from 0 on, and 0 past them.
+    /// Returns the locals of the callee's new frame: the arguments from slot 0 on, then 0.
     pub fn word(&self, store: &Store) -> u128
         ensures { bits_of result ≡ bits_from (formula_values (store_of store.now) self.now) }
     {

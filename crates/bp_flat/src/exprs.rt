@@ -46,7 +46,7 @@ impl Model for SlotSub {
     ghost size_decreases = { λ a h. Prim.grind (arith) };
 }
 
-/// What an operator makes of two bits.
+/// Applies an operator to two bits.
 pub fn apply(op: Op, left: bool, right: bool) -> bool
     ensures { result ≡ operation_value op left right }
 {
@@ -61,7 +61,7 @@ pub fn apply(op: Op, left: bool, right: bool) -> bool
 }
 
 impl SlotSub {
-    /// The expression as an operand.
+    /// Makes the expression an operand.
     pub fn new(alloc: Global, expr: SlotExpr) -> Result<SlotSub, AllocError>
         ensures { IfOk result (λ s. s ≡ formula_of expr) }
     {
@@ -70,7 +70,7 @@ impl SlotSub {
         })
     }
 
-    /// The operand's value. That of a variable needs no call.
+    /// Returns the operand's value. That of a variable needs no call.
     #[cycle(slot_value)]
     #[inline(always)]
     pub fn value(&self, store: &Store) -> bool
@@ -83,7 +83,7 @@ impl SlotSub {
         }
     }
 
-    /// The globals in the operand.
+    /// Returns the globals in the operand.
     #[cycle(slot_globals)]
     pub fn globals(&self) -> u128 {
         self.inner.globals()
@@ -91,7 +91,7 @@ impl SlotSub {
 }
 
 impl SlotExpr {
-    /// The expression's value.
+    /// Returns the expression's value.
     #[cycle(slot_value)]
     #[inline(never)]
     pub fn value(&self, store: &Store) -> bool
@@ -108,7 +108,7 @@ impl SlotExpr {
         }
     }
 
-    /// The globals in the expression, as a word of bits.
+    /// Returns the globals in the expression, as a word of bits.
     #[cycle(slot_globals)]
     pub fn globals(&self) -> u128 {
         match self {
@@ -120,7 +120,7 @@ impl SlotExpr {
     }
 }
 
-/// What decides an instruction with two ways.
+/// The test of an instruction with two ways.
 #[derive(Drop)]
 pub enum Test {
     /// The choice bit of the call.
@@ -130,7 +130,7 @@ pub enum Test {
 }
 
 impl Test {
-    /// Whether the test is 1, where the choice bit is this one.
+    /// Returns whether the test is 1 with this choice bit.
     pub fn holds(&self, store: &Store, bit: bool) -> bool
         ensures { result ≡ test_value (store_of store.now) bit (test_of self.now) }
     {
@@ -140,7 +140,7 @@ impl Test {
         }
     }
 
-    /// The globals in the test, as a word of bits.
+    /// Returns the globals in the test, as a word of bits.
     pub fn globals(&self) -> u128 {
         match self {
             Test::Choice => 0,

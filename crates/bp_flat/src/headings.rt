@@ -29,7 +29,7 @@ impl Model for Heading {
 }
 
 impl Heading {
-    /// The heading with this name and these numbers.
+    /// Makes the heading with this name and these numbers.
     pub fn new(name: String, formals: u32, locals: u32, entry: u32) -> Heading
         ensures { result ≡ heading (string_bytes name) formals locals entry }
     {
@@ -41,28 +41,28 @@ impl Heading {
         }
     }
 
-    /// The procedure's name.
+    /// Returns the procedure's name.
     pub fn name(&self) -> &str
         ensures { result.now ≡ self.now.name }
     {
         self.name.as_str()
     }
 
-    /// How many formals the procedure has.
+    /// Returns the number of formals.
     pub fn formals(&self) -> u32
         ensures { result ≡ self.now.formals }
     {
         self.formals
     }
 
-    /// How many declared locals the procedure has.
+    /// Returns the number of declared locals.
     pub fn locals(&self) -> u32
         ensures { result ≡ self.now.locals }
     {
         self.locals
     }
 
-    /// The number of the procedure's first instruction.
+    /// Returns the number of the procedure's first instruction.
     pub fn entry(&self) -> u32
         ensures { result ≡ self.now.entry }
     {
@@ -70,7 +70,7 @@ impl Heading {
     }
 }
 
-/// The first heading of a name.
+/// Returns the first heading with a name.
 pub(crate) fn find_heading<'a>(headings: &'a [Heading], name: &[u8]) -> Option<&'a Heading>
     ensures { option_copied result ≡ heading_named headings.now name.now }
 {

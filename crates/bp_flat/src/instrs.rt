@@ -42,14 +42,14 @@ pub enum Kind {
 }
 
 impl Instr {
-    /// The instruction that does this.
+    /// Makes the instruction with this action.
     pub fn new(action: Action) -> Instr
         ensures { result ≡ instruction_of action }
     {
         Instr { action }
     }
 
-    /// The kind of this instruction.
+    /// Returns the kind of this instruction.
     pub fn kind(&self) -> Kind
         ensures { result ≡ instruction_kind self.now }
     {
@@ -67,9 +67,9 @@ impl Instr {
         }
     }
 
-    /// The number of the instruction that follows this one, after its return in the case of a call.
-    /// Of an `if` the first of the `then` part, of a `while` the first of the body. A return has
-    /// none.
+    /// Returns the number of the instruction that follows this one, after its return if it is a
+    /// call. It is the first of the `then` part of an `if`, and of the body of a `while`. A return
+    /// has none.
     pub fn next(&self) -> Option<u32>
         ensures { result ≡ next_of self.now }
     {
@@ -86,8 +86,8 @@ impl Instr {
         }
     }
 
-    /// Of an `if` the number of the first instruction of the `else` part, of a `while` that of what
-    /// follows the loop.
+    /// Returns the number of the first instruction of the `else` part of an `if`, or of the
+    /// instruction after a `while` loop.
     pub fn other(&self) -> Option<u32>
         ensures { result ≡ other_of self.now }
     {
@@ -97,7 +97,7 @@ impl Instr {
         }
     }
 
-    /// Of a call the number of the callee's first instruction.
+    /// Returns the number of the callee's first instruction, for a call.
     pub fn callee(&self) -> Option<u32>
         ensures { result ≡ callee_of self.now }
     {
@@ -107,7 +107,7 @@ impl Instr {
         }
     }
 
-    /// What this instruction does.
+    /// Returns the action of this instruction.
     pub fn action(&self) -> &Action
         ensures { instruction_of result.now ≡ self.now }
     {

@@ -3,8 +3,8 @@ ghost use Rattle.bp_flat.specs.StandsFor.{StepsAlike};
 
 use crate::code::Code;
 
-/// Compiled code and its program step alike: each instruction at its number is one move, and each
-/// move one instruction. An assumption of 0 is neither.
+/// Proves that compiled code and its program step alike: each instruction at its number is one
+/// move, and each move one instruction. An assumption of 0 is neither.
 pub fn steps_alike(code: &Code)
     ensures { StepsAlike code.now code.now.tree }
 {

@@ -1,4 +1,4 @@
-//! Flat code: what a program means, and the instructions that stand for it.
+//! Flat code: the meaning of programs, and the instructions that stand for it.
 #![tactic(auto)]
 
 pub mod actions;

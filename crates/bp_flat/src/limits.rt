@@ -1,5 +1,5 @@
 //! Limits of compiled code.
 
-/// How many slots a word of bits has: no more globals fit into it, and no more formals and locals
-/// of one procedure.
+/// The number of slots of a word of bits: no more globals fit into it, and no more formals and
+/// locals of one procedure.
 pub const SLOTS: usize = 128;

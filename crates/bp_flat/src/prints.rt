@@ -1,4 +1,4 @@
-//! What instructions print.
+//! Values that instructions print.
 ghost use Rattle.std.specs.Prelude.{◌≡◌, true, is_some, option_map, MatchResult};
 ghost use Rattle.bp_flat.specs.InstrEffects.{store_of};
 ghost use Rattle.bp_flat.specs.Steps.{printed_values};
@@ -9,7 +9,7 @@ use crate::stores::Store;
 use std::alloc::{AllocError, Global};
 
 impl Instr {
-    /// The values that a `print` prints, where it sees this store. No other instruction prints.
+    /// Returns the values that a `print` prints with this store. No other instruction prints.
     pub fn printed(&self, alloc: Global, store: Store) -> Result<Option<Vec<bool>>, AllocError>
         ensures { let printed = printed_values (store_of store) self.now in
             MatchResult result

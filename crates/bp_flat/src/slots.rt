@@ -8,8 +8,8 @@ use crate::stores::{Store, bit_at, with_bit};
 use std::alloc::AllocError;
 use std::marker::Model;
 
-/// A place among the globals, or among the formals and then the locals of a procedure, which a word
-/// of bits has a slot for.
+/// An index among the globals, or among the formals and then the locals of a procedure, for which a
+/// word of bits has a slot.
 #[derive(Clone, Copy, Debug, PartialEq, Eq)]
 pub struct Index {
     number: u8,
@@ -29,7 +29,7 @@ impl Model for Index {
 }
 
 impl Index {
-    /// The place of this number.
+    /// Makes the index of this number.
     pub fn new(number: u8) -> Index
         requires { number < SLOTS }
         ensures { result ≡ number }
@@ -37,7 +37,7 @@ impl Index {
         Index { number }
     }
 
-    /// The number of the place, from 0.
+    /// Returns the number, from 0.
     pub fn number(self) -> u8
         ensures number { result ≡ self }
         ensures below { result < SLOTS }
@@ -54,7 +54,7 @@ pub enum Slot {
 }
 
 impl Slot {
-    /// The variable's bit.
+    /// Returns the variable's bit.
     pub fn get(self, store: &Store) -> bool
         ensures { result ≡ slot_bit (store_of store.now) self }
     {
@@ -64,7 +64,7 @@ impl Slot {
         }
     }
 
-    /// The bit of this variable among the globals, where it is one.
+    /// Returns the bit of this variable among the globals, if it is one.
     pub fn globals(self) -> u128 {
         match self {
             Slot::Global(index) => 1 << index.number(),
@@ -99,14 +99,14 @@ impl Model for Slots {
 }
 
 impl Slots {
-    /// These variables.
+    /// Wraps these variables.
     pub fn new(items: Vec<Slot>) -> Slots
         ensures { result ≡ items.items }
     {
         Slots { items }
     }
 
-    /// The variables in order.
+    /// Returns the variables in order.
     pub fn as_slice(&self) -> &[Slot]
         ensures { result.now ≡ self.now }
     {

@@ -13,7 +13,7 @@ pub struct Store {
     pub locals: u128,
 }
 
-/// The bit of a slot.
+/// Returns the bit of a slot.
 pub fn bit_at(word: u128, slot: u8) -> bool
     requires { slot < SLOTS }
     ensures { result ≡ bits_of word slot }
@@ -27,7 +27,7 @@ pub fn bit_at(word: u128, slot: u8) -> bool
     ((half as u64) >> (slot % 64)) & 1 == 1
 }
 
-/// The word with another bit at a slot.
+/// Returns the word with another bit at a slot.
 pub fn with_bit(word: u128, slot: u8, bit: bool) -> u128
     requires { slot < SLOTS }
     ensures { bits_of result ≡ steps.with_bit (bits_of word) slot bit }
@@ -36,7 +36,7 @@ pub fn with_bit(word: u128, slot: u8, bit: bool) -> u128
     if bit { word | mask } else { word & !mask }
 }
 
-/// The word with these bits from slot 0 on, and 0 past them.
+/// Returns the word with these bits from slot 0 on, then 0.
 pub fn word_of(bits: &[bool]) -> u128
     requires { length bits.now ≤ SLOTS }
     ensures { bits_of result ≡ bits_from bits.now }

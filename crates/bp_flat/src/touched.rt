@@ -13,7 +13,7 @@ pub struct Touched {
 }
 
 impl Touched {
-    /// What either of the two touches.
+    /// Returns the globals that either of the two reads or writes.
     pub fn with(self, other: Touched) -> Touched {
         Touched {
             read: self.read | other.read,
@@ -21,13 +21,13 @@ impl Touched {
         }
     }
 
-    /// Whether neither writes what the other one reads or writes.
+    /// Returns whether neither writes a global that the other one reads or writes.
     pub fn is_apart(self, other: Touched) -> bool {
         self.written & (other.read | other.written) == 0 && self.read & other.written == 0
     }
 }
 
-/// The globals in any of the expressions.
+/// Returns the globals in any of the expressions.
 fn globals_of_exprs(exprs: &[SlotExpr]) -> u128 {
     let mut globals = 0;
     for e in exprs {
@@ -36,7 +36,7 @@ fn globals_of_exprs(exprs: &[SlotExpr]) -> u128 {
     globals
 }
 
-/// The globals among variables.
+/// Returns the globals among variables.
 fn globals_of_slots(slots: &[Slot]) -> u128 {
     let mut globals = 0;
     for slot in slots {
@@ -45,7 +45,7 @@ fn globals_of_slots(slots: &[Slot]) -> u128 {
     globals
 }
 
-/// The globals that an action reads.
+/// Returns the globals that an action reads.
 fn globals_read(action: &Action) -> u128 {
     match action {
         Action::Skip { .. } | Action::Goto { .. } | Action::Return => 0,
@@ -57,7 +57,7 @@ fn globals_read(action: &Action) -> u128 {
     }
 }
 
-/// The globals that an action writes.
+/// Returns the globals that an action writes.
 fn globals_written(action: &Action) -> u128 {
     match action {
         Action::Assign(assignment) => globals_of_slots(assignment.targets.as_slice()),
@@ -66,7 +66,7 @@ fn globals_written(action: &Action) -> u128 {
 }
 
 impl Instr {
-    /// The globals that a step of this instruction touches.
+    /// Returns the globals that a step of this instruction touches.
     pub fn touched(&self) -> Touched {
         let action = self.action();
         Touched {

@@ -8,7 +8,7 @@ ghost use Rattle.bp_flat.specs.Moves.{lookup};
 use crate::limits::SLOTS;
 use bp_language::{Name, Proc};
 
-/// The bit of a slot, 0 past the word.
+/// Returns the bit of a slot, or 0 past the word.
 pub fn bit_of(word: u128, slot: usize) -> bool
     ensures { result ≡ bits_of word slot }
 {
@@ -18,7 +18,7 @@ pub fn bit_of(word: u128, slot: usize) -> bool
     (word >> slot) & 1 == 1
 }
 
-/// The slot of the first of these names that is spelled so, where one is.
+/// Returns the slot of the first of these names with this text, if any.
 pub fn slot_of(names: &[Name], name: &[u8]) -> Option<usize>
     ensures slot { result ≡ first_index names.now name.now }
     ensures within { MatchOption result Unit (λ k. k < length names.now) }
@@ -26,7 +26,7 @@ pub fn slot_of(names: &[Name], name: &[u8]) -> Option<usize>
     names.iter().position(|it| it.text().as_bytes() == name)
 }
 
-/// The slot of a local; the formals of the procedure have the first slots.
+/// Returns the slot of a local; the formals of the procedure have the first slots.
 pub fn local_slot_of(proc: &Proc, name: &[u8]) -> Option<usize>
     ensures { result ≡ first_index (variables proc.now) name.now }
 {
@@ -38,7 +38,7 @@ pub fn local_slot_of(proc: &Proc, name: &[u8]) -> Option<usize>
     Some(formals.len() + slot)
 }
 
-/// The value of a local in this word, where the procedure has one of this name.
+/// Returns the value of a local in this word, if the procedure has one of this name.
 pub fn local_value(proc: &Proc, word: u128, name: &[u8]) -> Option<bool>
     ensures { result ≡ lookup (valuation_of (variables proc.now) (bits_of word)) name.now }
 {
@@ -48,7 +48,7 @@ pub fn local_value(proc: &Proc, word: u128, name: &[u8]) -> Option<bool>
     }
 }
 
-/// The value of a global in this word, where there is one of this name.
+/// Returns the value of a global in this word, if there is one of this name.
 pub fn global_value(names: &[Name], word: u128, name: &[u8]) -> Option<bool>
     ensures { result ≡ lookup (valuation_of names.now (bits_of word)) name.now }
 {
