@@ -1,7 +1,5 @@
-//! Calls of guest threads, and what they are answered.
-//! Why a call is refused.
-//! Which threads a history finishes, and how many it leaves open.
-//! Reports of histories.
+//! Calls of guest threads, their replies and refusals. Threads that a history finishes or leaves
+//! open. Reports of histories.
 ghost use Rattle.std.specs.Prelude.{◌≡◌};
 ghost use Rattle.bp_machine.specs.Histories.{is_finished, open_lines};
 
@@ -9,8 +7,8 @@ use crate::setups::Setup;
 use std::alloc::AllocError;
 use thiserror::Error;
 
-/// Why a call is refused: the first of these that applies. The session is then as it was, and no
-/// choice bit is used.
+/// Why a call is refused: the first reason that applies. The session is unchanged, and no choice
+/// bit is used.
 #[derive(Clone, Copy, Debug, PartialEq, Eq, Error)]
 pub enum AskFault {
     /// There is no such thread.
@@ -19,16 +17,16 @@ pub enum AskFault {
     /// The thread makes no further call.
     #[error("the thread has made its last call")]
     Finished,
-    /// A choice bit was handed in, although the setup has a seed.
+    /// A choice bit was given, although the setup has a seed.
     #[error("the choice bits are those of the seed")]
     Seeded,
-    /// No choice bit was handed in, and the setup has no seed.
+    /// No choice bit was given, and the setup has no seed.
     #[error("there is no seed for the choice bits")]
     Unseeded,
     /// There was not enough memory for a frame.
     #[error("out of memory")]
     Memory,
-    /// The ring to which calls are sent is full. No session answers this; a desk does.
+    /// The ring to which calls are sent is full. Only a desk returns this, never a session.
     #[error("the ring is full")]
     Busy,
 }
@@ -44,7 +42,7 @@ impl From<AllocError> for AskFault {
     }
 }
 
-/// What a call is answered: the first of these that applies.
+/// The reply to a call: the first that applies.
 #[derive(Clone, Copy, Debug, PartialEq, Eq)]
 pub enum Reply {
     /// An assertion failed earlier.
@@ -67,7 +65,7 @@ impl Reply {
     ghost use Rattle.std.specs.Prelude.{◌≡◌};
     ghost use Rattle.bp_machine.specs.Histories.{letter_of, is_last};
 
-    /// The letter that stands for the reply in a trace.
+    /// Returns the letter that stands for the reply in a trace.
     pub fn letter(&self) -> u8
         ensures { result ≡ letter_of self.now }
     {
@@ -82,7 +80,7 @@ impl Reply {
         }
     }
 
-    /// Whether the thread makes no further call after this reply.
+    /// Returns whether the thread makes no further call after this reply.
     pub fn is_last(&self) -> bool
         ensures { result ≡ is_last self.now }
     {
@@ -95,12 +93,12 @@ impl Reply {
 pub struct Call {
     /// The thread, from 0.
     pub thread: u32,
-    /// The choice bit that the call has, whether its step reads it or not.
+    /// The call's choice bit, whether its step reads it or not.
     pub bit: bool,
     pub reply: Reply,
 }
 
-/// Whether the thread makes no further call after the history.
+/// Returns whether the thread makes no further call after the history.
 fn is_finished(setup: &Setup, history: &[Call], thread: u32) -> bool
     ensures { result ≡ is_finished setup.now history.now thread }
 {
@@ -115,7 +113,7 @@ fn is_finished(setup: &Setup, history: &[Call], thread: u32) -> bool
     ended || setup.calls() as usize <= count
 }
 
-/// How many threads may continue after the history.
+/// Returns the number of threads that may continue after the history.
 pub fn open_lines(setup: &Setup, history: &[Call]) -> u32
     ensures { result ≡ open_lines setup.now history.now }
 {
@@ -144,6 +142,6 @@ pub struct Report {
     pub calls: u64,
     /// The number of threads that may continue.
     pub left_open: u32,
-    /// The least number of contexts that the steps are within.
+    /// The least number of contexts within which the steps are.
     pub contexts: u32,
 }

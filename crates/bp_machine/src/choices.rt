@@ -15,8 +15,7 @@ const FIRST_STREAM: u64 = 54;
 const LAST_PLACE: u32 = 31;
 
 /// The choice bits of one thread, in order. With a seed, thread i draws from the PCG XSH RR 64/32
-/// (O'Neill) whose state starts at the seed, on stream 54 + i: 32 bits from each word, the lowest
-/// first.
+/// whose state starts at the seed, on stream 54 + i: 32 bits from each word, the lowest first.
 #[derive(Drop)]
 pub struct Choices {
     word: u32,
@@ -36,7 +35,7 @@ impl Model for Choices {
 }
 
 impl Choices {
-    /// The choices of a thread with this seed. None is drawn yet.
+    /// Makes the choices of a thread with this seed, before any is drawn.
     pub fn new(seed: u64, thread: u32) -> Choices
         requires { thread < MAX_THREADS }
         ensures { IsAt result seed thread 0 }
@@ -49,7 +48,7 @@ impl Choices {
         }
     }
 
-    /// A copy of these choices, from which the same number of bits were drawn.
+    /// Returns a copy of these choices, from which the same number of bits were drawn.
     pub(crate) fn try_copy(&self) -> Result<Choices, AllocError>
         ensures { IfOk result (λ c. c ≡ self.now) }
     {
@@ -60,7 +59,7 @@ impl Choices {
         })
     }
 
-    /// The next bit, which is not drawn.
+    /// Returns the next bit without drawing it.
     pub(crate) fn peek(&self) -> bool
         ensures { result ≡ next_bit self.now }
     {

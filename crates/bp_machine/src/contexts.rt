@@ -3,7 +3,7 @@ ghost use Rattle.std.specs.Prelude.{◌≡◌, ◌↔◌, ◌<◌, ◌^◌, ◌+
 ghost use Rattle.bp_machine.specs.Histories.{IsWithin};
 ghost use Rattle.bp_machine.specs.Sessions.{used_with, count_with, IsCountOf};
 
-/// How many contexts the steps so far are within, and which thread made the last of them.
+/// The number of contexts of the steps so far, and the last step's thread.
 #[derive(Clone, Copy, PartialEq, Eq)]
 pub(crate) struct ContextCount {
     pub(crate) used: u32,
@@ -13,7 +13,7 @@ pub(crate) struct ContextCount {
 impl ContextCount {
     ghost use Rattle.std.specs.Prelude.{None};
 
-    /// The count before any step.
+    /// Returns the count before any step.
     pub(crate) fn start() -> ContextCount
         ensures value { result ≡ record { used = 0; last = None } }
         ensures law { IsCountOf result [] }
@@ -24,7 +24,7 @@ impl ContextCount {
         }
     }
 
-    /// How many contexts are used with one more step of the thread.
+    /// Returns the number of contexts used with one more step of the thread.
     pub(crate) fn used_with(&self, thread: u32) -> u64
         ensures { result ≡ used_with self.now thread }
     {
@@ -32,7 +32,7 @@ impl ContextCount {
         u64::from(self.used) + opened
     }
 
-    /// Whether one more step of the thread is within `contexts` contexts.
+    /// Returns whether one more step of the thread is within `contexts` contexts.
     pub(crate) fn allows(&self, contexts: u32, thread: u32) -> bool
         ensures value { result ≡ nat_le (used_with self.now thread) contexts }
         ensures law { (threads : List ℕ)

@@ -1,53 +1,52 @@
 //! Laws of histories. These functions do nothing: their contracts are the laws.
 ghost use Rattle.bp_machine.specs.Laws.{StepsAreARun, StepsAreWithin, RunsAreHistories, HistoriesAreRuns, FailuresAreReal, HistoriesAreShort, DeadlocksGrantNothing, DeadlocksLast, EntriesOnOneLine, OneCodeOneMeaning};
 
-/// The granted steps of a legal history are a run of the program.
+/// Proves that the granted steps of a legal history are a run of the program.
 pub fn steps_are_a_run()
     ensures { StepsAreARun }
 {}
 
-/// The granted steps of a legal history are within the contexts that its setup allows.
+/// Proves that the granted steps of a legal history are within the contexts of its setup.
 pub fn steps_are_within()
     ensures { StepsAreWithin }
 {}
 
-/// The runs of a program within the bounds of a setup are exactly the granted calls of its legal
-/// histories. Such a run is moves, one after the other, from the start of the setup: within its
-/// contexts, with at most as many steps of each thread as it may make calls, and with room for a
-/// frame at each call of a procedure. With the replies of its steps it is a legal history, which
-/// leads where the run does; and the granted calls of each legal history are such a run, with these
-/// replies.
+/// Proves that the runs of a program within the bounds of a setup are exactly the granted calls of
+/// its legal histories. Such a run is moves, one after the other, from the start of the setup:
+/// within its contexts, with at most as many steps of each thread as it may make calls, and with
+/// room for a frame at each call of a procedure. With the replies of its steps it is a legal
+/// history, which leads to the same configuration; and the granted calls of each legal history are
+/// such a run, with these replies.
 pub fn runs_are_histories()
     ensures each { RunsAreHistories }
     ensures back { HistoriesAreRuns }
 {}
 
-/// Where the outcome of a legal history is a failure, its last granted step is at an assertion of
-/// 0.
+/// Proves that the last granted step of a legal history with a failure is at an assertion of 0.
 pub fn failures_are_real()
     ensures { FailuresAreReal }
 {}
 
-/// A legal history has at most as many calls as its threads may make together.
+/// Proves that a legal history has at most as many calls as its threads may make together.
 pub fn histories_are_short()
     ensures { HistoriesAreShort }
 {}
 
-/// In a deadlock no thread is granted a step, whatever its choice bit and the contexts that are
-/// left. So a legal history has no granted call after it.
+/// Proves that in a deadlock no thread is granted a step, whatever its choice bit and the contexts
+/// that are left. So a legal history has no granted call after it.
 pub fn deadlocks_last()
     ensures each { DeadlocksGrantNothing }
     ensures later { DeadlocksLast }
 {}
 
-/// The entry procedures of a setup have names without a line feed, where the setup fits the program
-/// of a text. So each name has a line of its own in a trace.
+/// Proves that the entry procedures of a setup that fits the program of a text have names without a
+/// line feed. So each name has a line of its own in a trace.
 pub fn entries_are_on_one_line()
     ensures { EntriesOnOneLine }
 {}
 
-/// Programs for which one code stands have the same legal histories, of the setups that fit the
-/// code, and print the same rows.
+/// Proves that programs of one code have the same legal histories, of the setups that fit the code,
+/// and print the same rows.
 pub fn one_code_has_one_meaning()
     ensures { OneCodeOneMeaning }
 {}

@@ -1,4 +1,4 @@
-//! The limits of a session, and the defaults of what it starts from.
+//! The limits of a session, and the defaults of its start.
 
 /// The most guest threads of a session, which has at least one.
 pub const MAX_THREADS: usize = 64;

@@ -18,7 +18,7 @@ use bp_flat::{Code, Effect, Store};
 use std::alloc::AllocError;
 use std::marker::Model;
 
-/// What all threads of a session share, and each of them.
+/// The state that all threads of a session share, and each of them.
 #[derive(Drop)]
 pub(crate) struct Machine {
     globals: u128,
@@ -43,7 +43,7 @@ impl Model for Machine {
     } };
 }
 
-/// What an effect results in, where the stack may be full.
+/// Returns the transition for an effect, if the stack may be full.
 #[inline(always)]
 fn transition_of(effect: Effect, is_full: bool) -> Transition
     ensures { result ≡ transition_of effect is_full }
@@ -62,8 +62,8 @@ fn transition_of(effect: Effect, is_full: bool) -> Transition
     }
 }
 
-/// What a call of a thread with this stack results in. `fits` says if one more step is within the
-/// contexts.
+/// Returns the transition for a call of a thread with this stack. `fits` says whether one more step
+/// is within the contexts.
 #[inline(always)]
 pub fn transition_on(code: &Code, globals: u128, fits: bool, stack: &Stack, bit: bool) -> Transition
     ensures { IsTransitionOn code.now.instructions globals bit fits stack.now.frames result }
@@ -84,7 +84,7 @@ pub fn transition_on(code: &Code, globals: u128, fits: bool, stack: &Stack, bit:
     transition_of(instr.effect(store, bit), stack.len() >= MAX_FRAMES)
 }
 
-/// The globals after a step.
+/// Returns the globals after a step.
 pub fn globals_after(globals: u128, effect: Effect) -> u128
     ensures { result ≡ globals_after globals (Transition.Steps effect) }
 {
@@ -98,7 +98,7 @@ impl Machine {
     ghost use Rattle.std.specs.Prelude.{None};
     ghost use Rattle.bp_machine.specs.declared.limits.TheConstants.{MAX_THREADS};
 
-    /// The machine before any call.
+    /// Makes the machine before any call.
     pub(crate) fn start(globals: u128, threads: Vec<GuestThread>) -> Machine
         ensures { result.state ≡ record {
           globals = globals;
@@ -115,7 +115,7 @@ impl Machine {
         }
     }
 
-    /// The same machine, with memory of its own.
+    /// Returns a deep copy.
     pub(crate) fn try_copy(&self) -> Result<Machine, AllocError>
         ensures { IfOk result (λ m. m.state ≡ self.now.state) }
     {
@@ -128,8 +128,8 @@ impl Machine {
         })
     }
 
-    /// Starts the machine anew, before any call, with these globals and with threads that begin
-    /// with these procedures.
+    /// Restarts the machine, before any call, with these globals and threads that begin with these
+    /// procedures.
     pub(crate) fn restart(&mut self, globals: u128, code: &Code, entries: &[String])
         requires { length self.old.state.threads ≡ length entries.now }
         ensures { self.new.state ≡ record {
@@ -145,7 +145,7 @@ impl Machine {
         self.outcome = Outcome::Clean;
     }
 
-    /// The globals, that of slot n in the bit of weight 2 to the n.
+    /// Returns the globals, that of slot n in the bit of weight 2 to the n.
     pub(crate) fn globals(&self) -> u128
         ensures { result ≡ self.now.state.globals }
     {
@@ -159,21 +159,21 @@ impl Machine {
         bit_at(self.globals, slot)
     }
 
-    /// How many contexts the steps so far are within.
+    /// Returns the number of contexts of the steps so far.
     pub(crate) fn contexts_used(&self) -> u32
         ensures { result ≡ self.now.state.contexts.used }
     {
         self.contexts.used
     }
 
-    /// Whether an assertion failed, and in which thread.
+    /// Returns whether an assertion failed, and in which thread.
     pub(crate) fn outcome(&self) -> Outcome
         ensures { result ≡ self.now.state.outcome }
     {
         self.outcome
     }
 
-    /// Whether an assertion failed.
+    /// Returns whether an assertion failed.
     pub(crate) fn is_failed(&self) -> bool
         ensures { result ≡ is_failure self.now.state.outcome }
     {
@@ -186,7 +186,7 @@ impl Machine {
         self.threads.get(thread as usize)
     }
 
-    /// How many threads may continue, if `calls` calls of each are allowed.
+    /// Returns the number of threads that may continue, if `calls` calls of each are allowed.
     pub(crate) fn open_lines(&self, calls: u32) -> u32
         requires { length self.now.state.threads ≤ MAX_THREADS }
         ensures { (t : Program) (s : SetupOf) (h : List Answered)
@@ -203,7 +203,7 @@ impl Machine {
         count
     }
 
-    /// How many calls all threads made together.
+    /// Returns the number of calls of all threads together.
     pub(crate) fn calls(&self) -> u64
         requires { length self.now.state.threads ≤ MAX_THREADS }
         ensures { (t : Program) (s : SetupOf) (h : List Answered)
@@ -217,7 +217,7 @@ impl Machine {
         sum
     }
 
-    /// What a call of the thread results in, if `contexts` contexts are allowed.
+    /// Returns the transition for a call of the thread, if `contexts` contexts are allowed.
     #[inline(always)]
     pub(crate) fn judge(
         &self,
@@ -237,8 +237,8 @@ impl Machine {
         transition_on(code, self.globals, fits, guest.stack(), bit)
     }
 
-    /// What a step of the thread results in, where one more is within the contexts and no assertion
-    /// failed.
+    /// Returns the transition for a step of the thread, if one more is within the contexts and no
+    /// assertion failed.
     pub(crate) fn judge_step(&self, code: &Code, guest: &GuestThread, bit: bool) -> Transition
         ensures { let globals = self.now.state.globals in
             let stack = guest.now.guest.stack in
@@ -247,7 +247,7 @@ impl Machine {
         transition_on(code, self.globals, true, guest.stack(), bit)
     }
 
-    /// Makes room for the frame of a call's step; without memory the machine stays.
+    /// Reserves memory for the frame of a call's step; without it the machine is unchanged.
     #[inline(always)]
     pub(crate) fn reserve(&mut self, thread: u32, transition: Transition) -> Result<(), AllocError>
         requires { thread < length self.old.state.threads }

@@ -20,7 +20,7 @@ use bp_flat::stores::word_of;
 use std::alloc::{AllocError, Global};
 use std::marker::Model;
 
-/// A call that was judged, and what it results in.
+/// A call that was judged, and its transition.
 #[derive(Clone, Copy)]
 pub(crate) struct Judged {
     call: Call,
@@ -28,7 +28,7 @@ pub(crate) struct Judged {
 }
 
 /// A session of guest threads: a code, a setup, and the machine after the calls that were answered.
-/// Where the setup has a seed, it has the choices of each thread.
+/// If the setup has a seed, it has the choices of each thread.
 #[derive(Drop)]
 pub struct Session {
     code: Code,
@@ -53,9 +53,8 @@ impl Model for Session {
     ghost invariant = { λ s. IsInOrder (session_of s.code s.setup s.machine s.choices.items) };
 }
 
-/// Starts the choices of each thread of a setup anew with this seed, before any is drawn; without
-/// one there are none. They use the memory that they have, and stay as they are where more is
-/// refused.
+/// Restarts the choices of each thread of a setup with this seed, before any is drawn; without one
+/// there are none. They use the memory that they have, and are unchanged if more is refused.
 fn restart_choices(
     choices: &mut Vec<Choices>,
     setup: &Setup,
@@ -80,7 +79,7 @@ fn restart_choices(
     Ok(())
 }
 
-/// The choices of each thread of a setup, before any is drawn; without a seed there are none.
+/// Returns the choices of each thread of a setup, before any is drawn; none without a seed.
 fn first_choices(alloc: Global, setup: &Setup) -> Result<Vec<Choices>, AllocError>
     ensures { IfOk result (λ v. AreFirstChoices setup.now v.items) }
 {
@@ -89,7 +88,7 @@ fn first_choices(alloc: Global, setup: &Setup) -> Result<Vec<Choices>, AllocErro
     Ok(choices)
 }
 
-/// Draws the next bit of a thread, where there are choices.
+/// Draws the next bit of a thread, if there are choices.
 pub(crate) fn draw(choices: &mut Vec<Choices>, thread: usize)
     ensures { AreDrawn thread choices.old.items choices.new.items }
 {
@@ -99,7 +98,7 @@ pub(crate) fn draw(choices: &mut Vec<Choices>, thread: usize)
 }
 
 impl Session {
-    /// A session of a code in a setup that fits it, before any call.
+    /// Starts a session of a code in a setup that fits it, before any call.
     pub fn new(alloc: Global, code: &Code, setup: &Setup) -> Result<Session, AllocError>
         requires { Fits code.now.tree setup.now }
         ensures stands { IfOk result (λ x. Stands code.now.tree x []) }
@@ -121,7 +120,7 @@ impl Session {
     }
 
     /// Makes a call of a thread with the choice bit of the setup's seed. Only a step that is a call
-    /// takes memory.
+    /// allocates.
     #[inline(always)]
     pub fn ask(&mut self, thread: u32) -> Result<Call, AskFault>
         ensures answer { AfterEach self.old (λ t h. MatchResult result
@@ -136,8 +135,8 @@ impl Session {
         self.make_given(thread, None)
     }
 
-    /// Makes a call of a thread with this choice bit, where the setup has no seed. Only a step that
-    /// is a call takes memory.
+    /// Makes a call of a thread with this choice bit, if the setup has no seed. Only a step that is
+    /// a call allocates.
     #[inline(always)]
     pub fn ask_with(&mut self, thread: u32, bit: bool) -> Result<Call, AskFault>
         ensures answer { AfterEach self.old (λ t h. MatchResult result
@@ -152,9 +151,8 @@ impl Session {
         self.make_given(thread, Some(bit))
     }
 
-    /// Makes the machine's own call of the thread of a recorded call: with the bit of the seed
-    /// where the setup has one, else with the bit that was recorded. Only a step that is a call
-    /// takes memory.
+    /// Makes the machine's own call of the thread of a recorded call: with the bit of the seed if
+    /// the setup has one, else with the recorded bit. Only a step that is a call allocates.
     #[inline(always)]
     pub fn ask_as_recorded(&mut self, thread: u32, bit: bool) -> Result<Call, AskFault>
         ensures answer { AfterEach self.old (λ t h. let given = given_bit self.old.setup bit in
@@ -172,14 +170,14 @@ impl Session {
         self.make_given(thread, given)
     }
 
-    /// The code whose instructions the threads step through.
+    /// Returns the code whose instructions the threads step through.
     pub fn code(&self) -> &Code
         ensures { result.now ≡ self.now.code }
     {
         &self.code
     }
 
-    /// The setup from which the session started.
+    /// Returns the setup from which the session started.
     pub fn setup(&self) -> &Setup
         ensures { result.now ≡ self.now.setup }
     {

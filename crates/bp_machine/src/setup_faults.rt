@@ -9,7 +9,7 @@ use bp_flat::Code;
 use std::alloc::AllocError;
 use thiserror::Error;
 
-/// Why a setup is refused: the first of these that applies.
+/// Why a setup is refused: the first reason that applies.
 #[derive(Clone, Copy, Debug, PartialEq, Eq, Error)]
 pub enum SetupFault {
     /// There are no threads, or more than 64.
@@ -32,7 +32,7 @@ pub enum SetupFault {
     Memory,
 }
 
-/// The fault of the entry of a thread.
+/// Returns the fault of the entry of a thread.
 pub(crate) fn fault_of_entry(code: &Code, thread: u32, name: &[u8]) -> Option<SetupFault>
     ensures { let t = code.now.tree in
         result ≡ entry_fault thread (procedure_named t.procedures name.now) }
@@ -44,7 +44,7 @@ pub(crate) fn fault_of_entry(code: &Code, thread: u32, name: &[u8]) -> Option<Se
     }
 }
 
-/// The first fault of the entries.
+/// Returns the first fault of the entries.
 pub(crate) fn fault_of_entries(code: &Code, entries: &[String]) -> Option<SetupFault>
     requires { length entries.now ≤ MAX_THREADS }
     ensures { result ≡ entries_fault code.now.tree 0 (map string_bytes entries.now) }
@@ -58,7 +58,7 @@ pub(crate) fn fault_of_entries(code: &Code, entries: &[String]) -> Option<SetupF
     None
 }
 
-/// The first fault of the initial bits and the numbers.
+/// Returns the first fault of the initial bits and the numbers.
 pub(crate) fn fault_of_numbers(
     code: &Code,
     init: &[bool],
@@ -77,7 +77,7 @@ pub(crate) fn fault_of_numbers(
     None
 }
 
-/// The first fault of a setup with these parts, apart from memory.
+/// Returns the first fault of a setup with these parts, apart from memory.
 pub(crate) fn fault_of_setup(
     code: &Code,
     entries: &[String],

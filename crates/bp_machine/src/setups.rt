@@ -1,4 +1,4 @@
-//! What a session starts from.
+//! The start of a session.
 ghost use Rattle.std.specs.Prelude.{◌≡◌, ◌↔◌, IsTrue, None, map, slice_get, string_bytes, MatchResult, IfOk, option_map};
 ghost use Rattle.bp_machine.specs.Setups.{setup_of, threads, setup_fault, IsSetupRefusal, Fits, IsInRange};
 
@@ -7,8 +7,8 @@ use bp_flat::Code;
 use std::alloc::{AllocError, Global};
 use std::marker::Model;
 
-/// An entry procedure for each guest thread, a bit for each global, how many contexts and how many
-/// calls of a thread are allowed, and the seed of the choice bits, where they are not handed in.
+/// An entry procedure for each guest thread, a bit for each global, the contexts and the calls of a
+/// thread that are allowed, and the seed of the choice bits, unless they are given.
 #[derive(Drop)]
 pub struct Setup {
     entries: Vec<String>,
@@ -42,7 +42,7 @@ fn copies(alloc: Global, names: &[String]) -> Result<Vec<String>, AllocError>
     Ok(items)
 }
 
-/// A setup of copies of these parts.
+/// Makes a setup of copies of these parts.
 fn kept(
     alloc: Global,
     entries: &[String],
@@ -85,10 +85,10 @@ impl Setup {
         }
     }
 
-    /// The setup of guest threads that begin in the procedures `entries`. `init` has the initial
-    /// bits of the globals in order of declaration. At most `contexts` contexts are allowed, and at
-    /// most `calls` calls of each thread. With a seed each call has the choice bit of that seed,
-    /// else the one that is handed in.
+    /// Makes the setup of guest threads that begin in the procedures `entries`. `init` has the
+    /// initial bits of the globals in order of declaration. At most `contexts` contexts are
+    /// allowed, and at most `calls` calls of each thread. With a seed each call has its choice bit,
+    /// else the one given.
     pub fn new(
         alloc: Global,
         code: &Code,
@@ -112,7 +112,7 @@ impl Setup {
         }
     }
 
-    /// The law that the numbers of every setup are within their limits, and that it has no more
+    /// Proves that the numbers of every setup are within their limits, and that it has no more
     /// initial bits than a program may have globals.
     pub fn is_in_range(&self)
         ensures { IsInRange self.now }
@@ -120,28 +120,28 @@ impl Setup {
         let _ = &self.contexts;
     }
 
-    /// The names of the entry procedures, thread 0 first.
+    /// Returns the names of the entry procedures, thread 0 first.
     pub fn entries(&self) -> &[String]
         ensures { map string_bytes result.now ≡ self.now.entries }
     {
         self.entries.as_slice()
     }
 
-    /// The initial bits of the globals.
+    /// Returns the initial bits of the globals.
     pub fn bits(&self) -> &[bool]
         ensures { result.now ≡ self.now.init }
     {
         self.init.as_slice()
     }
 
-    /// How many guest threads there are: 1 to 64.
+    /// Returns the number of guest threads: 1 to 64.
     pub fn threads(&self) -> u32
         ensures { result ≡ threads self.now }
     {
         self.entries.len() as u32
     }
 
-    /// The name of a thread's entry procedure.
+    /// Returns the name of a thread's entry procedure.
     pub fn entry(&self, thread: u32) -> Option<&str>
         ensures { option_map (λ n. n.now) result ≡ slice_get self.now.entries thread }
     {
@@ -151,42 +151,42 @@ impl Setup {
         }
     }
 
-    /// The initial bit of a global, by its place in the declarations from 0.
+    /// Returns the initial bit of a global, by its index in the declarations from 0.
     pub fn init(&self, n: u32) -> Option<bool>
         ensures { result ≡ slice_get self.now.init n }
     {
         self.init.get(n as usize).copied()
     }
 
-    /// How many contexts are allowed: at most 1,000.
+    /// Returns the number of contexts allowed: at most 1,000.
     pub fn contexts(&self) -> u32
         ensures { result ≡ self.now.contexts }
     {
         self.contexts
     }
 
-    /// How many calls of each thread are allowed: 1 to 100,000.
+    /// Returns the number of calls of each thread allowed: 1 to 100,000.
     pub fn calls(&self) -> u32
         ensures { result ≡ self.now.calls }
     {
         self.calls
     }
 
-    /// The seed of the choice bits, where they are not handed in.
+    /// Returns the seed of the choice bits, unless they are given.
     pub fn seed(&self) -> Option<u64>
         ensures { result ≡ self.now.seed }
     {
         self.seed
     }
 
-    /// The same setup with this seed, or with none.
+    /// Returns the setup with this seed, or none.
     pub fn with_seed(self, seed: Option<u64>) -> Setup
         ensures { result ≡ record self { seed = seed } }
     {
         Setup { seed, ..self }
     }
 
-    /// The same setup with these bounds on the contexts and on the calls of a thread.
+    /// Returns the setup with these bounds on the contexts and on the calls of a thread.
     pub fn with_bounds(self, contexts: u32, calls: u32) -> Setup
         requires contexts { contexts ≤ MAX_CONTEXTS }
         requires one { 0 < calls }
@@ -207,8 +207,8 @@ impl Setup {
         self.seed = seed;
     }
 
-    /// Whether each entry is a procedure of this code without formals, and there is one bit for
-    /// each of its globals.
+    /// Returns whether each entry is a procedure of this code without formals, and there is one bit
+    /// for each of its globals.
     pub fn fits(&self, code: &Code) -> bool
         ensures { IsTrue result ↔ Fits code.now.tree self.now }
     {

@@ -14,7 +14,7 @@ pub struct ActivationRecord {
 }
 
 /// The calls of a thread that have not returned, the topmost last in memory and first in a
-/// contract. There is always memory for one of them, so a stack starts anew in its own.
+/// contract. There is always memory for one of them, so a restart allocates nothing.
 #[derive(Drop)]
 pub struct Stack {
     frames: Vec<ActivationRecord>,
@@ -34,7 +34,7 @@ impl Model for Stack {
     ghost invariant = { λ s. 1 ≤ vec_capacity s.frames };
 }
 
-/// Another frame at the top, where there is one.
+/// Replaces the frame at the top, if there is one.
 fn replace_top(frames: &mut Vec<ActivationRecord>, frame: ActivationRecord)
     ensures items { reverse frames.new.items ≡ with_top frame (reverse frames.old.items) }
     ensures capacity { vec_capacity frames.new ≡ vec_capacity frames.old }
@@ -48,8 +48,8 @@ fn replace_top(frames: &mut Vec<ActivationRecord>, frame: ActivationRecord)
     }
 }
 
-/// Leaves the topmost frame at the instruction `next`, and puts another one on it. There is room
-/// for it.
+/// Leaves the topmost frame at the instruction `next`, and pushes another one, for which there is
+/// room.
 fn enter(frames: &mut Vec<ActivationRecord>, frame: ActivationRecord, next: u32)
     requires { vec_len frames.old < vec_capacity frames.old }
     ensures items { reverse frames.new.items ≡ entered_top frame next (reverse frames.old.items) }
@@ -71,7 +71,7 @@ fn enter(frames: &mut Vec<ActivationRecord>, frame: ActivationRecord, next: u32)
 impl Stack {
     ghost use Rattle.bp_machine.specs.Transitions.{stack_after, FitsIn, IsEntering};
 
-    /// The stack of a thread that begins at this instruction, with its locals 0.
+    /// Makes the stack of a thread that begins at this instruction, with its locals 0.
     pub fn start(alloc: Global, number: u32) -> Result<Stack, AllocError>
         ensures { IfOk result (λ s. s.frames ≡ record { number = number; locals = 0 } ∷ []) }
     {
@@ -80,7 +80,7 @@ impl Stack {
         Ok(Stack { frames })
     }
 
-    /// The same stack, with as much memory of its own.
+    /// Returns a deep copy, with as much memory.
     pub fn try_copy(&self) -> Result<Stack, AllocError>
         ensures { IfOk result (λ s. s.frames ≡ self.now.frames) }
     {
@@ -90,8 +90,8 @@ impl Stack {
         Ok(Stack { frames })
     }
 
-    /// Starts the stack anew, as that of a thread that begins at this instruction, with its locals
-    /// 0. No memory is taken.
+    /// Restarts the stack as that of a thread that begins at this instruction, with its locals 0.
+    /// Allocates nothing.
     pub(crate) fn restart(&mut self, number: u32)
         ensures { self.new.frames ≡ record { number = number; locals = 0 } ∷ [] }
     {
@@ -106,7 +106,7 @@ impl Stack {
         self.frames.last().copied()
     }
 
-    /// The frame that is at the top once this number of calls has returned.
+    /// Returns the frame that is at the top once `returned` calls have returned.
     pub(crate) fn below(&self, returned: usize) -> Option<ActivationRecord>
         ensures { result ≡ top_of (drop returned self.now.frames) }
     {
@@ -117,14 +117,14 @@ impl Stack {
         None
     }
 
-    /// How many frames there are.
+    /// Returns the number of frames.
     pub fn len(&self) -> usize
         ensures { result ≡ length self.now.frames }
     {
         self.frames.len()
     }
 
-    /// Makes room for the frame of a step. Only a call has one; without memory the stack stays.
+    /// Reserves memory for the frame of a step; only a call has one. Without it nothing changes.
     #[inline(always)]
     pub(crate) fn reserve(&mut self, effect: Effect) -> Result<(), AllocError>
         ensures frames { self.new.frames ≡ self.old.frames }
@@ -171,7 +171,7 @@ impl Stack {
         }
     }
 
-    /// Makes a step. Without memory for its frame the stack stays.
+    /// Makes a step. Without memory for its frame the stack is unchanged.
     pub fn take_step(&mut self, effect: Effect) -> Result<(), AllocError>
         ensures ok { OnOk result (self.new.frames ≡ stack_after effect self.old.frames) }
         ensures same { OnErr result (self.new ≡ self.old) }
@@ -181,14 +181,14 @@ impl Stack {
         Ok(())
     }
 
-    /// Takes all frames off. The memory stays.
+    /// Removes all frames, and keeps the memory.
     pub fn clear(&mut self)
         ensures { self.new.frames ≡ [] }
     {
         self.frames.clear();
     }
 
-    /// Puts a frame on top.
+    /// Pushes a frame.
     pub fn push(&mut self, frame: ActivationRecord) -> Result<(), AllocError>
         ensures { OnOk result (self.new.frames ≡ frame ∷ self.old.frames) }
     {
@@ -196,7 +196,7 @@ impl Stack {
         Ok(())
     }
 
-    /// The frames, the topmost last.
+    /// Returns the frames, the topmost last.
     pub fn frames(&self) -> &[ActivationRecord]
         ensures { reverse result.now ≡ self.now.frames }
     {

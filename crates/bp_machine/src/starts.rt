@@ -1,5 +1,5 @@
-//! What a run of a program starts from.
-//! Setups as a text says them: names may be any bytes, and numbers may be too large.
+//! The start of a run of a program. Setups from a text: names may be any bytes, and numbers may be
+//! too large.
 ghost use Rattle.std.specs.Prelude.{◌≡◌, ◌≤◌, None, MatchResult, IfOk, ℕ, true, List, Some, map, length, slice_get, is_some, string_bytes};
 ghost use Rattle.bp_language.specs.declared.limits.TheConstants.{MAX_GLOBALS};
 ghost use Rattle.bp_flat.specs.Flat.{heading_named};
@@ -14,16 +14,16 @@ use bp_language::limits::MAX_GLOBALS;
 use std::alloc::{AllocError, Global};
 use std::marker::Model;
 
-/// What a run starts from, beside the program and the seed.
+/// The start of a run, apart from the program and the seed.
 #[derive(Drop)]
 pub struct Start {
     /// The entry procedure of each guest thread, thread 0 first: 1 to 64 names.
     pub entries: Vec<String>,
     /// The initial bit of each global in order of declaration. If `None`, all are 0.
     pub init: Option<Vec<bool>>,
-    /// How many contexts are allowed: at most 1,000.
+    /// The number of contexts allowed: at most 1,000.
     pub contexts: u32,
-    /// How many calls of each guest thread are allowed: 1 to 100,000.
+    /// The number of calls of each guest thread allowed: 1 to 100,000.
     pub calls: u32,
 }
 
@@ -38,7 +38,7 @@ impl Model for Start {
         start_with (map string_bytes s.entries.items) bits s.contexts s.calls };
 }
 
-/// The law that a code has at most 128 globals.
+/// Proves that a code has at most 128 globals.
 fn has_few_globals(code: &Code)
     ensures { code.now.globals ≤ MAX_GLOBALS }
 {
@@ -46,7 +46,7 @@ fn has_few_globals(code: &Code)
 }
 
 impl Start {
-    /// One thread that begins with `main`, all globals 0, 2 contexts, and 1,000 calls a thread.
+    /// Returns one thread that begins with `main`, globals 0, 2 contexts, and 1,000 calls a thread.
     pub fn defaults(alloc: Global) -> Result<Start, AllocError>
         ensures { IfOk result (λ s. s ≡ default_start) }
     {
@@ -60,7 +60,7 @@ impl Start {
         })
     }
 
-    /// The setup of the program of this code, with this seed or with none.
+    /// Makes the setup of the program of this code, with this seed or none.
     pub fn setup(&self, alloc: Global, code: &Code, seed: Option<u64>) -> Result<Setup, SetupFault>
         ensures answer { let t = code.now.tree in let given = setup_from self.now seed t in
             MatchResult result
@@ -79,7 +79,7 @@ impl Start {
     }
 }
 
-/// The first fault of the entries.
+/// Returns the first fault of the entries.
 fn fault_of_names(code: &Code, entries: &[&[u8]]) -> Option<SetupFault>
     requires { length entries.now ≤ MAX_THREADS }
     ensures { result ≡ entries_fault code.now.tree 0 (map (λ n. n.now) entries.now) }
@@ -93,7 +93,7 @@ fn fault_of_names(code: &Code, entries: &[&[u8]]) -> Option<SetupFault>
     None
 }
 
-/// The first fault of a setup that is said so, apart from memory.
+/// Returns the first fault of a setup with these names, apart from memory.
 fn fault_of_named(
     code: &Code,
     entries: &[&[u8]],
@@ -113,7 +113,7 @@ fn fault_of_named(
     fault_of_numbers(code, init, contexts, calls)
 }
 
-/// The names of the procedures that these bytes name.
+/// Returns the names of the procedures that these bytes name.
 fn own_names(alloc: Global, code: &Code, entries: &[&[u8]]) -> Result<Vec<String>, AllocError>
     requires { (i : ℕ) (name : List ℕ)
         → slice_get (map (λ n. n.now) entries.now) i ≡ Some name
@@ -131,8 +131,8 @@ fn own_names(alloc: Global, code: &Code, entries: &[&[u8]]) -> Result<Vec<String
 }
 
 impl Setup {
-    /// As `new`, of what a text says: a name that is no procedure's may be any bytes, and a number
-    /// may be too large for its type, which is one out of its range.
+    /// As `new`, but from a text: a name that is no procedure's may be any bytes, and a number may
+    /// be too large for its type, and then is out of its range.
     pub fn from_names(
         alloc: Global,
         code: &Code,

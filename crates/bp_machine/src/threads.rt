@@ -1,4 +1,4 @@
-//! The guest threads of a session, and what a call does to one.
+//! The guest threads of a session, and the effects of calls on them.
 ghost use Rattle.std.specs.Prelude.{◌≡◌, ◌||◌, ◌+◌, ◌<◌, ◌^◌, length, map, nat_le, string_bytes, vec_len, IfOk, OnOk, OnErr};
 ghost use Rattle.bp_machine.specs.Sessions.{thread_at, first_thread, guests};
 ghost use Rattle.bp_machine.specs.Transitions.{thread_after, reply_of_transition, TransitionFitsIn, IsCallTransition};
@@ -9,10 +9,10 @@ use bp_flat::{Code, Effect};
 use std::alloc::{AllocError, Global};
 use std::marker::Model;
 
-/// What a call results in, before it is made.
+/// The result of a call, before it is made.
 #[derive(Clone, Copy, PartialEq, Eq)]
 pub enum Transition {
-    /// No step: the machine stays, with this reply.
+    /// No step: the machine is unchanged, with this reply.
     Stays(Reply),
     /// A failed assertion.
     Fails,
@@ -32,8 +32,7 @@ impl Transition {
     }
 }
 
-/// A guest thread: its stack, how many calls it made, and whether the last of them had a last
-/// reply.
+/// A guest thread: its stack, its number of calls, and whether the last of them had a last reply.
 #[derive(Drop)]
 pub(crate) struct GuestThread {
     stack: Stack,
@@ -55,7 +54,7 @@ impl Model for GuestThread {
 impl GuestThread {
     ghost use Rattle.std.specs.Prelude.{false};
 
-    /// A thread that has made no call.
+    /// Makes a thread that has made no call.
     fn start(stack: Stack) -> GuestThread
         ensures { result.guest ≡ record { stack = stack.frames; calls = 0; ended = false } }
     {
@@ -66,7 +65,7 @@ impl GuestThread {
         }
     }
 
-    /// The same thread, with memory of its own.
+    /// Returns a deep copy.
     fn try_copy(&self) -> Result<GuestThread, AllocError>
         ensures { IfOk result (λ g. g.guest ≡ self.now.guest) }
     {
@@ -77,7 +76,7 @@ impl GuestThread {
         })
     }
 
-    /// Starts the thread anew at this instruction, before any call.
+    /// Restarts the thread at this instruction, before any call.
     pub(crate) fn restart(&mut self, number: u32)
         ensures { self.new.guest ≡ thread_at number }
     {
@@ -92,7 +91,7 @@ impl GuestThread {
         &self.stack
     }
 
-    /// Whether the thread makes no further call, if it may make `calls` calls.
+    /// Returns whether the thread makes no further call, if it may make `calls` calls.
     pub(crate) fn is_finished(&self, calls: u32) -> bool
         ensures { result ≡ (self.now.guest.ended || nat_le calls self.now.guest.calls) }
     {
@@ -105,7 +104,7 @@ impl GuestThread {
         self.calls
     }
 
-    /// Makes room for the frame of a call's step; without memory the thread stays.
+    /// Reserves memory for the frame of a call's step; without it the thread is unchanged.
     #[inline(always)]
     pub(crate) fn reserve(&mut self, transition: Transition) -> Result<(), AllocError>
         ensures guest { self.new.guest ≡ self.old.guest }
@@ -134,7 +133,7 @@ impl GuestThread {
     }
 }
 
-/// A thread that begins at this instruction.
+/// Makes a thread that begins at this instruction.
 fn first_thread(alloc: Global, number: u32) -> Result<GuestThread, AllocError>
     ensures { IfOk result (λ g. g.guest ≡ thread_at number) }
 {
@@ -142,7 +141,7 @@ fn first_thread(alloc: Global, number: u32) -> Result<GuestThread, AllocError>
     Ok(GuestThread::start(stack))
 }
 
-/// Threads that begin with these procedures.
+/// Makes threads that begin with these procedures.
 pub(crate) fn first_threads(
     alloc: Global,
     code: &Code,
@@ -159,7 +158,7 @@ pub(crate) fn first_threads(
     Ok(threads)
 }
 
-/// The same threads, with memory of their own.
+/// Returns a deep copy of threads.
 pub(crate) fn copied_threads(
     alloc: Global,
     threads: &[GuestThread],
@@ -173,7 +172,7 @@ pub(crate) fn copied_threads(
     Ok(copies)
 }
 
-/// Starts the threads anew, so that they begin with these procedures.
+/// Restarts the threads, so that they begin with these procedures.
 pub(crate) fn restart_threads(threads: &mut Vec<GuestThread>, code: &Code, entries: &[String])
     requires { vec_len threads.old ≡ length entries.now }
     ensures { guests threads.new.items

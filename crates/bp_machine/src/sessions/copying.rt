@@ -8,7 +8,7 @@ use crate::choices::Choices;
 use crate::sessions::Session;
 use std::alloc::{AllocError, Global};
 
-/// The same choices, with memory of their own.
+/// Returns a deep copy of choices.
 fn copied_choices(alloc: Global, choices: &[Choices]) -> Result<Vec<Choices>, AllocError>
     ensures { IfOk result (λ v. v.items ≡ choices.now) }
 {
@@ -20,7 +20,7 @@ fn copied_choices(alloc: Global, choices: &[Choices]) -> Result<Vec<Choices>, Al
 }
 
 impl Session {
-    /// A session that stands after the same calls, with memory of its own.
+    /// Returns a deep copy, which stands after the same calls.
     pub fn try_copy(&self) -> Result<Session, AllocError>
         ensures stands { (t : Program) (h : List Answered)
             → Stands t self.now h

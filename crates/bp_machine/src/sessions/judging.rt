@@ -8,7 +8,7 @@ use crate::sessions::{Judged, Session, draw};
 use bp_flat::steps_alike;
 
 impl Session {
-    /// The choice bit of the next call of a thread, where this bit or none is handed in.
+    /// Returns the choice bit of the next call of a thread, with this given bit or none.
     fn bit_of_call(&self, thread: u32, given: Option<bool>) -> Result<bool, AskFault>
         ensures { MatchResult result
             (IsKeptBit self.now.choices thread given)
@@ -22,7 +22,7 @@ impl Session {
         }
     }
 
-    /// The bit that is handed in for a recorded call with this bit.
+    /// Returns the bit to give for a recorded call with this bit.
     pub(super) fn given_bit(&self, bit: bool) -> Option<bool>
         ensures { result ≡ given_bit self.now.setup bit }
     {
@@ -33,7 +33,7 @@ impl Session {
         }
     }
 
-    /// What a call of the thread results in, where this bit or none is handed in.
+    /// Returns the transition for a call of the thread, with this given bit or none.
     #[inline(always)]
     pub(super) fn judged(&self, thread: u32, given: Option<bool>) -> Result<Judged, AskFault>
         ensures { MatchResult result
@@ -56,7 +56,7 @@ impl Session {
         })
     }
 
-    /// Makes a call of the thread, where this bit or none is handed in.
+    /// Makes a call of the thread, with this given bit or none.
     #[inline(always)]
     pub(super) fn make_given(&mut self, thread: u32, given: Option<bool>) -> Result<Call, AskFault>
         ensures answer { AfterEach self.old (λ t h. MatchResult result

@@ -1,4 +1,4 @@
-//! What a session tells of the machine after the calls that it answered.
+//! The state of a session's machine after the calls that it answered.
 ghost use Rattle.std.specs.Prelude.{◌≡◌, ◌<◌, [], List, drop, slice_get, option_map, is_some, length, MatchOption, MatchResult};
 ghost use Rattle.bp_language.specs.Ast.{Program};
 ghost use Rattle.bp_flat.specs.InstrEffects.{bits_of};
@@ -15,7 +15,7 @@ use crate::tops::Top;
 use bp_flat::{Kind, Store};
 
 impl Session {
-    /// Whether a thread makes no further call.
+    /// Returns whether a thread makes no further call.
     pub fn is_finished(&self, thread: u32) -> bool
         requires { thread < threads self.now.setup }
         ensures { (t : Program) (h : List Answered)
@@ -28,7 +28,7 @@ impl Session {
         }
     }
 
-    /// How many calls a thread has made.
+    /// Returns the number of calls that a thread has made.
     pub fn calls_of(&self, thread: u32) -> u32
         ensures { (t : Program) (h : List Answered)
             → Stands t self.now h
@@ -41,7 +41,7 @@ impl Session {
         }
     }
 
-    /// The bit of a global, by its place in the declarations from 0.
+    /// Returns the bit of a global, by its index in the declarations from 0.
     pub fn global(&self, n: u32) -> Option<bool>
         ensures { AfterEach self.now (λ t h.
             let globals = (configuration_after t self.now.setup h).globals in
@@ -54,7 +54,7 @@ impl Session {
         Some(self.machine.global(n as u8))
     }
 
-    /// The globals, that of slot n in the bit of weight 2 to the n.
+    /// Returns the globals, that of slot n in the bit of weight 2 to the n.
     pub fn globals(&self) -> u128
         ensures { (t : Program) (h : List Answered)
             → Stands t self.now h
@@ -64,7 +64,7 @@ impl Session {
         self.machine.globals()
     }
 
-    /// The least number of contexts that the steps so far are within.
+    /// Returns the least number of contexts within which the steps so far are.
     pub fn contexts_used(&self) -> u32
         ensures { (t : Program) (h : List Answered)
             → Stands t self.now h
@@ -73,7 +73,7 @@ impl Session {
         self.machine.contexts_used()
     }
 
-    /// Whether an assertion failed.
+    /// Returns whether an assertion failed.
     pub fn is_failed(&self) -> bool
         ensures { (t : Program) (h : List Answered)
             → Stands t self.now h
@@ -82,7 +82,7 @@ impl Session {
         self.machine.is_failed()
     }
 
-    /// How many threads may continue.
+    /// Returns the number of threads that may continue.
     pub fn open_lines(&self) -> u32
         ensures { (t : Program) (h : List Answered)
             → Stands t self.now h
@@ -91,7 +91,7 @@ impl Session {
         self.machine.open_lines(self.setup.calls())
     }
 
-    /// The report of the calls so far.
+    /// Returns the report of the calls so far.
     pub fn report(&self) -> Report
         ensures { (t : Program) (h : List Answered)
             → Stands t self.now h
@@ -105,7 +105,7 @@ impl Session {
         }
     }
 
-    /// Whether the next statement of a thread is a `print`.
+    /// Returns whether the next statement of a thread is a `print`.
     pub fn is_at_print(&self, thread: u32) -> bool
         ensures { AfterEach self.now (λ t h. let now = configuration_after t self.now.setup h in
             result ≡ is_some (values_printed now.globals (stack_of now thread))) }
@@ -123,7 +123,7 @@ impl Session {
         matches!(instr.kind(), Kind::Print)
     }
 
-    /// The values that the next statement of a thread prints, where it is a `print`.
+    /// Returns the values that the next statement of a thread prints, if it is a `print`.
     pub fn next_print(&self, thread: u32) -> Result<Option<Vec<bool>>, AskFault>
         ensures { AfterEach self.now (λ t h. let now = configuration_after t self.now.setup h in
             let printed = values_printed now.globals (stack_of now thread) in
@@ -150,8 +150,8 @@ impl Session {
         Ok(printed)
     }
 
-    /// Where a thread continues once its topmost calls have returned; `returned` is their number.
-    /// None if its stack has no more frames, or there is no such thread.
+    /// Returns the place at which a thread continues after its topmost `returned` calls have
+    /// returned. Returns None if its stack has no more frames, or there is no such thread.
     pub fn top_below(&self, thread: u32, returned: usize) -> Option<Top>
         ensures { AfterEach self.now (λ t h. let now = configuration_after t self.now.setup h in
             let left = drop returned (stack_of now thread) in
@@ -174,7 +174,7 @@ impl Session {
         })
     }
 
-    /// Where a thread continues: none if its stack is empty, or there is no such thread.
+    /// Returns the place at which a thread continues, or None without a frame or such a thread.
     pub fn top(&self, thread: u32) -> Option<Top>
         ensures { AfterEach self.now (λ t h. let now = configuration_after t self.now.setup h in
             MatchOption result (stack_of now thread ≡ []) (IsTop t now thread)) }

@@ -1,4 +1,4 @@
-//! Starting a session anew.
+//! Restarting a session.
 ghost use Rattle.std.specs.Prelude.{◌≡◌, [], None, IfOk, IsOk, OnOk, OnErr};
 ghost use Rattle.bp_machine.specs.Setups.{Fits};
 ghost use Rattle.bp_machine.specs.Sessions.{Stands};
@@ -8,9 +8,9 @@ use bp_flat::stores::word_of;
 use std::alloc::AllocError;
 
 impl Session {
-    /// Starts this session anew: before any call, in the same setup but with this seed or with
-    /// none. It uses the memory that it has. Only the choices may need more; where that is refused,
-    /// the session stays as it is.
+    /// Restarts this session, before any call, in the same setup but with this seed or none. It
+    /// uses the memory that it has. Only the choices may need more; if that is refused, the session
+    /// is unchanged.
     pub fn restart(&mut self, seed: Option<u64>) -> Result<(), AllocError>
         requires { Fits self.old.code.tree self.old.setup }
         ensures stands { OnOk result
@@ -30,7 +30,7 @@ impl Session {
         Ok(())
     }
 
-    /// A session of the same code before any call, in the same setup but with this seed or with
+    /// Returns a session of the same code before any call, in the same setup but with this seed or
     /// none. It uses the memory of this one.
     pub fn restarted(self, seed: Option<u64>) -> Result<Session, AllocError>
         requires { Fits self.code.tree self.setup }

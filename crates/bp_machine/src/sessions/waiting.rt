@@ -10,7 +10,7 @@ use crate::sessions::Session;
 use crate::threads::GuestThread;
 use bp_flat::steps_alike;
 
-/// Whether a reply is that to an assumption of 0.
+/// Returns whether a reply is that to an assumption of 0.
 fn is_blocked(reply: Reply) -> bool
     ensures { result ≡ is_blocked (Some reply) }
 {
@@ -18,7 +18,7 @@ fn is_blocked(reply: Reply) -> bool
 }
 
 impl Session {
-    /// Whether the next statement of a thread is an assumption of 0 with this choice bit.
+    /// Returns whether the next statement of a thread is an assumption of 0 with this choice bit.
     fn finds_zero(&self, guest: &GuestThread, bit: bool) -> bool
         ensures { let t = self.now.code.tree in (h : List Answered) (i : ℕ)
             → Stands t self.now h
@@ -31,9 +31,9 @@ impl Session {
         is_blocked(transition.reply())
     }
 
-    /// Whether a thread waits: its next statement is an assumption of 0 with either choice bit. It
-    /// is not asked whether the thread may make a further call. One look is enough: an assumption
-    /// of `?` lets its thread go on where its bit is 1, and no other test depends on the bit.
+    /// Returns whether a thread waits: its next statement is an assumption of 0 with either choice
+    /// bit. The thread need not have a further call. One look is enough: an assumption of `?` lets
+    /// its thread continue if its bit is 1, and no other test depends on the bit.
     pub fn waits(&self, thread: u32) -> bool
         ensures { AfterEach self.now (λ t h. let now = configuration_after t self.now.setup h in
             result ≡ waits t now thread) }
@@ -44,7 +44,7 @@ impl Session {
         self.finds_zero(guest, true)
     }
 
-    /// Whether a thread has frames left: it did not come to the end of its program.
+    /// Returns whether a thread has frames left: it did not reach the end of its program.
     fn has_frames(&self, thread: u32) -> bool
         ensures { AfterEach self.now (λ t h. let now = configuration_after t self.now.setup h in
             result ≡ has_frames now thread) }
@@ -52,8 +52,8 @@ impl Session {
         self.top(thread).is_some()
     }
 
-    /// Whether the threads are deadlocked: some have frames left, and each of those waits. It does
-    /// not matter whether a thread may make a further call, or was refused a context.
+    /// Returns whether the threads are deadlocked: some have frames left, and each of those waits.
+    /// It does not matter whether a thread may make a further call, or was refused a context.
     pub fn is_deadlocked(&self) -> bool
         ensures { AfterEach self.now (λ t h. let now = configuration_after t self.now.setup h in
             IsTrue result ↔ IsDeadlocked t now) }
