@@ -1,5 +1,5 @@
-//! Driving a program by a schedule.
-//! Schedules: lines that name the thread of the next call and its choice bit.
+//! Driving a program by a schedule. Schedules: lines that name the thread of the next call and its
+//! choice bit.
 ghost use Rattle.std.specs.Prelude.{◌≡◌, ◌<◌, ◌≤◌, ℕ, List, Option, None, [], length, IfOk, IfErr, OnOk, MatchResult, drop};
 ghost use Rattle.bp_machine.specs.declared.limits.TheConstants.{MAX_THREADS};
 ghost use Rattle.bp_machine.specs.Setups.{Fits};
@@ -20,7 +20,7 @@ use bp_text::{after, bit_at};
 use std::alloc::Global;
 use std::io::Write;
 
-/// The refusal of a call on the `n`-th line, of a thread that is there.
+/// Returns the refusal of a call on the `n`-th line, of an existing thread.
 fn drive_fault_of(fault: AskFault, n: u32) -> DriveFault
     ensures { result ≡ drive_fault_of fault n }
 {
@@ -31,7 +31,7 @@ fn drive_fault_of(fault: AskFault, n: u32) -> DriveFault
     }
 }
 
-/// Makes the call of a line, which is the `n`-th, and keeps it.
+/// Makes the call of a line, which is the `n`-th, and appends it.
 fn play_line(
     session: &mut Session,
     calls: &mut Vec<Call>,
@@ -90,7 +90,7 @@ fn play(
 
 /// Plays the lines of a schedule, one call each, and then writes the trace of the history. A line
 /// is the number of a thread, a space, the choice bit and a line feed. At a refusal nothing is
-/// written, but for a writer that refuses: it then has a proper prefix of the trace.
+/// written, unless the writer refuses: it then has a proper prefix of the trace.
 pub fn drive<W: Write>(
     alloc: Global,
     code: &Code,
@@ -115,7 +115,7 @@ pub fn drive<W: Write>(
     Ok(report)
 }
 
-/// What a line of a schedule says: the thread that makes a call, and its choice bit.
+/// A line of a schedule: the thread that makes a call, and its choice bit.
 #[derive(Clone, Copy, Debug, PartialEq, Eq)]
 pub struct ScheduleLine {
     /// The thread, from 0.
@@ -123,7 +123,7 @@ pub struct ScheduleLine {
     pub bit: bool,
 }
 
-/// The text from this place on.
+/// Returns the text from this place on.
 pub(crate) fn text_from(text: &[u8], place: usize) -> &[u8]
     requires { place ≤ length text.now }
     ensures { result.now ≡ drop place text.now }
@@ -131,7 +131,7 @@ pub(crate) fn text_from(text: &[u8], place: usize) -> &[u8]
     &text[place..]
 }
 
-/// The line of a thread below this number that begins the text, and what is after it.
+/// Parses the line of a thread below `threads`, and returns it with the rest of the text.
 #[inline(always)]
 fn line_at(threads: u32, text: &[u8]) -> Option<(ScheduleLine, &[u8])>
     ensures { Finds (schedule_line threads) text.now result }

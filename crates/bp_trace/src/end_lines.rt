@@ -9,7 +9,7 @@ use crate::faults::{EndCounts, ReplayFault};
 use bp_text::{Machine, after, after_word, span_at};
 use itoa::Buffer;
 
-/// How much of a decimal of any length was read.
+/// The state of reading a decimal of any length.
 #[derive(Clone, Copy)]
 enum DecimalState {
     Start,
@@ -17,7 +17,7 @@ enum DecimalState {
     Digits,
 }
 
-/// The state after one more digit, if the byte is one.
+/// Returns the state after one more digit, if the byte is one.
 fn more_digits(byte: u8) -> Option<DecimalState>
     ensures { result ≡ more_digits byte }
 {
@@ -48,7 +48,7 @@ impl Machine for DecimalState {
     }
 }
 
-/// What is after the decimal of any length and the byte after it that begin the text.
+/// Skips the decimal of any length that begins the text, and the byte after it.
 fn after_decimal(text: &[u8], byte: u8) -> Option<&[u8]>
     ensures { let decimal = Before any_decimal (byte ∷ []) in
         MatchOption result
@@ -64,7 +64,7 @@ fn after_decimal(text: &[u8], byte: u8) -> Option<&[u8]>
     }
 }
 
-/// How many bytes the end line has that begins the text, whatever its numbers.
+/// Returns the number of bytes of the end line that begins the text, whatever its numbers.
 fn end_at(text: &[u8]) -> Option<usize>
     ensures { MatchOption result (HasNoEnd text.now) (IsEndAt text.now) }
 {
@@ -80,7 +80,7 @@ fn end_at(text: &[u8]) -> Option<usize>
     }
 }
 
-/// Whether the text is these pieces, with nothing between them.
+/// Returns whether the text is these pieces, with nothing between them.
 fn is_joined(text: &[u8], pieces: &[&[u8]]) -> bool
     ensures { IsTrue result ↔ (text.now ≡ flat_map (λ p. p.now) pieces.now) }
 {
@@ -94,7 +94,7 @@ fn is_joined(text: &[u8], pieces: &[&[u8]]) -> bool
     rest.is_empty()
 }
 
-/// Whether the line is the end of this many calls and open lines.
+/// Returns whether the line is the end line of these counts of calls and open lines.
 fn is_end_of(line: &[u8], calls: u64, left_open: u32) -> bool
     ensures { IsTrue result ↔ (line.now ≡ end_line calls left_open) }
 {
@@ -105,8 +105,8 @@ fn is_end_of(line: &[u8], calls: u64, left_open: u32) -> bool
     is_joined(line, &[b"end ", calls, b" ", left_open, b"\n"])
 }
 
-/// Judges what is after the calls of a trace, where line `n` is due: it must be the end of this
-/// many calls and open lines, and nothing more.
+/// Judges the rest of a trace after its calls, at line `n`: it must be the end line of these counts
+/// of calls and open lines, and nothing more.
 pub(crate) fn judge_end(rest: &[u8], calls: u64, left_open: u32, n: u32) -> Result<(), ReplayFault>
     requires { n < 2 ^ 32 - 1 }
     ensures { MatchResult result

@@ -1,18 +1,16 @@
-//! Why a schedule is not played.
-//! Why a text is no trace.
-//! Why a trace is not migrated.
+//! Why a schedule is not played, why a text is no trace, and why a trace is not migrated.
 use bp_machine::{Call, SetupFault};
 use bp_text::WriteFault;
 use std::alloc::AllocError;
 use thiserror::Error;
 
-/// Why a schedule is not played: the first of these that applies. Lines are counted from 1.
+/// Why a schedule is not played: the first reason that applies. Lines are counted from 1.
 #[derive(Clone, Copy, Debug, PartialEq, Eq, Error)]
 pub enum DriveFault {
     /// The schedule has more than 67,108,864 bytes.
     #[error("the schedule is too long")]
     TooLong,
-    /// This line is no thread of the setup, a space, a bit and a line feed.
+    /// This line is not a thread of the setup, a space, a bit and a line feed.
     #[error("line {0} of the schedule is not a thread and a choice bit")]
     Line(u32),
     /// The thread of this line has made its last call.
@@ -48,32 +46,32 @@ impl From<WriteFault> for DriveFault {
     }
 }
 
-/// The machine's own call, which is due where a trace has another one.
+/// The machine's own call, expected in place of a trace's.
 #[derive(Clone, Copy, Debug, PartialEq, Eq)]
 pub struct Due {
-    /// How many calls the trace has before.
+    /// The number of calls of the trace before it.
     pub calls: u64,
     pub call: Call,
 }
 
-/// What the end line of a trace has to count.
+/// The counts that the end line of a trace must have.
 #[derive(Clone, Copy, Debug, PartialEq, Eq)]
 pub struct EndCounts {
     pub calls: u64,
-    /// How many threads may make another call.
+    /// The number of threads that may make another call.
     pub left_open: u32,
 }
 
-/// Why a text is no trace of a program: the first of these that applies. Lines are counted from 1.
+/// Why a text is no trace of a program: the first reason that applies. Lines are counted from 1.
 #[derive(Clone, Copy, Debug, PartialEq, Eq, Error)]
 pub enum ReplayFault {
     /// The text has more than 67,108,864 bytes.
     #[error("the trace is too long")]
     TooLong,
-    /// This line of the head is not as expected, or is not there.
+    /// This line of the head is malformed or missing.
     #[error("line {0} of the trace is not the one that the head has there")]
     Head(u32),
-    /// The program does not take the setup that the head says.
+    /// The program does not accept the setup of the head.
     #[error("{0}")]
     Setup(SetupFault),
     /// This line is neither one of calls of a thread of the setup nor an end, or it is after the
@@ -90,10 +88,10 @@ pub enum ReplayFault {
     /// The machine's own call has another reply than a call on this line.
     #[error("line {0} of the trace has another reply than the machine")]
     Reply(u32, Due),
-    /// There is no end line. It has to count this.
+    /// There is no end line. It must have these counts.
     #[error("the trace has no end")]
     NoEnd(EndCounts),
-    /// This line is an end, but does not count this.
+    /// This line is an end, but does not have these counts.
     #[error("the end of the trace counts other calls or open lines")]
     EndCount(u32, EndCounts),
     /// There was not enough memory.
@@ -112,7 +110,7 @@ impl From<AllocError> for ReplayFault {
     }
 }
 
-/// Why a trace is not migrated: the first of these that applies.
+/// Why a trace is not migrated: the first reason that applies.
 #[derive(Clone, Copy, Debug, PartialEq, Eq, Error)]
 pub enum MigrateFault {
     /// The text is no trace of the program.

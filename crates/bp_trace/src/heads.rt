@@ -11,19 +11,19 @@ use crate::traces::Version;
 use bp_text::{Machine, after, after_word, bit_at, long_number_at, span_at};
 use std::alloc::{AllocError, Global};
 
-/// What the head of a trace says.
+/// The head of a trace.
 #[derive(Drop)]
 pub struct Head<'a> {
     pub version: Version,
-    /// The names of the procedures that the threads enter, which need be no UTF-8.
+    /// The names of the procedures that the threads enter, which need not be UTF-8.
     pub entries: Vec<&'a [u8]>,
     pub init: Vec<bool>,
     pub contexts: u64,
     pub calls: u64,
     pub seed: Option<u64>,
-    /// How many bytes the head has.
+    /// The number of bytes of the head.
     pub size: usize,
-    /// How many lines it has.
+    /// The number of its lines.
     pub lines: u32,
 }
 
@@ -55,7 +55,7 @@ impl Machine for EntryState {
     }
 }
 
-/// The version whose words begin the text, and what is after them.
+/// Parses the words of a version, and returns it with the rest of the text.
 fn version_word_at(text: &[u8]) -> Option<(Version, &[u8])>
     ensures { Finds version_word text.now result }
 {
@@ -68,7 +68,7 @@ fn version_word_at(text: &[u8]) -> Option<(Version, &[u8])>
     }
 }
 
-/// The version whose line begins the text, and what is after the line.
+/// Parses the line of a version, and returns it with the rest of the text.
 fn version_at(text: &[u8]) -> Option<(Version, &[u8])>
     ensures { Finds (Line version_word) text.now result }
 {
@@ -81,7 +81,7 @@ fn version_at(text: &[u8]) -> Option<(Version, &[u8])>
     }
 }
 
-/// The name on the entry line that begins the text, and what is after the line.
+/// Parses an entry line, and returns its name with the rest of the text.
 fn entry_at(text: &[u8]) -> Option<(&[u8], &[u8])>
     ensures { FindsPart entry text.now result }
 {
@@ -97,7 +97,7 @@ fn entry_at(text: &[u8]) -> Option<(&[u8], &[u8])>
     }
 }
 
-/// The names on the entry lines that begin the text, and what is after these lines.
+/// Parses entry lines, and returns their names with the rest of the text.
 fn entries_at(alloc: Global, text: &[u8]) -> Result<(Vec<&[u8]>, &[u8]), AllocError>
     ensures { IfOk result (λ p.
         IsAt (Many entry) text.now (map (λ n. n.now) p.0.items) p.1.now) }
@@ -111,7 +111,7 @@ fn entries_at(alloc: Global, text: &[u8]) -> Result<(Vec<&[u8]>, &[u8]), AllocEr
     Ok((names, rest))
 }
 
-/// The bits whose digits begin the text, and what is after them.
+/// Parses bits as digits, and returns them with the rest of the text.
 fn bits_at(alloc: Global, text: &[u8]) -> Result<(Vec<bool>, &[u8]), AllocError>
     ensures { IfOk result (λ p. IsAt (Many bit) text.now p.0.items p.1.now) }
 {
@@ -124,7 +124,7 @@ fn bits_at(alloc: Global, text: &[u8]) -> Result<(Vec<bool>, &[u8]), AllocError>
     Ok((bits, rest))
 }
 
-/// The bits that begin the text, which has a dash where there are none, and what is after them.
+/// Parses bits, or a dash if there are none, and returns them with the rest of the text.
 fn init_value_at(alloc: Global, text: &[u8]) -> Result<Option<(Vec<bool>, &[u8])>, AllocError>
     ensures { IfOk result (λ found. MatchOption found
         (HasNone bits text.now)
@@ -140,7 +140,7 @@ fn init_value_at(alloc: Global, text: &[u8]) -> Result<Option<(Vec<bool>, &[u8])
     Ok(Some((bits, rest)))
 }
 
-/// The bits on the init line that begins the text, and what is after the line.
+/// Parses an init line, and returns its bits with the rest of the text.
 fn init_at(alloc: Global, text: &[u8]) -> Result<Option<(Vec<bool>, &[u8])>, AllocError>
     ensures { IfOk result (λ found. MatchOption found
         (HasNone init text.now)
@@ -158,7 +158,7 @@ fn init_at(alloc: Global, text: &[u8]) -> Result<Option<(Vec<bool>, &[u8])>, All
     Ok(Some((bits, rest)))
 }
 
-/// The number on the line of the word that begins the text, and what is after the line.
+/// Parses the line of this word and a number, and returns the number with the rest of the text.
 fn number_line_at<'a>(text: &'a [u8], word: &[u8]) -> Option<(u64, &'a [u8])>
     ensures { Finds (Line (After word.now (Number (2 ^ 64)))) text.now result }
 {
@@ -174,7 +174,7 @@ fn number_line_at<'a>(text: &'a [u8], word: &[u8]) -> Option<(u64, &'a [u8])>
     }
 }
 
-/// The seed that begins the text, if there is one, and what is after it.
+/// Parses a seed, if there is one, and returns it with the rest of the text.
 fn seed_word_at(text: &[u8]) -> Option<(Option<u64>, &[u8])>
     ensures { Finds seed_value text.now result }
 {
@@ -187,7 +187,7 @@ fn seed_word_at(text: &[u8]) -> Option<(Option<u64>, &[u8])>
     }
 }
 
-/// The seed on the seed line that begins the text, if there is one, and what is after the line.
+/// Parses a seed line, and returns its seed, if there is one, with the rest of the text.
 fn seed_at(text: &[u8]) -> Option<(Option<u64>, &[u8])>
     ensures { Finds seed text.now result }
 {
@@ -203,7 +203,7 @@ fn seed_at(text: &[u8]) -> Option<(Option<u64>, &[u8])>
     }
 }
 
-/// Reads the head that begins the text, which may be no trace.
+/// Parses the head that begins the text, which need not be a trace.
 pub fn read_head<'a>(alloc: Global, text: &'a [u8]) -> Result<Head<'a>, ReplayFault>
     requires { length text.now ≤ MAX_TRACE }
     ensures { MatchResult result (IsHeadOf text.now) (IsHeadRefusal text.now) }

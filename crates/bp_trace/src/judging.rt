@@ -12,14 +12,14 @@ use crate::playing::Watcher;
 use bp_machine::{AskFault, Call, Reply, Session};
 use std::alloc::AllocError;
 
-/// What a granted step at a `print` printed: its thread, and the values before the step.
+/// The output of a granted step at a `print`: its thread, and the values before the step.
 #[derive(Debug, Drop)]
 pub struct Printed {
     pub thread: u32,
     pub values: Vec<bool>,
 }
 
-/// The calls of a trace so far, what they printed, and who watches them.
+/// The calls of a trace so far, their printed values, and the watcher.
 #[derive(Drop)]
 pub(crate) struct Played<O: Watcher + Drop> {
     pub(crate) history: Vec<Call>,
@@ -27,7 +27,7 @@ pub(crate) struct Played<O: Watcher + Drop> {
     pub(crate) watcher: O,
 }
 
-/// Keeps a call and what it printed.
+/// Appends a call and its printed values.
 fn keep<O: Watcher + Drop>(
     played: &mut Played<O>,
     call: Call,
@@ -48,8 +48,7 @@ fn keep<O: Watcher + Drop>(
     Ok(())
 }
 
-/// The refusal of a call on the `n`-th line, where `made` calls were made before. Its thread
-/// exists.
+/// Returns the refusal of a call on the `n`-th line, after `made` calls. Its thread exists.
 fn replay_fault_of(fault: AskFault, n: u32, made: u64) -> ReplayFault
     ensures { result ≡ replay_fault_of fault n made }
 {
@@ -59,7 +58,7 @@ fn replay_fault_of(fault: AskFault, n: u32, made: u64) -> ReplayFault
     }
 }
 
-/// Whether the call on the `n`-th line is the machine's own, where `made` calls were made before.
+/// Checks that the call on the `n`-th line, after `made` calls, is the machine's own.
 fn matched(own: &Call, call: &Call, n: u32, made: u64) -> Result<(), ReplayFault>
     ensures own { OnOk result (IsOwnAs own.now call.now) }
     ensures other { IfErr result (IsMismatch own.now call.now n made) }
@@ -79,7 +78,7 @@ fn matched(own: &Call, call: &Call, n: u32, made: u64) -> Result<(), ReplayFault
     }
 }
 
-/// What a call prints, where its step is granted and at a `print`.
+/// Returns the row that a call prints, if its step is granted and at a `print`.
 #[inline(always)]
 fn row_of_call(session: &Session, call: &Call) -> Result<Option<Printed>, AskFault>
     ensures row { AfterEach session.now (λ t h. IfOk result (λ row.
@@ -99,7 +98,7 @@ fn row_of_call(session: &Session, call: &Call) -> Result<Option<Printed>, AskFau
     }))
 }
 
-/// Judges a call on the `n`-th line of a trace, of a thread that is there, and keeps it.
+/// Judges a call on the `n`-th line of a trace, of an existing thread, and appends it.
 #[inline(always)]
 pub(crate) fn judge<O: Watcher + Drop>(
     session: &mut Session,

@@ -1,6 +1,5 @@
-//! Playing the lines of calls of a trace.
-//! Watching a replay: each call is made by a watcher, which may look at the session before and
-//! after it.
+//! Playing the lines of calls of a trace. Watching a replay: each call is made by a watcher, which
+//! may look at the session before and after it.
 ghost use Rattle.std.specs.Prelude.{◌≡◌, ◌<◌, ◌+◌, ◌^◌, ◌++◌, [], length, map, IfOk, IfErr, OnOk, ◌∷◌, List, MatchResult};
 ghost use Rattle.std.specs.List.{AllByRecursion};
 ghost use Rattle.bp_language.specs.Ast.{Program};
@@ -18,7 +17,7 @@ use crate::traces::Version;
 use bp_machine::{AskFault, Call, Session, Setup};
 use std::alloc::{AllocError, Global};
 
-/// The calls of a trace, how many bytes their lines have, and the number of the line after them.
+/// The calls of a trace, the number of bytes of their lines, and the number of the line after them.
 #[derive(Drop)]
 pub(crate) struct Body<O: Watcher + Drop> {
     pub(crate) played: Played<O>,
@@ -61,8 +60,8 @@ fn judge_line<O: Watcher + Drop>(
     Ok(())
 }
 
-/// Plays the lines of calls that begin the text. The first has this number. The watcher has begun
-/// with the setup. The calls before one that is refused are kept.
+/// Plays the lines of calls that begin the text, from line `first` on. The watcher has begun with
+/// the setup. The calls before a refused one are kept.
 pub(crate) fn play<O: Watcher + Drop>(
     alloc: Global,
     session: &mut Session,
@@ -112,17 +111,17 @@ pub(crate) fn play<O: Watcher + Drop>(
     }
 }
 
-/// Who makes the calls of a replay.
+/// Observes a replay, whose calls it makes.
 pub trait Watcher {
-    /// What it has seen of a history of a program under a setup, and what it was at first.
+    /// The observations of a history of a program under a setup, and the watcher at first.
     ghost sees: { Self → Self → Program → SetupOf → List Answered → Type 0 };
 
     /// Begins with the setup, before any call.
     fn begin(&mut self, setup: &Setup) -> Result<(), AllocError>
         ensures { (t : Program) → OnOk result (sees self.old self.new t setup.now []) };
 
-    /// Makes the machine's own call for a recorded one: of its thread, and with its bit where the
-    /// setup has no seed. It may also be refused memory of its own, after the call was made.
+    /// Makes the machine's own call for a recorded one: of its thread, and with its bit if the
+    /// setup has no seed. May be refused memory of its own after the call was made.
     fn make(&mut self, session: &mut Session, recorded: &Call) -> Result<Call, AskFault>
         ensures answer { AfterEach session.old (λ t h. MatchResult result
             (IsOwnCall t session.old.setup h recorded.now)

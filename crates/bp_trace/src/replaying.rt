@@ -1,7 +1,5 @@
-//! Replaying a trace: a text that is one of a legal history, or is refused by the first thing in it
-//! that is not as expected.
-//! Migrating a trace to version 2.
-//! The calls of a text that are accepted, where the text as a whole is no trace.
+//! Replaying a trace: a text is the trace of a legal history, or is refused at its first mistake.
+//! Migrating a trace to version 2. The accepted calls of a text that as a whole is no trace.
 ghost use Rattle.std.specs.Prelude.{◌≡◌, [], IfOk, None, MatchResult, MatchOption};
 ghost use Rattle.bp_machine.specs.Sessions.{Stands};
 ghost use Rattle.bp_machine.specs.Setups.{setup_fault, IsSetupRefusal};
@@ -22,8 +20,8 @@ use bp_machine::{Call, Report, Session, Setup, SetupFault, open_lines};
 use std::alloc::Global;
 use std::io::Write;
 
-/// A trace that was replayed: its setup and history, what the steps of the history printed, and
-/// the report of the history.
+/// A trace that was replayed: its setup and history, the values that its steps printed, and its
+/// report.
 #[derive(Drop)]
 pub struct Replayed {
     pub setup: Setup,
@@ -34,7 +32,7 @@ pub struct Replayed {
     pub report: Report,
 }
 
-/// The refusal of a trace whose head says a setup that is refused.
+/// Returns the refusal of a trace whose setup is refused.
 fn replay_fault_of_setup(fault: SetupFault) -> ReplayFault
     ensures { result ≡ replay_fault_of_setup fault }
 {
@@ -44,7 +42,7 @@ fn replay_fault_of_setup(fault: SetupFault) -> ReplayFault
     }
 }
 
-/// A trace that was replayed, the session after its history, and what the watcher has seen.
+/// A trace that was replayed, the session after its history, and the watcher.
 #[derive(Drop)]
 pub struct Watched<O: Watcher + Drop> {
     pub replayed: Replayed,
@@ -52,7 +50,7 @@ pub struct Watched<O: Watcher + Drop> {
     pub watcher: O,
 }
 
-/// The head of a trace: the version, the setup, and how many bytes and lines it has.
+/// The head of a trace: the version, the setup, and the numbers of its bytes and lines.
 #[derive(Drop)]
 pub(crate) struct Opened {
     pub(crate) version: Version,
@@ -61,7 +59,7 @@ pub(crate) struct Opened {
     pub(crate) lines: u32,
 }
 
-/// The setup of the head of a trace.
+/// Makes the setup of the head of a trace.
 fn setup_of_head(alloc: Global, code: &Code, head: &Head<'_>) -> Result<Setup, SetupFault>
     ensures { let t = code.now.tree in MatchResult result
         (λ s. (s ≡ setup_of_head head.now) × (setup_fault t s ≡ None))
@@ -78,7 +76,7 @@ fn setup_of_head(alloc: Global, code: &Code, head: &Head<'_>) -> Result<Setup, S
     )
 }
 
-/// Reads the head of a trace, of a setup that the program takes.
+/// Reads the head of a trace, of a setup that the program accepts.
 pub(crate) fn open(alloc: Global, code: &Code, text: &[u8]) -> Result<Opened, ReplayFault>
     ensures fits { IfOk result (FitsText text.now) }
     ensures judged { let t = code.now.tree in MatchResult result
@@ -100,8 +98,8 @@ pub(crate) fn open(alloc: Global, code: &Code, text: &[u8]) -> Result<Opened, Re
     }
 }
 
-/// Plays what follows the head of a trace, and judges its end. The calls that were played before a
-/// refusal are kept.
+/// Plays the rest of a trace after its head, and judges its end. The calls before a refusal are
+/// kept.
 pub(crate) fn play_opened<O: Watcher + Drop>(
     alloc: Global,
     session: &mut Session,
@@ -138,8 +136,7 @@ pub(crate) fn play_opened<O: Watcher + Drop>(
 }
 
 /// Replays a text without threads: it is the trace of a legal history of the program, in either
-/// version, or it is refused by the first thing that is not as expected. The watcher makes the
-/// calls.
+/// version, or it is refused at its first mistake. The watcher makes the calls.
 pub fn replay_watched<O: Watcher + Drop>(
     alloc: Global,
     code: &Code,
@@ -169,7 +166,7 @@ pub fn replay_watched<O: Watcher + Drop>(
 }
 
 /// Replays a text without threads: it is the trace of a legal history of the program, in either
-/// version, or it is refused by the first thing that is not as expected.
+/// version, or it is refused at its first mistake.
 pub fn replay(alloc: Global, code: &Code, text: &[u8]) -> Result<Replayed, ReplayFault>
     ensures { let t = code.now.tree in
         MatchResult result (IsReplayed t text.now) (IsReplayRefusal t text.now) }
@@ -178,8 +175,8 @@ pub fn replay(alloc: Global, code: &Code, text: &[u8]) -> Result<Replayed, Repla
 }
 
 /// Writes the trace of version 2 of the setup and history whose trace, in either version, is given.
-/// At a refusal nothing is written, but for a writer that refuses: it then has a proper prefix of
-/// the trace.
+/// At a refusal nothing is written, unless the writer refuses: it then has a proper prefix of the
+/// trace.
 pub fn migrate<W: Write>(
     alloc: Global,
     code: &Code,
@@ -202,18 +199,18 @@ pub fn migrate<W: Write>(
     Ok(report)
 }
 
-/// The trace of the calls of a text that are accepted, and what refuses the text after them.
+/// The trace of the accepted calls of a text, and the refusal after them.
 #[derive(Drop)]
 pub struct AcceptedTrace {
     pub trace: Vec<u8>,
-    /// How many calls these are.
+    /// The number of these calls.
     pub calls: u64,
     pub fault: ReplayFault,
 }
 
-/// The trace of the longest beginning of the calls of a text that is accepted, if a call, a line
-/// after the head or the end is refused. There is none of a text that is a trace itself. A text
-/// without the head of a setup that the program takes is refused.
+/// Returns the trace of the longest accepted beginning of the calls of a text, if a call, a line
+/// after the head or the end is refused. Returns None if the text is a trace itself. Refuses a text
+/// without the head of a setup that the program accepts.
 pub fn accepted_trace(
     alloc: Global,
     code: &Code,

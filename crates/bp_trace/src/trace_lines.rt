@@ -52,8 +52,8 @@ pub(crate) fn has_byte(byte: u8, text: &[u8], place: usize) -> bool
     text.get(place) == Some(&byte)
 }
 
-/// Reads the thread at the front of a text, which is below this number, and the space after it;
-/// returns it with the rest.
+/// Parses a thread below `threads` and the space after it, and returns it with the rest of the
+/// text.
 #[inline(always)]
 pub(crate) fn thread_at(threads: u32, text: &[u8]) -> Option<(u32, &[u8])>
     ensures { Finds (thread_field threads) text.now result }
@@ -67,8 +67,7 @@ pub(crate) fn thread_at(threads: u32, text: &[u8]) -> Option<(u32, &[u8])>
     }
 }
 
-/// The bit and the reply that begin the text, with a space between them and a line feed after
-/// them.
+/// Parses a bit and a reply, with a space between them and a line feed after them.
 fn tail_at(text: &[u8]) -> Option<(bool, Reply)>
     ensures { MatchOption result (HasNoTail text.now) (IsTailAt text.now) }
 {
@@ -84,8 +83,7 @@ fn tail_at(text: &[u8]) -> Option<(bool, Reply)>
     }
 }
 
-/// The call of a thread below this number whose line begins the text, and how many bytes the line
-/// has.
+/// Parses the call line of a thread below `threads`, and returns it with its number of bytes.
 #[inline(always)]
 fn call_at(threads: u32, text: &[u8]) -> Option<(Call, usize)>
     requires { threads ≤ MAX_THREADS }
@@ -148,7 +146,7 @@ pub fn write_call<W: Write>(call: &Call, out: &mut W) -> Result<(), WriteFault>
     sink.finish()
 }
 
-/// The bit and the reply that begin the text, with nothing between them.
+/// Parses a bit and a reply, with nothing between them.
 fn symbol_at(text: &[u8]) -> Option<(bool, Reply)>
     ensures { MatchOption result (HasNoSymbol text.now) (IsSymbolAt text.now) }
 {
@@ -161,8 +159,7 @@ fn symbol_at(text: &[u8]) -> Option<(bool, Reply)>
     }
 }
 
-/// Adds the calls of a thread for the symbols at the front of the text, and answers how many bytes
-/// these have.
+/// Appends the calls of a thread for the symbols that begin the text, and returns their size.
 #[inline(always)]
 fn read_symbols(thread: u32, text: &[u8], calls: &mut Vec<Call>) -> Result<usize, AllocError>
     ensures { IfOk result (HasSymbols thread text.now calls.old.items calls.new.items) }
@@ -175,7 +172,7 @@ fn read_symbols(thread: u32, text: &[u8], calls: &mut Vec<Call>) -> Result<usize
     Ok(size)
 }
 
-/// Reads the line of a call that begins the text.
+/// Parses the call line that begins the text.
 #[inline(always)]
 fn read_call(
     threads: u32,
@@ -196,7 +193,7 @@ fn read_call(
     Ok(Some(size))
 }
 
-/// Reads the line of a piece that begins the text, after a call of the thread `last`.
+/// Parses the line of a piece that begins the text, after a call of the thread `last`.
 #[inline(always)]
 fn read_piece(
     threads: u32,
@@ -224,9 +221,9 @@ fn read_piece(
     }
 }
 
-/// Reads the line of calls that begins the text, after a call of the thread `last`, or after the
-/// head, into `calls`, which drops what it held; and answers how many bytes the line has. There is
-/// no answer where there is no such line; what `calls` then holds is not said.
+/// Parses the line of calls that begins the text, after a call of the thread `last`, or after the
+/// head, into `calls`, which is cleared first; returns the line's number of bytes. Returns None if
+/// there is no such line; then `calls` may hold anything.
 #[inline(always)]
 pub(crate) fn body_line_at(
     version: Version,

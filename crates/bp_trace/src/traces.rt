@@ -1,6 +1,5 @@
-//! Writing the text of a trace.
-//! The versions of traces.
-//! Writing the calls of a history by its pieces.
+//! Writing the text of a trace. The versions of traces. Writing the calls of a history by its
+//! pieces.
 ghost use Rattle.std.specs.Prelude.{◌≡◌, map, flat_map, string_bytes, None};
 ghost use Rattle.std.specs.List.{concat};
 ghost use Rattle.bp_text.specs.Pieces.{piece_text};
@@ -31,7 +30,7 @@ fn put_entries<W: Write>(names: &[String], sink: &mut Sink<'_, W>)
     }
 }
 
-/// Writes a digit for each global, or a dash where there is none.
+/// Writes a digit for each global, or a dash if there is none.
 fn put_digits<W: Write>(bits: &[bool], sink: &mut Sink<'_, W>)
     ensures { Given W.contents sink.old sink.new (init_digits bits.now) }
 {
@@ -50,7 +49,7 @@ fn put_init<W: Write>(bits: &[bool], sink: &mut Sink<'_, W>)
     sink.put(b"\n")
 }
 
-/// The number of a seed, or the word for none.
+/// Returns the number of a seed, or the word for none.
 fn seed_piece<'a>(seed: Option<u64>) -> Piece<'a>
     ensures { piece_text result ≡ seed_word seed }
 {
@@ -60,7 +59,7 @@ fn seed_piece<'a>(seed: Option<u64>) -> Piece<'a>
     }
 }
 
-/// Writes the lines of the contexts and calls that are allowed, and of the seed.
+/// Writes the lines of the allowed contexts and calls, and of the seed.
 fn put_limits<W: Write>(setup: &Setup, sink: &mut Sink<'_, W>)
     ensures { Given W.contents sink.old sink.new (concat (limit_lines setup.now)) }
 {
@@ -111,7 +110,7 @@ pub fn write_head<W: Write>(setup: &Setup, out: &mut W) -> Result<(), WriteFault
     sink.finish()
 }
 
-/// Writes the line that ends a trace of this many calls, with this many open lines.
+/// Writes the line that ends a trace of these counts of calls and open lines.
 pub fn put_end<W: Write>(calls: u64, left_open: u32, sink: &mut Sink<'_, W>)
     ensures { Given W.contents sink.old sink.new (end_line calls left_open) }
 {
@@ -120,7 +119,7 @@ pub fn put_end<W: Write>(calls: u64, left_open: u32, sink: &mut Sink<'_, W>)
     sink.put_pieces(&[Bytes(b"end "), number, Bytes(b" "), left_open, Bytes(b"\n")])
 }
 
-/// Writes the line that ends a trace of this many calls, with this many open lines.
+/// Writes the line that ends a trace of these counts of calls and open lines.
 pub fn write_end<W: Write>(calls: u64, left_open: u32, out: &mut W) -> Result<(), WriteFault>
     ensures { Writes (W.contents out.old) (W.contents out.new) (end_line calls left_open) result }
 {
@@ -148,7 +147,7 @@ fn put_history<W: Write>(version: Version, history: &[Call], sink: &mut Sink<'_,
     }
 }
 
-/// Writes the trace of a history with this many open lines, in this version.
+/// Writes the trace of a history with this number of open lines, in this version.
 pub fn write_with_open_lines<W: Write>(
     version: Version,
     setup: &Setup,
@@ -189,7 +188,7 @@ pub fn write_trace2<W: Write>(
     write_with_open_lines(Version::Two, setup, history, left_open, out)
 }
 
-/// How the calls of a trace are written.
+/// The form of the calls of a trace.
 #[derive(Clone, Copy, Debug, PartialEq, Eq)]
 pub enum Version {
     /// A line for each call.
@@ -198,7 +197,7 @@ pub enum Version {
     Two,
 }
 
-/// Begins the line of a thread, after the end of the line before it, where there is one.
+/// Begins the line of a thread, after the end of the line before it, if there is one.
 fn put_start<W: Write>(is_first: bool, thread: u32, sink: &mut Sink<'_, W>)
     ensures { Given W.contents sink.old sink.new (line_start is_first thread) }
 {
@@ -210,7 +209,7 @@ fn put_start<W: Write>(is_first: bool, thread: u32, sink: &mut Sink<'_, W>)
     sink.put_pieces(&[Bytes(end), Number(u64::from(thread)), Bytes(b" ")])
 }
 
-/// Writes what begins a call after one of this thread, or after none.
+/// Writes the text before a call that follows one of this thread, or none.
 fn put_opening<W: Write>(last: Option<u32>, thread: u32, sink: &mut Sink<'_, W>)
     ensures { Given W.contents sink.old sink.new (opening last thread) }
 {
