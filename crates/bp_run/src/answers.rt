@@ -1,6 +1,5 @@
-//! What a run answers: its report, and what each worker counted.
-//! Why a run gives no report.
-//! The setup of a program under the options of a run.
+//! The result of a run: its report, and the counts of its workers. Why a run gives no report. The
+//! setup of a program under the options of a run.
 ghost use Rattle.std.specs.Prelude.{◌≡◌, ◌≤◌, map, vec_len, vec_capacity, ◌<◌, Some, IfOk, MatchResult};
 ghost use Rattle.bp_language.specs.Ast.{Program};
 ghost use Rattle.bp_run.specs.Runs.{seat_of_worker};
@@ -17,8 +16,8 @@ use std::alloc::{AllocError, Global};
 use std::sync::ledger::Ledger;
 use thiserror::Error;
 
-/// How many calls the worker of a thread made, by its own count, and whether the thread's line is
-/// still open.
+/// The number of calls that the worker of a thread made, by its own count, and whether the thread's
+/// line is still open.
 #[derive(Clone, Copy, Debug, PartialEq, Eq)]
 pub struct WorkerCount {
     pub thread: u32,
@@ -26,9 +25,9 @@ pub struct WorkerCount {
     pub is_open: bool,
 }
 
-/// What a run answers: the report of its history, the counts of its workers, one for each thread,
-/// and whether each of them is what the history has of its thread. Their sum always is. No worker
-/// should ever differ, but only the sum is proved.
+/// The result of a run: the report of its history, the counts of its workers, one for each thread,
+/// and whether each count agrees with the history. Their sum always does. No worker should ever
+/// differ, but only the sum is proved.
 #[derive(Debug, Drop)]
 pub struct RunReport {
     pub report: Report,
@@ -36,7 +35,7 @@ pub struct RunReport {
     pub counts_agree: bool,
 }
 
-/// The count of a seat.
+/// Returns the count of a seat.
 fn count_of<C: Calls, O: Ledger>(seat: &Seat<C, O>) -> WorkerCount
     ensures { seat_of_worker result ≡ seat.now }
 {
@@ -47,7 +46,7 @@ fn count_of<C: Calls, O: Ledger>(seat: &Seat<C, O>) -> WorkerCount
     }
 }
 
-/// The counts of these seats, in order, in this room.
+/// Returns the counts of these seats, in order, in the memory of `room`.
 pub(crate) fn counts_of<C: Calls, O: Ledger>(
     seats: Vec<Seat<C, O>>,
     room: Vec<WorkerCount>,
@@ -64,7 +63,7 @@ pub(crate) fn counts_of<C: Calls, O: Ledger>(
     counts
 }
 
-/// Why a run gives no report: the first of these that applies, `Memory` aside.
+/// Why a run gives no report: the first reason that applies, `Memory` aside.
 #[derive(Debug, Drop, PartialEq, Eq, Error)]
 pub enum RunFault {
     /// The program text is refused. Nothing is written.
@@ -76,7 +75,7 @@ pub enum RunFault {
     /// A worker could not be started; those that were started have ended. Nothing is written.
     #[error("a worker could not be started")]
     Start,
-    /// The worker of this thread ended although the line is open and the next step takes no memory.
+    /// The worker of this thread ended although the line is open and the next step needs no memory.
     /// The trace is written.
     #[error("the worker of thread {0} stopped before the thread was finished")]
     Early(u32),
@@ -125,7 +124,7 @@ impl From<CodeFault> for RunFault {
     }
 }
 
-/// Whether a turn has no call or more than 64, or the ring holds no call or more than 65,536.
+/// Returns whether a turn has no call or more than 64, or the ring none or more than 65,536.
 pub fn has_bad_turn_or_ring(options: &RunOptions) -> bool
     ensures { result ≡ has_bad_turn_or_ring options.now }
 {
@@ -133,8 +132,8 @@ pub fn has_bad_turn_or_ring(options: &RunOptions) -> bool
     turn == 0 || turn > MAX_TURN || ring == 0 || ring > MAX_RING
 }
 
-/// The setup of a program under these options, with their seed. The faults of the setup come
-/// before those of the turn and the ring.
+/// Returns the setup of a program under these options, with their seed. The faults of the setup
+/// come before those of the turn and the ring.
 pub(crate) fn setup_under(
     alloc: Global,
     options: &RunOptions,

@@ -1,6 +1,5 @@
-//! The board: a desk under one lock.
-//! What a board is made of.
-//! What names the ledgers and the ring of a board.
+//! The board: a desk under one lock. The parts of a board. The names of the ledgers and the ring of
+//! a board.
 ghost use Rattle.std.specs.Prelude.{◌≡◌, ◌≤◌, ◌<◌, [], true, false, None, is_some, IfOk, IfErr, MatchResult};
 ghost use Rattle.bp_machine.specs.Setups.{threads, Fits};
 ghost use Rattle.bp_machine.specs.declared.limits.TheConstants.{MAX_THREADS};
@@ -26,8 +25,8 @@ pub struct Board<C: Calls, O: Ledger> {
 }
 
 impl<C: Calls, O: Ledger> Board<C, O> {
-    /// A board whose desk has sent nothing, an open seat for each thread of the setup, in order,
-    /// and the tap.
+    /// Returns a board whose desk has sent nothing, an open seat for each thread of the setup, in
+    /// order, and the tap.
     pub fn open(
         alloc: Global,
         kit: Kit,
@@ -69,7 +68,7 @@ impl<C: Calls, O: Ledger> Board<C, O> {
 }
 
 /// The parts from which a board is opened: the two ends of a new ring, and the blanks of two
-/// ledgers, one of the calls that are made and one of the lines that are open.
+/// ledgers, one of the calls that are made and one of the open lines.
 #[derive(Drop)]
 pub struct Kit {
     pub(crate) threads: u32,
@@ -90,7 +89,7 @@ impl Model for Kit {
 }
 
 impl Kit {
-    /// A kit for `threads` guest threads, with a ring that holds `ring` calls.
+    /// Makes a kit for `threads` guest threads, with a ring that holds `ring` calls.
     pub fn new(alloc: Global, threads: u32, ring: u32) -> Result<Kit, AllocError>
         requires some { 0 < threads }
         requires few { threads ≤ MAX_THREADS }
@@ -110,8 +109,8 @@ impl Kit {
     }
 }
 
-/// The ledger of the calls that were made, and with it the ring through which they leave, and the
-/// code and the setup of the board.
+/// The ledger of the calls that were made, with the ring through which they leave, and the code and
+/// the setup of the board.
 pub trait Calls: Ledger {
     ghost use Rattle.bp_run.specs.Desks.{RingOf};
     ghost use Rattle.bp_flat.specs.Flat.{Flat};

@@ -1,6 +1,5 @@
-//! The desk: the machine, and the end of the ring to which its history is sent.
-//! A call is made and sent, or neither.
-//! Whether a session has stopped: its open lines stand before calls.
+//! The desk: the machine, and the end of the ring to which its history is sent. A call is made and
+//! sent, or neither. Whether a session has stopped: its open lines are before calls.
 ghost use Rattle.std.specs.Prelude.{◌≡◌, ◌≤◌, ◌<◌, ◌↔◌, [], true, None, is_some, IfOk, OnErr, MatchResult, ◌+◌, ◌∷◌, ◌++◌};
 ghost use Rattle.rtrb.specs.Ring.{sent, known_free, SameProducer};
 ghost use Rattle.bp_machine.specs.Setups.{threads, Fits};
@@ -20,8 +19,8 @@ use std::marker::Model;
 use std::sync::ledger::{Book, Ledger};
 
 /// The state that the lock of a board protects: a session, and the sending end of the ring, to
-/// which each call goes in the order in which the calls are made. Whenever nobody is at work on it,
-/// what was sent is a legal history of its program and setup, with the bits of the setup's seed,
+/// which each call goes in the order in which the calls are made. While nobody is at work on it,
+/// the calls sent are a legal history of its program and setup, with the bits of the setup's seed,
 /// and its session stands after it.
 #[derive(Drop)]
 pub struct Desk<C: Calls, O: Ledger> {
@@ -53,8 +52,8 @@ impl<C: Calls, O: Ledger> Model for Desk<C, O> {
 }
 
 impl<C: Calls, O: Ledger> Desk<C, O> {
-    /// A desk that has sent nothing, an open seat for each thread of the setup, in order, and the
-    /// tap.
+    /// Returns a desk that has sent nothing, an open seat for each thread of the setup, in order,
+    /// and the tap.
     pub fn open(
         alloc: Global,
         kit: Kit,
@@ -93,8 +92,8 @@ impl<C: Calls, O: Ledger> Desk<C, O> {
         Ok((desk, seats, Tap::new(from)))
     }
 
-    /// States what a desk is at each moment: its history is a legal one of its board's code and
-    /// setup, with the seed's bits.
+    /// Proves that the desk's history is at each moment a legal one of its board's code and setup,
+    /// with the seed's bits.
     pub fn is_legal(&self)
         ensures legal { IsLegalDesk self.now }
         ensures own { (self.now.code ≡ C.code) × (self.now.setup ≡ C.setup) }
@@ -103,8 +102,8 @@ impl<C: Calls, O: Ledger> Desk<C, O> {
     }
 
     /// Makes one call of the seat's thread, and sends it. At a refusal nothing is changed, and no
-    /// choice bit is used: if the thread's line is finished, if the ring is full, which it is not
-    /// while a place is known to be free, or if memory is refused.
+    /// choice bit is used: the thread's line is finished, the ring is full, which it is not while a
+    /// place is known to be free, or memory is refused.
     pub fn ask(&mut self, seat: &mut Seat<C, O>) -> Result<Reply, AskFault>
         ensures answer { MatchResult result
             (IsAsked self.old self.new seat.old seat.new)
@@ -129,8 +128,8 @@ impl<C: Calls, O: Ledger> Desk<C, O> {
     }
 
     /// Makes calls of the seat's thread until there were `n`, one had another reply than Stepped,
-    /// its line is finished, or one is refused. It answers the last reply, or the refusal; the
-    /// calls before a refusal stand.
+    /// its line is finished, or one is refused. Returns the last reply, or the refusal; the calls
+    /// before a refusal are kept.
     pub fn turn(&mut self, seat: &mut Seat<C, O>, n: u32) -> Result<Reply, AskFault>
         requires some { 0 < n }
         requires few { n ≤ MAX_TURN }
@@ -152,8 +151,8 @@ impl<C: Calls, O: Ledger> Desk<C, O> {
 }
 
 /// Makes the next call of a thread with the seed's bit, and sends it. At a refusal neither is done:
-/// where the machine refuses the call, or where the ring is full, which it is not while a place is
-/// known to be free.
+/// the machine refuses the call, or the ring is full, which it is not while a place is known to be
+/// free.
 pub(crate) fn send(
     session: &mut Session,
     to: &mut Producer<Call>,
@@ -190,7 +189,7 @@ pub(crate) fn send(
     Ok(call)
 }
 
-/// Whether the next step of a thread is a call.
+/// Returns whether the next step of a thread is a call.
 fn is_at_call(session: &Session, thread: u32) -> bool
     ensures { AfterEach session.now (λ t h. result ≡ is_at_call t session.now.setup h thread) }
 {
@@ -208,7 +207,7 @@ fn is_at_call(session: &Session, thread: u32) -> bool
     }
 }
 
-/// The first thread whose line is open although its next step is no call, if there is one.
+/// Returns the first thread whose line is open although its next step is no call, if there is one.
 pub(crate) fn stopped_early(session: &Session) -> Option<u32>
     ensures { AfterEach session.now (λ t h. TellsEarly t session.now.setup h result) }
 {

@@ -3,13 +3,13 @@ use bp_machine::Reply;
 use std::sync::Wait;
 use std::time::Clock;
 
-/// Callbacks around each turn of a worker, made while it holds no lock. Whoever starts a run can
-/// use them to hold a worker back, or to watch it.
+/// Callbacks around each turn of a worker, made while it holds no lock. The caller of a run can use
+/// them to hold a worker back, or to watch it.
 pub trait Gate: Sync {
     /// Called before each turn, with the number of calls that the thread has made.
     fn before<R: Wait + Clock>(&self, rt: &R, thread: u32, call: u64);
 
-    /// Called after each turn that was answered, with its reply. A turn that is refused has none.
+    /// Called after each turn that was answered, with its reply. A refused turn has none.
     fn after(&self, thread: u32, reply: Reply);
 
     /// Called once the thread takes no further turn: its line is finished, its worker was refused
@@ -17,7 +17,7 @@ pub trait Gate: Sync {
     fn finished(&self, _thread: u32) {}
 }
 
-/// How workers take turns: how many calls each has at most, and the gate around it.
+/// The turns of workers: the most calls of each, and the gate around it.
 #[derive(Clone, Copy)]
 pub struct Turns<'a, G> {
     pub calls: u32,

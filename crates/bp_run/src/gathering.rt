@@ -13,8 +13,8 @@ use crate::seats::{Seat, Tap};
 use bp_machine::{Report, Session};
 use std::sync::ledger::{Book, Ledger, Share};
 
-/// A gathered board: the seats, the tap, which gives what was not taken yet, the report of the
-/// history, the first thread whose line is open although its next step is no call, and whether each
+/// A gathered board: the seats; the tap, which gives the calls not taken yet; the report of the
+/// history; the first thread whose line is open although its next step is no call; and whether each
 /// seat agrees with the machine on the calls of its thread, and on whether its line is finished.
 #[derive(Drop)]
 pub struct Gathered<C: Calls, O: Ledger> {
@@ -33,8 +33,8 @@ struct Sums<C: Calls, O: Ledger> {
     lines: Share<O>,
 }
 
-/// Adds the shares of the seats to those beside them, looks what the books say of all, and gives
-/// each seat its own again.
+/// Adds the shares of the seats to those beside them, audits the ledgers, and returns to each seat
+/// its own share.
 fn audited<C: Calls, O: Ledger>(
     sums: Sums<C, O>,
     made: &mut Book<C>,
@@ -166,9 +166,9 @@ fn joined<C: Calls, O: Ledger>(
     }
 }
 
-/// Gathers a board once its workers are done: what was taken from the tap is a front of the
-/// history, and the tap that is given back has the rest. The seats come back as they were. It takes
-/// no memory and waits for nobody.
+/// Gathers a board once its workers are done: the calls taken from the tap are a prefix of the
+/// history, and the returned tap has the rest. The seats come back as they were. It allocates
+/// nothing and waits for nobody.
 pub fn gather<C: Calls, O: Ledger>(
     board: Board<C, O>,
     seats: Vec<Seat<C, O>>,
@@ -185,7 +185,7 @@ pub fn gather<C: Calls, O: Ledger>(
     joined(desk, seats, tap)
 }
 
-/// Whether a seat has counted the calls of its thread, and is open where its line is not finished.
+/// Returns whether a seat has counted its thread's calls, and is open unless its line is finished.
 fn agrees<C: Calls, O: Ledger>(session: &Session, seat: &Seat<C, O>) -> bool
     requires { threads session.now.setup ≡ C.parts }
     ensures { (t : Program) (h : List Answered)
@@ -196,9 +196,9 @@ fn agrees<C: Calls, O: Ledger>(session: &Session, seat: &Seat<C, O>) -> bool
         && seat.is_open != session.is_finished(seat.thread)
 }
 
-/// Whether each of the seats does so. The ledgers tie only the sums over all seats to the machine,
-/// so this is checked at run time for each seat. Of seats whose calls were all made at the board of
-/// the session none should differ.
+/// Returns whether each of the seats does so. The ledgers tie only the sums over all seats to the
+/// machine, so this is checked at run time for each seat. No seat whose calls were all made at the
+/// board of the session should differ.
 pub(crate) fn agree<C: Calls, O: Ledger>(session: &Session, seats: &[Seat<C, O>]) -> bool
     requires { threads session.now.setup ≡ C.parts }
     ensures { (t : Program) (h : List Answered)

@@ -35,9 +35,9 @@ pub struct OpenedBoard<'a, C: Calls, O: Ledger> {
 }
 
 /// The result of playing a board: the seats that came back, and the report of its history, or why
-/// there is none. With a report it is said whether all workers have done their work, and whether
-/// each seat agrees with the history. No seat comes back where playing was refused before the head
-/// was written.
+/// there is none. A report comes with whether all workers have done their work, and whether each
+/// seat agrees with the history. No seat comes back if playing was refused before the head was
+/// written.
 #[derive(Drop)]
 pub struct PlayedBoard<C: Calls, O: Ledger> {
     pub seats: Vec<Seat<C, O>>,
@@ -46,8 +46,8 @@ pub struct PlayedBoard<C: Calls, O: Ledger> {
     pub answer: Result<Report, RunFault>,
 }
 
-/// Whether all workers have done their work, whether the seats agree with the history, what playing
-/// a board answers, and the pen.
+/// Whether all workers have done their work, whether the seats agree with the history, the result
+/// of playing a board, and the pen.
 #[derive(Drop)]
 struct Finished<'a, W> {
     all_done: bool,
@@ -56,7 +56,7 @@ struct Finished<'a, W> {
     pen: Pen<'a, W>,
 }
 
-/// The answer where playing is refused, with the pen as it was.
+/// Returns the answer if playing is refused, with the pen as it was.
 fn refused<'a, W>(pen: Pen<'a, W>, fault: RunFault) -> Finished<'a, W>
     ensures answer { result.answer ≡ Err fault }
     ensures same { result.pen.sink ≡ pen.entry.sink }
@@ -69,7 +69,7 @@ fn refused<'a, W>(pen: Pen<'a, W>, fault: RunFault) -> Finished<'a, W>
     }
 }
 
-/// The laws of legal histories.
+/// Proves the laws of legal histories.
 fn histories_keep_their_laws()
     ensures run { StepsAreARun }
     ensures within { StepsAreWithin }
@@ -171,10 +171,10 @@ fn play_with<
 }
 
 /// Plays a board that was opened for this code and setup: one worker for each seat makes the calls
-/// of its thread, and the calling thread writes the trace while the workers run. It gives the seats
-/// back: together they have made as many calls as the history that was written has, and it is said
-/// whether each has made those of its thread. Where a worker stopped too early, playing is refused
-/// once the trace is written.
+/// of its thread, and the calling thread writes the trace while the workers run. Returns the seats:
+/// together they have made as many calls as the written history has; the result tells whether each
+/// has made those of its thread. If a worker stopped too early, playing is refused once the trace
+/// is written.
 pub fn play<
     C: Calls + Send + Sync,
     O: Ledger + Send + Sync,

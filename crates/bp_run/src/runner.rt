@@ -69,11 +69,11 @@ fn open_and_play<
 }
 
 /// Runs the program of a code on this setup, and writes the trace: one worker for each guest thread
-/// makes its calls, and the calling thread writes them while the workers run. It answers the report
-/// of the history that was written, and how many calls each worker made, by its own count. The
+/// makes its calls, and the calling thread writes them while the workers run. Returns the report of
+/// the history that was written, and the number of calls of each worker, by its own count. The
 /// contract does not say which legal history that is; its bits are those of the seed.
 ///
-/// Nothing is written before all workers were started. Where a write or a flush fails the workers
+/// Nothing is written before all workers were started. If a write or a flush fails the workers
 /// stop, and a proper prefix of the trace of a history is written. A worker that is refused memory
 /// ends, and its line stays open: that is no refusal of the run.
 pub fn run_code<G: Gate, W: Write, R: Threads + Wait + Clock + Sync>(

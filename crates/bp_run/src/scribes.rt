@@ -1,5 +1,5 @@
-//! The scribe: takes the calls from the ring while the workers run, and writes their lines.
-//! The pen of a scribe: a sink, and what is known of flushes.
+//! The scribe: takes the calls from the ring while the workers run, and writes their lines. The pen
+//! of a scribe: a sink, and the state of its flushes.
 ghost use Rattle.std.specs.Prelude.{◌≡◌, [], true, Some, is_some, ◌||◌, false};
 ghost use Rattle.bp_text.specs.Writing.{Given};
 ghost use Rattle.bp_trace.specs.TraceText.{head_text, call_line, end_line};
@@ -16,13 +16,13 @@ use std::io::Write;
 use std::sync::Wait;
 use std::time::Clock;
 
-/// How often the scribe dozes before it sleeps. While calls come in quick succession it is not
-/// worth a wake-up for each.
+/// The number of times that the scribe dozes before it sleeps. While calls come in quick succession
+/// it is not worth a wake-up for each.
 const DOZES: u32 = 8;
 
 /// Takes calls and writes their lines, until the workers have ended and no call is seen. Each time
-/// the ring is empty as many workers as there were calls are woken, where they wait for room. If
-/// the writer fails all are told to stop.
+/// the ring is empty, wakes as many workers that wait for room as there were calls. If the writer
+/// fails, tells all to stop.
 fn scribe<W: Write, C: Calls, R: Wait + Clock>(
     rt: &R,
     pen: &mut Pen<'_, W>,
@@ -59,8 +59,8 @@ fn scribe<W: Write, C: Calls, R: Wait + Clock>(
     unreachable!()
 }
 
-/// Where all workers were started, writes the head of the trace, and then the calls while they run;
-/// else writes nothing, and tells those that were started to stop.
+/// Writes the head of the trace, and then the calls while they run, if all workers were started;
+/// otherwise writes nothing, and tells those that were started to stop.
 pub(crate) fn write_running<W: Write, C: Calls, R: Wait + Clock>(
     rt: &R,
     setup: &Setup,
@@ -99,12 +99,12 @@ pub(crate) struct Pen<'a, W> {
     pub sink: Sink<'a, W>,
     /// Whether something was written since the writer was last flushed.
     pub is_wet: bool,
-    /// Whether a flush has failed: whoever holds the pen is to stop.
+    /// Whether a flush has failed: the owner of the pen must stop.
     pub is_stuck: bool,
 }
 
 impl<'a, W: Write> Pen<'a, W> {
-    /// A pen that has written nothing.
+    /// Makes a pen that has written nothing.
     pub fn new(sink: Sink<'a, W>) -> Pen<'a, W>
         ensures { result.sink ≡ sink.entry }
     {
@@ -115,7 +115,7 @@ impl<'a, W: Write> Pen<'a, W> {
         }
     }
 
-    /// Whether the writer has failed.
+    /// Returns whether the writer has failed.
     pub fn has_failed(&self) -> bool
         ensures { result ≡ self.now.sink.refused || self.now.is_stuck }
     {
@@ -147,7 +147,7 @@ impl<'a, W: Write> Pen<'a, W> {
         self.is_wet = true;
     }
 
-    /// Flushes the writer, where something was written since it last was.
+    /// Flushes the writer, if something was written since the last flush.
     pub fn flush(&mut self)
         ensures given { Given W.contents self.old.sink self.new.sink [] }
         ensures dry { self.new.is_wet ≡ false }

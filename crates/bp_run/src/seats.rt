@@ -11,7 +11,7 @@ use std::alloc::{AllocError, Global};
 use std::marker::{Model, PhantomData};
 use std::sync::ledger::{Ledger, Share};
 
-/// The right to make one guest thread's calls, which belongs to whoever holds the seat. It has
+/// The right to make one guest thread's calls, which belongs to the holder of the seat. It has
 /// shares of the two ledgers of its board.
 #[derive(Drop)]
 pub struct Seat<C: Calls, O: Ledger> {
@@ -36,7 +36,7 @@ impl<C: Calls, O: Ledger> Model for Seat<C, O> {
         × HasShares s.made.parts s.made.amount s.line.parts s.line.amount seat };
 }
 
-/// An open seat for each thread, in order: it has a part of what was made, and a line of its own.
+/// Makes an open seat for each thread, in order: it has a part of the calls, and an own line.
 pub(crate) fn new_seats<C: Calls, O: Ledger>(
     alloc: Global,
     threads: u32,
@@ -62,21 +62,21 @@ pub(crate) fn new_seats<C: Calls, O: Ledger>(
 }
 
 impl<C: Calls, O: Ledger> Seat<C, O> {
-    /// The number of the thread, from 0.
+    /// Returns the number of the thread, from 0.
     pub fn thread(&self) -> u32
         ensures { result ≡ self.now.thread }
     {
         self.thread
     }
 
-    /// How many calls were made from this seat.
+    /// Returns the number of calls made from this seat.
     pub fn calls(&self) -> u64
         ensures { result ≡ self.now.calls }
     {
         self.calls
     }
 
-    /// Whether the thread may continue, as far as the seat knows.
+    /// Returns whether the thread may continue, as far as the seat knows.
     pub fn is_open(&self) -> bool
         ensures { result ≡ self.now.is_open }
     {
@@ -89,7 +89,7 @@ impl<C: Calls, O: Ledger> Seat<C, O> {
 #[derive(Drop)]
 pub struct Tap<C: Calls> {
     pub(crate) from: Consumer<Call>,
-    /// How many calls are left, where the board is gathered.
+    /// The number of calls left, once the board is gathered.
     pub(crate) left: Option<usize>,
     pub(crate) of: PhantomData<C>,
 }
@@ -109,7 +109,7 @@ impl<C: Calls> Model for Tap<C> {
 }
 
 impl<C: Calls> Tap<C> {
-    /// The tap of a ring from which nothing was taken.
+    /// Makes the tap of a ring from which nothing was taken.
     pub(crate) fn new(from: Consumer<Call>) -> Tap<C>
         requires { consumer_ring from ≡ C.ring }
         ensures { (result.taken ≡ received from) × (result.rest ≡ None) }
@@ -121,8 +121,8 @@ impl<C: Calls> Tap<C> {
         }
     }
 
-    /// The next call of the history, where there is one in the ring. Once the board is gathered,
-    /// the tap gives what was left, in order, and then nothing.
+    /// Returns the next call of the history, if there is one in the ring. Once the board is
+    /// gathered, the tap gives the calls that were left, in order, and then nothing.
     pub fn next(&mut self) -> Option<Call>
         ensures some { IfSome result (λ c. self.new.taken ≡ self.old.taken ++ c ∷ []) }
         ensures none { IfNone result (self.new ≡ self.old) }

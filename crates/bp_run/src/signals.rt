@@ -1,30 +1,30 @@
-//! What the workers and the scribe of a run tell each other beside the board.
-//! Bells: a thread that has nothing to do sleeps at one, until another thread rings it.
+//! Signals between the workers and the scribe of a run beside the board. Bells: a thread that has
+//! nothing to do sleeps at one, until another thread rings it.
 use std::hint;
 use std::sync::Wait;
 use std::sync::atomic::{AtomicBool, AtomicU64, Ordering};
 use std::time::Duration;
 
-/// How often a thread looks again for something to do before it sleeps. Each time it pauses twice
-/// as long, for some microseconds in all: most waits for a thread on another core are shorter.
+/// The number of looks for something to do before a thread sleeps. Each time it pauses twice as
+/// long, for some microseconds in all: most waits for a thread on another core are shorter.
 const LOOKS_AWAKE: u32 = 7;
 
-/// How long a thread dozes each time, in microseconds.
+/// The length of a doze, in microseconds.
 const DOZE: u64 = 50;
 
-/// How long a thread sleeps at most before it looks again by itself, in milliseconds.
+/// The longest sleep of a thread before it looks again by itself, in milliseconds.
 const NAP: u64 = 100;
 
-/// Where threads sleep until they are woken. A thread that rings it makes its change before, so
-/// that each thread that sleeps either sees the change or is woken. One that dozes looks again soon
-/// by itself, so it is woken only where others wait for it.
+/// A bell at which threads sleep until they are woken. A thread that rings it makes its change
+/// before, so that each thread that sleeps either sees the change or is woken. One that dozes looks
+/// again soon by itself, so it is woken only if others wait for it.
 #[derive(Drop)]
 pub(crate) struct Bell {
-    /// How often a sleeper was woken.
+    /// The number of times that a sleeper was woken.
     rings: AtomicU64,
-    /// How many threads sleep, or are about to.
+    /// The number of threads that sleep, or are about to.
     sleepers: AtomicU64,
-    /// How many threads doze.
+    /// The number of threads that doze.
     dozers: AtomicU64,
 }
 
@@ -44,7 +44,7 @@ impl Bell {
         }
     }
 
-    /// Wakes at most this number of the threads that sleep.
+    /// Wakes at most `most` of the threads that sleep.
     pub fn ring(&self, most: u64) {
         self.wake(self.sleepers.load(Ordering::SeqCst).min(most));
     }
@@ -58,7 +58,7 @@ impl Bell {
         }
     }
 
-    /// Says that a thread is about to sleep, and answers how often the bell has rung.
+    /// Registers a thread that is about to sleep, and returns the number of rings so far.
     fn enter(&self) -> u64 {
         self.sleepers.fetch_add(1, Ordering::SeqCst);
         self.rings.load(Ordering::SeqCst)
@@ -68,7 +68,7 @@ impl Bell {
         self.sleepers.fetch_sub(1, Ordering::SeqCst);
     }
 
-    /// Sleeps for so long at most, unless the bell has rung since it had rung so often.
+    /// Sleeps for `most` at most, unless the bell has rung since it had rung `rings` times.
     fn sleep<R: Wait>(&self, rt: &R, rings: u64, most: Duration) {
         let seen = (rings & 0xffff_ffff) as u32;
         self.rings.park_timeout(rt, seen, most);
@@ -82,19 +82,19 @@ impl Bell {
     }
 }
 
-/// How long a thread has found nothing to do.
+/// The time for which a thread has found nothing to do.
 pub(crate) struct Idle<'a> {
     bell: &'a Bell,
-    /// How often it has looked again.
+    /// The number of times that it has looked again.
     looks: u32,
-    /// How often it dozes before it sleeps.
+    /// The number of times that it dozes before it sleeps.
     dozes: u32,
-    /// How often the bell had rung when the thread said that it is about to sleep.
+    /// The number of rings when the thread registered as about to sleep.
     heard: Option<u64>,
 }
 
 impl<'a> Idle<'a> {
-    /// A thread that has just had something to do. It dozes so often before it sleeps.
+    /// Makes the state of a thread that was just busy, and dozes `dozes` times before it sleeps.
     pub fn new(bell: &'a Bell, dozes: u32) -> Idle<'a> {
         Idle {
             bell,
@@ -105,7 +105,7 @@ impl<'a> Idle<'a> {
     }
 
     /// Pauses, each time for longer, then dozes, and then sleeps until the bell rings. The thread
-    /// has to look for something to do after each rest: also once it has said that it is about to
+    /// has to look for something to do after each rest, even once it has registered as about to
     /// sleep.
     pub fn rest<R: Wait>(&mut self, rt: &R) {
         if self.looks < LOOKS_AWAKE {
@@ -144,20 +144,20 @@ impl Drop for Idle<'_> {
     }
 }
 
-/// What the threads of a run share beside the board: how many workers have ended, whether they are
-/// to stop, and the bells at which they wait for each other.
+/// The state that the threads of a run share beside the board: the number of workers that have
+/// ended, whether they must stop, and the bells at which they wait for each other.
 #[derive(Drop)]
 pub struct Signals {
     ended: AtomicU64,
     is_halted: AtomicBool,
-    /// Where workers wait for room in the ring.
+    /// The bell at which workers wait for room in the ring.
     pub(crate) room: Bell,
-    /// Where the scribe waits for calls in the ring, and for the end of the workers.
+    /// The bell at which the scribe waits for calls in the ring, and for the end of the workers.
     pub(crate) calls: Bell,
 }
 
 impl Signals {
-    /// No worker has ended, and none is to stop.
+    /// Makes signals: no worker has ended, and none must stop.
     pub fn new() -> Signals {
         Signals {
             ended: AtomicU64::new(0),
@@ -173,7 +173,7 @@ impl Signals {
         self.room.ring(u64::MAX);
     }
 
-    /// Whether the workers are to stop.
+    /// Returns whether the workers must stop.
     pub(crate) fn is_halted(&self) -> bool {
         self.is_halted.load(Ordering::SeqCst)
     }
@@ -186,7 +186,7 @@ impl Signals {
         self.room.ring(1);
     }
 
-    /// Whether at least this many workers have ended.
+    /// Returns whether at least `started` workers have ended.
     pub(crate) fn have_ended(&self, started: u32) -> bool {
         self.ended.load(Ordering::SeqCst) >= u64::from(started)
     }

@@ -9,18 +9,18 @@ use std::sync::atomic::{AtomicU64, Ordering};
 use std::thread::Parker;
 use std::time::{Clock, Duration};
 
-/// How often a worker naps before it no longer waits: for all to come, or to be drawn.
+/// The number of naps of a worker before it no longer waits for all to come, or to be drawn.
 const NAPS: u32 = 10;
 
-/// How long it naps each time, unless it is woken, in milliseconds.
+/// The length of each nap, unless the worker is woken, in milliseconds.
 const NAP: u64 = 10;
 
-/// How many threads are told apart: as many as a run may have.
+/// The number of threads that are distinguished: as many as a run may have.
 const MAX_THREADS: u32 = 64;
 
 /// A gate at which the workers of a run start together, and then take turns in an order drawn by a
-/// seed. A worker that is drawn and does not come in time is passed over. So nothing is promised
-/// about which runs come: the scheduler of the operating system has its say.
+/// seed. A worker that is drawn and does not come in time is passed over. So nothing is guaranteed
+/// about which runs come: they also depend on the scheduler of the operating system.
 #[derive(Drop)]
 pub struct Spread {
     seed: u64,
@@ -34,9 +34,9 @@ pub struct Spread {
     inside: AtomicU64,
     /// A bit for each thread inside whose turn was answered.
     answered: AtomicU64,
-    /// How many turns were answered, of threads that came back.
+    /// The number of turns that were answered, of threads that came back.
     turns: AtomicU64,
-    /// Where each thread waits.
+    /// The parkers at which threads wait.
     parkers: [Parker; MAX_THREADS as usize],
 }
 
@@ -44,19 +44,18 @@ fn bit_of(thread: u32) -> u64 {
     1 << (thread % MAX_THREADS)
 }
 
-/// A number for each turn, by the seed: the first of the PCG XSH RR 64/32 (O'Neill) from a state of
-/// both.
+/// Returns a number for each turn, by the seed: the first of the PCG XSH RR 64/32 from both.
 fn lot(seed: u64, turn: u64) -> u32 {
     Lcg64Xsh32::new(seed.rotate_left(32).wrapping_add(turn), 0).next_word()
 }
 
-/// Sets the bit of a thread, and answers whether it was set before.
+/// Sets the bit of a thread, and returns whether it was set before.
 fn set(word: &AtomicU64, thread: u32) -> bool {
     let bit = bit_of(thread);
     word.fetch_or(bit, Ordering::SeqCst) & bit != 0
 }
 
-/// Clears the bit of a thread, and answers whether it was set before.
+/// Clears the bit of a thread, and returns whether it was set before.
 fn clear(word: &AtomicU64, thread: u32) -> bool {
     let bit = bit_of(thread);
     word.fetch_and(!bit, Ordering::SeqCst) & bit != 0
@@ -67,7 +66,7 @@ fn has(word: &AtomicU64, thread: u32) -> bool {
 }
 
 impl Spread {
-    /// A gate that expects this many threads.
+    /// Makes a gate that expects this number of threads.
     pub fn new(seed: u64, threads: usize) -> Spread {
         let all = match threads {
             0 => 0,
@@ -100,7 +99,7 @@ impl Spread {
         self.come.load(Ordering::SeqCst) & self.all == self.all
     }
 
-    /// Notes that a thread has come, or never will. The last wakes those that wait for it.
+    /// Records that a thread has come, or never will. The last wakes those that wait for it.
     fn note_come(&self, thread: u32) {
         let was_last = !set(&self.come, thread) && self.have_all_come();
         if was_last {
@@ -121,7 +120,7 @@ impl Spread {
         }
     }
 
-    /// The thread whose turn is next: one of those that may be drawn.
+    /// Returns the thread whose turn is next: one of those that may be drawn.
     fn drawn(&self) -> Option<u32> {
         let active = self.active.load(Ordering::SeqCst);
         let count = active.count_ones();
@@ -134,7 +133,7 @@ impl Spread {
             .nth(lot as usize)
     }
 
-    /// Whether the thread is drawn, and no other is inside.
+    /// Returns whether the thread is drawn, and no other is inside.
     fn is_next(&self, thread: u32) -> bool {
         self.inside.load(Ordering::SeqCst) == 0 && self.drawn() == Some(thread)
     }
@@ -146,7 +145,7 @@ impl Spread {
         }
     }
 
-    /// Waits until the thread is drawn. Where it waits in vain, the one that was drawn last is not
+    /// Waits until the thread is drawn. If it waits in vain, the one that was drawn last is not
     /// drawn again before it comes.
     fn wait_for_turn<R: Wait>(&self, rt: &R, thread: u32) {
         for _ in 0..NAPS {
@@ -161,7 +160,7 @@ impl Spread {
         }
     }
 
-    /// Notes that a thread is no longer inside, and wakes the next.
+    /// Records that a thread is no longer inside, and wakes the next.
     fn leave(&self, thread: u32) {
         if clear(&self.answered, thread) {
             self.turns.fetch_add(1, Ordering::SeqCst);

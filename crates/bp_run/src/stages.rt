@@ -19,8 +19,8 @@ use std::thread;
 use std::thread::{Promise, PromisedHandle, Scope, Threads};
 use std::time::Clock;
 
-/// The promise of a worker: it leaves a seat of this thread, which is open unless its work is done,
-/// and then it says why.
+/// The promise of a worker: it leaves a seat of this thread, shut if its work is done, otherwise
+/// open with a reason.
 #[derive(Drop)]
 pub(crate) struct OfThread {
     pub thread: u32,
@@ -36,7 +36,7 @@ impl<C: Calls, O: Ledger> Promise<Worked<C, O>> for OfThread {
 /// A worker that is to be joined.
 pub(crate) type Handle<C, O> = PromisedHandle<Worked<C, O>, OfThread>;
 
-/// What the scribe and the workers give back: also whether all workers were started, and whether
+/// The results of the scribe and the workers: also whether all workers were started, and whether
 /// all that were have done their work.
 #[derive(Drop)]
 pub(crate) struct Staged<'a, W, C: Calls, O: Ledger> {
@@ -47,7 +47,7 @@ pub(crate) struct Staged<'a, W, C: Calls, O: Ledger> {
     pub all_done: bool,
 }
 
-/// Starts a worker for each seat, in order, until one cannot be started. Answers whether all were
+/// Starts a worker for each seat, in order, until one cannot be started. Returns whether all were
 /// started. The gate is told of the seats without a worker, which are dropped.
 fn start_workers<
     's,
@@ -101,8 +101,8 @@ fn start_workers<
     all_started
 }
 
-/// Waits until the workers have ended, and gives back their seats in order, and whether all have
-/// done their work.
+/// Waits until the workers have ended, and returns their seats in order, and whether all have done
+/// their work.
 fn join_workers<C: Calls + Send, O: Ledger + Send, R: Threads>(
     rt: &R,
     handles: Vec<Handle<C, O>>,
@@ -124,7 +124,7 @@ fn join_workers<C: Calls + Send, O: Ledger + Send, R: Threads>(
 }
 
 /// The seats of the workers that are to be started, and room for their handles and for the seats
-/// that they give back.
+/// that they return.
 #[derive(Drop)]
 pub(crate) struct Crew<C: Calls, O: Ledger> {
     pub seats: Vec<Seat<C, O>>,

@@ -12,7 +12,7 @@ use std::sync::Wait;
 use std::sync::ledger::Ledger;
 use std::time::Clock;
 
-/// Why a worker stops though its seat is open. The calls that were made stand.
+/// Why a worker stopped early, though its seat is open. The calls made are kept.
 #[derive(Clone, Copy, Debug, PartialEq, Eq)]
 pub enum Unfinished {
     /// Memory was refused, before a call of a procedure.
@@ -24,9 +24,8 @@ pub enum Unfinished {
 }
 
 /// Takes turns of at most `turn` calls from this seat, until its line is finished, and tells the
-/// gate. Where the ring is full it waits for room, and takes a turn again. It stops where memory is
-/// refused, where the line was finished already though the seat is open, or where the signals tell
-/// it to.
+/// gate. If the ring is full it waits for room, and takes a turn again. Stops if memory is refused,
+/// if the line was finished already though the seat is open, or if the signals tell it to.
 pub fn work<C: Calls, O: Ledger, G: Gate, R: Wait + Clock>(
     rt: &R,
     board: &Board<C, O>,
@@ -78,14 +77,14 @@ pub fn work<C: Calls, O: Ledger, G: Gate, R: Wait + Clock>(
     done
 }
 
-/// What a worker leaves: its seat, and that its work is done, or why it stopped before.
+/// The results of a worker: its seat, and that its work is done, or why it stopped before.
 #[derive(Drop)]
 pub(crate) struct Worked<C: Calls, O: Ledger> {
     pub seat: Seat<C, O>,
     pub done: Result<(), Unfinished>,
 }
 
-/// What the thread of a worker does: all the work of its seat, and then it is counted as ended.
+/// Does all the work of a worker's seat, and then counts the worker as ended.
 pub(crate) fn worker<C: Calls, O: Ledger, G: Gate, R: Wait + Clock>(
     rt: &R,
     board: &Board<C, O>,
