@@ -16,7 +16,7 @@ use bp_flat::{Effect, Instr, Kind, Store};
 use bp_machine::Session;
 use std::alloc::{AllocError, Global};
 
-/// What later steps tell of the choice bit of a step.
+/// The choice bit of a step, as later steps tell it.
 #[derive(Clone, Copy)]
 pub(crate) struct Inferred {
     pub(crate) bit: bool,
@@ -24,7 +24,7 @@ pub(crate) struct Inferred {
     pub(crate) is_clear: bool,
 }
 
-/// Whether a `?` decides which way an instruction goes.
+/// Returns whether a `?` decides the successor of an instruction.
 pub(crate) fn is_fork(instr: &Instr) -> bool
     ensures { result ≡ is_fork instr.now }
 {
@@ -34,7 +34,7 @@ pub(crate) fn is_fork(instr: &Instr) -> bool
     }
 }
 
-/// The inferred bit of an instruction that has these effects with the bits 0 and 1.
+/// Returns the inferred bit of an instruction that has these effects with the bits 0 and 1.
 fn bit_of_effects(
     points: &[SourcePoint],
     next: Option<Location>,
@@ -56,7 +56,7 @@ fn bit_of_effects(
     }
 }
 
-/// The same of an instruction that has these effects, if its thread has this last bit.
+/// Returns that bit of an instruction, if its thread has this last bit.
 fn bit_of_instruction(
     instr: &Instr,
     points: &[SourcePoint],
@@ -75,7 +75,7 @@ fn bit_of_instruction(
     bit_of_effects(points, next, follow, zero, one)
 }
 
-/// Whether both bits lead to the location of the next step, and to different instructions.
+/// Returns whether both bits lead to the location of the next step, and to different instructions.
 fn splits(points: &[SourcePoint], next: Option<Location>, zero: Effect, one: Effect) -> bool
     ensures { result ≡ splits (option_map (is_there points.now) next) zero one }
 {
@@ -93,7 +93,7 @@ fn splits(points: &[SourcePoint], next: Option<Location>, zero: Effect, one: Eff
     }
 }
 
-/// Whether a test decides what an instruction does.
+/// Returns whether a test decides the effect of an instruction.
 fn has_test(instr: &Instr) -> bool
     ensures { result ≡ has_test instr.now }
 {
@@ -103,7 +103,7 @@ fn has_test(instr: &Instr) -> bool
     )
 }
 
-/// The bit of an instruction that no test decides: its effects are the same with both bits.
+/// Returns the bit of an instruction that no test decides: its effects are the same with both bits.
 #[inline(always)]
 pub(crate) fn plain_bit(instr: &Instr) -> Option<bool>
     ensures { IfSome result (λ bit.
@@ -117,8 +117,9 @@ pub(crate) fn plain_bit(instr: &Instr) -> Option<bool>
     Some(false)
 }
 
-/// The inferred bit of an instruction, if the next step of its thread is at this location, its last
-/// bit is this one, and steps follow or not; and whether the location tells which way a `?` went.
+/// Returns the inferred bit of an instruction, if the next step of its thread is at this location,
+/// its last bit is this one, and steps follow or not; and whether the location tells which way a
+/// `?` went.
 pub(crate) fn inferred_bit(
     instr: &Instr,
     store: Store,
@@ -153,11 +154,11 @@ pub struct LastChoice {
 pub(crate) enum LastBits<'a> {
     /// This one.
     Each(bool),
-    /// 0 if it is among the threads that wait, which this table tells, and 1 if it is not.
+    /// 0 if it is among the threads that wait, by this table, and 1 otherwise.
     Waiting(&'a [bool]),
 }
 
-/// Whether a thread waits, by a table of the threads.
+/// Returns whether a thread waits, by a table of the threads.
 fn is_in(waits: &[bool], thread: u32) -> bool
     ensures { result ≡ get_or waits.now thread false }
 {
@@ -167,7 +168,7 @@ fn is_in(waits: &[bool], thread: u32) -> bool
     }
 }
 
-/// The last bit of a thread.
+/// Returns the last bit of a thread.
 pub(crate) fn last_bit_of(last: LastBits<'_>, thread: u32) -> bool
     ensures { result ≡ last_bits last.entry thread }
 {
@@ -177,7 +178,7 @@ pub(crate) fn last_bit_of(last: LastBits<'_>, thread: u32) -> bool
     }
 }
 
-/// For each thread whether it waits.
+/// Returns for each thread whether it waits.
 pub(crate) fn waits_of(alloc: Global, session: &Session) -> Result<Vec<bool>, AllocError>
     ensures { AfterEach session.now (λ t h. IfOk result (λ v. (i : ℕ)
         → get_or v.items i false ≡ waits_after t session.now.setup h i)) }
@@ -189,7 +190,7 @@ pub(crate) fn waits_of(alloc: Global, session: &Session) -> Result<Vec<bool>, Al
     Ok(waits)
 }
 
-/// Whether one of them holds alone.
+/// Returns whether exactly one of the two is true.
 fn differ(one: bool, other: bool) -> bool
     ensures { result ≡ differ one other }
 {
@@ -215,8 +216,8 @@ fn add_deciding(
     Ok(())
 }
 
-/// The bits of the first threads on which a deadlock depends, if these tables tell for each thread
-/// whether it waits after its bit is 0, and after it is 1.
+/// Returns the bits of the first threads on which a deadlock depends, if these tables tell for each
+/// thread whether it waits after its bit is 0, and after it is 1.
 pub(crate) fn deciding(
     alloc: Global,
     count: u32,

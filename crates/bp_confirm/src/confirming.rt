@@ -1,5 +1,4 @@
-//! Confirming a text of reported steps.
-//! Why reported steps are not taken.
+//! Confirming a text of reported steps. Why reported steps are not taken.
 ghost use Rattle.std.specs.Prelude.{◌≡◌, ◌<◌, ◌^◌, None, length, IfOk, MatchResult};
 ghost use Rattle.bp_machine.specs.Setups.{Fits};
 ghost use Rattle.bp_confirm.specs.ConfirmedTexts.{AreTold, ConfirmsTo, IsStepsRefusal, IsUntold, fault_of_stray};
@@ -16,7 +15,7 @@ use bp_trace::limits::MAX_SCHEDULE;
 use std::alloc::{AllocError, Global};
 use thiserror::Error;
 
-/// Why a text of steps is not confirmed: the first of these that applies. Lines are counted from 1.
+/// Why a text of steps is not confirmed: the first reason that applies. Lines are counted from 1.
 #[derive(Clone, Copy, Debug, PartialEq, Eq, Error)]
 pub enum ConfirmFault {
     /// The text has more than 67,108,864 bytes.
@@ -28,12 +27,11 @@ pub enum ConfirmFault {
     /// This line is the first that is malformed, or the last one that does not end.
     #[error("line {0} of the steps is not a thread, a place and values")]
     Line(u32),
-    /// This line is the first that names what is not declared: a thread that the setup does not
-    /// have.
+    /// This line is the first with an undeclared name: a thread that the setup does not have.
     #[error("line {0} of the steps is of thread {1}, which is not there")]
     NoThread(u32, u32),
-    /// This line is the first that names what is not declared: a variable that no part of the
-    /// program has. It is that of the value of this place on the line, from 0.
+    /// This line is the first with an undeclared name: a variable that no part of the program has.
+    /// It is that of the value of this index on the line, from 0.
     #[error("line {0} of the steps has a value of no variable")]
     NoVariable(u32, usize),
     /// This is the first step that is not taken.
@@ -44,7 +42,7 @@ pub enum ConfirmFault {
     Memory,
 }
 
-/// The fault of the first line that names what is not declared.
+/// Returns the fault of the first line with an undeclared name.
 fn fault_of_stray(line: u32, stray: Stray) -> ConfirmFault
     ensures { result ≡ fault_of_stray line stray }
 {
@@ -54,7 +52,7 @@ fn fault_of_stray(line: u32, stray: Stray) -> ConfirmFault
     }
 }
 
-/// The lines of a text of steps, each of a thread of the setup and of variables of the program.
+/// Returns the lines of a text of steps, with threads of the setup and variables of the program.
 pub(crate) fn told_lines<'a>(
     alloc: Global,
     checked: &Checked,
@@ -117,19 +115,18 @@ pub fn confirm(
 /// The first of the values of a line that its thread does not see after the step.
 #[derive(Clone, Copy, Debug, PartialEq, Eq)]
 pub struct Difference {
-    /// The place of the value on the line, from 0.
+    /// The index of the value on the line, from 0.
     pub place: usize,
-    /// What the thread sees: the other value, or no variable of the name.
+    /// The value that the thread sees: the other one, or no variable of the name.
     pub seen: Option<bool>,
-    /// The line of the last step that changed what the thread sees of the name; none if no step
-    /// changed it.
+    /// The line of the last step that changed the thread's view of the name; None if no step did.
     pub changed: Option<u32>,
 }
 
-/// Why a step is not taken: the first of these that applies.
+/// Why a step is not taken: the first reason that applies.
 #[derive(Clone, Copy, Debug, PartialEq, Eq)]
 pub enum StepReason {
-    /// Its thread does not stand at its location.
+    /// Its thread is not at its location.
     Elsewhere,
     /// Its thread makes no further call: its assertion failed, or its calls are used up.
     Finished,
@@ -137,8 +134,8 @@ pub enum StepReason {
     Refused(Reply),
     /// Its thread does not see one of its values after it.
     Differs(Difference),
-    /// It is taken, but its thread stands at a `?`, and both ways are at the location of the
-    /// thread's next step.
+    /// It is taken, but its thread is at a `?`, and both ways are at the location of the thread's
+    /// next step.
     Ambiguous,
 }
 
@@ -150,9 +147,9 @@ pub struct StepRefusal {
     pub thread: u32,
     /// The location that its line names.
     pub location: Location,
-    /// The number of the instruction at which its thread stands; none if the thread has ended.
+    /// The number of the instruction at which its thread is; None if the thread has ended.
     pub number: Option<u32>,
-    /// Where that is in the text of the program.
+    /// The position of that in the text of the program.
     pub stand: Stand,
     pub reason: StepReason,
 }

@@ -20,16 +20,16 @@ use bp_source::declares;
 use bp_tasks::ContextBound;
 use std::alloc::{AllocError, Global};
 
-/// What a line names that is not declared.
+/// The undeclared name on a line.
 #[derive(Clone, Copy)]
 pub(crate) enum Stray {
     Thread(u32),
-    /// The value of this place on the line, from 0.
+    /// The value of this index on the line, from 0.
     Variable(usize),
 }
 
-/// Whether a text says which variable is meant. The texts that do are kept in ascending order, so
-/// that each is looked for in the program once.
+/// Returns whether a text says which variable is meant. Such texts are kept in ascending order, so
+/// that each is searched in the program once.
 fn is_declared<'a>(checked: &Checked, known: &mut Vec<&'a [u8]>, text: &'a [u8]) -> bool
     requires { AreKnown checked.now known.old.items }
     ensures is { result ≡ declares checked.now text.now }
@@ -48,7 +48,7 @@ fn is_declared<'a>(checked: &Checked, known: &mut Vec<&'a [u8]>, text: &'a [u8])
     true
 }
 
-/// The first of the values that a text says, from 0, that is of no variable.
+/// Returns the index, from 0, of the first of the values of a text that is of no variable.
 fn undeclared_value<'a>(
     checked: &Checked,
     known: &mut Vec<&'a [u8]>,
@@ -73,7 +73,7 @@ fn undeclared_value<'a>(
     None
 }
 
-/// Whether each line that is kept is of a thread of the setup and of variables of the program.
+/// Returns whether each kept line is of a thread of the setup and of variables of the program.
 fn are_declared<'a>(
     checked: &Checked,
     setup: &Setup,
@@ -126,7 +126,7 @@ pub(crate) fn check_lines(
     Ok(())
 }
 
-/// The contexts that a step of a thread opens after one of the last thread.
+/// Returns the number of contexts that a step of a thread opens after one of the last thread.
 fn opened(last: Option<u32>, thread: u32) -> usize
     ensures { result ≡ contexts_opened last thread }
 {
@@ -136,7 +136,7 @@ fn opened(last: Option<u32>, thread: u32) -> usize
     }
 }
 
-/// How many contexts the steps of these lines use.
+/// Returns the number of contexts that the steps of these lines use.
 fn contexts_used(lines: &StepLines) -> usize
     ensures { IsLeastWithin result (map thread_of lines.now) }
 {
@@ -152,7 +152,7 @@ fn contexts_used(lines: &StepLines) -> usize
     used
 }
 
-/// As many contexts as can be allowed.
+/// Returns as many contexts as can be allowed.
 fn contexts_allowed(used: usize) -> u32
     ensures { result ≡ contexts_allowed used }
 {
@@ -162,7 +162,7 @@ fn contexts_allowed(used: usize) -> u32
     used as u32
 }
 
-/// The names of the entries of a setup.
+/// Returns the names of the entries of a setup.
 fn entries_of<'a>(alloc: Global, setup: &'a Setup) -> Result<Vec<&'a [u8]>, AllocError>
     ensures { IfOk result (λ v. map (λ n. n.now) v.items ≡ setup.now.entries) }
 {
@@ -176,7 +176,7 @@ fn entries_of<'a>(alloc: Global, setup: &'a Setup) -> Result<Vec<&'a [u8]>, Allo
     Ok(names)
 }
 
-/// The initial bits of a setup.
+/// Returns the initial bits of a setup.
 fn bits_of(alloc: Global, setup: &Setup) -> Result<Vec<bool>, AllocError>
     ensures { IfOk result (λ v. v.items ≡ setup.now.init) }
 {
@@ -190,7 +190,7 @@ fn bits_of(alloc: Global, setup: &Setup) -> Result<Vec<bool>, AllocError>
     Ok(bits)
 }
 
-/// The same setup with this many contexts.
+/// Returns the setup with this number of contexts.
 fn with_contexts(
     alloc: Global,
     code: &Code,
@@ -213,8 +213,8 @@ fn with_contexts(
     )
 }
 
-/// The setup of the trace of these lines. Where it is one of its own, a refusal is that of memory,
-/// since the setup fits.
+/// Returns the setup of the trace of these lines. If it is one of its own, a refusal is that of
+/// memory, since the setup fits.
 pub(crate) fn setup_for(
     alloc: Global,
     code: &Code,

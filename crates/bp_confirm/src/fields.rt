@@ -8,7 +8,7 @@ ghost use Rattle.bp_confirm.specs.Steps.{after_byte, location, may_end, outside_
 use crate::step_lines::{Location, SeenValue, StepLine};
 use bp_text::{Machine, after, bit_at, number_at, part_before, span_at};
 
-/// Where a name has come to: nowhere yet, or outside or inside braces.
+/// The state of reading a name: nothing read yet, or outside or inside braces.
 #[derive(Clone, Copy)]
 pub enum NameState {
     Start,
@@ -16,7 +16,7 @@ pub enum NameState {
     Inside,
 }
 
-/// Where the name comes to after this byte outside braces, if it continues with it.
+/// Returns the state of the name after this byte outside braces, if it continues with it.
 fn outside_braces(byte: u8) -> Option<NameState>
     ensures { result ≡ outside_braces byte }
 {
@@ -51,7 +51,7 @@ impl Machine for NameState {
     }
 }
 
-/// The number of 32 bits that begins a text, and what is after its digits.
+/// Parses a number of 32 bits, and returns it with the rest of the text.
 #[inline(always)]
 fn short_at(text: &[u8]) -> Option<(u32, &[u8])>
     ensures { Finds short text.now result }
@@ -62,7 +62,7 @@ fn short_at(text: &[u8]) -> Option<(u32, &[u8])>
     Some((number as u32, rest))
 }
 
-/// The location that begins a text, and what is after it.
+/// Parses a location, and returns it with the rest of the text.
 #[inline(always)]
 fn location_at(text: &[u8]) -> Option<(Location, &[u8])>
     ensures { Finds location text.now result }
@@ -83,7 +83,7 @@ fn location_at(text: &[u8]) -> Option<(Location, &[u8])>
     Some((Location::Column(line, column), rest))
 }
 
-/// The value that begins a text, and what is after it.
+/// Parses a value, and returns it with the rest of the text.
 pub(crate) fn value_at(text: &[u8]) -> Option<(SeenValue<'_>, &[u8])>
     ensures { MatchOption result
         (HasNone value text.now)
@@ -104,7 +104,7 @@ pub(crate) fn value_at(text: &[u8]) -> Option<(SeenValue<'_>, &[u8])>
     }
 }
 
-/// The values that begin a text, as the part of it that says them, and what is after them.
+/// Splits a text after the values that begin it.
 fn values_at(text: &[u8]) -> (&[u8], &[u8])
     ensures says { SaysValues result.0.now }
     ensures at { IsAt (Many value) text.now (values_in result.0.now) result.1.now }
@@ -116,7 +116,7 @@ fn values_at(text: &[u8]) -> (&[u8], &[u8])
     (part_before(text, text.len() - rest.len()), rest)
 }
 
-/// The step of the line that begins a text, and what is after the line.
+/// Parses the line of a step, and returns it with the rest of the text.
 #[inline(always)]
 pub(crate) fn step_at(text: &[u8]) -> Option<(StepLine<'_>, &[u8])>
     ensures { Finds step_line text.now result }

@@ -25,11 +25,11 @@ use bp_code::Checked;
 use bp_machine::{AskFault, Call, Session, Top};
 use std::alloc::{AllocError, Global};
 
-/// What the later steps tell of a step: the number of its thread's next step, and whether any step
-/// follows.
+/// The information of the later steps on a step: the number of its thread's next step, and whether
+/// any step follows.
 #[derive(Clone, Copy)]
 pub(crate) struct Next {
-    /// From 0; that of no step where the thread takes none.
+    /// From 0; a number of no step if the thread takes none.
     number: u32,
     follows: bool,
     /// The bit that the thread takes at a `?` of its last step.
@@ -53,8 +53,8 @@ pub(crate) enum NotCalled {
     Memory,
 }
 
-/// The top of a thread that stands at a location; else the number of the instruction at which it
-/// goes on, or none where it has ended.
+/// Returns the top of a thread that is at a location; else the number of the instruction at which
+/// it continues, or None if it has ended.
 fn top_at(
     session: &Session,
     points: &[SourcePoint],
@@ -80,8 +80,8 @@ fn top_at(
     Ok(top)
 }
 
-/// The inferred bit of the next step of a thread with this top, and whether the later steps tell
-/// which way a `?` went.
+/// Returns the inferred bit of the next step of a thread with this top, and whether the later steps
+/// tell which way a `?` went.
 fn bit_at(
     session: &Session,
     points: &[SourcePoint],
@@ -117,7 +117,7 @@ fn bit_at(
     )
 }
 
-/// Makes the call of a thread that is there.
+/// Makes the call of an existing thread.
 fn call_of(session: &mut Session, thread: u32, bit: bool) -> Result<Call, NotCalled>
     requires thread { thread < threads session.old.setup }
     requires unseeded { session.old.setup.seed ≡ None }
@@ -136,7 +136,7 @@ fn call_of(session: &mut Session, thread: u32, bit: bool) -> Result<Call, NotCal
     }
 }
 
-/// The refusal of the step of line `n`, whose thread stands at the instruction of this number.
+/// Returns the refusal of the step of line `n`, whose thread is at the instruction of this number.
 fn refusal_of(
     points: &[SourcePoint],
     line: &StepLine,
@@ -156,8 +156,8 @@ fn refusal_of(
     })
 }
 
-/// The first of the values of a line that its thread does not see after the call of its step. The
-/// call follows the history.
+/// Returns the first of the values of a line that its thread does not see after the call of its
+/// step. The call follows the history.
 fn first_difference(
     alloc: Global,
     checked: &Checked,
@@ -198,7 +198,7 @@ fn first_difference(
     }))
 }
 
-/// Takes the step of the line after the history, where the later ones of these lines tell this.
+/// Takes the step of the line after the history, with this information of the later lines.
 fn take_step(
     alloc: Global,
     checked: &Checked,
@@ -260,7 +260,7 @@ fn take_step(
     Ok(call)
 }
 
-/// Whether the next statement of a thread is a branch or a loop of `?`.
+/// Returns whether the next statement of a thread is a branch or a loop of `?`.
 fn is_at_fork(session: &Session, thread: u32) -> bool
     ensures { AfterEach session.now (λ t h.
         result ≡ is_fork_on (stack_of (configuration_after t session.now.setup h) thread)) }
@@ -276,8 +276,8 @@ fn is_at_fork(session: &Session, thread: u32) -> bool
     is_fork(instr)
 }
 
-/// Whether some thread took its last bit, or takes it now: its next step is its last one, and at a
-/// branch or a loop of `?`.
+/// Returns whether some thread took its last bit, or takes it now: its next step is its last one,
+/// and at a branch or a loop of `?`.
 fn asks_now(asks: bool, session: &Session, lines: &StepLines, next: u32, thread: u32) -> bool
     ensures before { result ≡ false → asks ≡ false }
     ensures here { AfterEach session.now (λ t h. result ≡ false

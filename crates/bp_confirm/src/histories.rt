@@ -87,8 +87,8 @@ fn take_with(
     })
 }
 
-/// Takes the steps once more, with other last bits. Returns None if a step is refused now, which no
-/// lawful text comes to.
+/// Takes the steps once more, with other last bits. Returns None if a step is refused now, which
+/// never happens for a lawful text.
 fn take_again(
     alloc: Global,
     code: &Code,
@@ -125,7 +125,7 @@ fn take_again(
     }
 }
 
-/// The history that takes the steps, whose deadlock depends on these last bits.
+/// Returns the history that takes the steps, whose deadlock depends on these last bits.
 fn confirmed_with(taken: Taken, choices: Vec<LastChoice>) -> Confirmed
     ensures { result
         ≡ record { history = taken.history; session = taken.session; choices = choices } }
@@ -137,10 +137,10 @@ fn confirmed_with(taken: Taken, choices: Vec<LastChoice>) -> Confirmed
     }
 }
 
-/// Confirms the steps of these lines in the program of a text: the history that takes them, one
-/// call for each, with the choice bits that are inferred; or the first line whose step no history
-/// takes after those before it. A thread whose last step is at a `?` takes the bit of a deadlock,
-/// if the threads are deadlocked after such bits, and else 0.
+/// Confirms the steps of these lines in the program of a text: returns the history that takes them,
+/// one call for each, with the inferred choice bits; or the first line whose step no history takes
+/// after those before it. A thread whose last step is at a `?` takes the bit of a deadlock, if the
+/// threads are deadlocked after such bits, and else 0.
 pub(crate) fn confirm_lines(
     alloc: Global,
     text: &[u8],

@@ -1,6 +1,5 @@
-//! The lines of a text of steps, in a few bytes each.
-//! Reading the lines of a text of steps. Most lines come more than once.
-//! A value on a line of a text of steps.
+//! The lines of a text of steps, in a few bytes each. Reading the lines of a text of steps. Most
+//! lines come more than once. A value on a line of a text of steps.
 ghost use Rattle.std.specs.Prelude.{◌≡◌, ◌<◌, ◌≤◌, ◌^◌, ◌++◌, ◌∷◌, [], IfOk, IfSome, MatchOption, MatchResult, OnOk, length, option_map, slice_get};
 ghost use Rattle.std.specs.List.{AllByRecursion};
 ghost use Rattle.bp_confirm.specs.KeptLines.{kept_lines, GrowsByOne, IsKeptLine, IsStepThere};
@@ -34,10 +33,10 @@ impl From<AllocError> for StepsFault {
     }
 }
 
-/// How many lines are noted, so that they are known when they are read again.
+/// The number of lines that are recorded, so that they are recognized when they are read again.
 const SLOTS: usize = 4096;
 
-/// Where the place of a line that begins this text is noted: a hash of its first 16 bytes.
+/// Returns the slot that records a line of this text: a hash of its first 16 bytes.
 fn slot_of(text: &[u8]) -> usize
     ensures { result < SLOTS }
 {
@@ -52,7 +51,7 @@ fn slot_of(text: &[u8]) -> usize
     ((first ^ second).wrapping_mul(0x9E37_79B9_7F4A_7C15) >> 52) as usize % SLOTS
 }
 
-/// What is after the line that is kept at this place, if the text begins with it.
+/// Returns the text after the line that is kept at this place, if the text begins with it.
 fn after_kept<'a>(kept: &[KeptLine], place: u32, text: &'a [u8]) -> Option<&'a [u8]>
     requires { AllByRecursion IsKeptLine kept.now }
     ensures { IfSome result (λ more.
@@ -64,7 +63,7 @@ fn after_kept<'a>(kept: &[KeptLine], place: u32, text: &'a [u8]) -> Option<&'a [
     }
 }
 
-/// Reads the line that begins a text: its place among those that are kept, and what is after it.
+/// Reads the line that begins a text, and returns its kept place with the rest of the text.
 fn read_line<'a>(
     kept: &mut Vec<KeptLine<'a>>,
     noted: &mut [u32; SLOTS],
@@ -141,7 +140,7 @@ pub(crate) struct KeptLine<'a> {
 #[derive(Drop)]
 pub(crate) struct StepLines<'a> {
     pub(crate) kept: Vec<KeptLine<'a>>,
-    /// For each line of the text its place among those that are kept.
+    /// For each line of the text its place among the kept ones.
     pub(crate) places: Vec<u32>,
 }
 
@@ -160,14 +159,14 @@ impl<'a> Model for StepLines<'a> {
 impl<'a> StepLines<'a> {
     ghost use Rattle.std.specs.Prelude.{◌≡◌, ◌<◌, length, get_or};
 
-    /// How many lines there are.
+    /// Returns the number of lines.
     pub(crate) fn len(&self) -> usize
         ensures { result ≡ length self.now }
     {
         self.places.len()
     }
 
-    /// The line of this number, from 0.
+    /// Returns the line of this number, from 0.
     #[inline(always)]
     pub(crate) fn at(&self, n: usize) -> &StepLine<'a>
         requires { n < length self.now }
@@ -177,7 +176,7 @@ impl<'a> StepLines<'a> {
     }
 }
 
-/// The step of this line, counted from 1.
+/// Returns the step of this line, counted from 1.
 fn step_on_line(steps: &[u8], line: u32) -> Option<StepLine<'_>>
     ensures { IsStepOnLine steps.now line result }
 {
@@ -194,7 +193,7 @@ fn step_on_line(steps: &[u8], line: u32) -> Option<StepLine<'_>>
     }
 }
 
-/// The value at this place, from 0, of a part of a line that says values.
+/// Returns the value at this index, from 0, of a part of a line with values.
 fn value_at_place(values: &[u8], place: usize) -> Option<SeenValue<'_>>
     requires { SaysValues values.now }
     ensures { option_map value_of result ≡ slice_get (values_in values.now) place }
@@ -212,8 +211,8 @@ fn value_at_place(values: &[u8], place: usize) -> Option<SeenValue<'_>>
     }
 }
 
-/// The value at this place on a line of a text of steps. Lines are counted from 1, and the values
-/// of a line from 0.
+/// Returns the value at this index on a line of a text of steps. Lines are counted from 1, and the
+/// values of a line from 0.
 pub fn value_on_line(steps: &[u8], line: u32, place: usize) -> Option<SeenValue<'_>>
     ensures { IsValueOnLine steps.now line place (option_map value_of result) }
 {

@@ -1,4 +1,4 @@
-//! Reported steps that an exploration looks for, in their order.
+//! Reported steps that an exploration searches for, in their order.
 ghost use Rattle.std.specs.Prelude.{◌≡◌, ◌<◌, ◌^◌, ℕ, List, length, IfOk, MatchResult};
 ghost use Rattle.bp_flat.specs.Moves.{Configuration};
 ghost use Rattle.bp_confirm.specs.ConfirmedTexts.{AreTold, IsUntold};
@@ -15,7 +15,7 @@ use bp_explore::{Observer, SeenStep};
 use bp_machine::{Setup, Top};
 use std::alloc::Global;
 
-/// The lines of a text of steps, which a run is to make in their order.
+/// The lines of a text of steps, which a run has to make in their order.
 #[derive(Drop)]
 pub struct ListedLines<'a> {
     /// The text of the program.
@@ -27,7 +27,7 @@ pub struct ListedLines<'a> {
     ghost short: { length lines < 2 ^ 32 },
 }
 
-/// Whether a thread with this top sees the values that a text says.
+/// Returns whether a thread with this top sees the values of a text.
 fn sees_values(
     checked: &Checked,
     points: &[SourcePoint],
@@ -72,7 +72,7 @@ impl Observer for ListedLines<'_> {
     }
 }
 
-/// Reads a text of steps, of the program of a text in this setup, as those that a run is to make.
+/// Reads a text of steps, of the program of a text in this setup, as the steps of a run to find.
 pub fn read_listed_lines<'a>(
     alloc: Global,
     text: &'a [u8],

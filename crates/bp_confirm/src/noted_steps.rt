@@ -20,12 +20,12 @@ use bp_trace::{ReplayFault, Watcher, replay_watched};
 use std::alloc::{AllocError, Global};
 use std::io::Write;
 
-/// A step: its thread, and where the thread stands before it.
+/// A step: its thread, and the thread's place before it.
 #[derive(Clone, Copy, Debug, PartialEq, Eq)]
 pub struct OwnStep {
     /// The thread, from 0.
     pub thread: u32,
-    /// Where its next statement begins; none at a procedure's end.
+    /// The start of its next statement; None at a procedure's end.
     pub position: Option<Position>,
 }
 
@@ -37,14 +37,14 @@ pub struct OwnSteps {
     pub report: Report,
 }
 
-/// Whether a call with this reply made a step.
+/// Returns whether a call with this reply made a step.
 pub(crate) fn is_granted(reply: Reply) -> bool
     ensures { result ≡ is_granted reply }
 {
     matches!(reply, Reply::Stepped | Reply::Failed)
 }
 
-/// Where the next statement of a thread begins.
+/// Returns the start of the next statement of a thread.
 fn position_of(session: &Session, points: &[SourcePoint], thread: u32) -> Option<Position>
     ensures { let t = session.now.code.tree in (text : List ℕ) (h : List Answered)
         → points.now ≡ source_points_of text t
@@ -69,7 +69,7 @@ fn note(steps: &mut Vec<OwnStep>, step: OwnStep) -> Result<(), AllocError>
     Ok(())
 }
 
-/// Notes the steps of a replay.
+/// Records the steps of a replay.
 #[derive(Drop)]
 struct StepWatcher<'a> {
     points: &'a [SourcePoint],
@@ -102,8 +102,8 @@ impl Watcher for StepWatcher<'_> {
     }
 }
 
-/// The steps of the history of a trace, each at the column at which its statement begins in the
-/// program text. A text that is no trace of the program is refused as a replay refuses it.
+/// Returns the steps of the history of a trace, each at the column at which its statement begins in
+/// the program text. A text that is no trace of the program is refused as a replay refuses it.
 pub fn own_steps(
     alloc: Global,
     text: &[u8],

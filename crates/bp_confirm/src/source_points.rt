@@ -1,4 +1,4 @@
-//! Where the statement of each instruction begins, and in which procedure.
+//! The start of the statement of each instruction, and its procedure.
 ghost use Rattle.std.specs.Prelude.{◌≡◌, IfOk, slice_get, option_map};
 ghost use Rattle.bp_confirm.specs.FollowedSteps.{is_there, source_points_of};
 
@@ -7,16 +7,16 @@ use bp_code::{Checked, statement_starts};
 use bp_text::{FIRST, Position, position_from};
 use std::alloc::{AllocError, Global};
 
-/// Where the statement of an instruction begins.
+/// The start of the statement of an instruction.
 #[derive(Clone, Copy)]
 pub(crate) struct SourcePoint {
     /// None at the end of a procedure.
     pub(crate) position: Option<Position>,
-    /// The procedure's place among the procedures.
+    /// The procedure's index among the procedures.
     pub(crate) procedure: usize,
 }
 
-/// The point of each instruction of the program of a text, in their order.
+/// Returns the point of each instruction of the program of a text, in their order.
 pub(crate) fn source_points_of(
     alloc: Global,
     text: &[u8],
@@ -50,7 +50,7 @@ pub(crate) fn source_points_of(
     Ok(points)
 }
 
-/// The point of an instruction.
+/// Returns the point of an instruction.
 pub(crate) fn point_of(points: &[SourcePoint], number: u32) -> Option<SourcePoint>
     ensures { result ≡ slice_get points.now number }
 {
@@ -60,7 +60,7 @@ pub(crate) fn point_of(points: &[SourcePoint], number: u32) -> Option<SourcePoin
     }
 }
 
-/// Whether the statement of an instruction is at a location.
+/// Returns whether the statement of an instruction is at a location.
 pub(crate) fn is_there(points: &[SourcePoint], location: Location, number: u32) -> bool
     ensures { result ≡ is_there points.now location number }
 {
@@ -70,7 +70,7 @@ pub(crate) fn is_there(points: &[SourcePoint], location: Location, number: u32) 
     }
 }
 
-/// The place of an instruction's procedure among the procedures.
+/// Returns the index of an instruction's procedure among the procedures.
 pub(crate) fn procedure_of(points: &[SourcePoint], number: u32) -> Option<usize>
     ensures { result ≡ option_map (λ x. x.procedure) (slice_get points.now number) }
 {

@@ -1,7 +1,5 @@
-//! The lines of reported steps.
-//! Locations in the text of a program, as steps name them.
-//! Where a thread stands in the text of a program.
-//! The next step of the thread of each step.
+//! The lines of reported steps. Locations in the text of a program, as steps name them. The
+//! position of a thread in the text of a program. The next step of the thread of each step.
 ghost use Rattle.std.specs.Prelude.{◌≡◌, ◌==◌, ◌<◌, ◌^◌, length, map, IfOk};
 ghost use Rattle.std.specs.List.{AllByRecursion};
 ghost use Rattle.bp_machine.specs.declared.limits.TheConstants.{MAX_THREADS};
@@ -22,14 +20,14 @@ pub struct SeenValue<'a> {
     pub bit: bool,
 }
 
-/// A reported step: its thread, the location at which the thread stands before it, and the values
-/// that some variables have after it, as the thread's topmost frame sees them.
+/// A reported step: its thread, the location of the thread before it, and the values that some
+/// variables have after it, as the thread's topmost frame sees them.
 #[derive(Drop)]
 pub struct StepLine<'a> {
     /// The thread, from 0.
     pub thread: u32,
     pub location: Location,
-    /// The part of the line that says the values. Most lines have none, and a list needs memory.
+    /// The part of the line with the values. Most lines have none, and a list needs memory.
     pub values: &'a [u8],
 }
 
@@ -48,8 +46,8 @@ impl<'a> Model for StepLine<'a> {
     ghost invariant = { λ s. SaysValues s.values.now };
 }
 
-/// Where a thread stands, as a step names it. Lines and columns are counted from 1, and a column is
-/// a byte.
+/// The location of a thread, as a step names it. Lines and columns are counted from 1, and a column
+/// is a byte.
 #[derive(Clone, Copy, Debug, PartialEq, Eq)]
 pub enum Location {
     /// The end of a procedure.
@@ -60,7 +58,7 @@ pub enum Location {
     Column(u32, u32),
 }
 
-/// Whether a line or a column has this number.
+/// Returns whether a line or a column has this number.
 fn is_number(count: usize, number: u32) -> bool
     ensures { result ≡ (count == number) }
 {
@@ -68,8 +66,8 @@ fn is_number(count: usize, number: u32) -> bool
 }
 
 impl Location {
-    /// Whether a statement that begins at this position is at this location; the end of a procedure
-    /// has no position.
+    /// Returns whether a statement that begins at this position is at this location; the end of a
+    /// procedure has no position.
     pub(crate) fn is_at(&self, position: Option<Position>) -> bool
         ensures { result ≡ is_at self.now position }
     {
@@ -83,18 +81,18 @@ impl Location {
     }
 }
 
-/// Where a thread stands in the text of a program.
+/// The position of a thread in the text of a program.
 #[derive(Clone, Copy, Debug, PartialEq, Eq)]
 pub enum Stand {
     /// Nowhere: the thread has ended.
     Ended,
     /// At the end of a procedure.
     End,
-    /// At the statement that begins there.
+    /// At the statement that begins at this position.
     Statement(Position),
 }
 
-/// Where a thread stands that goes on at the instruction of this number, or that has ended.
+/// Returns the position of a thread that continues at the instruction of this number, or has ended.
 pub(crate) fn stand_in(points: &[SourcePoint], number: Option<u32>) -> Stand
     ensures { result ≡ stand_in points.now number }
 {
@@ -113,7 +111,7 @@ pub(crate) fn stand_in(points: &[SourcePoint], number: Option<u32>) -> Stand
     }
 }
 
-/// The location of the step of this number, from 0, if there is one.
+/// Returns the location of the step of this number, from 0, if there is one.
 pub(crate) fn location_in(lines: &StepLines, number: u32) -> Option<Location>
     ensures { result ≡ location_in lines.now number }
 {
@@ -124,7 +122,7 @@ pub(crate) fn location_in(lines: &StepLines, number: u32) -> Option<Location>
     Some(lines.at(n).location)
 }
 
-/// For each step the number of its thread's next step, from 0; that of no step where it takes none.
+/// Returns for each step the number, from 0, of its thread's next step, or that of no step.
 pub(crate) fn next_steps(alloc: Global, lines: &StepLines) -> Result<Vec<u32>, AllocError>
     requires threads { AllByRecursion (λ x. x.thread < MAX_THREADS) lines.now }
     requires short { length lines.now < 2 ^ 32 }

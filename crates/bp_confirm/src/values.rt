@@ -1,5 +1,4 @@
-//! The values that a thread sees.
-//! The last step that changed what a thread sees of a variable.
+//! The values that a thread sees. The last step that changed a thread's view of a variable.
 ghost use Rattle.std.specs.Prelude.{◌≡◌, ◌↔◌, IsTrue, Some, [], ℕ, List, IfSome, MatchOption, ◌<◌, ◌+◌, ◌^◌, Bool, Option, length, IfOk};
 ghost use Rattle.bp_flat.specs.Moves.{Configuration};
 ghost use Rattle.bp_flat.specs.InstrEffects.{bits_of};
@@ -25,8 +24,8 @@ use bp_machine::{Call, Session, Top};
 use bp_source::own_name;
 use std::alloc::{AllocError, Global};
 
-/// The value of a local of a procedure in this word, by its name or by that after the procedure's
-/// name and a dot; none if it has no such local.
+/// Returns the value of a local of a procedure in this word, by its name or by its name after the
+/// procedure's and a dot; None if it has no such local.
 fn own_value(proc: &Proc, word: u128, name: &[u8]) -> Option<bool>
     ensures { let locals = valuation_of (variables proc.now) (bits_of word) in
         result ≡ own_value proc.now.name.text locals name.now }
@@ -40,8 +39,8 @@ fn own_value(proc: &Proc, word: u128, name: &[u8]) -> Option<bool>
     }
 }
 
-/// The value of a local of the frame at the top, by its name or by that after the name of the
-/// frame's procedure and a dot; none if it has no such local.
+/// Returns the value of a local of the frame at the top, by its name or by its name after the
+/// procedure's and a dot; None if it has no such local.
 fn local_seen(
     checked: &Checked,
     points: &[SourcePoint],
@@ -65,7 +64,7 @@ fn local_seen(
     own_value(proc, top.store.locals, name)
 }
 
-/// The value of a variable as a thread with this top sees it: a local hides a global of its name.
+/// Returns the value of a variable as a thread with this top sees it: a local hides a global.
 fn value_at_top(
     checked: &Checked,
     points: &[SourcePoint],
@@ -84,7 +83,7 @@ fn value_at_top(
     }
 }
 
-/// The value of a variable as a thread sees it.
+/// Returns the value of a variable as a thread sees it.
 pub(crate) fn value_seen(
     checked: &Checked,
     points: &[SourcePoint],
@@ -108,7 +107,7 @@ pub(crate) fn value_seen(
     )
 }
 
-/// Whether a variable is seen with this value.
+/// Returns whether a variable is seen with this value.
 fn is_value(seen: Option<bool>, bit: bool) -> bool
     ensures { IsTrue result ↔ (seen ≡ Some bit) }
 {
@@ -121,14 +120,14 @@ fn is_value(seen: Option<bool>, bit: bool) -> bool
 /// A value that a thread does not see.
 #[derive(Clone, Copy)]
 pub(crate) struct Unseen<'a> {
-    /// Its place among the values of its line, from 0.
+    /// Its index among the values of its line, from 0.
     pub(crate) place: usize,
     pub(crate) name: &'a [u8],
-    /// What the thread sees in its place.
+    /// The value that the thread sees instead.
     pub(crate) seen: Option<bool>,
 }
 
-/// The first of the values that a text says that a thread with this top does not see.
+/// Returns the first of the values of a text that a thread with this top does not see.
 pub(crate) fn first_unseen<'a>(
     checked: &Checked,
     points: &[SourcePoint],
@@ -159,15 +158,15 @@ pub(crate) fn first_unseen<'a>(
     None
 }
 
-/// What a thread sees of a variable after some steps.
+/// A thread's view of a variable after some steps.
 #[derive(Clone, Copy)]
 pub(crate) struct Sight {
     pub(crate) seen: Option<bool>,
-    /// The last of the steps that changed it, from 1; none if no step did.
+    /// The last of the steps that changed it, from 1; None if no step did.
     pub(crate) changed: Option<u32>,
 }
 
-/// What the thread sees after step `n`; `before` is what it saw after the steps before that one.
+/// Returns the thread's view after step `n`; `before` is its view after the steps before that one.
 pub(crate) fn sight_after(before: Sight, seen: Option<bool>, n: u32) -> Sight
     ensures changed { (sees : ℕ → Option Bool) (m : ℕ)
         → n ≡ m + 1
@@ -186,7 +185,7 @@ pub(crate) fn sight_after(before: Sight, seen: Option<bool>, n: u32) -> Sight
     }
 }
 
-/// What a thread sees of a variable after a history. It makes the calls of the history again.
+/// Returns a thread's view of a variable after a history, by making the calls of the history again.
 pub(crate) fn sight_of(
     alloc: Global,
     checked: &Checked,
