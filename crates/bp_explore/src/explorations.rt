@@ -1,5 +1,4 @@
-//! Exploring all that a program reaches.
-//! What an exploration answers.
+//! Exploring all runs of a program. The result of an exploration.
 ghost use Rattle.std.specs.Prelude.{◌<◌, Bool, ℕ, false, IfOk, Option};
 ghost use Rattle.bp_machine.specs.Setups.{Fits};
 ghost use Rattle.bp_explore.specs.Searches.{failures, IsSearchEnd};
@@ -15,7 +14,7 @@ use bp_flat::Code;
 use bp_machine::{Call, Reply, Session, Setup};
 use std::alloc::{AllocError, Global};
 
-/// What is answered if the search of a space ends so.
+/// Returns the result if the search of a space ends in this way.
 fn ending_of(
     alloc: Global,
     code: &Code,
@@ -48,10 +47,10 @@ fn ending_of(
     }
 }
 
-/// Explores all runs of a program from the start of a setup within this many contexts, or within
-/// any number if there is no bound. At most `states` states are kept. The setup's bounds and its
-/// seed do not matter. Fails if memory is refused before the first state stands, or while the run
-/// that was found is played.
+/// Explores all runs of a program from the start of a setup within `contexts` contexts, or within
+/// any number if there is no bound. Keeps at most `states` states. The setup's bounds and its seed
+/// do not matter. Fails if memory is refused before the first state is kept, or while the run that
+/// was found is played.
 pub fn explore<P: Watcher>(
     alloc: Global,
     code: &Code,
@@ -86,7 +85,7 @@ pub fn explore<P: Watcher>(
     })
 }
 
-/// What is answered if the search of a space for listed steps ends so.
+/// Returns the result if the search of a space for listed steps ends in this way.
 fn through_ending_of<O: Observer>(
     alloc: Global,
     code: &Code,
@@ -163,7 +162,7 @@ pub fn explore_through<O: Observer, P: Watcher>(
     })
 }
 
-/// What an exploration looks for.
+/// The kind of a finding.
 #[derive(Clone, Copy, Debug, PartialEq, Eq)]
 pub enum Finding {
     /// A false assertion.
@@ -171,10 +170,10 @@ pub enum Finding {
     Deadlock,
 }
 
-/// Why an exploration did not see all.
+/// Why an exploration is incomplete.
 #[derive(Clone, Copy, Debug, PartialEq, Eq)]
 pub enum Reason {
-    /// There were as many states as were to be kept.
+    /// The limit of states was reached.
     States,
     /// The watcher said to stop.
     Stopped,
@@ -182,7 +181,7 @@ pub enum Reason {
     Memory,
 }
 
-/// A run that ends in what was found. Its session is in the setup of its trace.
+/// A run that ends in the finding. Its session is in the setup of its trace.
 #[derive(Drop)]
 pub struct FoundRun {
     /// The least number of contexts in which something is found.
@@ -213,59 +212,58 @@ pub enum Ending {
     Nothing {
         last: u32,
     },
-    /// Nothing is found within this many contexts, the bound that was given. More were not looked
-    /// through.
+    /// Nothing is found within this number of contexts, the given bound. More were not explored.
     NothingWithin {
         contexts: u32,
     },
     Found(FoundRun),
-    /// Something is found within this many contexts, and nothing within fewer. No setup allows the
-    /// run that ends in it: it has too many contexts, or some thread makes `calls` steps.
+    /// Something is found within this number of contexts, and nothing within fewer. No setup allows
+    /// the run that ends in it: it has too many contexts, or some thread makes `calls` steps.
     Unplayed {
         contexts: u32,
         finding: Finding,
         calls: usize,
     },
-    /// Not all was seen. Nothing is found within fewer contexts than these.
+    /// Not everything was explored. Nothing is found within fewer contexts than these.
     Unfinished {
         contexts: u32,
         reason: Reason,
     },
 }
 
-/// How an exploration ends that looks for a run which makes listed steps in order.
+/// How an exploration ends that searches for a run which makes listed steps in order.
 #[derive(Drop)]
 pub enum ThroughEnding {
     Found(RunThrough),
-    /// Some run makes them within this many contexts, and none within fewer. No setup allows the
-    /// run that was found: it has too many contexts, or some thread makes `calls` steps.
+    /// Some run makes them within this number of contexts, and none within fewer. No setup allows
+    /// the run that was found: it has too many contexts, or some thread makes `calls` steps.
     Unplayed { contexts: u32, calls: usize },
     /// Some run makes the first `made` of them, and none makes one more, in any number of contexts.
     /// The last new state is within `last`.
     Missing { last: u32, made: u32 },
-    /// The same of the runs within this many contexts, the bound that was given.
+    /// Also of the runs within this number of contexts, the given bound.
     MissingWithin { contexts: u32, made: u32 },
-    /// Not all was seen. No run makes them within fewer contexts than these.
+    /// Not everything was explored. No run makes them within fewer contexts than these.
     Unfinished { contexts: u32, reason: Reason },
 }
 
-/// What an exploration saw. A state is counted once for each thread whose step leads to it.
+/// The statistics of an exploration. A state counts once for each thread whose step leads to it.
 #[derive(Drop)]
 pub struct Explored {
-    /// How many states there are.
+    /// The number of states.
     pub states: usize,
-    /// In how many of them the next step of some thread is a call, and its stack is full.
+    /// The number of states in which the next step of some thread is a call, and its stack is full.
     pub full_stacks: usize,
     pub ending: Ending,
 }
 
-/// What an exploration saw that looks for listed steps. A state is counted once for each thread
-/// whose step leads to it, and each number of listed steps that are made.
+/// The statistics of an exploration for listed steps. A state is counted once for each thread whose
+/// step leads to it, and each number of listed steps that are made.
 #[derive(Drop)]
 pub struct ExploredThrough {
-    /// How many states there are.
+    /// The number of states.
     pub states: usize,
-    /// In how many of them the next step of some thread is a call, and its stack is full.
+    /// The number of states in which the next step of some thread is a call, and its stack is full.
     pub full_stacks: usize,
     pub ending: ThroughEnding,
 }

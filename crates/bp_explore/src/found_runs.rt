@@ -1,6 +1,5 @@
-//! Playing the run that an exploration found, on a session.
-//! Playing a run on a session.
-//! Playing the run that makes listed steps, on a session.
+//! Playing the run that an exploration found, on a session. Playing a run on a session. Playing the
+//! run that makes listed steps, on a session.
 ghost use Rattle.std.specs.Prelude.{◌≡◌, IsTrue, IfOk, ◌<◌, ◌≤◌, true, [], IfSome, length};
 ghost use Rattle.bp_machine.specs.Histories.{configuration_after, calls_of_thread, granted_calls, is_granted};
 ghost use Rattle.bp_machine.specs.Sessions.{Stands, AfterEach};
@@ -17,7 +16,7 @@ use bp_machine::limits::{DEFAULT_CALLS, MAX_CALLS, MAX_CONTEXTS};
 use bp_machine::{Call, Reply, Session, Setup};
 use std::alloc::{AllocError, Global};
 
-/// Whether this is found where the session stands.
+/// Returns whether the session stands after this finding.
 fn is_found(session: &Session, finding: Finding) -> bool
     ensures { AfterEach session.now (λ t h. IsTrue result
         → IsFinding t (configuration_after t session.now.setup h) finding) }
@@ -28,7 +27,7 @@ fn is_found(session: &Session, finding: Finding) -> bool
     }
 }
 
-/// Plays the run of these steps, which is within this many contexts and ends in what was found.
+/// Plays the run of these steps, which is within this number of contexts and ends in the finding.
 pub(crate) fn played(
     alloc: Global,
     code: &Code,
@@ -68,14 +67,14 @@ pub(crate) fn played(
     }))
 }
 
-/// A session after a run, of whose steps this many made listed steps.
+/// A session after a run, `made` of whose steps are listed ones.
 #[derive(Drop)]
 pub(crate) struct Replay {
     pub(crate) session: Session,
     pub(crate) made: u32,
 }
 
-/// How many calls of this thread there are.
+/// Returns the number of calls of this thread.
 fn calls_of(thread: u32, calls: &[Call]) -> usize
     ensures { result ≡ length (calls_of_thread thread calls.now) }
 {
@@ -88,7 +87,7 @@ fn calls_of(thread: u32, calls: &[Call]) -> usize
     count
 }
 
-/// The most calls of one thread.
+/// Returns the largest number of calls of one thread.
 pub(crate) fn most_calls(threads: u32, calls: &[Call]) -> usize
     ensures { result ≡ most_calls threads calls.now }
 {
@@ -99,7 +98,7 @@ pub(crate) fn most_calls(threads: u32, calls: &[Call]) -> usize
     most
 }
 
-/// Whether both replies are the same, and that to a granted step.
+/// Returns whether both replies are the same, and that to a granted step.
 fn is_same_step(made: Reply, reply: Reply) -> bool
     ensures { IsTrue result → (made ≡ reply) × (is_granted reply ≡ true) }
 {
@@ -110,8 +109,8 @@ fn is_same_step(made: Reply, reply: Reply) -> bool
     }
 }
 
-/// Makes these calls on a session, and returns how many listed steps they make. None if they are
-/// not the machine's own, each a granted step, or go on once all listed steps are made.
+/// Makes these calls on a session, and returns the number of listed steps that they make. Returns
+/// None if one is not the machine's own granted step, or comes after all listed steps.
 fn play<O: Observer>(session: &mut Session, observer: &O, calls: &[Call]) -> Option<u32>
     requires stands { Stands session.old.code.tree session.old [] }
     requires some { 0 < (O.listed observer.now).count }
@@ -147,8 +146,8 @@ fn play<O: Observer>(session: &mut Session, observer: &O, calls: &[Call]) -> Opt
     Some(made)
 }
 
-/// Plays a run within this many contexts, in the setup of its trace. The most calls of one thread
-/// are handed in.
+/// Plays a run within this number of contexts, in the setup of its trace. The most calls of one
+/// thread are given.
 pub(crate) fn replay_of<O: Observer>(
     alloc: Global,
     code: &Code,
@@ -178,7 +177,7 @@ pub(crate) fn replay_of<O: Observer>(
     Ok(Replay { session, made })
 }
 
-/// Plays the run of these steps, which is within this many contexts and makes all listed steps.
+/// Plays the run of these steps, which is within these contexts and makes all listed steps.
 pub(crate) fn played_through<O: Observer>(
     alloc: Global,
     code: &Code,

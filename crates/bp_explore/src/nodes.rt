@@ -15,10 +15,10 @@ use bp_machine::{Call, Reply, Top, Transition};
 use std::alloc::{AllocError, Global};
 use std::marker::Model;
 
-/// The records of the nodes one after the other, where each ends, and the node and the choice bit
-/// that its step was made with, as twice the one and the other. A record has the number of contexts
-/// that its node was reached within, and then its key: how many listed steps were made and the
-/// thread of the step that led to it, and its state. The state that one works on is `spare`.
+/// The records of the nodes one after the other, the end of each, and the node and the choice bit
+/// of its step, as twice the one plus the other. A record has the number of contexts within which
+/// its node was reached, and then its key: the number of listed steps made, the thread of the step
+/// that led to it, and its state. `spare` is the state to work on.
 #[derive(Drop)]
 pub(crate) struct Nodes {
     cells: Vec<u16>,
@@ -43,14 +43,14 @@ impl Model for Nodes {
         × (end_of 0 s.ends.items ≡ length s.cells.items) };
 }
 
-/// How many listed steps were made, by the head of a key.
+/// Returns the number of listed steps made, by the head of a key.
 fn made_of(head: u128) -> u32
     ensures { result ≡ head / 2 ^ 33 % 2 ^ 32 }
 {
     ((head / (1 << 33)) % (1 << 32)) as u32
 }
 
-/// The record of this number.
+/// Returns the record of this number.
 fn record_of<'a>(cells: &'a [u16], ends: &[u32], at: usize) -> &'a [u16]
     ensures { result.now ≡ record_at cells.now ends.now at }
 {
@@ -66,7 +66,7 @@ fn record_of<'a>(cells: &'a [u16], ends: &[u32], at: usize) -> &'a [u16]
 }
 
 impl Nodes {
-    /// The node of this first state.
+    /// Makes the node of this first state.
     pub(crate) fn new(alloc: Global, first: State) -> Result<Nodes, AllocError>
         ensures { IfOk result (λ x.
             (x.items ≡ record { state = first; made = 0; last = None; level = 0 } ∷ [])
@@ -86,14 +86,14 @@ impl Nodes {
         Ok(nodes)
     }
 
-    /// How many nodes there are.
+    /// Returns the number of nodes.
     pub(crate) fn len(&self) -> usize
         ensures { result ≡ length self.now.items }
     {
         self.ends.len()
     }
 
-    /// Makes the spare state that of a node, and returns how many listed steps were made.
+    /// Makes the spare state that of a node, and returns the number of listed steps made.
     pub(crate) fn load(&mut self, at: usize) -> Result<u32, AllocError>
         ensures items { self.new.items ≡ self.old.items }
         ensures loaded { OnOk result
@@ -111,7 +111,7 @@ impl Nodes {
         Ok(made_of(head))
     }
 
-    /// How many listed steps were made at a node.
+    /// Returns the number of listed steps made at a node.
     pub(crate) fn made(&self, at: usize) -> u32
         ensures { (node : NodeOf) → slice_get self.now.items at ≡ Some node → result ≡ node.made }
     {
@@ -121,7 +121,7 @@ impl Nodes {
         made_of(read_number(record, &mut place))
     }
 
-    /// The thread of the step that led to a node. None if no step did.
+    /// Returns the thread of the step that led to a node, or None if no step did.
     pub(crate) fn last(&self, at: usize) -> Option<u32>
         ensures { (node : NodeOf) → slice_get self.now.items at ≡ Some node → result ≡ node.last }
     {
@@ -136,7 +136,7 @@ impl Nodes {
         Some(((last - 1) % (1 << 32)) as u32)
     }
 
-    /// Whether a node has this key.
+    /// Returns whether a node has this key.
     pub(crate) fn has_key(&self, at: usize, key: &[u16]) -> bool
         ensures { IsTrue result
             → (node : NodeOf)
@@ -153,7 +153,7 @@ impl Nodes {
         place <= record.len() && &record[place..] == key
     }
 
-    /// Writes the record of the spare state, which a step of this thread led to: within `level`
+    /// Writes the record of the spare state, to which a step of this thread led: within `level`
     /// contexts, with `made` of the listed steps. Returns the place at which its key begins.
     pub(crate) fn pack(
         &self,
@@ -196,7 +196,7 @@ impl Nodes {
         Ok(())
     }
 
-    /// The key of a node.
+    /// Returns the key of a node.
     pub(crate) fn key(&self, at: usize) -> &[u16] {
         let record = record_of(self.cells.as_slice(), self.ends.as_slice(), at);
         let mut place = 0;
@@ -207,7 +207,7 @@ impl Nodes {
         &record[place..]
     }
 
-    /// The top of the stack of a thread in the spare state. None if it is empty.
+    /// Returns the top of the stack of a thread in the spare state, or None if it is empty.
     pub(crate) fn top(&self, thread: u32) -> Option<Top>
         ensures { (t : Program) (c : Configuration)
             → Shows t self.now.spare c
@@ -216,7 +216,7 @@ impl Nodes {
         self.spare.top(thread)
     }
 
-    /// What is seen of a step of a thread that led to the spare state.
+    /// Returns the seen part of a step of a thread that led to the spare state.
     pub(crate) fn seen(&self, thread: u32, before: Option<Top>, failed: bool) -> SeenStep
         ensures shows { (t : Program) (c d : Configuration)
             → IsTopOrNone t c thread before
@@ -228,7 +228,7 @@ impl Nodes {
         self.spare.seen(thread, before, failed)
     }
 
-    /// What the next step of a thread results in from the spare state, with this choice bit.
+    /// Returns the transition for a thread's next step from the spare state, with this choice bit.
     pub(crate) fn transition(&self, code: &Code, thread: u32, bit: bool) -> Transition
         ensures { (stack : List ActivationRecord)
             → slice_get self.now.spare.stacks thread ≡ Some stack
@@ -250,19 +250,19 @@ impl Nodes {
         Ok(())
     }
 
-    /// Whether the threads are not deadlocked in the spare state.
+    /// Returns whether the threads are not deadlocked in the spare state.
     pub(crate) fn is_live(&self, code: &Code) -> bool
         ensures { IsTrue result → IsLive code.now.tree self.now.spare }
     {
         self.spare.is_live(code)
     }
 
-    /// Whether the next step of some thread from the spare state is a call, and its stack is full.
+    /// Returns whether a thread's next step from the spare state is a call, and its stack is full.
     pub(crate) fn has_full_stack(&self, code: &Code) -> bool {
         self.spare.has_full_stack(code)
     }
 
-    /// The call of the step that led to a node. None if no step did.
+    /// Returns the call of the step that led to a node, or None if no step did.
     pub(crate) fn call(&self, at: usize) -> Option<Call> {
         let thread = self.last(at)?;
         let step = self.steps.get(at).copied().unwrap_or(0);
@@ -273,7 +273,7 @@ impl Nodes {
         })
     }
 
-    /// The node before that step.
+    /// Returns the node before that step.
     pub(crate) fn from(&self, at: usize) -> usize {
         (self.steps.get(at).copied().unwrap_or(0) / 2) as usize
     }

@@ -1,6 +1,5 @@
-//! Who looks for listed steps.
-//! Steps as an exploration sees them.
-//! Who is told how far an exploration is.
+//! Searching for listed steps. Steps as an exploration sees them. Watching the progress of an
+//! exploration.
 ghost use Rattle.std.specs.Prelude.{◌≡◌, ◌<◌, ◌≤◌, ◌↔◌, IsTrue};
 ghost use Rattle.bp_language.specs.Ast.{Program};
 ghost use Rattle.bp_flat.specs.Moves.{Configuration};
@@ -9,15 +8,15 @@ ghost use Rattle.bp_explore.specs.Searches.{ShowsStep, IsCountedStep, failures};
 
 use bp_machine::Top;
 
-/// Who looks for steps that are listed.
+/// Searches for listed steps.
 pub trait Observer {
     ghost listed: { Self → ListedSteps };
 
-    /// How many steps are listed.
+    /// Returns the number of listed steps.
     fn count(&self) -> u32
         ensures { result ≡ (listed self.now).count };
 
-    /// Whether a step is the listed step of this number, from 0.
+    /// Returns whether a step is the listed step of this number, from 0.
     fn is_listed(&self, number: u32, step: &SeenStep) -> bool
         ensures { (t : Program) (c d : Configuration)
             → (listed self.now).is_of t
@@ -41,7 +40,7 @@ impl Observer for Failures {
     }
 }
 
-/// Whether a step makes the listed step of this number.
+/// Returns whether a step makes the listed step of this number.
 fn is_made<O: Observer>(observer: &O, number: u32, step: &SeenStep) -> bool
     ensures { let o = O.listed observer.now in
         (t : Program) (c d : Configuration)
@@ -56,7 +55,7 @@ fn is_made<O: Observer>(observer: &O, number: u32, step: &SeenStep) -> bool
     observer.is_listed(number, step)
 }
 
-/// How many of the listed steps are made with a step, if the first `made` were made before it.
+/// Returns the number of listed steps made after a step, if `made` were made before it.
 pub(crate) fn made_with<O: Observer>(observer: &O, made: u32, step: &SeenStep) -> u32
     ensures counted { let o = O.listed observer.now in
         made < o.count → IsCountedStep o made step.now result }
@@ -68,7 +67,7 @@ pub(crate) fn made_with<O: Observer>(observer: &O, made: u32, step: &SeenStep) -
     made
 }
 
-/// What is seen of a step of a thread.
+/// The seen part of a step of a thread.
 #[derive(Clone, Copy, Debug, PartialEq, Eq)]
 pub struct SeenStep {
     pub thread: u32,
@@ -82,12 +81,12 @@ pub struct SeenStep {
     pub failed: bool,
 }
 
-/// Whether an exploration continues, and who is told how far it is.
+/// Decides whether an exploration continues, and is told its progress.
 pub trait Watcher {
-    /// Takes note of how many contexts are being looked through and how many states there are, and
-    /// returns whether to continue.
+    /// Records the number of contexts being explored and the number of states, and returns whether
+    /// to continue.
     fn goes_on(&self, contexts: u32, states: usize) -> bool;
 
-    /// Takes note that the exploration ends.
+    /// Records that the exploration ends.
     fn ends(&self);
 }

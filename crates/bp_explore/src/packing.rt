@@ -1,5 +1,5 @@
-//! Packing the stacks of a state into cells, and reading them again.
-//! Numbers in cells of 16 bits, in which small numbers take little room.
+//! Packing the stacks of a state into cells, and reading them again. Numbers in cells of 16 bits,
+//! in which small numbers take little room.
 ghost use Rattle.std.specs.Prelude.{◌≡◌, OnOk, drop, length, ◌≤◌};
 ghost use Rattle.bp_explore.specs.States.{IsPacked, take_times, take_frame, take_stack, frames_of, take_number};
 
@@ -27,7 +27,7 @@ fn push_frames(cells: &mut Vec<u16>, frames: &[ActivationRecord]) -> Result<(), 
     Ok(())
 }
 
-/// Adds a stack: how many frames it has, and then these, the topmost last.
+/// Adds a stack: its number of frames, then the frames, the topmost last.
 fn push_stack(cells: &mut Vec<u16>, stack: &Stack) -> Result<(), AllocError>
     ensures { OnOk result (IsPacked take_stack cells.old.items cells.new.items stack.now.frames) }
 {
@@ -49,7 +49,7 @@ pub(crate) fn push_stacks(cells: &mut Vec<u16>, stacks: &[Stack]) -> Result<(), 
     Ok(())
 }
 
-/// Reads a frame, and moves on past it.
+/// Reads a frame, and advances past it.
 fn read_frame(cells: &[u16], at: &mut usize) -> ActivationRecord
     ensures frame { result ≡ (take_frame (drop at.old cells.now)).0 }
     ensures rest { drop at.new cells.now ≡ (take_frame (drop at.old cells.now)).1 }
@@ -59,7 +59,7 @@ fn read_frame(cells: &[u16], at: &mut usize) -> ActivationRecord
     ActivationRecord { number, locals }
 }
 
-/// Reads a stack into this one, and moves on past it.
+/// Reads a stack into this one, and advances past it.
 fn read_stack(cells: &[u16], at: &mut usize, stack: &mut Stack) -> Result<(), AllocError>
     ensures stack { OnOk result (stack.new.frames ≡ (take_stack (drop at.old cells.now)).0) }
     ensures rest { OnOk result
@@ -74,7 +74,7 @@ fn read_stack(cells: &[u16], at: &mut usize, stack: &mut Stack) -> Result<(), Al
     Ok(())
 }
 
-/// Reads as many stacks as there are into these, and moves on past them.
+/// Reads as many stacks as there are into these, and advances past them.
 pub(crate) fn read_stacks(
     cells: &[u16],
     at: &mut usize,
@@ -94,7 +94,7 @@ pub(crate) fn read_stacks(
     Ok(())
 }
 
-/// How many values 15 bits have. Another cell follows one to which this is added.
+/// The number of values of 15 bits. It is added to a cell that another one follows.
 const BASE: u16 = 32_768;
 
 /// Adds a number: 15 bits a cell, the lowest first.
@@ -111,7 +111,7 @@ pub(crate) fn push_number(cells: &mut Vec<u16>, number: u128) -> Result<(), Allo
     Ok(())
 }
 
-/// Reads a number, and moves on past its cells.
+/// Reads a number, and advances past its cells.
 pub(crate) fn read_number(cells: &[u16], at: &mut usize) -> u128
     ensures number { result ≡ (take_number (drop at.old cells.now)).0 }
     ensures rest { drop at.new cells.now ≡ (take_number (drop at.old cells.now)).1 }

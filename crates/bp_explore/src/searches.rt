@@ -9,10 +9,10 @@ use bp_flat::{Code, steps_alike};
 use bp_machine::{Reply, Setup};
 use std::alloc::AllocError;
 
-/// Where a search ends.
+/// How a search ends.
 #[derive(Clone, Copy, Debug, PartialEq, Eq)]
 pub(crate) enum SearchEnd {
-    /// The layer after `last` brought nothing.
+    /// The layer after `last` has no new state.
     Closed {
         last: u32,
     },
@@ -25,21 +25,21 @@ pub(crate) enum SearchEnd {
         contexts: u32,
         at: usize,
     },
-    /// This step makes the last of the listed steps, and is within this many contexts.
+    /// This step makes the last of the listed steps, and is within this number of contexts.
     Found {
         contexts: u32,
         step: Step,
         reply: Reply,
     },
-    /// Not all within this many contexts was seen.
+    /// Not everything within this number of contexts was explored.
     Short {
         contexts: u32,
         reason: Reason,
     },
 }
 
-/// Searches a space from its first node, within this many contexts or within any number, until the
-/// listed steps are made.
+/// Searches a space from its first node, within this number of contexts or within any number, until
+/// the listed steps are made.
 pub(crate) fn search<O: Observer, P: Watcher>(
     space: &mut Space,
     code: &Code,

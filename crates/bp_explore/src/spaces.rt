@@ -22,7 +22,7 @@ pub(crate) struct Step {
 }
 
 impl Step {
-    /// The call of the step, with its reply.
+    /// Returns the call of the step, with its reply.
     pub(crate) fn call(&self, reply: Reply) -> Call {
         Call {
             thread: self.thread,
@@ -37,7 +37,7 @@ impl Step {
 pub(crate) enum Stop {
     /// This step makes the last of the listed steps.
     Found { step: Step, reply: Reply },
-    /// Not all of the layer was seen.
+    /// Not all of the layer was explored.
     Short(Reason),
 }
 
@@ -53,7 +53,7 @@ impl From<AllocError> for Stop {
     }
 }
 
-/// The hash of a key.
+/// Returns the hash of a key.
 fn hash_of(key: &[u16]) -> u64 {
     let mut hash: u64 = 0;
     for cell in key {
@@ -64,8 +64,8 @@ fn hash_of(key: &[u16]) -> u64 {
     hash ^ (hash >> 32)
 }
 
-/// The nodes, and where each is in the table: its number from 1, and 0 for none. `packed` is the
-/// record of a state that may be new.
+/// The nodes, and the table of their numbers from 1, with 0 for none. `packed` is the record of a
+/// state that may be new.
 #[derive(Drop)]
 pub(crate) struct Space {
     nodes: Nodes,
@@ -75,7 +75,7 @@ pub(crate) struct Space {
     full_stacks: usize,
 }
 
-/// Whether both are the same step.
+/// Returns whether both are the same step.
 fn is_same_step(one: Transition, other: Transition) -> bool
     ensures { IsTrue result → one ≡ other }
 {
@@ -98,7 +98,7 @@ fn is_same_step(one: Transition, other: Transition) -> bool
     }
 }
 
-/// A table of this size with all nodes.
+/// Makes a table of this size with all nodes.
 fn table_of(alloc: Global, nodes: &Nodes, size: usize) -> Result<Vec<u32>, AllocError> {
     let mut table = vec![in alloc; 0u32; size]?;
     let mut entry: u32 = 1;
@@ -110,7 +110,7 @@ fn table_of(alloc: Global, nodes: &Nodes, size: usize) -> Result<Vec<u32>, Alloc
 }
 
 impl Space {
-    /// The space of this first state, which keeps at most `limit` states.
+    /// Makes the space of this first state, which keeps at most `limit` states.
     pub(crate) fn new(alloc: Global, first: State, limit: usize) -> Result<Space, AllocError>
         ensures { IfOk result (λ x.
             (x.nodes.items ≡ record { state = first; made = 0; last = None; level = 0 } ∷ [])
@@ -129,19 +129,19 @@ impl Space {
         })
     }
 
-    /// How many nodes there are.
+    /// Returns the number of nodes.
     pub(crate) fn len(&self) -> usize
         ensures { result ≡ length self.now.nodes.items }
     {
         self.nodes.len()
     }
 
-    /// In how many nodes the next step of some thread is a call, and its stack is full.
+    /// Returns the number of nodes at which a thread's next step is a call, and its stack is full.
     pub(crate) fn full_stacks(&self) -> usize {
         self.full_stacks
     }
 
-    /// Whether a node has this key.
+    /// Returns whether a node has this key.
     fn holds(&self, key: &[u16]) -> bool
         ensures { IsTrue result
             → HasKey (length self.now.nodes.spare.stacks) self.now.nodes.items key.now }
@@ -163,7 +163,7 @@ impl Space {
         false
     }
 
-    /// Makes the table twice as large, if it is three quarters full.
+    /// Doubles the table, if it is three quarters full.
     fn grow_table(&mut self) -> Result<(), AllocError>
         ensures { (self.new.nodes ≡ self.old.nodes)
             × (self.new.packed.items ≡ self.old.packed.items) }
@@ -224,7 +224,7 @@ impl Space {
     }
 
     /// Makes a step from a node with `made` of the listed steps. The spare state is that of the
-    /// node, and `transition` says what the step results in.
+    /// node, and `transition` is that of the step.
     fn follow<O: Observer>(
         &mut self,
         code: &Code,
@@ -337,7 +337,7 @@ impl Space {
         Ok(())
     }
 
-    /// Makes the steps of a thread from a node, where another thread's step led to it.
+    /// Makes the steps of a thread from a node to which another thread's step led.
     fn switch_to<O: Observer>(
         &mut self,
         code: &Code,
@@ -509,7 +509,7 @@ impl Space {
         Ok(next)
     }
 
-    /// The first node from this number on whose threads are deadlocked, if that is looked for.
+    /// Returns the first node from this number on that is deadlocked, if deadlocks are searched.
     pub(crate) fn first_dead(
         &mut self,
         code: &Code,
@@ -535,7 +535,7 @@ impl Space {
         Ok(None)
     }
 
-    /// The most listed steps that were made at a node.
+    /// Returns the most listed steps that were made at a node.
     pub(crate) fn most_made(&self) -> u32
         ensures { IsMostMade self.now.nodes.items result }
     {
@@ -549,7 +549,7 @@ impl Space {
         most
     }
 
-    /// The calls of the run that leads to a node, in order.
+    /// Returns the calls of the run that leads to a node, in order.
     pub(crate) fn calls_to(&self, alloc: Global, at: usize) -> Result<Vec<Call>, AllocError> {
         let mut calls = Vec::new(alloc);
         let mut at = at;

@@ -36,14 +36,14 @@ impl Model for State {
     ghost view = { λ s. state_of s.globals s.stacks.items };
 }
 
-/// Whether a thread with this next transition has frames left and does not wait.
+/// Returns whether a thread with this next transition has frames left and does not wait.
 fn goes_on(transition: Transition) -> bool
     ensures { result ≡ goes_on transition }
 {
     !matches!(transition, Transition::Stays(Reply::Ended | Reply::Blocked))
 }
 
-/// The stacks of threads that begin with these procedures.
+/// Makes the stacks of threads that begin with these procedures.
 fn first_stacks(alloc: Global, code: &Code, entries: &[String]) -> Result<Vec<Stack>, AllocError>
     ensures { IfOk result
         (λ v. frames_of v.items ≡ map (first_stack_of code.now) (map string_bytes entries.now)) }
@@ -57,7 +57,7 @@ fn first_stacks(alloc: Global, code: &Code, entries: &[String]) -> Result<Vec<St
 }
 
 impl State {
-    /// The state at the start of a setup.
+    /// Returns the state at the start of a setup.
     pub(crate) fn first(alloc: Global, code: &Code, setup: &Setup) -> Result<State, AllocError>
         ensures globals { IfOk result (λ x. bits_of x.globals ≡ bits_from setup.now.init) }
         ensures stacks { IfOk result
@@ -69,7 +69,7 @@ impl State {
         Ok(State { globals, stacks })
     }
 
-    /// How many threads there are.
+    /// Returns the number of threads.
     pub(crate) fn threads(&self) -> usize
         ensures { result ≡ length self.now.stacks }
     {
@@ -87,7 +87,7 @@ impl State {
         Ok(())
     }
 
-    /// Makes this the state in these cells, which is of as many threads. It uses the memory that it
+    /// Makes this the state in these cells, which has as many threads. It uses the memory that it
     /// has.
     pub(crate) fn load(&mut self, cells: &[u16], at: &mut usize) -> Result<(), AllocError>
         ensures state { let threads = length self.old.stacks in
@@ -99,7 +99,7 @@ impl State {
         Ok(())
     }
 
-    /// The top of the stack of a thread. None if it is empty.
+    /// Returns the top of the stack of a thread, or None if it is empty.
     pub(crate) fn top(&self, thread: u32) -> Option<Top>
         ensures { (t : Program) (c : Configuration)
             → Shows t self.now c
@@ -126,7 +126,7 @@ impl State {
         })
     }
 
-    /// What is seen of a step of a thread that led to this state.
+    /// Returns the seen part of a step of a thread that led to this state.
     pub(crate) fn seen(&self, thread: u32, before: Option<Top>, failed: bool) -> SeenStep
         ensures shows { (t : Program) (c d : Configuration)
             → IsTopOrNone t c thread before
@@ -144,7 +144,7 @@ impl State {
         }
     }
 
-    /// What the next step of a thread results in, with this choice bit.
+    /// Returns the transition for the next step of a thread, with this choice bit.
     pub(crate) fn transition(&self, code: &Code, thread: u32, bit: bool) -> Transition
         ensures { (stack : List ActivationRecord)
             → slice_get self.now.stacks thread ≡ Some stack
@@ -158,7 +158,7 @@ impl State {
         transition_on(code, self.globals, true, &self.stacks[thread], bit)
     }
 
-    /// Makes a step of a thread. Without memory for its frame the state is some other one.
+    /// Makes a step of a thread. Without memory for its frame the state is unspecified.
     pub(crate) fn take_step(&mut self, thread: u32, effect: Effect) -> Result<(), AllocError>
         ensures state { OnOk result
             ((stack : List ActivationRecord)
@@ -174,7 +174,7 @@ impl State {
         Ok(())
     }
 
-    /// Whether there is no frame on the stack of a thread.
+    /// Returns whether there is no frame on the stack of a thread.
     fn is_over(&self, thread: usize) -> bool
         ensures { IsTrue result
             → (stack : List ActivationRecord)
@@ -184,7 +184,7 @@ impl State {
         thread >= self.stacks.len() || self.stacks[thread].len() == 0
     }
 
-    /// Whether a thread has frames left and does not wait.
+    /// Returns whether a thread has frames left and does not wait.
     fn goes_on(&self, code: &Code, thread: usize) -> bool
         ensures { IsTrue result
             → (stack : List ActivationRecord)
@@ -199,7 +199,7 @@ impl State {
         goes_on(transition_on(code, self.globals, true, &self.stacks[thread], true))
     }
 
-    /// Whether the threads are not deadlocked: some thread can go on, or each has ended.
+    /// Returns whether the threads are not deadlocked: some thread can continue, or each has ended.
     pub(crate) fn is_live(&self, code: &Code) -> bool
         ensures { IsTrue result → IsLive code.now.tree self.now }
     {
@@ -216,7 +216,7 @@ impl State {
         !is_left
     }
 
-    /// Whether the next step of a thread is a call, and its stack is full.
+    /// Returns whether the next step of a thread is a call, and its stack is full.
     fn is_full(&self, code: &Code, thread: usize) -> bool {
         if thread >= self.stacks.len() || self.stacks[thread].len() < MAX_FRAMES {
             return false;
@@ -225,7 +225,7 @@ impl State {
         matches!(next, Transition::Stays(Reply::Full))
     }
 
-    /// Whether there is such a thread.
+    /// Returns whether there is such a thread.
     pub(crate) fn has_full_stack(&self, code: &Code) -> bool {
         for thread in 0..self.threads() {
             if self.is_full(code, thread) {

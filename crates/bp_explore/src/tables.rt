@@ -1,11 +1,11 @@
-//! Where to look for a node. Nothing is claimed of a table, since states are compared.
+//! Hash tables of nodes. Nothing is proved of a table, since states are compared.
 
-/// The place of a hash in a table, whose size is a power of 2.
+/// Returns the place of a hash in a table, whose size is a power of 2.
 pub(crate) fn place_of(hash: u64, size: usize) -> usize {
     (hash as usize) & size.wrapping_sub(1)
 }
 
-/// Puts an entry at the first free place from that of its hash on.
+/// Writes an entry to the first free place from that of its hash on.
 pub(crate) fn note(table: &mut Vec<u32>, hash: u64, entry: u32) {
     let size = table.len();
     let mut place = place_of(hash, size);
