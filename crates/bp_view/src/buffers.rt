@@ -1,4 +1,4 @@
-//! Texts in memory that grow by pieces. A refusal of memory sticks, and is answered at the end.
+//! Texts in memory that grow by pieces. A refusal of memory sticks, and is reported at the end.
 ghost use Rattle.std.specs.Prelude.{◌≡◌, ◌<◌, ◌++◌, ◌∷◌, [], ℕ, List, decimal, false, flat_map, true, IfOk, length, take, OnOk};
 ghost use Rattle.bp_text.specs.Pieces.{piece_text};
 ghost use Rattle.bp_view.specs.Buffers.{Grown, HasTaken, IsEmpty, IsLed, IsListed, then};
@@ -8,7 +8,7 @@ use bp_text::Piece::Bytes;
 use bp_text::{Piece, push_piece, push_pieces};
 use std::alloc::{AllocError, Global};
 
-/// A text in memory. Once memory was refused, it is not said what it has.
+/// A text in memory. Once memory was refused, its contents are unspecified.
 #[derive(Drop)]
 pub(crate) struct Buffer {
     pub(crate) bytes: Vec<u8>,
@@ -16,7 +16,7 @@ pub(crate) struct Buffer {
 }
 
 impl Buffer {
-    /// Makes an empty one.
+    /// Makes an empty buffer.
     pub(crate) fn new(alloc: Global) -> Buffer
         ensures { IsEmpty result }
     {
@@ -26,14 +26,14 @@ impl Buffer {
         }
     }
 
-    /// Notes that memory was refused.
+    /// Records that memory was refused.
     pub(crate) fn refuse(&mut self)
         ensures { self.new.refused ≡ true }
     {
         self.refused = true;
     }
 
-    /// Empties it, and forgets a refusal.
+    /// Empties the buffer, and forgets a refusal.
     pub(crate) fn clear(&mut self)
         ensures { IsEmpty self.new }
     {
@@ -76,8 +76,8 @@ impl Buffer {
         };
     }
 
-    /// Adds two pieces. Texts that are made often are made by this call and the next two, since a
-    /// slice of pieces takes twice as long.
+    /// Adds two pieces. Frequent texts are made by this call and the next two, since a slice of
+    /// pieces takes twice as long.
     #[inline(always)]
     pub(crate) fn put_two(&mut self, first: Piece<'_>, second: Piece<'_>)
         ensures given { let text = piece_text first.entry ++ piece_text second.entry in
@@ -136,7 +136,7 @@ impl Buffer {
         };
     }
 
-    /// Adds the text of another.
+    /// Adds the text of another buffer.
     pub(crate) fn put_all(&mut self, other: &Buffer)
         ensures given { (text : List ℕ) → HasTaken other.now text → Grown self.old self.new text }
         ensures fine { self.new.refused ≡ false → other.now.refused ≡ false }
@@ -160,7 +160,7 @@ impl Buffer {
         self.put(Bytes(b"]"))
     }
 
-    /// Takes what was added since `start` away, if nothing was added since `middle`.
+    /// Removes the text since `start`, if nothing was added since `middle`.
     pub(crate) fn drop_lead(&mut self, start: usize, middle: usize)
         ensures { IsLed start middle self.old self.new }
     {
@@ -169,7 +169,7 @@ impl Buffer {
         }
     }
 
-    /// Returns how many bytes it has.
+    /// Returns the number of bytes.
     pub(crate) fn len(&self) -> usize
         ensures { result ≡ length self.now.bytes.items }
     {
@@ -181,7 +181,7 @@ impl Buffer {
         *self.bytes.allocator()
     }
 
-    /// Keeps its first bytes, at most this many.
+    /// Keeps the first `size` bytes at most.
     pub(crate) fn truncate(&mut self, size: usize)
         ensures { (self.new.refused ≡ self.old.refused)
             × (self.new.bytes.items ≡ take size self.old.bytes.items) }

@@ -1,5 +1,4 @@
-//! What is shown of a call, as plain facts.
-//! What is shown of a context of a history, as plain facts.
+//! The shown facts of a call, as plain values. The shown facts of a context of a history.
 ghost use Rattle.std.specs.Prelude.{◌≡◌, [], ℕ, List, map, MatchOption, OnOk};
 ghost use Rattle.bp_language.specs.Ast.{Program};
 ghost use Rattle.bp_flat.specs.Moves.{Configuration};
@@ -20,41 +19,41 @@ use bp_source::name_at;
 use bp_text::Position;
 use std::alloc::AllocError;
 
-/// What a thread has next.
+/// The next statement of a thread.
 #[derive(Clone, Copy)]
 pub struct Next<'a> {
-    /// Where its statement begins, as it is printed.
+    /// The start of the statement, as printed.
     pub place: &'a [u8],
-    /// The same as a line and a column; none at the end of a procedure.
+    /// The start as a line and a column; None at the end of a procedure.
     pub position: Option<Position>,
-    /// The name of the procedure; none where the thread has ended.
+    /// The name of the procedure; None if the thread has ended.
     pub procedure: Option<&'a [u8]>,
-    /// How many frames the stack has.
+    /// The number of frames of the stack.
     pub depth: usize,
-    /// The text of the statement; none where the thread has ended.
+    /// The text of the statement; None if the thread has ended.
     pub text: Option<&'a [u8]>,
     /// Whether the statement reads a choice bit.
     pub reads_choice: bool,
 }
 
-/// What is shown of a call.
+/// The shown facts of a call.
 #[derive(Clone, Copy)]
 pub struct CallFacts<'a> {
-    /// Its place in the history, from 1.
+    /// Its number in the history, from 1.
     pub number: u64,
     /// The call with its reply.
     pub call: Call,
-    /// The context in which its step is; none if it made none.
+    /// The context of its step; None if it made none.
     pub context: Option<u32>,
     /// Whether another thread made the step before.
     pub is_switch: bool,
-    /// What its thread had next, before it.
+    /// Its thread's next statement, before it.
     pub next: Next<'a>,
     /// The variables that it changed, with their values after it.
     pub changes: &'a [Change<'a>],
 }
 
-/// A thread that has ended has nothing next.
+/// A thread that has ended has no next statement.
 const NOTHING: Next<'static> = Next {
     place: b"-",
     position: None,
@@ -64,7 +63,7 @@ const NOTHING: Next<'static> = Next {
     reads_choice: false,
 };
 
-/// What a thread has next, where this is the top of its stack.
+/// Returns the next statement of a thread with this top of its stack.
 pub(crate) fn next_of<'a>(program: &ProgramFacts<'a>, top: Option<Top>) -> Next<'a>
     ensures { (t : Program) (text : List ℕ) (c : Configuration) (i : ℕ)
         → AreProgramFacts t text program.now
@@ -87,7 +86,7 @@ pub(crate) fn next_of<'a>(program: &ProgramFacts<'a>, top: Option<Top>) -> Next<
     }
 }
 
-/// The facts of a call that changed these variables.
+/// Returns the facts of a call that changed these variables.
 pub fn facts_of_call<'a>(
     program: &ProgramFacts<'a>,
     replayed: &ReplayedCall,
@@ -109,7 +108,7 @@ pub fn facts_of_call<'a>(
     }
 }
 
-/// Whether the statement that came next was tried.
+/// Returns whether the next statement was tried.
 fn is_tried(reply: Reply) -> bool
     ensures { result ≡ is_tried reply }
 {
@@ -117,7 +116,7 @@ fn is_tried(reply: Reply) -> bool
 }
 
 impl CallFacts<'_> {
-    /// The choice bit of a call whose statement reads one, where it was tried.
+    /// Returns the choice bit of a call whose statement reads one, if it was tried.
     pub fn choice(&self) -> Option<bool>
         ensures { result ≡ choice_of (facts_in self.now) }
     {
@@ -129,7 +128,7 @@ impl CallFacts<'_> {
     }
 }
 
-/// What is shown of a context.
+/// The shown facts of a context.
 #[derive(Clone, Copy)]
 pub struct ContextFacts<'a> {
     /// Its number, from 1.
@@ -140,16 +139,16 @@ pub struct ContextFacts<'a> {
     pub first: u64,
     /// The number of its last call, from 1.
     pub last: u64,
-    /// What its thread had next before the first of them.
+    /// Its thread's next statement before the first of them.
     pub from: Next<'a>,
-    /// What it had next after the last of them.
+    /// Its thread's next statement after the last of them.
     pub to: Next<'a>,
     /// The globals whose values then differ.
     pub changes: &'a [Change<'a>],
 }
 
-/// Fills the list with the globals whose values differ before and after a span. The only error is
-/// refused memory.
+/// Fills the list with the globals whose values differ before and after a span. Fails only on
+/// allocation.
 pub fn fill_changes_within<'a>(
     changes: &mut Vec<Change<'a>>,
     program: &ProgramFacts<'a>,
@@ -166,7 +165,7 @@ pub fn fill_changes_within<'a>(
     add_differing(changes, None, program.globals, 0, before, after)
 }
 
-/// The facts of a span that is the context of this number, and that changed this.
+/// Returns the facts of a span that is the context of this number, and that changed these globals.
 pub fn facts_of_context<'a>(
     program: &ProgramFacts<'a>,
     number: u64,

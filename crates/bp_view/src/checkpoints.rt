@@ -1,6 +1,5 @@
 //! Checkpoints: the session after the first calls of a replay, so that only the later ones are made
-//! once more.
-//! The calls of a history, each with what was before and after it.
+//! once more. The calls of a history, each with its thread's place before and after it.
 ghost use Rattle.std.specs.Prelude.{◌≡◌, List, IfOk, MatchResult, if◌then◌else◌, ◌++◌, ◌∷◌, [], suc, None, Some, true, false, length, option_map, MatchOption};
 ghost use Rattle.bp_language.specs.Ast.{Program};
 ghost use Rattle.bp_machine.specs.declared.calls.Call.{Call as Answered};
@@ -20,14 +19,14 @@ use std::alloc::{AllocError, Global};
 #[derive(Drop)]
 pub struct Checkpoint {
     pub session: Session,
-    /// The thread of the last step of these calls; none where they made no step.
+    /// The thread of the last step of these calls; None if they made no step.
     pub last: Option<u32>,
-    /// How many calls these are.
+    /// The number of these calls.
     pub made: u64,
 }
 
 impl Checkpoint {
-    /// The checkpoint before any call.
+    /// Returns the checkpoint before any call.
     pub fn start(alloc: Global, code: &Code, setup: &Setup) -> Result<Checkpoint, AllocError>
         requires { Fits code.now.tree setup.now }
         ensures { let t = code.now.tree in (h : List Answered)
@@ -41,13 +40,13 @@ impl Checkpoint {
     }
 }
 
-/// Keeps a checkpoint of a replay after this many calls. After none it keeps none.
+/// Keeps a checkpoint of a replay after this number of calls. After none it keeps none.
 #[derive(Drop)]
 struct CheckpointWatcher {
     after: u64,
-    /// How many calls were made.
+    /// The number of calls made.
     made: u64,
-    /// The thread of the last step; none where none was made.
+    /// The thread of the last step; None if there is none.
     last: Option<u32>,
     kept: Option<Checkpoint>,
 }
@@ -83,8 +82,8 @@ impl Watcher for CheckpointWatcher {
     }
 }
 
-/// The checkpoint that a watcher kept; where it kept none, the one after all calls or before any.
-/// The session stands after all.
+/// Returns the checkpoint that a watcher kept; if it kept none, the one after all calls or before
+/// any. The session stands after all.
 fn checkpoint_of(
     alloc: Global,
     code: &Code,
@@ -113,8 +112,8 @@ fn checkpoint_of(
     })
 }
 
-/// Replays a text as `replay` does, and answers also the checkpoint after its first `after` calls,
-/// or after all where there are fewer.
+/// Replays a text as `replay` does, and also returns the checkpoint after its first `after` calls,
+/// or after all if there are fewer.
 pub fn replay_to_checkpoint(
     alloc: Global,
     code: &Code,
@@ -144,30 +143,30 @@ pub fn replay_to_checkpoint(
     Ok((replayed, checkpoint))
 }
 
-/// A call of a history, and what was before and after it.
+/// A call of a history, with its thread's place before and after it.
 #[derive(Clone, Copy)]
 pub struct ReplayedCall {
-    /// Its place in the history, from 1.
+    /// Its number in the history, from 1.
     pub number: u64,
     pub call: Call,
-    /// The context in which its step is; none if it made none.
+    /// The context of its step; None if it made none.
     pub context: Option<u32>,
     /// Whether another thread made the step before.
     pub is_switch: bool,
-    /// The top of its thread's stack before it; none where the stack is empty.
+    /// The top of its thread's stack before it; None if the stack is empty.
     pub before: Option<Top>,
-    /// The same after it.
+    /// The top of its thread's stack after it.
     pub after: Option<Top>,
 }
 
-/// Whether a call made a step.
+/// Returns whether a call made a step.
 pub(crate) fn is_step(reply: Reply) -> bool
     ensures { result ≡ is_granted reply }
 {
     matches!(reply, Reply::Stepped | Reply::Failed)
 }
 
-/// Whether this thread is another one than the last.
+/// Returns whether this thread is another one than the last.
 fn is_other(last: Option<u32>, thread: u32) -> bool
     ensures { result ≡ is_other last thread }
 {
@@ -177,7 +176,7 @@ fn is_other(last: Option<u32>, thread: u32) -> bool
     }
 }
 
-/// The context of the last call's step, where it made one.
+/// Returns the context of the last call's step, if it made one.
 fn context_of(session: &Session, reply: Reply) -> Option<u32>
     ensures { (t : Program) (h : List Answered)
         → Stands t session.now h
@@ -191,7 +190,7 @@ fn context_of(session: &Session, reply: Reply) -> Option<u32>
     None
 }
 
-/// Whether a call made a step, and the last step was another thread's.
+/// Returns whether a call made a step, and the last step was another thread's.
 fn is_switch(last: Option<u32>, call: &Call) -> bool
     ensures { (h : List Answered)
         → last ≡ last_thread (granted_threads h)
@@ -200,7 +199,7 @@ fn is_switch(last: Option<u32>, call: &Call) -> bool
     is_step(call.reply) && is_other(last, call.thread)
 }
 
-/// Makes the machine's own call for a recorded one: what was before and after it, where this thread
+/// Makes the machine's own call for a recorded one, and returns its facts, if the thread `last`
 /// made the step before. A session refuses a call as `Session::ask_as_recorded` does.
 pub fn replayed_call(
     session: &mut Session,
@@ -230,7 +229,7 @@ pub fn replayed_call(
     })
 }
 
-/// The thread of the last step, with that of one more call.
+/// Returns the thread of the last step after one more call.
 #[tactic(auto, using(crate::proofs::SpansOfHistories::last_after))]
 pub fn last_step(last: Option<u32>, call: &Call) -> Option<u32>
     ensures { (h : List Answered)
@@ -243,7 +242,7 @@ pub fn last_step(last: Option<u32>, call: &Call) -> Option<u32>
     last
 }
 
-/// The values that a call printed: those that were next, where it made a step.
+/// Returns the values that a call printed: the next ones, if it made a step.
 pub fn printed_by(next: Option<&[bool]>, reply: Reply) -> Option<&[bool]>
     ensures { let values = option_map (λ v. v.now) next.entry in
         option_map (λ v. v.now) result ≡ (if is_granted reply then values else None) }

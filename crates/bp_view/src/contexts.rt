@@ -106,7 +106,7 @@ fn push_context_in(view: &mut Buffer, context: &ViewContext<'_>, facts: &Context
     }
 }
 
-/// Adds the line of the context of this number. `changes` is room for what it changed.
+/// Adds the line of the context of this number. `changes` is room for its changes.
 fn push_context<'a>(
     view: &mut Buffer,
     changes: &mut Vec<Change<'a>>,
@@ -128,7 +128,7 @@ fn push_context<'a>(
     push_context_in(view, context, &facts)
 }
 
-/// Adds a line for each context. `changes` is room for what one changed.
+/// Adds a line for each context. `changes` is room for the changes of one.
 fn push_contexts<'a>(
     view: &mut Buffer,
     changes: &mut Vec<Change<'a>>,
@@ -147,7 +147,7 @@ fn push_contexts<'a>(
     }
 }
 
-/// Adds what comes before the contexts.
+/// Adds the text before the contexts.
 fn push_contexts_head(view: &mut Buffer, format: ViewFormat, calls: u64, contexts: u64)
     ensures { Grown view.old view.new (contexts_head format calls contexts) }
 {
@@ -163,9 +163,9 @@ fn push_contexts_head(view: &mut Buffer, format: ViewFormat, calls: u64, context
     }
 }
 
-/// A line for each context of a trace, and the report of the trace: the thread of the context, its
-/// first and its last call, where the thread stood before and after it, and the globals that it
-/// changed. A text that is no trace of the program is refused as `replay` refuses it.
+/// Returns a line for each context of a trace, and the report of the trace: the thread of the
+/// context, its first and its last call, the thread's places before and after it, and the globals
+/// that it changed. A text that is no trace of the program is refused as `replay` refuses it.
 pub fn contexts_of(
     alloc: Global,
     text: &[u8],

@@ -5,7 +5,7 @@ use bp_trace::ReplayFault;
 use std::alloc::AllocError;
 use thiserror::Error;
 
-/// Why a view is not written whole: the first of these that applies, `Memory` aside.
+/// Why a view is not written whole: the first reason that applies, `Memory` aside.
 #[derive(Clone, Copy, Debug, Error)]
 pub enum ViewFault {
     /// The text is no trace of the program, or memory was refused before anything was written.

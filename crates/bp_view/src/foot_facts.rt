@@ -1,4 +1,4 @@
-//! What is shown of the end of a history, as plain facts.
+//! The shown facts of the end of a history, as plain values.
 ghost use Rattle.std.specs.Prelude.{if◌then◌else◌, ◌≡◌, ◌++◌, [], suc, ℕ, List, map, option_map, IfOk, IsSomeAnd, OnOk};
 ghost use Rattle.bp_language.specs.Ast.{Program};
 ghost use Rattle.bp_language.specs.Views.{decision_of};
@@ -23,12 +23,12 @@ use bp_source::{decider_at, procedure_at, variables_read};
 use bp_text::Position;
 use std::alloc::{AllocError, Global};
 
-/// What is shown of an assertion or an assumption at which a thread stands.
+/// The shown facts of an assertion or an assumption at which a thread is.
 #[derive(Drop)]
 pub struct ConditionFacts<'a> {
     /// The number of the thread.
     pub thread: u32,
-    /// Where it begins.
+    /// The position at which it begins.
     pub position: Position,
     /// The text of its statement.
     pub text: &'a [u8],
@@ -36,19 +36,19 @@ pub struct ConditionFacts<'a> {
     pub values: Vec<Change<'a>>,
 }
 
-/// What is shown of the end of a history.
+/// The shown facts of the end of a history.
 #[derive(Drop)]
 pub struct FootFacts<'a> {
     pub report: Report,
     /// Whether the threads are deadlocked.
     pub deadlocked: bool,
-    /// The assertion that failed; none where none did.
+    /// The assertion that failed, if one did.
     pub failure: Option<ConditionFacts<'a>>,
     /// The assumptions at which threads wait in a deadlock, in the order of the threads.
     pub waits: Vec<ConditionFacts<'a>>,
 }
 
-/// Adds a variable with its value, where the name is that of one: a local hides a global.
+/// Adds a variable with its value, if it has this name: a local hides a global.
 fn add_variable<'a>(
     values: &mut Vec<Change<'a>>,
     globals: &[Name],
@@ -75,7 +75,7 @@ fn add_variable<'a>(
     Ok(())
 }
 
-/// The variables of these names, with their values.
+/// Returns the variables of these names, with their values.
 fn variables_named<'a>(
     alloc: Global,
     globals: &[Name],
@@ -94,7 +94,7 @@ fn variables_named<'a>(
     Ok(values)
 }
 
-/// The variables that a decider reads, with their values in the frame at this top.
+/// Returns the variables that a decider reads, with their values in the frame at this top.
 fn values_read<'a>(
     alloc: Global,
     program: &ProgramFacts<'a>,
@@ -116,7 +116,7 @@ fn values_read<'a>(
     variables_named(alloc, program.globals, proc, top.store, &names)
 }
 
-/// The facts of the assertion or the assumption at which a thread stands.
+/// Returns the facts of the assertion or the assumption at which a thread stands.
 fn condition_of<'a>(
     alloc: Global,
     program: &ProgramFacts<'a>,
@@ -154,7 +154,7 @@ fn condition_of<'a>(
     }))
 }
 
-/// Adds the assumption of a thread, where it waits.
+/// Adds the assumption of a thread, if it waits.
 fn add_wait<'a>(
     alloc: Global,
     waits: &mut Vec<ConditionFacts<'a>>,
@@ -180,8 +180,7 @@ fn add_wait<'a>(
     Ok(())
 }
 
-/// The assumptions at which threads wait, where the threads are deadlocked; none where they are
-/// not.
+/// Returns the assumptions at which threads wait if the threads are deadlocked, else none.
 fn waits_of<'a>(
     alloc: Global,
     program: &ProgramFacts<'a>,
@@ -206,7 +205,7 @@ fn waits_of<'a>(
     Ok(waits)
 }
 
-/// The facts of the assertion that failed; none where none did.
+/// Returns the facts of the assertion that failed, if one did.
 fn failure_of<'a>(
     alloc: Global,
     program: &ProgramFacts<'a>,
@@ -226,8 +225,8 @@ fn failure_of<'a>(
     condition_of(alloc, program, session, thread)
 }
 
-/// The facts of the end of the history with this report, after which the session stands. The only
-/// error is refused memory.
+/// Returns the facts of the end of the history with this report, after which the session stands.
+/// Fails only on allocation.
 pub fn facts_of_foot<'a>(
     alloc: Global,
     program: &ProgramFacts<'a>,

@@ -1,5 +1,5 @@
-//! The text of a frame of a stack, from its facts.
-//! The text of an assertion or an assumption at which a thread stands, from its facts.
+//! The text of a frame of a stack, from its facts. The text of an assertion or an assumption at
+//! which a thread is, from its facts.
 ghost use Rattle.std.specs.Prelude.{◌≡◌, [], map};
 ghost use Rattle.bp_tasks.specs.declared.options.ViewFormat.TheVariants.{Columns, Json};
 ghost use Rattle.bp_view.specs.Buffers.{Grown};
@@ -16,10 +16,10 @@ use bp_source::{column_of, line_of};
 use bp_tasks::ViewFormat;
 use bp_text::Piece::{Bytes, Displayed, Key, Number, NumberOrNull, Text};
 
-/// What begins the line of values.
+/// The text before the values on their line.
 const VALUES: &[u8] = b"\nvalues";
 
-/// Adds where in a file a condition begins, its text, and the line of its values.
+/// Adds the place of a condition in a file, its text, and the line of its values.
 pub(crate) fn push_condition_lines<'a>(
     view: &mut Buffer,
     file: &'a str,
@@ -45,7 +45,7 @@ pub(crate) fn push_condition_lines<'a>(
     view.drop_lead(start, middle)
 }
 
-/// Adds where a condition begins, its text and its values, as members of an object.
+/// Adds the place of a condition, its text and its values, as members of an object.
 fn push_condition_members(view: &mut Buffer, condition: &ConditionFacts<'_>)
     ensures { let text = condition_text Json [] (condition_in condition.now) in
         Grown view.old view.new text }
@@ -64,7 +64,7 @@ fn push_condition_members(view: &mut Buffer, condition: &ConditionFacts<'_>)
     view.close_list(start)
 }
 
-/// Adds the object of the thread that stands at a condition, and what is said of that.
+/// Adds the object of the thread at a condition, with the condition's members.
 pub(crate) fn push_condition_object(view: &mut Buffer, condition: &ConditionFacts<'_>)
     ensures { Grown view.old view.new (condition_object (condition_in condition.now)) }
 {
@@ -74,7 +74,7 @@ pub(crate) fn push_condition_object(view: &mut Buffer, condition: &ConditionFact
     view.put(Bytes(b"}"))
 }
 
-/// What comes before the procedure of a frame: those below the top go on after returns.
+/// Returns the text before the procedure of a frame: those below the top continue after returns.
 fn lead(above: usize) -> &'static [u8]
     ensures { result.now ≡ lead above }
 {
@@ -92,7 +92,7 @@ fn push_locals(values: &mut Buffer, format: ViewFormat, frame: FrameFacts<'_>)
     push_values(values, format, Some(proc), proc.locals(), first, locals)
 }
 
-/// Adds a frame for people: its procedure, what it has next, and the line of its values.
+/// Adds a frame for people: its procedure, its next statement, and the line of its values.
 fn push_frame_lines(view: &mut Buffer, frame: FrameFacts<'_>)
     ensures { Grown view.old view.new (frame_text Columns (frame_in frame.entry)) }
 {

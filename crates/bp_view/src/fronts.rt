@@ -1,7 +1,6 @@
-//! The fields of a line before its place. Most lines have them as the line before has them, but for
-//! the sign of a switch and the last digit of the number.
-//! The colours of a view's lines.
-//! The headings over the columns of a view.
+//! The fields of a line before its place. Most lines have those of the line before, except for the
+//! sign of a switch and the last digit of the number. The colours of a view's lines. The headings
+//! over the columns of a view.
 ghost use Rattle.std.specs.Prelude.{◌≡◌, Some, length, suc, OnOk};
 ghost use Rattle.bp_text.specs.Pieces.{at_right, piece_text};
 ghost use Rattle.bp_view.specs.declared.fronts.FrontKey.{FrontKey};
@@ -18,13 +17,13 @@ use bp_text::Piece;
 use bp_text::Piece::{Bytes, Left, NumberRight, Right};
 use std::alloc::{AllocError, Global};
 
-/// What these fields are made from, but for the sign and the last digit.
+/// The values from which these fields are made, except for the sign and the last digit.
 #[derive(Clone, Copy, PartialEq, Eq)]
 pub(crate) struct FrontKey {
     /// The number of the call without its last digit.
     pub(crate) tens: u64,
     pub(crate) thread: u32,
-    /// None of a call that made no step.
+    /// None for a call that made no step.
     pub(crate) context: Option<u32>,
     pub(crate) number_width: usize,
     pub(crate) thread_width: usize,
@@ -34,18 +33,18 @@ pub(crate) struct FrontKey {
 /// The text of these fields, kept for the next line.
 #[derive(Drop)]
 pub(crate) struct Front {
-    /// What the text was made from; none while it is not whole.
+    /// The key of the text; None while it is incomplete.
     key: Option<FrontKey>,
     mark: u8,
     digit: u8,
-    /// Where the digit stands in the text.
+    /// The place of the digit in the text.
     last: usize,
     pub(crate) text: Vec<u8>,
     ghost is: { (k : FrontKey) → key ≡ Some k → text.items ≡ front_text k mark digit },
     ghost digit_is: { (k : FrontKey) → key ≡ Some k → last ≡ suc (length (tens_text k)) },
 }
 
-/// The digits of a number before its last, at the right of a field.
+/// Returns the digits of a number before its last, at the right of a field.
 fn tens_piece(width: usize, tens: u64) -> Piece<'static>
     ensures { piece_text result ≡ at_right width (tens_digits tens) }
 {
@@ -55,7 +54,7 @@ fn tens_piece(width: usize, tens: u64) -> Piece<'static>
     }
 }
 
-/// The number of a context at the right of a field, and a sign where there is none.
+/// Returns the number of a context at the right of a field, or a sign if there is none.
 fn context_piece(width: usize, context: Option<u32>) -> Piece<'static>
     ensures { piece_text result ≡ at_right width (context_text context) }
 {
@@ -66,7 +65,7 @@ fn context_piece(width: usize, context: Option<u32>) -> Piece<'static>
 }
 
 impl Front {
-    /// One without a text.
+    /// Makes one without a text.
     pub(crate) fn new(alloc: Global) -> Front {
         Front {
             key: None,
@@ -125,8 +124,8 @@ pub(crate) enum Colour {
 }
 
 impl Colour {
-    /// A failure is red, and another step after one of another thread is yellow. All lines are
-    /// plain where no colours are wanted.
+    /// Returns the colour of a line: red for a failure, yellow for another step after one of
+    /// another thread. All lines are plain if no colours are wanted.
     pub(crate) fn of(has_colour: bool, reply: Reply, is_switch: bool) -> Colour
         ensures { result ≡ colour_of has_colour reply is_switch }
     {
@@ -140,7 +139,7 @@ impl Colour {
         }
     }
 
-    /// The sign that begins the colour.
+    /// Returns the escape sequence that begins the colour.
     pub(crate) fn opening(self) -> &'static [u8]
         ensures { result.now ≡ opening self }
     {
@@ -161,7 +160,7 @@ const CONTEXT: &[u8] = b"context";
 const PLACE: &[u8] = b"place";
 
 impl Widths {
-    /// The same, but each column is as wide as its heading at least.
+    /// Returns the widths, but each column is at least as wide as its heading.
     pub(crate) fn under_headings(self) -> Widths
         ensures { result ≡ under_headings self }
     {

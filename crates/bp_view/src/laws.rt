@@ -1,30 +1,29 @@
-//! Laws of views. These functions do nothing: their contracts are the laws.
-//! Laws of facts. These functions do nothing: their contracts are the laws.
+//! Laws of views and of facts. These functions do nothing: their contracts are the laws.
 ghost use Rattle.bp_view.specs.Views.{OneListOfContexts, OneState, OneView};
 ghost use Rattle.bp_view.specs.Filters.{StandForEachOnce};
 ghost use Rattle.bp_view.specs.Laws.{ChangesReplay};
 
-/// A history has at most one view with these options, at most one state and at most one list of its
-/// contexts: the definitions that the contracts of `view`, `state_at` and `contexts_of` cite allow
-/// no second text.
+/// Proves that a history has at most one view with these options, at most one state and at most one
+/// list of its contexts: the definitions that the contracts of `view`, `state_at` and `contexts_of`
+/// cite allow no second text.
 pub fn views_are_single()
     ensures view { OneView }
     ensures state { OneState }
     ensures contexts { OneListOfContexts }
 {}
 
-/// States that the lines of the calls of a history whose numbers are asked for, folded or not,
+/// Proves that the lines of the calls of a history whose numbers are asked for, folded or not,
 /// stand for these calls, each once.
 #[tactic(auto, using(crate::proofs::CallsOfLines::each_once))]
 pub fn lines_stand_for_each_call_once()
     ensures { StandForEachOnce }
 {}
 
-/// The changes that a view shows of a call, put into the values before it, give those after it: of
-/// all globals, and of the frames of its thread. A frame at the top that stays has the changes, and
-/// those below it stay as they are. One that the call entered has the formals that the changes
-/// name, and 0 for each declared local; one that it left is gone. Other threads keep their stacks.
-/// The values of a history begin with those of its setup.
+/// Proves that the changes that a view shows of a call, put into the values before it, give those
+/// after it: of all globals, and of the frames of its thread. A frame at the top that stays has the
+/// changes, and those below it are unchanged. One that the call entered has the formals that the
+/// changes name, and 0 for each declared local; one that it left is gone. Other threads keep their
+/// stacks. The values of a history begin with those of its setup.
 #[tactic(auto, using(crate::proofs::ChangesReplay::changes_replay))]
 pub fn changes_replay()
     ensures { ChangesReplay }

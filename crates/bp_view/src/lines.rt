@@ -17,7 +17,7 @@ use bp_machine::Reply;
 use bp_tasks::ViewFormat;
 use bp_text::Piece::{Bytes, Left, Number, Spaces};
 
-/// What is said of a reply.
+/// Returns the note of a reply.
 fn reply_note(reply: Reply) -> &'static [u8]
     ensures { result.now ≡ reply_note reply }
 {
@@ -32,7 +32,7 @@ fn reply_note(reply: Reply) -> &'static [u8]
     }
 }
 
-/// The sign of a switch.
+/// Returns the sign of a switch.
 fn mark(is_switch: bool) -> u8
     ensures { result ∷ [] ≡ mark_text is_switch }
 {
@@ -59,7 +59,7 @@ fn push_fields(line: &mut Buffer, front: &mut Front, widths: &Widths, facts: &Ca
 }
 
 /// Adds the place of the statement, and the statement, moved to the right by the depth of the
-/// stack; no text where there is none.
+/// stack; no text if there is none.
 fn push_statement(line: &mut Buffer, widths: &Widths, next: &Next<'_>)
     ensures { let next = next_in next.now in
         let place = at_left widths.now.place next.place in
@@ -83,7 +83,7 @@ fn push_statement(line: &mut Buffer, widths: &Widths, next: &Next<'_>)
     line.put(Bytes(end))
 }
 
-/// A choice bit, where one is shown.
+/// Returns a choice bit, if one is shown.
 fn choice_note(choice: Option<bool>) -> &'static [u8]
     ensures { result.now ≡ choice_text choice }
 {
@@ -104,7 +104,7 @@ pub(crate) fn push_changed(note: &mut Buffer, format: ViewFormat, changes: &[Cha
     }
 }
 
-/// Adds for how many calls a line stands, where these are several.
+/// Adds the number of calls in a line, if there are several.
 fn push_times(note: &mut Buffer, calls: usize)
     ensures { Grown note.old note.new (times_text calls) }
 {
@@ -113,8 +113,8 @@ fn push_times(note: &mut Buffer, calls: usize)
     }
 }
 
-/// Adds the note of a call: the choice bit where it is read, the reply where it is no step, for how
-/// many calls the line stands, and the variables that the step changed.
+/// Adds the note of a call: the choice bit if it is read, the reply if it is no step, the number of
+/// calls in the line, and the variables that the step changed.
 fn push_note(line: &mut Buffer, facts: &CallFacts<'_>, calls: usize)
     ensures { Grown line.old line.new (note_text (facts_in facts.now) calls) }
 {
@@ -124,7 +124,7 @@ fn push_note(line: &mut Buffer, facts: &CallFacts<'_>, calls: usize)
     push_changed(line, ViewFormat::Columns, facts.changes)
 }
 
-/// Adds the note of a call after this many spaces, which go where the note is empty.
+/// Adds the note of a call after `room` spaces, which are removed if the note is empty.
 fn push_note_after(line: &mut Buffer, room: usize, facts: &CallFacts<'_>, calls: usize)
     ensures { let note = note_text (facts_in facts.now) calls in
         Grown line.old line.new (led (spaces room) note) }
@@ -136,7 +136,7 @@ fn push_note_after(line: &mut Buffer, room: usize, facts: &CallFacts<'_>, calls:
     line.drop_lead(start, middle)
 }
 
-/// Adds the fields of a call, its statement, and after that one's column its note.
+/// Adds the fields of a call, its statement, and after the statement's column its note.
 fn push_call(
     line: &mut Buffer,
     front: &mut Front,
@@ -154,7 +154,7 @@ fn push_call(
     push_note_after(line, widths.notes.saturating_sub(size), facts, calls)
 }
 
-/// Adds a call in at most this many columns: its note, and before it as much of the place and the
+/// Adds a call in at most `columns` columns: its note, and before it as much of the place and the
 /// statement as there is room for.
 fn push_narrow_call(
     line: &mut Buffer,
@@ -217,7 +217,7 @@ fn push_end(line: &mut Buffer, colour: Colour)
     }
 }
 
-/// Adds the line of a call, which stands for this many calls. It is in colour where that is wanted
+/// Adds the line of a call, which stands for this number of calls. It is coloured if that is wanted
 /// and the call is a failure or a switch. `front` has the thread and the context of another line.
 pub(crate) fn push_line(
     line: &mut Buffer,

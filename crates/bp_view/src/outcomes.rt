@@ -17,7 +17,7 @@ use bp_tasks::ViewFormat;
 use bp_text::Piece::{Bytes, Key, Number};
 use std::alloc::{AllocError, Global};
 
-/// Adds the thread whose assertion failed, and what is said of the assertion.
+/// Adds the thread whose assertion failed, and the text of the assertion.
 fn push_failure(view: &mut Buffer, format: ViewFormat, file: &str, assertion: &ConditionFacts<'_>)
     ensures { let text = failure_text format file.now (condition_in assertion.now) in
         Grown view.old view.new text }
@@ -35,7 +35,7 @@ fn push_failure(view: &mut Buffer, format: ViewFormat, file: &str, assertion: &C
     }
 }
 
-/// What is said where no assertion failed, and the threads are deadlocked or not.
+/// Returns the outcome if no assertion failed, and the threads are deadlocked or not.
 fn clean_text(format: ViewFormat, deadlocked: bool) -> &'static [u8]
     ensures { result.now ≡ clean_text format deadlocked }
 {
@@ -63,7 +63,7 @@ fn push_outcome(
     }
 }
 
-/// The text of the outcome. In a view for people, the place of a failure is in this file.
+/// Returns the text of the outcome. In a view for people, the place of a failure is in this file.
 pub fn outcome_text(
     alloc: Global,
     format: ViewFormat,
@@ -80,7 +80,7 @@ pub fn outcome_text(
     view.into_bytes()
 }
 
-/// Adds a thread that waits, and what is said of its assumption.
+/// Adds a thread that waits, and the text of its assumption.
 fn push_wait(view: &mut Buffer, format: ViewFormat, file: &str, assumption: &ConditionFacts<'_>)
     ensures { let text = wait_text format file.now (condition_in assumption.now) in
         Grown view.old view.new text }
@@ -109,8 +109,8 @@ fn push_waits(view: &mut Buffer, format: ViewFormat, file: &str, waits: &[Condit
     }
 }
 
-/// The text of the threads that wait, each after a line feed or a comma. In a view for people,
-/// their places are in this file.
+/// Returns the text of the threads that wait, each after a line feed or a comma. In a view for
+/// people, their places are in this file.
 pub fn waits_text(
     alloc: Global,
     format: ViewFormat,
@@ -180,8 +180,8 @@ fn push_foot(view: &mut Buffer, format: ViewFormat, file: &str, foot: &FootFacts
     }
 }
 
-/// Adds the report of the history after which the session stands, and what is said of an assertion
-/// that failed in it, or of the threads that are deadlocked after it.
+/// Adds the report of the history after which the session stands, and the text on an assertion that
+/// failed in it, or on the threads that are deadlocked after it.
 pub(crate) fn push_foot_of(
     alloc: Global,
     view: &mut Buffer,

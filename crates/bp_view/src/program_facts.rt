@@ -1,5 +1,4 @@
-//! What facts show of a program: its source statements and its names.
-//! The names of the watched variables.
+//! The facts of a program: its source statements and its names. The names of the watched variables.
 ghost use Rattle.std.specs.Prelude.{◌≡◌, ℕ, List, IsSomeAnd, ◌==◌, ◌-◌, false, length, map, option_map, IfOk, MatchOption};
 ghost use Rattle.std.specs.List.{list_any, prefix_len, suffix_len};
 ghost use Rattle.bp_language.specs.Ast.{Program};
@@ -19,7 +18,7 @@ use bp_source::{SourceStatement, declares, is_qualified, piece_size};
 use bp_text::{part_before, part_from};
 use std::alloc::{AllocError, Global};
 
-/// What facts show of a program.
+/// The facts of a program.
 #[derive(Clone, Copy)]
 pub struct ProgramFacts<'a> {
     /// Its statements, by the numbers of their instructions.
@@ -29,7 +28,7 @@ pub struct ProgramFacts<'a> {
     pub procs: &'a [Proc],
 }
 
-/// The facts of a lawful program that has these source statements.
+/// Returns the facts of a lawful program that has these source statements.
 pub fn facts_of_program<'a>(
     statements: &'a [SourceStatement],
     checked: &'a Checked,
@@ -46,7 +45,7 @@ pub fn facts_of_program<'a>(
     }
 }
 
-/// What is shown of the next statement at this top of a stack.
+/// Returns the source statement of the next statement at this top of a stack.
 pub(crate) fn source_statement_of<'a>(
     program: &ProgramFacts<'a>,
     top: Top,
@@ -60,7 +59,7 @@ pub(crate) fn source_statement_of<'a>(
     program.statements.get(top.number as usize)
 }
 
-/// How many spaces a text begins with.
+/// Returns the number of leading spaces of a text.
 fn spaces_before(text: &[u8]) -> usize
     ensures { result ≡ prefix_len (λ b. b == 32) text.now }
 {
@@ -72,7 +71,7 @@ fn spaces_before(text: &[u8]) -> usize
     text.len()
 }
 
-/// How many bytes are before the spaces that a text ends with.
+/// Returns the number of bytes before the trailing spaces of a text.
 fn size_before_spaces(text: &[u8]) -> usize
     ensures { result ≡ length text.now - suffix_len (λ b. b == 32) text.now }
 {
@@ -86,7 +85,7 @@ fn size_before_spaces(text: &[u8]) -> usize
     size
 }
 
-/// A text without the spaces that it begins with, and those that it ends with.
+/// Returns a text without its leading and trailing spaces.
 fn trimmed(text: &[u8]) -> &[u8]
     ensures { result.now ≡ trimmed text.now }
 {
@@ -94,7 +93,7 @@ fn trimmed(text: &[u8]) -> &[u8]
     part_before(rest, size_before_spaces(rest))
 }
 
-/// The names that a list has between its commas outside braces, each without the spaces around it.
+/// Returns the names between a list's commas outside braces, each without the spaces around it.
 fn names_in<'a>(alloc: Global, list: &'a [u8]) -> Result<Vec<&'a [u8]>, AllocError>
     ensures { IfOk result
         (λ v. map (λ n. n.now) v.items ≡ map trimmed (pieces false list.now)) }
@@ -111,8 +110,8 @@ fn names_in<'a>(alloc: Global, list: &'a [u8]) -> Result<Vec<&'a [u8]>, AllocErr
     Ok(names)
 }
 
-/// The names that are watched; none without a list of them. They are separated by commas, which a
-/// name in braces may have too, and may have spaces around them. The only error is refused memory.
+/// Returns the watched names; none without a list of them. They are separated by commas, which a
+/// name in braces may have too, and may have spaces around them. Fails only on allocation.
 pub fn watched_names<'a>(alloc: Global, list: Option<&'a str>) -> Result<Vec<&'a [u8]>, AllocError>
     ensures { IfOk result (λ v. map (λ n. n.now) v.items ≡ watched_names list.entry) }
 {
@@ -122,7 +121,7 @@ pub fn watched_names<'a>(alloc: Global, list: Option<&'a str>) -> Result<Vec<&'a
     }
 }
 
-/// Whether a text says which variable is meant, which is a local of the procedure or a global.
+/// Returns whether a text names this variable, which is a local of the procedure or a global.
 fn is_of(text: &[u8], owner: Option<&Proc>, name: &[u8]) -> bool
     ensures { let procedure = option_map (λ p. p.now.name.text) owner.entry in
         result ≡ is_of text.now procedure name.now }
@@ -133,7 +132,7 @@ fn is_of(text: &[u8], owner: Option<&Proc>, name: &[u8]) -> bool
     }
 }
 
-/// Whether one of these texts says which variable is meant.
+/// Returns whether one of these texts names this variable.
 fn is_watched(texts: &[&[u8]], owner: Option<&Proc>, name: &[u8]) -> bool
     ensures { let procedure = option_map (λ p. p.now.name.text) owner.entry in
         result ≡ list_any (λ text. is_of text.now procedure name.now) texts.now }
@@ -141,8 +140,7 @@ fn is_watched(texts: &[&[u8]], owner: Option<&Proc>, name: &[u8]) -> bool
     texts.iter().any(|text| is_of(text, owner, name))
 }
 
-/// The number, from 1, of the first of these names that no variable has; none where each is that of
-/// a variable.
+/// Returns the number, from 1, of the first of these names that no variable has, or None.
 pub fn undeclared(checked: &Checked, names: &[&[u8]]) -> Option<u64>
     ensures { let t = checked.now in
         let names = map (λ n. n.now) names.now in
@@ -156,7 +154,7 @@ pub fn undeclared(checked: &Checked, names: &[&[u8]]) -> Option<u64>
     None
 }
 
-/// Whether one of the changed variables has such a name.
+/// Returns whether one of the changed variables has such a name.
 fn has_named(names: &[&[u8]], changes: &[Change<'_>]) -> bool
     ensures { let texts = names.now in
         result ≡ list_any
@@ -168,7 +166,7 @@ fn has_named(names: &[&[u8]], changes: &[Change<'_>]) -> bool
         .any(|change| is_watched(names, change.owner, change.name))
 }
 
-/// Whether one of the changed variables has such a name, or no name is watched.
+/// Returns whether one of the changed variables has such a name, or no name is watched.
 pub fn has_watched(names: &[&[u8]], changes: &[Change<'_>]) -> bool
     ensures { result ≡ is_seen (map (λ n. n.now) names.now) (map entry_of changes.now) }
 {

@@ -16,7 +16,7 @@ use bp_tasks::{ViewFormat, ViewOptions};
 use bp_text::Piece::{Bytes, Key, Number, NumberOrNull, Text};
 use std::alloc::{AllocError, Global};
 
-/// The name of a thread's entry procedure.
+/// Returns the name of a thread's entry procedure.
 fn entry_of(setup: &Setup, thread: u32) -> &[u8]
     ensures { result.now ≡ unwrap_or (slice_get setup.now.entries thread) [] }
 {
@@ -41,7 +41,7 @@ fn push_threads(view: &mut Buffer, setup: &Setup)
     }
 }
 
-/// The initial value of a global, by its place in the declarations.
+/// Returns the initial value of a global, by its index in the declarations.
 fn initial_bit(setup: &Setup, n: usize) -> bool
     ensures { result ≡ unwrap_or (slice_get setup.now.init n) false }
 {
@@ -63,7 +63,7 @@ fn push_values(view: &mut Buffer, format: ViewFormat, setup: &Setup, globals: &[
     }
 }
 
-/// Adds the line of the initial values of the globals, where there are globals.
+/// Adds the line of the initial values of the globals, if there are globals.
 fn push_globals(view: &mut Buffer, setup: &Setup, globals: &[Name])
     ensures { Grown view.old view.new (globals_line (binding globals.now setup.now.init)) }
 {
@@ -157,7 +157,7 @@ fn push_setup(head: &mut Buffer, options: ViewOptions<'_>, setup: &Setup, global
     }
 }
 
-/// The head of a view: the setup of its history, and the headings over its columns.
+/// Returns the head of a view: the setup of its history, and the headings over its columns.
 pub(crate) fn head_of(
     alloc: Global,
     context: &ViewContext<'_>,

@@ -1,4 +1,4 @@
-//! The contexts of a history: where the steps of each begin and end.
+//! The contexts of a history: the points at which the steps of each begin and end.
 ghost use Rattle.std.specs.Prelude.{◌≡◌, ◌++◌, ◌∷◌, [], suc, length, MatchResult, OnOk};
 ghost use Rattle.bp_machine.specs.Histories.{configuration_after};
 ghost use Rattle.bp_machine.specs.Sessions.{Stands, AfterEach};
@@ -11,10 +11,10 @@ use bp_flat::Code;
 use bp_machine::{AskFault, Call, Session, Setup, Top};
 use std::alloc::{AllocError, Global};
 
-/// Where a thread continues, and the globals at that time.
+/// The place at which a thread continues, and the globals at that time.
 #[derive(Clone, Copy)]
 pub struct StandingPoint {
-    /// The top of its stack; none where it is empty.
+    /// The top of its stack; None if it is empty.
     pub top: Option<Top>,
     /// The bits of the globals.
     pub globals: u128,
@@ -29,13 +29,13 @@ pub struct Span {
     pub first: u64,
     /// The number of the last step's call, from 1.
     pub last: u64,
-    /// Where the thread stood before the first of them.
+    /// The thread's point before the first of them.
     pub before: StandingPoint,
-    /// Where it stood after the last of them.
+    /// The thread's point after the last of them.
     pub after: StandingPoint,
 }
 
-/// Where a thread of the session continues.
+/// Returns the point at which a thread of the session continues.
 fn standing_point(session: &Session, thread: u32) -> StandingPoint
     ensures { AfterEach session.now (λ t h.
         IsStandingPoint t (configuration_after t session.now.setup h) thread result) }
@@ -46,7 +46,7 @@ fn standing_point(session: &Session, thread: u32) -> StandingPoint
     }
 }
 
-/// The same context up to a later step.
+/// Returns the context, extended to a later step.
 fn joined(span: Span, step: Span) -> Span
     ensures { result ≡ joined span step }
 {
@@ -74,7 +74,7 @@ fn push_step(spans: &mut Vec<Span>, step: Span) -> Result<(), AllocError>
     Ok(())
 }
 
-/// Makes the machine's own call for a recorded one, and adds its step to the contexts where it made
+/// Makes the machine's own call for a recorded one, and adds its step to the contexts if it made
 /// one. `number` is that of the call.
 fn play_call(
     session: &mut Session,
@@ -111,8 +111,8 @@ fn play_call(
     Ok(())
 }
 
-/// The contexts of a legal history, which a session plays once more. The only error is refused
-/// memory.
+/// Returns the contexts of a legal history, which a session plays once more. Fails only on
+/// allocation.
 pub fn spans_of(
     alloc: Global,
     code: &Code,

@@ -1,5 +1,4 @@
-//! What is shown of a state, as plain facts.
-//! How a thread stands after a history.
+//! The shown facts of a state, as plain values. The status of a thread after a history.
 ghost use Rattle.std.specs.Prelude.{◌≡◌, ◌<◌, ℕ, List, Some, length, map, slice_get, IfOk, IsSomeAnd};
 ghost use Rattle.bp_flat.specs.Moves.{Frame};
 ghost use Rattle.bp_machine.specs.Histories.{calls_of_thread, stack_of, configuration_after};
@@ -16,7 +15,7 @@ use bp_source::procedure_at;
 use bp_text::Position;
 use std::alloc::{AllocError, Global};
 
-/// How a thread stands.
+/// The status of a thread.
 #[derive(Clone, Copy)]
 pub enum Standing {
     /// It has ended.
@@ -33,11 +32,11 @@ pub enum Standing {
     Stopped,
     /// Its next statement is an assumption of 0.
     Waiting,
-    /// It goes on.
+    /// It continues.
     Open,
 }
 
-/// The reply to the last call of the thread.
+/// Returns the reply to the last call of the thread.
 #[tactic(auto, using(crate::proofs::RecordedCalls::other, crate::proofs::RecordedCalls::own))]
 fn last_reply(history: &[Call], thread: u32) -> Option<Reply>
     ensures { result ≡ last_reply (calls_of_thread thread history.now) }
@@ -52,7 +51,7 @@ fn last_reply(history: &[Call], thread: u32) -> Option<Reply>
 }
 
 impl Standing {
-    /// Why a thread makes no further call, by the reply to its last one.
+    /// Returns why a thread makes no further call, by the reply to its last one.
     fn after(last: Option<Reply>) -> Standing
         ensures { result ≡ standing_after last }
     {
@@ -66,7 +65,7 @@ impl Standing {
         }
     }
 
-    /// How a thread of a session stands, which stands after this history.
+    /// Returns the status of a thread of a session, which stands after this history.
     pub(crate) fn of(session: &Session, history: &[Call], thread: u32) -> Standing
         requires { thread < threads session.now.setup }
         ensures { let t = session.now.code.tree in Stands t session.now history.now
@@ -85,16 +84,16 @@ impl Standing {
     }
 }
 
-/// What is shown of a frame.
+/// The shown facts of a frame.
 #[derive(Clone, Copy)]
 pub struct FrameFacts<'a> {
-    /// How many frames are above it.
+    /// The number of frames above it.
     pub above: usize,
     /// Its procedure.
     pub proc: &'a Proc,
-    /// Where its next statement begins, as it is printed.
+    /// The start of its next statement, as printed.
     pub place: &'a [u8],
-    /// The same as a line and a column; none at the end of the procedure.
+    /// The start as a line and a column; None at the end of the procedure.
     pub position: Option<Position>,
     /// The text of the statement.
     pub text: &'a [u8],
@@ -102,7 +101,7 @@ pub struct FrameFacts<'a> {
     pub locals: u128,
 }
 
-/// What is shown of a thread.
+/// The shown facts of a thread.
 #[derive(Drop)]
 pub struct ThreadFacts<'a> {
     /// Its number.
@@ -112,12 +111,12 @@ pub struct ThreadFacts<'a> {
     pub frames: Vec<FrameFacts<'a>>,
 }
 
-/// What is shown of a state.
+/// The shown facts of a state.
 #[derive(Drop)]
 pub struct StateFacts<'a> {
-    /// How many calls were made.
+    /// The number of calls made.
     pub number: u64,
-    /// How many calls the history has.
+    /// The number of calls of the history.
     pub count: u64,
     /// Whether an assertion failed, and whose.
     pub outcome: Outcome,
@@ -128,7 +127,7 @@ pub struct StateFacts<'a> {
     pub threads: Vec<ThreadFacts<'a>>,
 }
 
-/// The frame of a thread's stack with this many others above it.
+/// Returns the frame of a thread's stack with `above` others above it.
 fn frame_below<'a>(
     program: &ProgramFacts<'a>,
     session: &Session,
@@ -155,7 +154,7 @@ fn frame_below<'a>(
     })
 }
 
-/// How many frames the stack of a thread has.
+/// Returns the number of frames on the stack of a thread.
 fn depth_of(session: &Session, thread: u32) -> usize
     ensures { AfterEach session.now (λ t h. let now = configuration_after t session.now.setup h in
         result ≡ length (stack_of now thread)) }
@@ -166,7 +165,7 @@ fn depth_of(session: &Session, thread: u32) -> usize
     }
 }
 
-/// The frames of a thread's stack, from the top.
+/// Returns the frames of a thread's stack, from the top.
 fn frames_of<'a>(
     alloc: Global,
     program: &ProgramFacts<'a>,
@@ -189,7 +188,7 @@ fn frames_of<'a>(
     Ok(frames)
 }
 
-/// The facts of a thread of the session, which stands after this history.
+/// Returns the facts of a thread of the session, which stands after this history.
 fn facts_of_thread<'a>(
     alloc: Global,
     program: &ProgramFacts<'a>,
@@ -212,7 +211,7 @@ fn facts_of_thread<'a>(
     })
 }
 
-/// The facts of each thread of the session, which stands after this history.
+/// Returns the facts of each thread of the session, which stands after this history.
 fn threads_of<'a>(
     alloc: Global,
     program: &ProgramFacts<'a>,
@@ -234,8 +233,8 @@ fn threads_of<'a>(
     Ok(threads)
 }
 
-/// The facts of the state of the session, which stands after this history, the front of one of
-/// `count` calls. The only error is refused memory.
+/// Returns the facts of the state of the session, which stands after this history, a prefix of one
+/// of `count` calls. Fails only on allocation.
 pub fn facts_of_state<'a>(
     alloc: Global,
     program: &ProgramFacts<'a>,

@@ -1,4 +1,4 @@
-//! How many columns a statement has, and how a text is cut.
+//! The columns of a statement, and how a text is cut.
 ghost use Rattle.std.specs.Prelude.{◌≡◌, ◌++◌, ◌≤◌, ◌<◌};
 ghost use Rattle.bp_view.specs.Buffers.{IsCutAfter};
 ghost use Rattle.bp_view.specs.Lines.{shortened, statement_room};
@@ -10,16 +10,16 @@ use bp_text::part_before;
 /// The most bytes of a statement in its column.
 pub(crate) const MAX_STATEMENT: usize = 60;
 
-/// The most bytes that a statement has at least.
+/// The minimum column width of a statement, in bytes.
 pub(crate) const LEAST_STATEMENT: usize = 12;
 
-/// How many columns of a line are left to the other fields and to a note.
+/// The number of columns of a line that are left to the other fields and to a note.
 pub(crate) const OTHER_COLUMNS: usize = 50;
 
-/// What ends a text that is cut.
+/// The end of a text that is cut.
 const CUT: &[u8] = b"..";
 
-/// The width of the column of statements in lines of at most `columns` bytes, or of any width.
+/// Returns the width of the column of statements in lines of at most `columns` bytes, if any.
 pub(crate) fn statement_room(columns: Option<usize>) -> usize
     ensures is { result ≡ statement_room columns }
     ensures most { result ≤ MAX_STATEMENT }
@@ -34,7 +34,7 @@ pub(crate) fn statement_room(columns: Option<usize>) -> usize
     }
 }
 
-/// The bytes of a statement that its column has room for, and what ends them.
+/// Returns the bytes of a statement that fit into its column, and the text that ends them.
 pub(crate) fn in_column(room: usize, statement: &[u8]) -> (&[u8], &[u8])
     ensures { result.0.now ++ result.1.now ≡ shortened room statement.now }
 {

@@ -1,4 +1,4 @@
-//! The text of a state, from its facts: the values of the globals, and how each thread stands.
+//! The text of a state, from its facts: the values of the globals, and the status of each thread.
 ghost use Rattle.std.specs.Prelude.{◌≡◌, ℕ, List, map, MatchResult};
 ghost use Rattle.bp_flat.specs.InstrEffects.{bits_of};
 ghost use Rattle.bp_flat.specs.StandsFor.{valuation_of};
@@ -26,7 +26,7 @@ use bp_text::Piece::{Bytes, Key, Number, NumberOrNull, Text};
 use bp_trace::ReplayFault;
 use std::alloc::Global;
 
-/// How a thread stands, for people.
+/// Returns the status of a thread, for people.
 fn standing_text(standing: Standing) -> &'static [u8]
     ensures { result.now ≡ standing_text standing }
 {
@@ -42,7 +42,7 @@ fn standing_text(standing: Standing) -> &'static [u8]
     }
 }
 
-/// And in JSON.
+/// Returns the status of a thread, in JSON.
 fn standing_name(standing: Standing) -> &'static [u8]
     ensures { result.now ≡ standing_name standing }
 {
@@ -108,7 +108,7 @@ fn push_threads(view: &mut Buffer, format: ViewFormat, threads: &[ThreadFacts<'_
     }
 }
 
-/// Adds that an assertion failed, where one did.
+/// Adds that an assertion failed, if one did.
 fn push_failed_line(view: &mut Buffer, outcome: Outcome)
     ensures { Grown view.old view.new (failed_line outcome) }
 {
@@ -121,7 +121,7 @@ fn push_failed_line(view: &mut Buffer, outcome: Outcome)
     }
 }
 
-/// Adds the line of the globals, where there are any.
+/// Adds the line of the globals, if there are any.
 fn push_globals_line(view: &mut Buffer, globals: &[Name], word: u128)
     ensures { let values = valuation_of globals.now (bits_of word) in
         Grown view.old view.new (globals_line values) }
@@ -150,7 +150,7 @@ fn push_state_lines(view: &mut Buffer, state: &StateFacts<'_>)
     push_threads(view, ViewFormat::Columns, state.threads.as_slice())
 }
 
-/// The number of the thread whose assertion failed.
+/// Returns the number of the thread whose assertion failed.
 fn failed_thread(outcome: Outcome) -> Option<u64>
     ensures { result ≡ failed_thread outcome }
 {
@@ -201,7 +201,7 @@ fn push_state(view: &mut Buffer, format: ViewFormat, state: &StateFacts<'_>)
     }
 }
 
-/// Adds the state of the session, which stands after this history, the front of one of `count`
+/// Adds the state of the session, which stands after this history, a prefix of one of `count`
 /// calls.
 pub(crate) fn push_state_of(
     alloc: Global,
@@ -224,9 +224,9 @@ pub(crate) fn push_state_of(
     push_state(view, context.options.format, &facts)
 }
 
-/// The state after the first `number` calls of a trace, or after the last where there are fewer,
-/// and the report of the whole trace. The state has the values of the globals, how each thread
-/// stands, and the frames of its stack. A text that is no trace of the program is refused as
+/// Returns the state after the first `number` calls of a trace, or after the last if there are
+/// fewer, and the report of the whole trace. The state has the values of the globals, the status of
+/// each thread, and the frames of its stack. A text that is no trace of the program is refused as
 /// `replay` refuses it.
 pub fn state_at(
     alloc: Global,

@@ -30,7 +30,7 @@ fn push_owner(line: &mut Buffer, owner: Option<&Proc>)
     }
 }
 
-/// The sign before a value, and the value.
+/// Returns the sign before a value, and the value.
 fn value_text(value: bool) -> &'static [u8]
     ensures { result.now ≡ concat (codes "=" ∷ bit_text value ∷ []) }
 {
@@ -47,7 +47,7 @@ fn push_assignment(line: &mut Buffer, owner: Option<&Proc>, name: &[u8], value: 
     line.put_two(Bytes(name), Bytes(value_text(value)))
 }
 
-/// The name of a local's procedure; none for a global.
+/// Returns the name of a local's procedure, or None for a global.
 fn owner_name<'a>(owner: Option<&'a Proc>) -> Option<&'a [u8]>
     ensures { let owner = option_map (λ p. p.now) owner.entry in
         option_map (λ s. s.now) result ≡ option_map (λ p. p.name.text) owner }
@@ -109,7 +109,7 @@ pub(crate) fn push_values(
     }
 }
 
-/// What is said of a reply, as a string of JSON.
+/// Returns the name of a reply, as a string of JSON.
 fn reply_text(reply: Reply) -> &'static [u8]
     ensures { result.now ≡ string_text (reply_name reply) }
 {
@@ -124,7 +124,7 @@ fn reply_text(reply: Reply) -> &'static [u8]
     }
 }
 
-/// The member that says whether a step is a switch.
+/// Returns the member that says whether a step is a switch.
 fn switch_member(is_switch: bool) -> &'static [u8]
     ensures { result.now ≡ key_text (codes "switch") ++ truth_text is_switch }
 {
@@ -135,7 +135,7 @@ fn switch_member(is_switch: bool) -> &'static [u8]
     }
 }
 
-/// The member that says a choice.
+/// Returns the member with a choice.
 fn choice_member(choice: Option<bool>) -> &'static [u8]
     ensures { result.now ≡ key_text (codes "choice") ++ bit_or_null choice }
 {

@@ -1,6 +1,5 @@
-//! What the lines of a view have in common: the facts of the program, and the widths of the
-//! columns.
-//! A trace that was replayed, with the source statements of its program.
+//! The data that the lines of a view share: the facts of the program, and the widths of the
+//! columns. A trace that was replayed, with the source statements of its program.
 ghost use Rattle.std.specs.Prelude.{◌≡◌, ◌<◌, ◌≤◌, ◌^◌, ℕ, List, length, map, max, MatchResult};
 ghost use Rattle.bp_trace.specs.Replays.{IsReplayRefusal};
 ghost use Rattle.bp_source.specs.SourceStatements.{AreSourceStatements};
@@ -24,11 +23,10 @@ use bp_trace::limits::MAX_TRACE;
 use bp_trace::{ReplayFault, Replayed, replay};
 use std::alloc::Global;
 
-/// A statement is moved to the right by two columns for each frame of the stack, for this many
-/// frames at most.
+/// The most frames of the stack for each of which a statement is moved to the right by two columns.
 pub(crate) const MAX_INDENTS: usize = 8;
 
-/// How wide the columns are.
+/// The widths of the columns.
 #[derive(Clone, Copy)]
 pub(crate) struct Widths {
     pub(crate) number: usize,
@@ -38,11 +36,11 @@ pub(crate) struct Widths {
     pub(crate) notes: usize,
     /// The most bytes of a statement in its column.
     pub(crate) statement: usize,
-    /// The most columns of a line; none where a line has as many as it needs.
+    /// The most columns of a line; None if a line has as many as it needs.
     pub(crate) line: Option<usize>,
 }
 
-/// What a view shows its calls of.
+/// The context in which a view shows its calls.
 #[derive(Clone, Copy)]
 pub(crate) struct ViewContext<'a> {
     pub(crate) program: ProgramFacts<'a>,
@@ -58,7 +56,7 @@ pub(crate) struct ViewContext<'a> {
     pub(crate) names: &'a [&'a [u8]],
 }
 
-/// The length of the longest place that is printed, and 1 at least.
+/// Returns the length of the longest place that is printed, at least 1.
 fn longest_place(statements: &[SourceStatement]) -> usize
     ensures { result ≡ max 1 (longest (map (λ s. s.place.items) statements.now)) }
 {
@@ -69,7 +67,7 @@ fn longest_place(statements: &[SourceStatement]) -> usize
     longest
 }
 
-/// The length of the longest statement in its column.
+/// Returns the length of the longest statement in its column.
 fn longest_statement(statements: &[SourceStatement], room: usize) -> usize
     requires { (2 ≤ room) × (room < 2 ^ 63) }
     ensures is { let statements = map (λ s. s.excerpt.text.items) statements.now in
@@ -83,7 +81,7 @@ fn longest_statement(statements: &[SourceStatement], room: usize) -> usize
     longest
 }
 
-/// The context of a view of a history in this setup.
+/// Returns the context of a view of a history in this setup.
 pub(crate) fn view_context_of<'a>(
     statements: &'a [SourceStatement],
     checked: &'a Checked,
@@ -155,7 +153,7 @@ pub(crate) fn shown_trace_of(
 }
 
 /// Replays a trace as `shown_trace_of` does, and keeps the session after its first `after` calls,
-/// or after all where there are fewer.
+/// or after all if there are fewer.
 pub(crate) fn shown_trace_to(
     alloc: Global,
     text: &[u8],
@@ -180,7 +178,7 @@ pub(crate) fn shown_trace_to(
     Ok((shown, checkpoint))
 }
 
-/// How many calls a trace says that it has, in its last line; 0 where it says nothing.
+/// Returns the number of calls in the `end` line of a trace, or 0.
 fn told_calls(trace: &[u8]) -> u64 {
     let line = last_line(trace.strip_suffix(b"\n").unwrap_or(trace));
     let Some(counts) = line.strip_prefix(b"end ") else {
@@ -191,8 +189,8 @@ fn told_calls(trace: &[u8]) -> u64 {
 }
 
 /// Replays a trace as `shown_trace_of` does, and keeps the session before the calls that are asked
-/// for. How many those are is known from the last line before the trace is read. Were that line
-/// wrong, the trace would be refused.
+/// for. Their number is known from the last line before the trace is read. If that line were wrong,
+/// the trace would be refused.
 pub(crate) fn shown_trace_before(
     alloc: Global,
     text: &[u8],
@@ -217,7 +215,7 @@ pub(crate) fn shown_trace_before(
 }
 
 impl ShownTrace {
-    /// The context of a view of all calls, without watched names.
+    /// Returns the context of a view of all calls, without watched names.
     pub(crate) fn context<'a>(&'a self, checked: &'a Checked, format: ViewFormat) -> ViewContext<'a>
         ensures known { (text : List ℕ)
             → AreSourceStatements text checked.now self.now.statements.items

@@ -1,5 +1,4 @@
-//! The view of a trace.
-//! The end of a view.
+//! The view of a trace, and its end.
 ghost use Rattle.std.specs.Prelude.{◌≡◌, ◌≤◌, [], ℕ, List, length, map, take, MatchResult, IfOk};
 ghost use Rattle.bp_text.specs.Writing.{IsWritten};
 ghost use Rattle.bp_language.specs.Ast.{Program};
@@ -33,7 +32,7 @@ use bp_trace::ReplayFault;
 use std::alloc::{AllocError, Global};
 use std::io::Write;
 
-/// Refuses a thread that is not there, where the calls of one thread alone are to be shown.
+/// Refuses a missing thread, if the calls of one thread alone are to be shown.
 fn check_thread(options: ViewOptions<'_>, setup: &Setup) -> Result<(), ViewFault>
     ensures { MatchResult result
         (λ _. IsThere options.entry.thread (threads setup.now))
@@ -82,9 +81,9 @@ fn write_parts<W: Write>(
     Ok(())
 }
 
-/// Writes the view of a trace that was replayed, or refuses a thread that is not there, or else a
-/// watched name that no variable has. The calls after the checkpoint, before which none has a line,
-/// are made once more.
+/// Writes the view of a trace that was replayed, or refuses a missing thread, or else a watched
+/// name that no variable has. The calls after the checkpoint, before which none has a line, are
+/// made once more.
 fn write_view<W: Write>(
     alloc: Global,
     checked: &Checked,
@@ -143,15 +142,14 @@ fn write_view<W: Write>(
     write_parts(alloc, &mut writer, &head, shown.replayed.report, out)
 }
 
-/// Writes a view of the history of a trace of a program, and answers its report. The view has the
+/// Writes a view of the history of a trace of a program, and returns its report. The view has the
 /// setup, a line for each call that is shown, and the foot. The state after the last call follows
-/// where it is asked for. The places in the foot have the name of the program's text before them.
-/// The lines are written as they are made, after the trace was replayed.
-/// For them the calls are made once more, from the first that is asked for.
+/// if it is asked for. The places in the foot have the name of the program's text before them. The
+/// lines are written as they are made, after the trace was replayed. For them the calls are made
+/// once more, from the first that is asked for.
 ///
-/// A text that is no trace of the program is refused as `replay` refuses it. Then a thread is
-/// refused that is not there, and then a watched name that no variable has. Nothing is written of a
-/// refused one.
+/// A text that is no trace of the program is refused as `replay` refuses it. Then a missing thread
+/// is refused, and then a watched name that no variable has. Nothing is written of a refused one.
 pub fn view<W: Write>(
     alloc: Global,
     text: &[u8],
@@ -187,7 +185,7 @@ pub fn view<W: Write>(
     Ok(shown.replayed.report)
 }
 
-/// Adds what is between a foot and a state: an empty line for people.
+/// Adds the text between a foot and a state: an empty line for people.
 fn push_gap(view: &mut Buffer, format: ViewFormat)
     ensures { Grown view.old view.new (after_foot format []) }
 {
@@ -196,7 +194,7 @@ fn push_gap(view: &mut Buffer, format: ViewFormat)
     }
 }
 
-/// Adds the state of the session after a foot, where it is asked for. The session stands after the
+/// Adds the state of the session after a foot, if it is asked for. The session stands after the
 /// last call.
 fn push_state(alloc: Global, view: &mut Buffer, context: &ViewContext<'_>, session: &Session)
     ensures { let t = session.now.code.tree in (text : List ℕ) (h : List Answered)
@@ -215,8 +213,8 @@ fn push_state(alloc: Global, view: &mut Buffer, context: &ViewContext<'_>, sessi
     push_state_of(alloc, view, context, session, history, history.len() as u64)
 }
 
-/// The foot of the view of a history with this report, and the state after it where that is asked
-/// for. The session stands after the history.
+/// Returns the foot of the view of a history with this report, and the state after it if that is
+/// asked for. The session stands after the history.
 pub(crate) fn end_of(
     alloc: Global,
     context: &ViewContext<'_>,

@@ -1,6 +1,5 @@
-//! The lines of a view, each made by a session that makes the call once more.
-//! The lines of the calls that are shown.
-//! Which calls a view shows, by its options.
+//! The lines of a view, each made by a session that makes the call once more. The lines of the
+//! calls that are shown. The calls that a view shows, by its options.
 ghost use Rattle.std.specs.Prelude.{◌≡◌, ◌++◌, ◌∷◌, [], ℕ, List, option_map, MatchResult, OnOk, None};
 ghost use Rattle.bp_language.specs.Ast.{Program};
 ghost use Rattle.bp_machine.specs.declared.calls.Call.{Call as Answered};
@@ -26,7 +25,7 @@ use crate::view_contexts::ViewContext;
 use bp_machine::{AskFault, Call, Session};
 use bp_tasks::{ViewFormat, ViewOptions};
 
-/// The values that the next statement of a thread prints, where a view of this format shows them.
+/// Returns the values that the thread's next statement prints, if a view of this format has them.
 fn next_print(
     session: &Session,
     format: ViewFormat,
@@ -44,29 +43,29 @@ fn next_print(
     }
 }
 
-/// Who makes the lines of a view, one for each call of its history.
+/// Makes the lines of a view, one for each call of its history.
 #[derive(Drop)]
 pub(crate) struct ViewWriter<'a> {
     pub(crate) context: ViewContext<'a>,
     /// It stands after the calls that were made.
     pub(crate) session: Session,
-    /// The line of the last of them, or nothing where it is not shown.
+    /// The line of the last of them, or nothing if it is not shown.
     pub(crate) line: Buffer,
-    /// What lines have as the lines before have it.
+    /// The fields that lines have in common with the lines before.
     pub(crate) front: Front,
-    /// Room for what a call changed.
+    /// Room for the changes of a call.
     pub(crate) changes: Vec<Change<'a>>,
     /// The thread of the last step.
     pub(crate) last: Option<u32>,
-    /// How many calls were made.
+    /// The number of calls made.
     pub(crate) made: u64,
 }
 
 impl ViewWriter<'_> {
     ghost use Rattle.bp_view.specs.Views.{HasMade, IsShownLine};
 
-    /// Makes the next call of the history, which is the recorded one, and its line. Of a history
-    /// that may be played no call is refused, unless for memory.
+    /// Makes the next call of the history, which is the recorded one, and its line. No call of a
+    /// history that may be played is refused, unless for memory.
     pub(crate) fn make_line(&mut self, recorded: &Call) -> Result<(), AskFault>
         ensures made { (t : Program) (h : List Answered)
             → HasMade t h self.old
@@ -108,8 +107,8 @@ impl ViewWriter<'_> {
     }
 }
 
-/// Adds the line of a call in the format of the view, which stands for this many calls; the call
-/// printed these values, if any. `front` has parts of another line that are kept.
+/// Adds the line of a call in the format of the view, which stands for this number of calls; the
+/// call printed these values, if any. `front` has parts of another line that are kept.
 fn push_line_in(
     view: &mut Buffer,
     front: &mut Front,
@@ -134,9 +133,9 @@ fn push_line_in(
     }
 }
 
-/// Adds the line of a call, where it is shown: it is asked for, it changed what is watched, and its
+/// Adds the line of a call, if it is shown: it is asked for, it changed a watched variable, and its
 /// line stands for a call. `front` has parts of another line that are kept, and `changes` is room
-/// for what the call changed.
+/// for the call's changes.
 pub(crate) fn push_shown<'a>(
     view: &mut Buffer,
     front: &mut Front,
@@ -172,7 +171,7 @@ pub(crate) fn push_shown<'a>(
     push_line_in(view, front, context, &facts, calls, printed)
 }
 
-/// All calls, without colours.
+/// Returns options for all calls, without colours.
 pub(crate) fn all_calls<'a>(format: ViewFormat) -> ViewOptions<'a>
     ensures { (result.format ≡ format) × (result.watch ≡ None) × (result.columns ≡ None) }
 {
@@ -191,7 +190,7 @@ pub(crate) fn all_calls<'a>(format: ViewFormat) -> ViewOptions<'a>
     }
 }
 
-/// The calls that are asked for. Equal waits have one line in columns alone.
+/// Returns the calls that are asked for. Equal waits have one line in columns alone.
 pub(crate) fn filter_of(options: &ViewOptions<'_>) -> CallFilter
     ensures { result ≡ filter_of options.now }
 {
