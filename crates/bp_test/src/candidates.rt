@@ -1,9 +1,9 @@
-//! Which changes of a history are tried, and in which order.
+//! The changes of a history that are tried, and their order.
 use crate::changes::{Change, Part};
 use crate::limits::{WORK, WORK_OF_CALL};
 use bp_machine::Call;
 
-/// How many parts of the history are left out at most before its contexts are looked at.
+/// The most parts of the history that are left out before its contexts are looked at.
 const HALVES: usize = 16;
 
 /// The kinds of changes, in the order in which a round tries them.
@@ -34,7 +34,7 @@ enum Kind {
 }
 
 impl Kind {
-    /// The kind after this one in a round.
+    /// Returns the kind after this one in a round.
     fn next(self) -> Option<Kind> {
         match self {
             Kind::Idle => Some(Kind::Loops),
@@ -51,7 +51,7 @@ impl Kind {
         }
     }
 
-    /// The size of the parts that it changes first, of a history of this length.
+    /// Returns the size of the parts that it changes first, of a history of this length.
     fn first_size(self, length: usize) -> usize {
         match self {
             Kind::Halves | Kind::Tails | Kind::Parts => length / 2,
@@ -60,7 +60,7 @@ impl Kind {
         }
     }
 
-    /// The size below which it changes no part.
+    /// Returns the size below which it changes no part.
     fn last_size(self, length: usize) -> usize {
         match self {
             Kind::Halves => length / HALVES,
@@ -69,7 +69,7 @@ impl Kind {
     }
 }
 
-/// What is tried next.
+/// The next candidate.
 #[derive(Clone, Copy, PartialEq, Eq)]
 pub(crate) enum Next {
     /// This change.
@@ -80,23 +80,23 @@ pub(crate) enum Next {
     Done,
 }
 
-/// Where the search for a smaller history is.
+/// The state of the search for a smaller history.
 #[derive(Clone, Copy)]
 pub(crate) struct Candidates {
     kind: Kind,
     /// The size of the parts that are changed.
     size: usize,
-    /// Where the next change begins.
+    /// The place at which the next change begins.
     place: usize,
-    /// How far it is from there to the change after it.
+    /// The distance from there to the change after it.
     step: usize,
     /// Whether a change of this round was taken.
     is_useful: bool,
-    /// How many calls may still be driven.
+    /// The number of calls that may still be driven.
     work: u64,
 }
 
-/// The place after the calls of one thread that begin here.
+/// Returns the place after the calls of one thread that begin here.
 fn end_of_context(history: &[Call], from: usize, thread: u32) -> usize {
     for place in from..history.len() {
         if history[place].thread != thread {
@@ -106,7 +106,7 @@ fn end_of_context(history: &[Call], from: usize, thread: u32) -> usize {
     history.len()
 }
 
-/// The place of the first of the calls of one thread that end before this place.
+/// Returns the place of the first of the calls of one thread that end before this place.
 fn start_of_context(history: &[Call], to: usize, thread: u32) -> usize {
     for distance in 0..to {
         let place = to - 1 - distance;
@@ -117,7 +117,7 @@ fn start_of_context(history: &[Call], to: usize, thread: u32) -> usize {
     0
 }
 
-/// The place after the last call of the thread before a place.
+/// Returns the place after the last call of the thread before a place.
 fn end_before(history: &[Call], before: usize, thread: u32) -> Option<usize> {
     for distance in 0..before {
         let place = before - 1 - distance;
@@ -128,7 +128,7 @@ fn end_before(history: &[Call], before: usize, thread: u32) -> Option<usize> {
     None
 }
 
-/// The place of the first call of the thread from a place on.
+/// Returns the place of the first call of the thread from a place on.
 fn start_after(history: &[Call], from: usize, thread: u32) -> Option<usize> {
     for place in from..history.len() {
         if history[place].thread == thread {
@@ -138,7 +138,7 @@ fn start_after(history: &[Call], from: usize, thread: u32) -> Option<usize> {
     None
 }
 
-/// Whether a call of the part has the bit 1.
+/// Returns whether a call of the part has the bit 1.
 fn has_one(history: &[Call], part: Part) -> bool {
     match history.get(part.from..part.to) {
         None => false,
@@ -146,7 +146,7 @@ fn has_one(history: &[Call], part: Part) -> bool {
     }
 }
 
-/// A context is moved to the end of the one before it of its thread.
+/// Moves a context to the end of the one before it of its thread.
 fn earlier(history: &[Call], part: Part, thread: u32) -> Option<Change> {
     Some(Change::Split {
         part,
@@ -156,7 +156,7 @@ fn earlier(history: &[Call], part: Part, thread: u32) -> Option<Change> {
     })
 }
 
-/// A context is moved to the start of the one after it of its thread.
+/// Moves a context to the start of the one after it of its thread.
 fn later(history: &[Call], part: Part, thread: u32) -> Option<Change> {
     Some(Change::Split {
         part,
@@ -166,8 +166,8 @@ fn later(history: &[Call], part: Part, thread: u32) -> Option<Change> {
     })
 }
 
-/// The end of the context before this place of the thread. Where there is none, it is the start of
-/// the context before this place, whose thread is another one.
+/// Returns the end of the context before this place of the thread. If there is none, it is the
+/// start of the context before this place, whose thread is another one.
 fn place_before(history: &[Call], from: usize, thread: u32) -> usize {
     if let Some(place) = end_before(history, from, thread) {
         return place;
@@ -181,8 +181,8 @@ fn place_before(history: &[Call], from: usize, thread: u32) -> usize {
     }
 }
 
-/// The start of the context of the thread from this place on. Where there is none, it is the end of
-/// the context that begins here, whose thread is another one.
+/// Returns the start of the context of the thread from this place on. If there is none, it is the
+/// end of the context that begins here, whose thread is another one.
 fn place_after(history: &[Call], to: usize, thread: u32) -> usize {
     if let Some(place) = start_after(history, to, thread) {
         return place;
@@ -193,7 +193,7 @@ fn place_after(history: &[Call], to: usize, thread: u32) -> usize {
     }
 }
 
-/// The context of this place is divided: what is before the place moves to an earlier one, and the
+/// Divides the context of this place: the calls before the place move to an earlier one, and the
 /// rest to a later one.
 fn split(history: &[Call], place: usize, thread: u32) -> Option<Change> {
     let from = start_of_context(history, place, thread);
@@ -216,7 +216,7 @@ fn split(history: &[Call], place: usize, thread: u32) -> Option<Change> {
     })
 }
 
-/// A context and the one after it.
+/// Leaves out a context and the one after it.
 fn pair(history: &[Call], part: Part) -> Option<Change> {
     let next = history.get(part.to)?;
     Some(Change::LeftOut(Part {
@@ -226,7 +226,7 @@ fn pair(history: &[Call], part: Part) -> Option<Change> {
 }
 
 impl Candidates {
-    /// The search at its start, for a history of this length.
+    /// Begins the search, for a history of this length.
     pub(crate) fn new(length: usize) -> Candidates {
         let work = (length as u64).saturating_mul(WORK_OF_CALL);
         Candidates {
@@ -247,7 +247,7 @@ impl Candidates {
         self.step = 1;
     }
 
-    /// Goes on after the last place: with smaller parts, the next kind, or another round.
+    /// Advances to the next candidate: with smaller parts, the next kind, or another round.
     fn turn(&mut self, length: usize) -> Next {
         if self.size > self.kind.last_size(length).max(1) {
             self.size /= 2;
@@ -266,7 +266,7 @@ impl Candidates {
         Next::Skip
     }
 
-    /// The last calls of a context, where it has more.
+    /// Leaves out the last calls of a context, if it has more.
     fn tail(&self, part: Part) -> Option<Change> {
         if part.to.saturating_sub(part.from) <= self.size {
             return None;
@@ -275,7 +275,7 @@ impl Candidates {
         Some(Change::LeftOut(Part { from, to: part.to }))
     }
 
-    /// The change at the place, of a call of this thread.
+    /// Returns the change at the place, of a call of this thread.
     fn change(&mut self, history: &[Call], thread: u32) -> Option<Change> {
         let from = self.place;
         let to = from.saturating_add(self.size).min(history.len());
@@ -303,7 +303,7 @@ impl Candidates {
         }
     }
 
-    /// The change of all calls, which some kinds are.
+    /// Returns the change of all calls, which some kinds are.
     fn whole(&self) -> Option<Change> {
         match self.kind {
             Kind::Idle if self.place == 0 => Some(Change::Idle),
@@ -312,7 +312,7 @@ impl Candidates {
         }
     }
 
-    /// What is tried next.
+    /// Returns the next candidate.
     pub(crate) fn next(&mut self, history: &[Call]) -> Next {
         let cost = (history.len() as u64).saturating_add(1);
         let Some(left) = self.work.checked_sub(cost) else {
@@ -338,7 +338,7 @@ impl Candidates {
         }
     }
 
-    /// Goes on after a change that was taken or not.
+    /// Advances after a change that was taken or not.
     pub(crate) fn tell(&mut self, is_taken: bool) {
         if is_taken {
             self.is_useful = true;

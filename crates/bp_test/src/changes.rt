@@ -14,12 +14,12 @@ pub(crate) struct Part {
     pub(crate) to: usize,
 }
 
-/// What is changed in a history.
+/// A change of a history.
 #[derive(Clone, Copy, PartialEq, Eq)]
 pub(crate) enum Change {
     /// The calls that made no step are left out.
     Idle,
-    /// The steps that lead a thread back to where it was in the same context are left out.
+    /// The steps that return a thread to an earlier place of the same context are left out.
     Loops,
     /// This part is left out.
     LeftOut(Part),
@@ -35,7 +35,7 @@ pub(crate) enum Change {
     Zeros(Part),
 }
 
-/// Whether the call made a step.
+/// Returns whether the call made a step.
 fn is_granted(call: &Call) -> bool {
     matches!(call.reply, Reply::Stepped | Reply::Failed)
 }
@@ -116,17 +116,17 @@ pub(crate) fn write_changed(
     }
 }
 
-/// How many calls a loop has at most that is left out.
+/// The most calls of a loop that is left out.
 const LONGEST_LOOP: usize = 64;
 
-/// A call, and where its thread was before it.
+/// A call, and its thread's place before it.
 #[derive(Clone, Copy)]
 struct Visit {
     call: Call,
     top: Option<Top>,
 }
 
-/// The last place of the path at which the thread was there already.
+/// Returns the last place of the path at which the thread was there already.
 fn earlier_visit(path: &[Visit], top: Option<Top>) -> Option<usize> {
     let from = path.len().saturating_sub(LONGEST_LOOP);
     for place in from..path.len() {
@@ -137,7 +137,7 @@ fn earlier_visit(path: &[Visit], top: Option<Top>) -> Option<usize> {
     None
 }
 
-/// Goes on with a call on the path, from which a loop that it ends is left out.
+/// Continues the path with a call, and leaves out a loop that it ends.
 fn go_on(path: &mut Vec<Visit>, call: Call, top: Option<Top>) -> Result<(), AllocError> {
     if let Some(place) = earlier_visit(path.as_slice(), top) {
         path.truncate(place);
@@ -155,7 +155,7 @@ fn write_path(path: &mut Vec<Visit>, lines: &mut Vec<Call>) -> Result<(), AllocE
     Ok(())
 }
 
-/// Makes the call again, where the thread may make it.
+/// Makes the call again, if the thread may make it.
 fn make(session: &mut Session, call: &Call) -> Result<(), AllocError>
     ensures { (session.new.code ≡ session.old.code) × (session.new.setup ≡ session.old.setup) }
 {
@@ -165,8 +165,8 @@ fn make(session: &mut Session, call: &Call) -> Result<(), AllocError>
     }
 }
 
-/// Drives the calls of a history again without a seed, and writes them but for those that lead a
-/// thread back to where it was, with the same values, in the same context.
+/// Drives the calls of a history again without a seed, and writes them, except for those that
+/// return a thread to an earlier place, with the same values, in the same context.
 pub(crate) fn without_loops(
     session: Session,
     history: &[Call],

@@ -1,5 +1,4 @@
-//! The counts of a tally that people read.
-//! How many different runs a test made.
+//! The counts of a tally that people read. The number of different runs of a test.
 ghost use Rattle.std.specs.Prelude.{◌≡◌, ◌<◌, ◌^◌, List, length};
 ghost use Rattle.bp_machine.specs.Setups.{SetupOf};
 ghost use Rattle.bp_test.specs.Tallies.{share_of_marks, AreCounts, MadeRun, IsCounted, alone_before, is_alone, AreDistinct};
@@ -7,25 +6,25 @@ ghost use Rattle.bp_test.specs.Tallies.{share_of_marks, AreCounts, MadeRun, IsCo
 use crate::tallies::{ContextsUsed, Ends, Tally};
 use bp_flat::{Code, Kind};
 
-/// How many of some things were reached.
+/// The number of things reached, among all of a kind.
 #[derive(Clone, Copy, Debug, PartialEq, Eq)]
 pub struct Share {
     pub reached: u64,
     pub all: u64,
 }
 
-/// The counts of a tally, and what its runs reached.
+/// The counts of a tally, and the things that its runs reached.
 #[derive(Clone, Copy, Debug, PartialEq, Eq)]
 pub struct Counts {
-    /// How many runs there were.
+    /// The number of runs.
     pub runs: u64,
-    /// How many calls they made.
+    /// The number of their calls.
     pub calls: u64,
     /// The most calls of one run.
     pub longest: u64,
-    /// How many runs ended in each way.
+    /// The number of runs that ended in each way.
     pub ends: Ends,
-    /// How many contexts the runs used.
+    /// The number of contexts that the runs used.
     pub contexts: ContextsUsed,
     /// The statements of the program: those that a thread tried, or at which it waited.
     pub statements: Share,
@@ -48,7 +47,7 @@ impl Share {
     }
 }
 
-/// The share of these marks.
+/// Returns the share of these marks.
 fn share_of(marks: &[bool]) -> Share
     ensures { result ≡ share_of_marks marks.now }
 {
@@ -59,8 +58,8 @@ fn share_of(marks: &[bool]) -> Share
     }
 }
 
-/// The number after that of the last instruction of a procedure. The last instruction is its end,
-/// which no statement has.
+/// Returns the number after that of the last instruction of a procedure. The last instruction is
+/// its end, which no statement has.
 fn after_procedure(code: &Code, procedure: usize) -> usize {
     match code.headings().get(procedure.saturating_add(1)) {
         Some(heading) => heading.entry() as usize,
@@ -68,7 +67,7 @@ fn after_procedure(code: &Code, procedure: usize) -> usize {
     }
 }
 
-/// Whether the instruction is an assertion.
+/// Returns whether the instruction is an assertion.
 fn is_assertion(code: &Code, number: usize) -> bool {
     let Ok(number) = u32::try_from(number) else {
         return false;
@@ -79,7 +78,7 @@ fn is_assertion(code: &Code, number: usize) -> bool {
     }
 }
 
-/// The statements of a code and its assertions, of whose instructions these were reached.
+/// Returns the shares of statements and assertions of a code, by the marks of instructions.
 fn statements_of(code: &Code, reached: &[bool]) -> (Share, Share) {
     let mut statements = Share::NONE;
     let mut assertions = Share::NONE;
@@ -98,7 +97,7 @@ fn statements_of(code: &Code, reached: &[bool]) -> (Share, Share) {
 }
 
 impl Tally {
-    /// The counts of this tally of runs of a code.
+    /// Returns the counts of this tally of runs of a code.
     pub fn counts(&self, code: &Code) -> Counts
         ensures { (s : SetupOf) (runs : List MadeRun)
             → length runs < 2 ^ 64
@@ -119,19 +118,19 @@ impl Tally {
     }
 }
 
-/// How many runs were different. Runs are the same if they have the same steps: the same threads
+/// The number of different runs. Runs are the same if they have the same steps: the same threads
 /// make the same statements in the same order.
 #[derive(Clone, Copy, Debug, PartialEq, Eq)]
 pub struct Distinct {
-    /// How many runs there were without those that an earlier one was like.
+    /// The number of runs, without those that are like an earlier one.
     pub runs: u64,
-    /// How many runs were compared: all, or the first 2^20.
+    /// The number of runs that were compared: all, or the first 2^20.
     pub of: u64,
-    /// How many of them no other one was like.
+    /// The number of them that are like no other one.
     pub once: u64,
 }
 
-/// Whether the key at this place of ascending keys is there once.
+/// Returns whether the key at this place of ascending keys occurs once.
 fn is_alone(keys: &[u64], place: usize) -> bool
     requires { place < length keys.now }
     ensures { result ≡ is_alone keys.now place }
@@ -142,7 +141,7 @@ fn is_alone(keys: &[u64], place: usize) -> bool
     is_first && is_last
 }
 
-/// How many of these ascending keys are there once.
+/// Returns the number of these ascending keys that occur once.
 fn count_alone(keys: &[u64]) -> u64
     ensures { result ≡ alone_before keys.now (length keys.now) }
 {
@@ -155,7 +154,7 @@ fn count_alone(keys: &[u64]) -> u64
     count
 }
 
-/// How many runs with these keys were different.
+/// Returns the number of different runs with these keys.
 pub fn distinct_of(keys: Vec<u64>) -> Distinct
     ensures { AreDistinct keys.items result }
 {

@@ -1,21 +1,19 @@
-//! Numbers of tests.
-//! Numbers of shrinking.
+//! The limits of tests and of shrinking.
 
-/// How many runs a block of the first wave has.
+/// The number of runs of a block of the first wave.
 pub const FIRST_BLOCK: u64 = 500;
 
-/// How many runs a block has at most.
+/// The most runs of a block.
 pub const LONGEST_BLOCK: u64 = 64_000;
 
 /// A wave is quick if it takes fewer milliseconds than these.
 pub const QUICK_WAVE: u64 = 250;
 
-/// How many runs of a test are compared at most: the first ones.
+/// The most runs of a test that are compared: the first ones.
 pub const MAX_KEYS: usize = 1 << 20;
 
-/// How many calls are driven at most to make a history smaller, beside those that its length
-/// allows.
+/// The most calls that are driven to make a history smaller, beside those that its length allows.
 pub const WORK: u64 = 1_500_000;
 
-/// How many calls are driven at most for each call of a history that is made smaller.
+/// The most calls that are driven for each call of a history that is made smaller.
 pub const WORK_OF_CALL: u64 = 10;

@@ -1,4 +1,4 @@
-//! What the runs of a test are made from.
+//! The plan from which the runs of a test are made.
 ghost use Rattle.std.specs.Prelude.{◌≡◌, IfOk};
 ghost use Rattle.bp_machine.specs.Setups.{Fits};
 
@@ -11,28 +11,28 @@ use bp_machine::{Call, Session, Setup};
 use std::alloc::{AllocError, Global};
 use std::time::Clock;
 
-/// How many pilots there are at most.
+/// The most pilots.
 const PILOTS: u64 = 64;
 
-/// After how many calls no pilot begins, so that long ones do not hold up a test.
+/// The number of calls after which no pilot begins, so that long ones do not hold up a test.
 const PILOT_CALLS: u64 = 1_000_000;
 
-/// The first seed, and where switches matter in runs of the program.
+/// The first seed, and the places at which switches matter in runs of the program.
 #[derive(Drop)]
 pub struct Plan {
     /// The seed of run 0. Each other run has the seed after that of the run before it.
     pub seed: u64,
-    /// Whether the test also looks for runs that end in a deadlock.
+    /// Whether the test also searches for runs that end in a deadlock.
     pub with_deadlock: bool,
-    /// What the clock shows, in milliseconds, when no more run or pilot begins.
+    /// The time of the clock, in milliseconds, from which no run or pilot begins.
     pub deadline: Option<u64>,
     /// The steps before which runs switch.
     pub visible: VisibleSteps,
-    /// The lengths of pilots: how many visible steps each made.
+    /// The lengths of pilots: the number of visible steps of each.
     pub lengths: Vec<u64>,
 }
 
-/// Whether a thread made all calls that it may make.
+/// Returns whether a thread made all calls that it may make.
 fn is_cut_off(session: &Session) -> bool {
     let setup = session.setup();
     for thread in 0..setup.threads() {
@@ -43,7 +43,7 @@ fn is_cut_off(session: &Session) -> bool {
     false
 }
 
-/// How many of the steps were visible. The calls are made again, on a session before any call.
+/// Returns the number of visible steps. The calls are made again, on a session before any call.
 fn count_visible(
     session: &mut Session,
     visible: &VisibleSteps,
@@ -65,11 +65,11 @@ fn count_visible(
 }
 
 impl Plan {
-    /// The plan of a test that begins with this seed. It makes pilots: runs with the first 64 of
-    /// its seeds, whose switches are spread over powers of two. The lengths of those that were cut
-    /// off by the allowed calls, or made no visible step, are not kept. After a million calls no
-    /// pilot begins, nor after the deadline, when no run begins either. A plan does not depend on
-    /// the number of runs or of jobs.
+    /// Makes the plan of a test that begins with this seed. It makes pilots: runs with the first 64
+    /// of its seeds, whose switches are spread over powers of two. The lengths of those that were
+    /// cut off by the allowed calls, or made no visible step, are not kept. After a million calls
+    /// no pilot begins, nor after the deadline, when no run begins either. A plan does not depend
+    /// on the number of runs or of jobs.
     pub fn new<C: Clock>(
         clock: &C,
         alloc: Global,

@@ -1,5 +1,5 @@
-//! Runs: histories of a seed and of the schedule that is drawn by it.
-//! Keys of runs, by which runs with the same steps are told.
+//! Runs: histories of a seed and of the schedule that is drawn by it. Keys of runs, which tell runs
+//! apart by their steps.
 ghost use Rattle.std.specs.Prelude.{◌≡◌, ◌<◌, ◌+◌, ◌++◌, ◌∷◌, ◌||◌, [], ℕ, true, length, Some, IfOk, OnOk, take};
 ghost use Rattle.bp_machine.specs.declared.calls.Call.{Call as Answered};
 ghost use Rattle.bp_machine.specs.Histories.{configuration_after, outcome_of, is_failure};
@@ -16,7 +16,7 @@ use crate::visible_steps::VisibleSteps;
 use bp_machine::{Call, Reply, Session};
 use std::alloc::AllocError;
 
-/// Makes a call of a thread, and keeps it.
+/// Makes a call of a thread, and appends it.
 fn play(session: &mut Session, history: &mut Vec<Call>, thread: u32) -> Result<Reply, AllocError>
     requires { Stands session.old.code.tree session.old history.old.items }
     ensures stands { OnOk result (Stands session.new.code.tree session.new history.new.items) }
@@ -39,7 +39,7 @@ fn play(session: &mut Session, history: &mut Vec<Call>, thread: u32) -> Result<R
     Ok(call.reply)
 }
 
-/// The number of the instruction that is next for a thread, where there is one.
+/// Returns the number of the next instruction of a thread, if there is one.
 #[inline(always)]
 pub(crate) fn next_number(session: &Session, thread: u32) -> Option<u32>
     ensures { AfterEach session.now (λ t h. let now = configuration_after t session.now.setup h in
@@ -48,21 +48,21 @@ pub(crate) fn next_number(session: &Session, thread: u32) -> Option<u32>
     Some(session.top(thread)?.number)
 }
 
-/// Whether a reply refuses a context.
+/// Returns whether a reply refuses a context.
 fn refuses_context(reply: Reply) -> bool
     ensures { result ≡ refuses_context reply }
 {
     matches!(reply, Reply::NoContexts)
 }
 
-/// Whether a call was refused a context, up to one with this reply.
+/// Returns whether a call was refused a context, up to one with this reply.
 fn refused_with(was_refused: bool, reply: Reply) -> bool
     ensures { result ≡ (was_refused || refuses_context reply) }
 {
     was_refused || refuses_context(reply)
 }
 
-/// Marks an instruction, where its thread was not refused a context.
+/// Marks an instruction, unless its thread was refused a context.
 fn reach(reached: &mut Vec<bool>, number: Option<u32>, reply: Reply)
     ensures { reached.new.items ≡ marks_after number reply reached.old.items }
 {
@@ -74,7 +74,7 @@ fn reach(reached: &mut Vec<bool>, number: Option<u32>, reply: Reply)
     }
 }
 
-/// Whether a place is marked.
+/// Returns whether a place is marked.
 pub(crate) fn is_marked(marks: &[bool], place: usize) -> bool
     ensures { result ≡ is_marked marks.now place }
 {
@@ -84,7 +84,7 @@ pub(crate) fn is_marked(marks: &[bool], place: usize) -> bool
     }
 }
 
-/// Marks this instruction, the next one of a thread, where the thread waits at it. It is quicker to
+/// Marks this instruction, the next one of a thread, if the thread waits at it. It is quicker to
 /// tell that the instruction is marked than that the thread waits.
 fn reach_wait(reached: &mut Vec<bool>, session: &Session, thread: u32, number: Option<u32>)
     requires { thread < threads session.now.setup }
@@ -115,7 +115,7 @@ fn reach_waits(reached: &mut Vec<bool>, session: &Session)
     }
 }
 
-/// What is known of a run beside its calls.
+/// The facts of a run beside its calls.
 #[derive(Clone, Copy)]
 pub(crate) struct FollowedRun {
     /// The key of its steps, or of the whole run.
@@ -124,7 +124,7 @@ pub(crate) struct FollowedRun {
     pub(crate) was_refused: bool,
 }
 
-/// The key of a run with this key of its steps, at whose end the session stands.
+/// Returns the key of a run with this key of its steps, at whose end the session stands.
 fn end_key(session: &Session, steps: u64) -> u64
     ensures { AfterEach session.now (λ t h. let s = session.now.setup in
         IsEndKey t (configuration_after t s h) steps (threads s) result) }
@@ -137,8 +137,8 @@ fn end_key(session: &Session, steps: u64) -> u64
 }
 
 /// Makes calls by the schedule, on a session before any call, until an assertion fails or each
-/// thread rests. The instructions of the calls are marked, and those to which a call leads and at
-/// which its thread has to wait.
+/// thread rests. Marks the instructions of the calls, and those to which a call leads and at which
+/// its thread has to wait.
 fn follow(
     session: &mut Session,
     scheduler: &mut Scheduler<'_>,
@@ -179,9 +179,9 @@ fn follow(
     }
 }
 
-/// Makes a run with this seed, in the memory of earlier ones, and answers what is known of it. Its
-/// schedule switches before visible steps; how many of them runs make is known from pilots, by
-/// these lengths. The instructions that are reached are marked.
+/// Makes a run with this seed, in the memory of earlier ones, and returns its facts. Its schedule
+/// switches before visible steps, whose number is estimated from pilots, by these lengths. Marks
+/// the instructions that are reached.
 pub(crate) fn run_once(
     session: &mut Session,
     seed: u64,
@@ -222,11 +222,11 @@ pub(crate) const FIRST_KEY: u64 = 0x9E37_79B9_7F4A_7C15;
 /// The factor of each step: 2 ^ 64 over the golden ratio, which spreads small numbers well.
 const FACTOR: u64 = 0x9E37_79B9_7F4A_7C15;
 
-/// What stands for the next instruction of a thread that has none.
+/// The number in place of the next instruction of a thread that has none.
 const NOWHERE: u32 = u32::MAX;
 
-/// The key after a step of this thread that the instruction of this number makes. A thread is below
-/// 128, so no two steps are mixed in alike.
+/// Returns the key after a step of this thread that the instruction of this number makes. A thread
+/// is below 128, so no two steps are mixed in alike.
 fn key_with(key: u64, thread: u32, number: u32) -> u64
     ensures { result ≡ key_with key thread number }
 {
@@ -234,15 +234,15 @@ fn key_with(key: u64, thread: u32, number: u32) -> u64
     (key ^ step).wrapping_mul(FACTOR)
 }
 
-/// The key of a run that has ended, with the next instruction of this thread. Each thread counts
-/// once, also without one, so the end of a run is not taken for steps.
+/// Returns the key of a run that has ended, with the next instruction of this thread. Each thread
+/// counts once, also without one, so the end of a run is not taken for steps.
 pub(crate) fn key_at_end(key: u64, thread: u32, number: Option<u32>) -> u64
     ensures { result ≡ key_at_end key thread number }
 {
     key_with(key, thread, number.unwrap_or(NOWHERE))
 }
 
-/// The key after a call of this thread at the instruction of this number, with this reply.
+/// Returns the key after a call of this thread at the instruction of this number, with this reply.
 pub(crate) fn key_after(key: u64, thread: u32, number: Option<u32>, reply: Reply) -> u64
     ensures { result ≡ key_after key thread number reply }
 {

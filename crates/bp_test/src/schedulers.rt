@@ -16,26 +16,26 @@ const STREAM: u64 = 118;
 /// The most lengths among which one is drawn.
 const MAX_LENGTHS: usize = 64;
 
-/// How many powers of two there are, from 8, among which a number of places is drawn where no
-/// length is known.
+/// The number of powers of two, from 8, among which a number of places is drawn if no length is
+/// known.
 const POWERS: u32 = 14;
 
 /// The longest length that counts.
 const LONGEST: u64 = 1 << 32;
 
-/// Of how many schedules shares are said.
+/// The denominator of the next shares of schedules.
 const LOTS: u32 = 20;
 
-/// How many of them have one switch.
+/// The share of schedules with one switch.
 const WITH_ONE: u32 = 4;
 
-/// How many have one switch or two.
+/// The share of schedules with one switch or two.
 const WITH_FEW: u32 = 5;
 
-/// How many go back to a thread that had to wait as soon as it may step.
+/// The share of schedules that return to a thread that had to wait as soon as it may step.
 const RESUMING: u32 = 14;
 
-/// How often a switch goes to a thread that has not made a call, beside one that has.
+/// The weight of a thread that has not made a call, beside one that has.
 const UNMOVED: u32 = 3;
 
 /// Threads to which a schedule may switch, as masks.
@@ -49,9 +49,9 @@ struct Others {
 }
 
 /// A schedule that is drawn while it is followed: it has a number of switches, and places among
-/// which they are spread. A place is before a visible step of the current thread, but the first
+/// which they are spread. A place is before a visible step of the current thread, except the first
 /// since the last switch: a switch there would have been better made at once. The thread to which
-/// it switches is drawn among those that may step. Some schedules go back to a thread that had to
+/// it switches is drawn among those that may step. Some schedules return to a thread that had to
 /// wait as soon as it may step.
 #[derive(Drop)]
 pub(crate) struct Scheduler<'a> {
@@ -59,21 +59,21 @@ pub(crate) struct Scheduler<'a> {
     visible: &'a VisibleSteps,
     /// The thread of the last call, or of the first one.
     current: u32,
-    /// The instruction that is next for it, where there is one.
+    /// Its next instruction, if there is one.
     number: Option<u32>,
     /// Whether it has made a visible step since the last switch.
     has_stepped: bool,
-    /// How many switches are left.
+    /// The number of switches left.
     switches: u32,
-    /// Among how many next places they are.
+    /// Candidate switch points.
     places: u64,
-    /// Whether a thread that had to wait goes on as soon as it may step.
+    /// Whether a thread that had to wait continues as soon as it may step.
     is_resuming: bool,
     /// The threads that the schedule left since they had to wait, as a mask.
     waiting: u64,
 }
 
-/// A number below the count, where the count is not 0.
+/// Draws a number below the count, if the count is not 0.
 fn below(generator: &mut Lcg64Xsh32, count: u32) -> u32
     ensures below { 0 < count → result < count }
     ensures most { result ≤ count }
@@ -82,7 +82,7 @@ fn below(generator: &mut Lcg64Xsh32, count: u32) -> u32
     if count == 0 { 0 } else { word % count }
 }
 
-/// A length: one of these, or a power of two where there are none.
+/// Draws a length: one of these, or a power of two if there are none.
 fn draw_length(generator: &mut Lcg64Xsh32, lengths: &[u64]) -> u64 {
     let count = lengths.len().min(MAX_LENGTHS) as u32;
     let n = below(generator, count);
@@ -92,9 +92,9 @@ fn draw_length(generator: &mut Lcg64Xsh32, lengths: &[u64]) -> u64 {
     }
 }
 
-/// How many switches a run of this length has. The most are one less than the contexts that are
-/// allowed, and seven eighths of the length less one. One schedule of five has one switch, one of
-/// twenty has two, and the others more than half of the most.
+/// Draws the number of switches of a run of this length. The most are one less than the contexts
+/// that are allowed, and seven eighths of the length less one. One schedule of five has one switch,
+/// one of twenty has two, and the others more than half of the most.
 fn draw_switches(generator: &mut Lcg64Xsh32, contexts: u32, length: u64) -> u32 {
     if contexts < 2 {
         return 0;
@@ -111,10 +111,10 @@ fn draw_switches(generator: &mut Lcg64Xsh32, contexts: u32, length: u64) -> u32 
     }
 }
 
-/// Among how many places this many switches are: from half of the steps where they may be to all
-/// of these. For one schedule of two that is the whole length, and for the other one the share of
-/// as many threads as there are switches: before the last switch no more threads than that make
-/// steps.
+/// Draws the number of places for this number of switches: from half of the steps at which they may
+/// be to all of these. For one schedule of two that is the whole length, and for the other one the
+/// share of as many threads as there are switches: before the last switch no more threads than that
+/// make steps.
 fn draw_places(generator: &mut Lcg64Xsh32, length: u64, switches: u32, threads: u32) -> u64 {
     let is_whole = below(generator, 2) == 0;
     let steps = if is_whole {
@@ -127,7 +127,7 @@ fn draw_places(generator: &mut Lcg64Xsh32, length: u64, switches: u32, threads: 
     steps - half + u64::from(below(generator, half as u32 + 1))
 }
 
-/// The threads other than this one that may step.
+/// Returns the threads other than this one that may step.
 fn others_of(session: &Session, current: u32) -> Others {
     let mut others = Others {
         all: 0,
@@ -143,7 +143,7 @@ fn others_of(session: &Session, current: u32) -> Others {
 }
 
 impl Others {
-    /// How likely a switch goes to a thread.
+    /// Returns the weight of a thread for a switch.
     fn weight(&self, thread: u32) -> u32 {
         let bit = bit(thread as usize);
         if self.all & bit == 0 {
@@ -164,7 +164,7 @@ impl Others {
         self.sum = self.sum.saturating_add(self.weight(thread));
     }
 
-    /// The one of this many threads at a place, from 0: each has as many places as its weight.
+    /// Returns the thread at a place, from 0: each has as many places as its weight.
     fn thread_at(&self, threads: u32, place: u32) -> Option<u32>
         ensures { IfSome result (λ i. i < threads) }
     {
@@ -180,7 +180,7 @@ impl Others {
     }
 }
 
-/// The first thread that may step.
+/// Returns the first thread that may step.
 fn first(session: &Session) -> Option<u32>
     ensures { let count = threads session.now.setup in
         MatchOption result
@@ -196,8 +196,8 @@ fn first(session: &Session) -> Option<u32>
 }
 
 impl<'a> Scheduler<'a> {
-    /// The schedule of a seed for a session before any call. It switches before visible steps. How
-    /// many of them runs make is known from pilots, by these lengths.
+    /// Draws the schedule of a seed for a session before any call. It switches before visible
+    /// steps, whose number is estimated from pilots, by these lengths.
     pub(crate) fn new(
         seed: u64,
         session: &Session,
@@ -225,13 +225,13 @@ impl<'a> Scheduler<'a> {
         }
     }
 
-    /// Notes which instruction is next for the current thread after its call.
+    /// Records the next instruction of the current thread after its call.
     pub(crate) fn note_next(&mut self, number: Option<u32>) {
         self.number = number;
     }
 
-    /// Whether the schedule switches before the next call, which the current thread may make. Each
-    /// choice of the places that are left is as likely.
+    /// Draws whether the schedule switches before the next call, which the current thread may make.
+    /// Each choice of the places that are left is as likely.
     fn switches_now(&mut self) -> bool {
         if self.switches == 0 || self.places == 0 {
             return false;
@@ -252,8 +252,8 @@ impl<'a> Scheduler<'a> {
         true
     }
 
-    /// A thread that may step, other than the current one. One that has not made a call is three
-    /// times as likely as another.
+    /// Draws a thread that may step, other than the current one. One that has not made a call is
+    /// three times as likely as another.
     fn drawn(&mut self, session: &Session) -> Option<u32>
         ensures { IfSome result (λ i. i < threads session.now.setup) }
     {
@@ -266,7 +266,7 @@ impl<'a> Scheduler<'a> {
         others.thread_at(threads, place)
     }
 
-    /// The first thread that was left since it had to wait, and may step now.
+    /// Returns the first thread that was left since it had to wait, and may step now.
     fn resumed(&self, session: &Session) -> Option<u32>
         ensures { IfSome result (λ i. i < threads session.now.setup) }
     {
@@ -278,7 +278,7 @@ impl<'a> Scheduler<'a> {
         None
     }
 
-    /// Notes that the current thread may not step: it has to wait, unless its line has ended.
+    /// Records that the current thread may not step: it has to wait, unless its line has ended.
     fn note_wait(&mut self, session: &Session) {
         let current = self.current;
         if current >= session.setup().threads() || session.is_finished(current) {
@@ -289,7 +289,7 @@ impl<'a> Scheduler<'a> {
         }
     }
 
-    /// Goes on with this thread.
+    /// Continues with this thread.
     fn go_to(&mut self, session: &Session, thread: u32) {
         self.current = thread;
         self.number = next_number(session, thread);
@@ -297,7 +297,7 @@ impl<'a> Scheduler<'a> {
         self.waiting &= !bit(thread as usize);
     }
 
-    /// The thread that makes the next call: one that may step, where there is one.
+    /// Returns the thread that makes the next call: one that may step, if there is one.
     pub(crate) fn next(&mut self, session: &Session) -> Option<u32>
         ensures { let count = threads session.now.setup in
             MatchOption result

@@ -19,9 +19,9 @@ pub(crate) struct Driven {
 /// The search for a smaller history.
 #[derive(Drop)]
 pub(crate) struct Search {
-    /// A session, which is started anew for each candidate.
+    /// A session, which is restarted for each candidate.
     pub(crate) session: Session,
-    /// How each history ends that is taken.
+    /// The end of each history that is taken.
     pub(crate) end: HistoryEnd,
     /// The smallest history so far.
     pub(crate) best: Driven,
@@ -33,13 +33,13 @@ pub(crate) struct Search {
     pub(crate) is_taken: bool,
 }
 
-/// How many choice bits of the history are 1.
+/// Returns the number of choice bits of the history that are 1.
 fn ones(history: &[Call]) -> usize {
     history.iter().filter(|call| call.bit).count()
 }
 
-/// Whether the new history has the same outcome by no more calls and no more contexts, and by fewer
-/// of either or by fewer choice bits that are 1.
+/// Returns whether the new history has the same outcome by no more calls and no more contexts, and
+/// by fewer of either or by fewer choice bits that are 1.
 fn is_better(new: &Driven, old: &Driven) -> bool
     ensures { result ≡ true → IsNoMore new.now old.now.report }
 {
@@ -54,8 +54,8 @@ fn is_better(new: &Driven, old: &Driven) -> bool
         || ones(new.history.as_slice()) < ones(old.history.as_slice())
 }
 
-/// Whether the new history, at which the session stands, is better than the old one and has this
-/// end.
+/// Returns whether the new history, at which the session stands, is better than the old one and has
+/// this end.
 fn is_wanted(
     alloc: Global,
     session: &Session,
@@ -72,7 +72,7 @@ fn is_wanted(
     has_end(alloc, session, end)
 }
 
-/// Drives the candidate, and takes the history to which that leads where it is wanted.
+/// Drives the candidate, and takes the resulting history if it is wanted.
 fn drive_candidate(search: Search) -> Result<Search, AllocError>
     requires { IsSearch search }
     ensures { IfOk result (GoesOn search) }
@@ -101,7 +101,7 @@ fn drive_candidate(search: Search) -> Result<Search, AllocError>
     })
 }
 
-/// Writes the calls that a change makes of a history. For some the session drives it again.
+/// Writes the calls of a history after a change. For some changes the session drives it again.
 fn write_candidate(
     session: Session,
     history: &[Call],
@@ -143,7 +143,7 @@ fn change_best(search: Search, change: Change) -> Result<Search, AllocError>
     })
 }
 
-/// Tries what is next, where that is a change.
+/// Tries the next candidate, if it is a change.
 fn attempt(search: Search, candidates: &mut Candidates, next: Next) -> Result<Search, AllocError>
     requires { IsSearch search }
     ensures { IfOk result (GoesOn search) }

@@ -28,7 +28,7 @@ pub struct Shrunk {
     pub report: Report,
 }
 
-/// The calls that made a step.
+/// Returns the calls that made a step.
 fn granted(alloc: Global, history: &[Call]) -> Result<Vec<Call>, AllocError>
     ensures { IfOk result (λ v. v.items ≡ granted_calls history.now) }
 {
@@ -41,7 +41,7 @@ fn granted(alloc: Global, history: &[Call]) -> Result<Vec<Call>, AllocError>
     Ok(calls)
 }
 
-/// The setup with this many contexts and no seed.
+/// Returns the setup with this number of contexts and no seed.
 fn budgeted(setup: &Setup, contexts: u32) -> Result<Setup, AllocError>
     requires { contexts ≤ setup.now.contexts }
     ensures { IfOk result (λ x. x ≡ budgeted setup.now contexts) }
@@ -51,7 +51,7 @@ fn budgeted(setup: &Setup, contexts: u32) -> Result<Setup, AllocError>
     Ok(unseeded.with_bounds(contexts, setup.calls()))
 }
 
-/// The calls of the best history that made a step, in the setup of the contexts that they use.
+/// Returns the best history's calls that made a step, in the setup of the contexts they use.
 fn used(alloc: Global, code: &Code, setup: &Setup, search: &Search) -> Result<Shrunk, AllocError>
     requires fits { Fits code.now.tree setup.now }
     requires driven { IsDriven code.now.tree setup.now search.now.end search.now.best }
@@ -77,11 +77,11 @@ fn used(alloc: Global, code: &Code, setup: &Setup, search: &Search) -> Result<Sh
     })
 }
 
-/// A history that ends as this one does, by no more calls and no more contexts: the same assertion
+/// Returns a history with the same end, by no more calls and no more contexts: the same assertion
 /// fails, or the same threads wait at the same assumptions. Contexts are left out and joined, loops
 /// and other calls are left out, and choices are 0, as long as that makes it smaller and `limits`
-/// allows the work. The calls keep their bits, so the setup of what is answered has no seed, and as
-/// many contexts as are used.
+/// allows the work. The calls keep their bits, so the returned setup has no seed, and as many
+/// contexts as are used.
 pub fn shrink(
     alloc: Global,
     code: &Code,
@@ -114,7 +114,7 @@ pub fn shrink(
     Ok(shrunk)
 }
 
-/// How a history ends.
+/// The end of a history.
 #[derive(Drop)]
 pub enum HistoryEnd {
     /// An assertion failed, at the instruction of this number.
@@ -125,7 +125,7 @@ pub enum HistoryEnd {
     Other,
 }
 
-/// How the history of a session ends. Memory is needed in a deadlock alone.
+/// Returns the end of the history of a session. It allocates in a deadlock alone.
 pub fn history_end(alloc: Global, session: &Session) -> Result<HistoryEnd, AllocError>
     ensures end { IfOk result (EndsIn session.now) }
     ensures memory { IfErr result (λ _.
@@ -141,8 +141,8 @@ pub fn history_end(alloc: Global, session: &Session) -> Result<HistoryEnd, Alloc
     Ok(HistoryEnd::Deadlock { waiting })
 }
 
-/// Whether two ends are the same: the same instruction, or the same threads that wait at the same
-/// instructions.
+/// Returns whether two ends are the same: the same instruction, or the same threads that wait at
+/// the same instructions.
 fn is_same(one: &HistoryEnd, other: &HistoryEnd) -> bool
     ensures { result ≡ true
         → (t : Program) (s : SetupOf) (h : List Answered)
@@ -161,7 +161,7 @@ fn is_same(one: &HistoryEnd, other: &HistoryEnd) -> bool
     }
 }
 
-/// Whether the history of a session has this end.
+/// Returns whether the history of a session has this end.
 pub(crate) fn has_end(
     alloc: Global,
     session: &Session,
@@ -173,7 +173,7 @@ pub(crate) fn has_end(
     Ok(is_same(&own, end))
 }
 
-/// Makes a call again, where the thread may make it, and keeps it.
+/// Makes a call again, if the thread may make it, and appends it.
 fn make_again(session: &mut Session, history: &mut Vec<Call>, line: &Call) -> Result<(), AllocError>
     requires stands { Stands session.old.code.tree session.old history.old.items }
     ensures stands { OnOk result (Stands session.new.code.tree session.new history.new.items) }

@@ -1,4 +1,4 @@
-//! What runs of a test came to, counted.
+//! Statistics of the runs of a test.
 ghost use Rattle.std.specs.Prelude.{◌≡◌, ◌<◌, ◌^◌, ◌++◌, ◌∷◌, [], ℕ, true, false, List, length, take, slice_set, slice_index_or, IfOk, OnOk};
 ghost use Rattle.bp_language.specs.Ast.{Program};
 ghost use Rattle.bp_machine.specs.Histories.{is_granted};
@@ -12,11 +12,11 @@ use bp_flat::Code;
 use bp_machine::{Call, Outcome, Reply, Report, Setup};
 use std::alloc::{AllocError, Global};
 
-/// How many runs ended in each way, and what the runs lacked that ended too early: those that were
-/// out of contexts, cut off or starved. A run in which an assertion failed is not counted.
+/// The number of runs that ended in each way, and the lacks of those that ended too early: those
+/// that were out of contexts, cut off or starved. A run with a failed assertion is not counted.
 #[derive(Clone, Copy, Debug, PartialEq, Eq)]
 pub struct Ends {
-    /// Each thread came to the end of its program.
+    /// Each thread reached the end of its program.
     pub finished: u64,
     /// A thread was refused a context.
     pub out_of_contexts: u64,
@@ -35,18 +35,18 @@ pub struct Ends {
     pub lacking_calls: u64,
 }
 
-/// What runs of a test came to. No count is greater than the greatest number of 64 bits.
+/// Statistics of the runs of a test. No count is greater than the greatest number of 64 bits.
 #[derive(Drop)]
 pub struct Tally {
-    /// How many runs there were.
+    /// The number of runs.
     pub runs: u64,
-    /// How many calls they made.
+    /// The number of their calls.
     pub calls: u64,
     /// The most calls of one run.
     pub longest: u64,
-    /// How many runs ended in each way.
+    /// The number of runs that ended in each way.
     pub ends: Ends,
-    /// For each number of contexts, how many runs used that many.
+    /// For each number of contexts, the number of runs that used it.
     pub contexts: Vec<u64>,
     /// For each instruction of the code, whether a thread tried its step, or had to wait at it:
     /// when it came there, or when a run ended.
@@ -62,12 +62,12 @@ pub struct Tally {
 #[derive(Clone, Copy, Debug, PartialEq, Eq)]
 pub struct ContextsUsed {
     pub least: u64,
-    /// At least half of the runs used this many or fewer; the least such number.
+    /// The least number that at least half of the runs did not exceed.
     pub middle: u64,
     pub most: u64,
 }
 
-/// This many times false.
+/// Returns `count` false values.
 pub(crate) fn none_of(alloc: Global, count: usize) -> Result<Vec<bool>, AllocError>
     ensures size { IfOk result (λ v. length v.items ≡ count) }
     ensures none { IfOk result (λ v. (n : ℕ) → is_marked v.items n ≡ false) }
@@ -79,7 +79,7 @@ pub(crate) fn none_of(alloc: Global, count: usize) -> Result<Vec<bool>, AllocErr
     Ok(marks)
 }
 
-/// Marks a place, where it is there.
+/// Marks a place, if it exists.
 pub(crate) fn mark(marks: &mut Vec<bool>, place: usize)
     ensures { marks.new.items ≡ slice_set marks.old.items place true }
 {
@@ -100,7 +100,7 @@ fn mark_all(marks: &mut Vec<bool>, others: &[bool])
     }
 }
 
-/// Adds a number of runs that used this many contexts.
+/// Adds a number of runs that used this number of contexts.
 fn count_contexts(counts: &mut Vec<u64>, used: usize, runs: u64) -> Result<(), AllocError>
     ensures { OnOk result
         ((k : ℕ)
@@ -115,21 +115,21 @@ fn count_contexts(counts: &mut Vec<u64>, used: usize, runs: u64) -> Result<(), A
     Ok(())
 }
 
-/// Whether the call made a step.
+/// Returns whether the call made a step.
 pub(crate) fn is_step(call: &Call) -> bool
     ensures { result ≡ is_granted call.now.reply }
 {
     matches!(call.reply, Reply::Stepped | Reply::Failed)
 }
 
-/// Whether the stack of a thread was full.
+/// Returns whether the stack of a thread was full.
 fn has_full_stack(history: &[Call]) -> bool
     ensures { result ≡ has_full_stack history.now }
 {
     history.iter().any(|call| matches!(call.reply, Reply::Full))
 }
 
-/// Whether all places are marked.
+/// Returns whether all places are marked.
 fn are_all_marked(marks: &[bool]) -> bool
     ensures { result ≡ true → (n : ℕ) → n < length marks.now → is_marked marks.now n ≡ true }
 {
@@ -156,7 +156,7 @@ fn note_steps(stepped: &mut Vec<bool>, history: &[Call])
 }
 
 impl Ends {
-    /// The counts of no run.
+    /// The counts of zero runs.
     const NONE: Ends = Ends {
         finished: 0,
         out_of_contexts: 0,
@@ -168,8 +168,8 @@ impl Ends {
         lacking_calls: 0,
     };
 
-    /// Counts what a run lacked that ended too early. It is known whether a call was refused a
-    /// context.
+    /// Counts the resource that a run lacked which ended too early. `was_refused` tells whether a
+    /// call was refused a context.
     fn add_lack(&mut self, history: &[Call], was_refused: bool)
         ensures { self.new ≡ with_lack was_refused (has_full_stack history.now) self.old }
     {
@@ -182,7 +182,7 @@ impl Ends {
         }
     }
 
-    /// Counts a run, where no assertion failed in it. It is known whether each thread came to the
+    /// Counts a run, if no assertion failed in it. The flags tell whether each thread reached the
     /// end of its program, and whether a call was refused a context.
     fn add_run(
         &mut self,
@@ -233,15 +233,15 @@ impl Ends {
 }
 
 impl ContextsUsed {
-    /// The numbers of no run.
+    /// Statistics of zero runs.
     const NONE: ContextsUsed = ContextsUsed {
         least: 0,
         middle: 0,
         most: 0,
     };
 
-    /// Adds the runs that used this many contexts. `before` runs used fewer, and `half` is half of
-    /// the number of all runs.
+    /// Adds the runs that used this number of contexts. `before` runs used fewer, and `half` is
+    /// half of the number of all runs.
     fn add(&mut self, contexts: u64, before: u64, half: u64)
         ensures { self.new ≡ contexts_with contexts before half self.old }
     {
@@ -256,7 +256,7 @@ impl ContextsUsed {
 }
 
 impl Tally {
-    /// The tally of no run.
+    /// Makes the tally of zero runs.
     pub(crate) fn new(alloc: Global, code: &Code, setup: &Setup) -> Result<Tally, AllocError>
         ensures { IfOk result (IsTally code.now.tree setup.now []) }
     {
@@ -325,8 +325,8 @@ impl Tally {
         Ok(())
     }
 
-    /// The least, the middle and the greatest number of contexts that the runs used; 0 where there
-    /// is no run.
+    /// Returns the least, the middle and the greatest number of contexts that the runs used; 0 if
+    /// there is no run.
     pub fn contexts_used(&self) -> ContextsUsed
         ensures { (s : SetupOf) (runs : List MadeRun)
             → length runs < 2 ^ 64

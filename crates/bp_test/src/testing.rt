@@ -1,7 +1,5 @@
-//! Testing a program within a bound on contexts.
-//! When a test begins no more runs.
-//! Who is told how far a test is.
-//! Why a test is not finished.
+//! Testing a program within a bound on contexts. The time limit of a test. Watching the progress of
+//! a test. Why a test is not finished.
 ghost use Rattle.std.specs.Prelude.{◌≡◌, MatchResult, None, false};
 ghost use Rattle.bp_machine.specs.Setups.{Fits};
 ghost use Rattle.bp_test.specs.Tests.{found_in, jobs_of, IsTest, IsTestRefusal};
@@ -22,37 +20,37 @@ use std::thread::Threads;
 use std::time::Clock;
 use thiserror::Error;
 
-/// What a test found.
+/// The finding of a test.
 #[derive(Clone, Copy, Debug, PartialEq, Eq)]
 pub enum Found {
     /// None of the runs.
     Nothing,
-    /// An assertion failed in this run. No run before it is what the test looks for.
+    /// An assertion failed in this run. The test does not search for any run before it.
     Failed { run: u64, report: Report },
     /// This run ended in a deadlock: some threads had not ended, and each of those waits for ever.
-    /// No run before it is what the test looks for.
+    /// The test does not search for any run before it.
     Deadlock { run: u64, report: Report },
 }
 
-/// What a test found, and what the runs that it made came to.
+/// The finding of a test, and the statistics of its runs.
 #[derive(Drop)]
 pub struct Tested {
     pub found: Found,
-    /// The instruction whose assertion failed in the run that was found, where one did.
+    /// The instruction whose assertion failed in the run that was found, if one did.
     pub failed: Option<u32>,
     /// The threads that wait at the end of the run that was found, in ascending order.
     pub waiting: Vec<Waiting>,
     pub tally: Tally,
 }
 
-/// How many jobs make the runs of a test, side by side: as many as are asked for, and at least one.
+/// Returns the number of jobs of a test, side by side: as many as asked for, at least one.
 fn jobs_of(options: &TestOptions) -> usize
     ensures { result ≡ jobs_of options.now }
 {
     options.jobs.clamp(1, MAX_JOBS) as usize
 }
 
-/// What was found in a run with this report.
+/// Returns the finding for a run with this report.
 fn found_in(run: u64, report: Report) -> Found
     ensures { result ≡ found_in run report }
 {
@@ -63,11 +61,11 @@ fn found_in(run: u64, report: Report) -> Found
 }
 
 /// Makes runs, each with the seed after that of the one before, until an assertion fails, or a run
-/// ends in a deadlock where that is looked for, and then writes the trace of that run. Where none
-/// is found nothing is written. No run begins after the seconds of the options. The runs that were
+/// ends in a deadlock if deadlocks are searched, and then writes the trace of that run. If none is
+/// found nothing is written. No run begins after the seconds of the options. The runs that were
 /// made are then the first of those that would have been made without a limit. At a refusal nothing
-/// is written, but for a writer that refuses: it then has a proper prefix of the trace. What
-/// `progress` is told changes nothing of that.
+/// is written, unless the writer refuses: it then has a proper prefix of the trace. `progress` has
+/// no effect on any of that.
 pub fn test<R: Threads + Sync, C: Clock + Sync, P: Progress, W: Write>(
     rt: &Runtimes<'_, R, C>,
     alloc: Global,
@@ -118,14 +116,14 @@ pub fn test<R: Threads + Sync, C: Clock + Sync, P: Progress, W: Write>(
     })
 }
 
-/// What starts the threads of a test, and what tells the time.
+/// The starter of the threads of a test, and its clock.
 #[derive(Drop)]
 pub struct Runtimes<'a, R, C> {
     pub threads: &'a R,
     pub clock: &'a C,
 }
 
-/// What the clock shows, in milliseconds, where it can be read.
+/// Returns the time of the clock, in milliseconds, if it can be read.
 pub(crate) fn millis<C: Clock>(clock: &C) -> Option<u64> {
     let Ok(shown) = clock.monotonic() else {
         return None;
@@ -133,8 +131,8 @@ pub(crate) fn millis<C: Clock>(clock: &C) -> Option<u64> {
     Some(u64::try_from(shown.as_millis()).unwrap_or(u64::MAX))
 }
 
-/// What the clock shows after this many seconds, in milliseconds. A clock that cannot be read
-/// leaves no time.
+/// Returns the time of the clock after this number of seconds, in milliseconds. A clock that cannot
+/// be read leaves no time.
 pub(crate) fn deadline_after<C: Clock>(clock: &C, seconds: Option<u64>) -> Option<u64>
     ensures { seconds ≡ None → result ≡ None }
 {
@@ -145,8 +143,8 @@ pub(crate) fn deadline_after<C: Clock>(clock: &C, seconds: Option<u64>) -> Optio
     }
 }
 
-/// Whether fewer than this many milliseconds are over since the clock showed this time. It is not
-/// so where the clock cannot be read.
+/// Returns whether fewer than `limit` milliseconds are over since the clock showed this time; false
+/// if the clock cannot be read.
 pub(crate) fn is_within<C: Clock>(clock: &C, start: Option<u64>, limit: u64) -> bool {
     match (start, millis(clock)) {
         (Some(start), Some(now)) => now < start.saturating_add(limit),
@@ -154,7 +152,7 @@ pub(crate) fn is_within<C: Clock>(clock: &C, start: Option<u64>, limit: u64) -> 
     }
 }
 
-/// Whether no more run may begin.
+/// Returns whether no more run may begin.
 pub(crate) fn is_over<C: Clock>(clock: &C, deadline: Option<u64>) -> bool
     ensures { deadline ≡ None → result ≡ false }
 {
@@ -167,16 +165,16 @@ pub(crate) fn is_over<C: Clock>(clock: &C, deadline: Option<u64>) -> bool
     }
 }
 
-/// Who is told how far a test is, after each wave of blocks.
+/// Observes a test, after each wave of blocks.
 pub trait Progress {
-    /// None of the first `done` of `runs` runs is what the test looks for.
+    /// Is told that none of the first `done` of `runs` runs is a finding.
     fn tell(&self, done: u64, runs: u64);
 
-    /// The test makes no more runs.
+    /// Is told that the test makes no more runs.
     fn end(&self);
 }
 
-/// Nobody is told.
+/// Tells nobody.
 pub struct Untold;
 
 impl Progress for Untold {

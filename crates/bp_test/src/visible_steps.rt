@@ -11,8 +11,8 @@ use std::alloc::{AllocError, Global};
 /// either order, so a switch before one of them may as well come before the next visible one.
 #[derive(Drop)]
 pub struct VisibleSteps {
-    /// The bit of thread t has the weight 2 to the t. There are none where no step is visible: then
-    /// each counts as visible.
+    /// The bit of thread t has the weight 2 to the t. Empty if no step is visible: then each counts
+    /// as visible.
     masks: Vec<u64>,
 }
 
@@ -33,7 +33,7 @@ fn add_unseen(
     Ok(())
 }
 
-/// What a thread with this entry may touch. Each instruction to which it may come is taken once.
+/// Returns the globals that a thread with this entry may touch, by the instructions it can reach.
 fn touched_from(alloc: Global, code: &Code, entry: Option<u32>) -> Result<Touched, AllocError> {
     let mut touched = Touched {
         read: 0,
@@ -56,7 +56,7 @@ fn touched_from(alloc: Global, code: &Code, entry: Option<u32>) -> Result<Touche
     Ok(touched)
 }
 
-/// What each thread may touch.
+/// Returns the globals that each thread may touch.
 fn touched_by_threads(
     alloc: Global,
     code: &Code,
@@ -73,7 +73,7 @@ fn touched_by_threads(
     Ok(touched)
 }
 
-/// What the threads other than this one may touch.
+/// Returns the globals that the threads other than this one may touch.
 fn touched_by_others(touched: &[Touched], thread: usize) -> Touched {
     let mut others = Touched {
         read: 0,
@@ -87,13 +87,13 @@ fn touched_by_others(touched: &[Touched], thread: usize) -> Touched {
     others
 }
 
-/// The bit of a thread in a mask of threads.
+/// Returns the bit of a thread in a mask of threads.
 pub(crate) fn bit(thread: usize) -> u64 {
     1 << (thread % MAX_THREADS)
 }
 
-/// The threads for which a step is visible that touches this. Of each thread it is known what the
-/// others may touch.
+/// Returns the threads for which a step that touches these globals is visible, from the globals
+/// that others access.
 fn seeing(step: Touched, others: &[Touched]) -> u64 {
     let mut mask = 0;
     for (thread, touched) in others.iter().enumerate() {
@@ -104,7 +104,7 @@ fn seeing(step: Touched, others: &[Touched]) -> u64 {
     mask
 }
 
-/// Of each thread what the others may touch.
+/// Returns for each thread the globals that others access.
 fn others_of(alloc: Global, touched: &[Touched]) -> Result<Vec<Touched>, AllocError> {
     let mut others = Vec::new(alloc);
     for thread in 0..touched.len() {
@@ -114,7 +114,7 @@ fn others_of(alloc: Global, touched: &[Touched]) -> Result<Vec<Touched>, AllocEr
 }
 
 impl VisibleSteps {
-    /// The visible steps of a code in a setup.
+    /// Returns the visible steps of a code in a setup.
     pub(crate) fn new(
         alloc: Global,
         code: &Code,
@@ -138,7 +138,7 @@ impl VisibleSteps {
         Ok(VisibleSteps { masks })
     }
 
-    /// Whether the step of a thread at the instruction of this number is visible.
+    /// Returns whether the step of a thread at the instruction of this number is visible.
     #[inline(always)]
     pub(crate) fn is_visible(&self, thread: u32, number: Option<u32>) -> bool {
         let Some(number) = number else {

@@ -1,5 +1,5 @@
-//! Whether a thread may step, and where threads wait.
-//! Where an assertion failed.
+//! Whether a thread may step, and the places at which threads wait. The instruction at which an
+//! assertion failed.
 ghost use Rattle.std.specs.Prelude.{◌≡◌, ◌<◌, ◌↔◌, true, false, IsTrue, IfOk, MatchOption, IfNone, IfSome};
 ghost use Rattle.bp_machine.specs.Histories.{configuration_after, outcome_of};
 ghost use Rattle.bp_machine.specs.Sessions.{AfterEach};
@@ -21,8 +21,8 @@ pub struct Waiting {
     pub number: u32,
 }
 
-/// Whether the instruction of this number is an assumption. A thread at another one does not wait,
-/// and this is quicker to tell.
+/// Returns whether the instruction of this number is an assumption. A thread at another one does
+/// not wait, and this is quicker to tell.
 fn is_assumption(session: &Session, number: Option<u32>) -> bool {
     let Some(number) = number else {
         return false;
@@ -33,8 +33,8 @@ fn is_assumption(session: &Session, number: Option<u32>) -> bool {
     }
 }
 
-/// Whether a thread, which stands at the instruction of this number, may step: its line is open,
-/// and it does not wait.
+/// Returns whether a thread, which is at the instruction of this number, may step: its line is
+/// open, and it does not wait.
 #[inline(always)]
 pub(crate) fn may_step_at(session: &Session, thread: u32, number: Option<u32>) -> bool
     ensures there { result ≡ true → thread < threads session.now.setup }
@@ -51,7 +51,7 @@ pub(crate) fn may_step_at(session: &Session, thread: u32, number: Option<u32>) -
     !(is_assumption(session, number) && session.waits(thread))
 }
 
-/// Whether a thread may step.
+/// Returns whether a thread may step.
 pub(crate) fn may_step(session: &Session, thread: u32) -> bool
     ensures there { result ≡ true → thread < threads session.now.setup }
     ensures rests { result ≡ false
@@ -61,7 +61,7 @@ pub(crate) fn may_step(session: &Session, thread: u32) -> bool
     may_step_at(session, thread, next_number(session, thread))
 }
 
-/// Whether each thread is at the end of its program.
+/// Returns whether each thread is at the end of its program.
 pub(crate) fn have_returned(session: &Session) -> bool
     ensures { AfterEach session.now (λ t h. let now = configuration_after t session.now.setup h in
         (IsTrue result ↔ HaveReturned now (threads session.now.setup))) }
@@ -74,7 +74,7 @@ pub(crate) fn have_returned(session: &Session) -> bool
     true
 }
 
-/// Where a thread waits, if it does.
+/// Returns the place at which a thread waits, if it does.
 fn waiting_at(session: &Session, thread: u32) -> Option<Waiting>
     ensures { AfterEach session.now (λ t h. let now = configuration_after t session.now.setup h in
         MatchOption result (waits t now thread ≡ false) (IsWait t now thread)) }
@@ -86,7 +86,7 @@ fn waiting_at(session: &Session, thread: u32) -> Option<Waiting>
     Some(Waiting { thread, number })
 }
 
-/// The threads that wait, in ascending order, and where.
+/// Returns the threads that wait, in ascending order, and their places.
 pub fn waiting_threads(alloc: Global, session: &Session) -> Result<Vec<Waiting>, AllocError>
     ensures { IfOk result (λ v.
         AfterEach session.now (λ t h. let now = configuration_after t session.now.setup h in
@@ -101,7 +101,7 @@ pub fn waiting_threads(alloc: Global, session: &Session) -> Result<Vec<Waiting>,
     Ok(waiting)
 }
 
-/// The number of the instruction whose assertion failed, where one did.
+/// Returns the number of the instruction whose assertion failed, if one did.
 pub fn failed_instruction(session: &Session) -> Option<u32>
     ensures at { AfterEach session.now (λ t h. IfSome result (FailsAt t session.now.setup h)) }
     ensures none { AfterEach session.now (λ t h. IfNone result (outcome_of h ≡ Outcome.Clean)) }

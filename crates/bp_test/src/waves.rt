@@ -25,16 +25,16 @@ use std::time::Clock;
 struct Wave {
     /// The number of its first run.
     from: u64,
-    /// How many blocks it has.
+    /// The number of its blocks.
     blocks: usize,
-    /// How many runs a block has.
+    /// The number of runs of a block.
     size: u64,
-    /// How many runs the test makes. A block that reaches them is shorter.
+    /// The number of runs of the test. A block that reaches it is shorter.
     runs: u64,
 }
 
 impl Wave {
-    /// Where this block begins. Where a block ends, the next one begins.
+    /// Returns the start of this block, which is the end of the block before.
     fn start(&self, block: u64) -> u64
         ensures { let w = self.now in result ≡ start_of_block w.from w.size block w.runs }
     {
@@ -75,7 +75,7 @@ fn blocks_of<R: Threads + Sync, C: Clock + Sync>(
     )
 }
 
-/// What a wave came to.
+/// The result of a wave.
 #[derive(Drop)]
 struct WaveEnd {
     /// The number of the run after its last.
@@ -83,8 +83,8 @@ struct WaveEnd {
     found: Option<FoundRun>,
 }
 
-/// What these blocks came to, up to the first that found a run or was cut off by the deadline. The
-/// first run has this number. The runs up to the last that counts are added to the tally.
+/// Returns the result of these blocks, up to the first that found a run or met the deadline. The
+/// first run has the number `start`. The runs up to the last that counts are added to the tally.
 fn first_of(
     start: u64,
     blocks: Vec<Result<Block, AllocError>>,
@@ -117,9 +117,9 @@ fn first_of(
     Ok(WaveEnd { end, found: None })
 }
 
-/// How many runs the blocks of the next wave have, after one with blocks of this size. After a
-/// quick wave the size doubles, so jobs seldom wait for each other. After a slow one it stays, so a
-/// failure is told soon.
+/// Returns the number of runs of the blocks of the next wave, after one with blocks of this size.
+/// After a quick wave the size doubles, so jobs seldom wait for each other. After a slow one it is
+/// the same, so a failure is told soon.
 fn next_size(size: u64, is_quick: bool) -> u64
     requires { size ≤ LONGEST_BLOCK }
     ensures is { result ≡ (if is_quick then min (size * 2) LONGEST_BLOCK else size) }
@@ -133,8 +133,8 @@ fn next_size(size: u64, is_quick: bool) -> u64
     }
 }
 
-/// Makes this many runs of a plan, in waves of this many blocks, until one is found or the time is
-/// over. After each wave that found none, `progress` is told.
+/// Makes this number of runs of a plan, in waves of this number of blocks, until one is found or
+/// the time is over. After each wave that found none, `progress` is told.
 pub(crate) fn search<R: Threads + Sync, C: Clock + Sync, P: Progress>(
     rt: &Runtimes<'_, R, C>,
     alloc: Global,
@@ -185,7 +185,7 @@ pub(crate) fn search<R: Threads + Sync, C: Clock + Sync, P: Progress>(
     })
 }
 
-/// A run that a test looks for.
+/// A run that a test searches for.
 #[derive(Drop)]
 pub struct FoundRun {
     /// The number of the run, from 0.
@@ -194,26 +194,26 @@ pub struct FoundRun {
     pub history: Vec<Call>,
     /// The report of that history.
     pub report: Report,
-    /// The number of the instruction whose assertion failed, where one did.
+    /// The number of the instruction whose assertion failed, if one did.
     pub number: Option<u32>,
     /// The threads that wait in the end, in ascending order.
     pub waiting: Vec<Waiting>,
 }
 
-/// What a block of runs came to.
+/// The result of a block of runs.
 #[derive(Drop)]
 pub struct Block {
     /// The number of its first run.
     pub from: u64,
     /// The number of the run after its last.
     pub end: u64,
-    /// The first run that was looked for. It is the last of the block.
+    /// The first run that was searched for. It is the last of the block.
     pub found: Option<FoundRun>,
     pub tally: Tally,
 }
 
-/// Whether a test looks for a run with this report: one in which an assertion failed, or one that
-/// ended in a deadlock, where those are looked for.
+/// Returns whether a test searches for a run with this report: one in which an assertion failed, or
+/// one that ended in a deadlock, if deadlocks are searched.
 fn is_sought(report: &Report, is_deadlocked: bool, with_deadlock: bool) -> bool
     ensures { result ≡ is_sought with_deadlock report.now is_deadlocked }
 {
@@ -224,7 +224,7 @@ fn is_sought(report: &Report, is_deadlocked: bool, with_deadlock: bool) -> bool
 }
 
 /// Makes the runs of a plan from `from` to before `to`, until one is found or the time is over.
-/// Blocks of runs stand apart: none needs another one's memory or answer.
+/// Blocks of runs are independent: none needs another one's memory or result.
 pub fn first_found<C: Clock>(
     clock: &C,
     alloc: Global,
