@@ -6,7 +6,7 @@ use bp_syntax::{is_reserved, take_lexeme};
 use bp_text::{part_before, part_from};
 use std::alloc::{AllocError, Global};
 
-/// The tokens around a place of a text. One that is not there has no bytes.
+/// The tokens around a place of a text. A missing one has no bytes.
 #[derive(Clone, Copy)]
 pub(crate) struct Around<'a> {
     /// The third token before the place, the second, and the one right before it.
@@ -22,7 +22,7 @@ pub(crate) struct Around<'a> {
     pub(crate) is_on_new_line: bool,
 }
 
-/// Whether the token is a name.
+/// Returns whether the token is a name.
 pub(crate) fn is_name(token: &[u8]) -> bool {
     match token.first() {
         Some(b'a'..=b'z' | b'A'..=b'Z' | b'_') => !is_reserved(token),
@@ -31,7 +31,7 @@ pub(crate) fn is_name(token: &[u8]) -> bool {
     }
 }
 
-/// How many bytes there are up to the last token of a text and with it.
+/// Returns the number of bytes up to and including the last token of a text.
 pub(crate) fn size_to_last_token(text: &[u8]) -> usize
     ensures { result ≤ length text.now }
 {
@@ -45,7 +45,7 @@ pub(crate) fn size_to_last_token(text: &[u8]) -> usize
     size
 }
 
-/// Whether a text is white and comments alone.
+/// Returns whether a text is white and comments alone.
 pub(crate) fn is_gap(text: &[u8]) -> bool
     ensures { IsTrue result → HasTokens text.now [] }
 {
@@ -58,7 +58,7 @@ pub(crate) fn is_gap(text: &[u8]) -> bool
     true
 }
 
-/// The tokens of a text, up to the first byte that begins none.
+/// Returns the tokens of a text, up to the first byte that begins none.
 pub(crate) fn tokens_of(alloc: Global, text: &[u8]) -> Result<Vec<&[u8]>, AllocError> {
     let mut tokens = Vec::new(alloc);
     let mut rest = text;
@@ -70,7 +70,7 @@ pub(crate) fn tokens_of(alloc: Global, text: &[u8]) -> Result<Vec<&[u8]>, AllocE
     Ok(tokens)
 }
 
-/// The token of this place, or no bytes if there is none.
+/// Returns the token of this place, or no bytes if there is none.
 fn nth<'a>(tokens: &[&'a [u8]], place: usize) -> &'a [u8] {
     match tokens.get(place) {
         Some(token) => token,
@@ -88,7 +88,7 @@ fn last_called<'a>(backwards: &[&'a [u8]]) -> &'a [u8] {
     }
 }
 
-/// The tokens around this place of a text.
+/// Returns the tokens around this place of a text.
 pub(crate) fn tokens_around(
     alloc: Global,
     text: &[u8],
@@ -110,7 +110,7 @@ pub(crate) fn tokens_around(
     })
 }
 
-/// The token at this place of a text. It has no bytes where the text ends.
+/// Returns the token at this place of a text; it has no bytes at the end.
 pub(crate) fn token_at(text: &[u8], at: usize) -> &[u8] {
     let mut rest = part_from(text, at);
     match take_lexeme(&mut rest) {

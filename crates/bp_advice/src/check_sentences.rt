@@ -25,7 +25,7 @@ impl<'a> RefusedName<'a> {
         Quoted(self.name)
     }
 
-    /// Says that the name is declared twice, and where it is first, if that is known.
+    /// Says that the name is declared twice, and where it is declared first, if that is known.
     fn twice(&self, first: Option<&Name>, sentence: String) -> Result<String, AllocError> {
         let alloc = self.alloc;
         let Some(name) = first else {
@@ -83,7 +83,7 @@ impl<'a> RefusedName<'a> {
         format!(in alloc; "{variables} on the left side, but {values} on the right side")
     }
 
-    /// Says how many names of its kind there may be.
+    /// Gives the most names of its kind.
     fn limit(&self) -> Result<String, AllocError> {
         let (alloc, tree) = (self.alloc, self.tree);
         let is_here = |name: &Name| name.at() as usize == self.at;
@@ -96,7 +96,7 @@ impl<'a> RefusedName<'a> {
         }
     }
 
-    /// Says what is wrong with the name.
+    /// Explains the mistake in the name.
     fn sentence(&self, fault: CheckFault) -> Result<String, AllocError> {
         let (alloc, name, tree) = (self.alloc, self.quoted(), self.tree);
         match fault {
@@ -135,7 +135,7 @@ impl<'a> RefusedName<'a> {
     }
 }
 
-/// Says why the program of a text is not lawful.
+/// Explains why the program of a text is not lawful.
 pub(crate) fn check_sentence(
     alloc: Global,
     text: &[u8],

@@ -1,5 +1,5 @@
-//! What the name at a place of a program's text stands among.
-//! How many arguments a call has, and how many variables and values an assignment.
+//! Scope of the name at a place of a program's text. The numbers of arguments of a call, and of
+//! variables and values of an assignment.
 use crate::around::tokens_of;
 use crate::check_sentences::RefusedName;
 use bp_language::{Name, Proc};
@@ -7,7 +7,7 @@ use bp_syntax::{ReadFault, Tree, read};
 use bp_text::{part_before, part_from};
 use std::alloc::{AllocError, Global};
 
-/// The tree of a text, where it has one.
+/// Returns the tree of a text, if it has one.
 pub fn tree_of(alloc: Global, text: &[u8]) -> Result<Option<Tree>, AllocError> {
     match read(alloc, text) {
         Ok(tree) => Ok(Some(tree)),
@@ -16,19 +16,19 @@ pub fn tree_of(alloc: Global, text: &[u8]) -> Result<Option<Tree>, AllocError> {
     }
 }
 
-/// The first of the names that is spelled so.
+/// Returns the first of the names with this text.
 pub(crate) fn first_named<'a>(names: &'a [Name], spelling: &[u8]) -> Option<&'a Name> {
     names.iter().find(|name| name.text().as_bytes() == spelling)
 }
 
-/// The first of the procedures whose name is spelled so.
+/// Returns the first of the procedures with this name.
 pub fn first_procedure<'a>(tree: &'a Tree, spelling: &[u8]) -> Option<&'a Proc> {
     tree.procs()
         .iter()
         .find(|proc| proc.name().text().as_bytes() == spelling)
 }
 
-/// The procedure in whose text this place is.
+/// Returns the procedure in whose text this place is.
 pub(crate) fn procedure_around(tree: &Tree, at: usize) -> Option<&Proc> {
     tree.procs()
         .iter()
@@ -39,11 +39,11 @@ fn is_comma(token: &[u8]) -> bool {
     token == b",".as_slice()
 }
 
-/// How many tokens a call without arguments has: its name and two brackets.
+/// The number of tokens of a call without arguments: its name and two brackets.
 const BARE_CALL: usize = 3;
 
 impl<'a> RefusedName<'a> {
-    /// The text of the procedure around the name: up to the name of the next one.
+    /// Returns the text of the procedure around the name: up to the name of the next one.
     pub(crate) fn text_of_procedure(&self) -> &'a [u8] {
         let place_of = |proc: &Proc| proc.name().at() as usize;
         let from = procedure_around(self.tree, self.at).map_or(0, place_of);
@@ -58,7 +58,7 @@ impl<'a> RefusedName<'a> {
         )
     }
 
-    /// The tokens of the statement that the name begins, up to its `;`.
+    /// Returns the tokens of the statement that the name begins, up to its `;`.
     fn statement(&self) -> Result<Vec<&'a [u8]>, AllocError> {
         let mut tokens = tokens_of(self.alloc, part_from(self.text, self.at))?;
         if let Some(end) = tokens.iter().position(|token| *token == b";".as_slice()) {
@@ -67,7 +67,7 @@ impl<'a> RefusedName<'a> {
         Ok(tokens)
     }
 
-    /// How many arguments the call has that the name begins.
+    /// Returns the number of arguments of the call that the name begins.
     pub(crate) fn argument_count(&self) -> Result<usize, AllocError> {
         let call = self.statement()?;
         if call.len() <= BARE_CALL {
@@ -77,7 +77,7 @@ impl<'a> RefusedName<'a> {
         Ok(commas.saturating_add(1))
     }
 
-    /// How many variables and how many values the assignment has that the name begins.
+    /// Returns the numbers of variables and of values of the assignment that the name begins.
     pub(crate) fn side_counts(&self) -> Result<(usize, usize), AllocError> {
         let tokens = self.statement()?;
         let mut sides = tokens.split(|token| *token == b":=".as_slice());

@@ -1,7 +1,7 @@
-//! Explanations of faults: where in a file, what is wrong there, and the lines that show the place.
-//! Explanations as they are printed: a line that names the place and has the sentence, and then the
-//! excerpt. They have only characters that a terminal shows, and line ends.
-//! Explanations of the faults of programs.
+//! Explanations of faults: the place in a file, the mistake there, and the lines that show the
+//! place. Explanations as printed: a line that names the place and has the sentence, and then the
+//! excerpt. They have only characters that a terminal shows, and line ends. Explanations of the
+//! faults of programs.
 ghost use Rattle.std.specs.Prelude.{◌≡◌, IfOk, ◌++◌, map, OnOk};
 ghost use Rattle.bp_code.specs.LawfulTexts.{program_fault_place};
 ghost use Rattle.bp_advice.specs.Explanations.{ExplainsLine, ExplainsPlace, IsAt, place_of, after_colon, head_of, is_plain, lines_of, numbers_of, sentence_of, shown, IsPlain, IsExplanationOf, ExplainsProgram};
@@ -31,15 +31,15 @@ pub enum Place {
 pub struct Explanation<'a> {
     /// The name of the file.
     pub file: &'a str,
-    /// Where in the file the fault is.
+    /// The place of the fault in the file.
     pub place: Place,
-    /// What is wrong there, on one line.
+    /// The mistake there, on one line.
     pub sentence: Vec<u8>,
-    /// The lines that show the place. It is empty where nothing is to be shown.
+    /// The lines that show the place, if any.
     pub excerpt: Vec<u8>,
 }
 
-/// The explanation of this place of a file, with this excerpt and the first line of this sentence.
+/// Makes the explanation of this place of a file, with this excerpt and sentence, on one line.
 pub fn explained<'a>(
     alloc: Global,
     file: &'a str,
@@ -59,7 +59,7 @@ pub fn explained<'a>(
     })
 }
 
-/// The place of a byte of a text, or the whole text.
+/// Returns the place of a byte of a text, or the whole text.
 fn place_of(text: &[u8], at: Option<u32>) -> Place
     ensures { result ≡ place_of text.now at }
 {
@@ -69,7 +69,7 @@ fn place_of(text: &[u8], at: Option<u32>) -> Place
     }
 }
 
-/// The explanation of a place of a text, or of the whole text where there is none.
+/// Makes the explanation of a place of a text, or of the whole text if there is none.
 pub(crate) fn about_place<'a>(
     alloc: Global,
     file: &'a str,
@@ -83,7 +83,7 @@ pub(crate) fn about_place<'a>(
     explained(alloc, file, place_of(text, at), excerpt, sentence)
 }
 
-/// The explanation of a line of a text, which has this number and is shown without a caret.
+/// Makes the explanation of a line of a text, which has this number and is shown without a caret.
 pub fn about_line<'a>(
     alloc: Global,
     file: &'a str,
@@ -98,17 +98,17 @@ pub fn about_line<'a>(
     explained(alloc, file, Place::Line(number), excerpt, sentence)
 }
 
-/// What stands between a place and a sentence on it.
+/// The text between a place and a sentence on it.
 const SEPARATOR: &[u8] = b": ";
 
-/// Whether the byte is a line feed, or a character that a terminal shows in one column.
+/// Returns whether the byte is a line feed, or a character that a terminal shows in one column.
 fn is_plain(byte: u8) -> bool
     ensures { result ≡ is_plain byte }
 {
     byte == b'\n' || b' ' <= byte && byte <= b'~'
 }
 
-/// How a byte is shown: a column stays a column.
+/// Returns the byte to show for a byte: a column stays a column.
 pub(crate) fn shown(byte: u8) -> u8
     ensures { result ≡ shown byte }
 {
@@ -121,7 +121,7 @@ pub(crate) fn shown(byte: u8) -> u8
     }
 }
 
-/// The bytes as they are shown.
+/// Returns the bytes to show.
 fn shown_bytes(alloc: Global, bytes: &[u8]) -> Result<Vec<u8>, AllocError>
     ensures { IfOk result (λ v. v.items ≡ map shown bytes.now) }
 {
@@ -155,7 +155,7 @@ fn push_numbers(out: &mut Vec<u8>, place: Place) -> Result<(), AllocError>
     }
 }
 
-/// The head that names a file and a place in it.
+/// Returns the head that names a file and a place in it.
 fn head_of(alloc: Global, file: &str, place: Place) -> Result<Vec<u8>, AllocError>
     ensures { IfOk result (λ v. v.items ≡ head_of file.now place) }
 {
@@ -166,15 +166,15 @@ fn head_of(alloc: Global, file: &str, place: Place) -> Result<Vec<u8>, AllocErro
     Ok(head)
 }
 
-/// The sentence of an explanation. The only error is refused memory.
+/// Returns the sentence of an explanation. Fails only on allocation.
 pub fn sentence_of(alloc: Global, explanation: &Explanation<'_>) -> Result<Vec<u8>, AllocError>
     ensures { IfOk result (λ v. v.items ≡ sentence_of explanation.now) }
 {
     shown_bytes(alloc, explanation.sentence.as_slice())
 }
 
-/// The lines of an explanation: its place and its sentence, and then its excerpt. The only error is
-/// refused memory.
+/// Returns the lines of an explanation: its place and its sentence, and then its excerpt. Fails
+/// only on allocation.
 pub fn lines_of(alloc: Global, explanation: &Explanation<'_>) -> Result<Vec<u8>, AllocError>
     ensures is { IfOk result (λ v. v.items ≡ lines_of explanation.now) }
     ensures plain { IfOk result (λ v. IsPlain v.items) }
@@ -186,7 +186,7 @@ pub fn lines_of(alloc: Global, explanation: &Explanation<'_>) -> Result<Vec<u8>,
     shown_bytes(alloc, lines.as_slice())
 }
 
-/// The byte that the fault names, if it names one.
+/// Returns the byte that the fault names, if any.
 fn place_in(fault: &ProgramFault) -> Option<u32>
     ensures { result ≡ program_fault_place fault.now }
 {
@@ -198,8 +198,8 @@ fn place_in(fault: &ProgramFault) -> Option<u32>
 }
 
 /// Explains this fault of a program's text, at its line and column. A missing semicolon is placed
-/// at the end of the statement before. Nothing explains a text that is too long, or refused memory,
-/// which is also the only error.
+/// at the end of the statement before. Nothing explains a text that is too long, or refused memory.
+/// Fails only on allocation.
 pub fn explain_program<'a>(
     alloc: Global,
     file: &'a str,

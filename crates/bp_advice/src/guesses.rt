@@ -9,14 +9,14 @@ use bp_syntax::Tree;
 use std::alloc::{AllocError, Global};
 use strsim::osa_distance;
 
-/// The most edits between a name and what it may stand for: a letter more, less or another, or two
+/// The most edits between a name and a similar one: a letter more, less or another, or two
 /// neighbours that are swapped.
 const MAX_EDITS: usize = 2;
 
-/// Longer names are not compared.
+/// The size from which names are not compared.
 const MAX_SIZE: usize = 60;
 
-/// The first of the names that has the fewest edits. At least half of the letters remain.
+/// Returns the first of the names that has the fewest edits. At least half of the letters remain.
 fn nearest<'a>(
     alloc: Global,
     misspelled: &str,
@@ -38,7 +38,7 @@ fn nearest<'a>(
     Ok(nearest)
 }
 
-/// Asks whether the nearest of these names was meant, if one is near. Text that is no UTF-8 has no
+/// Asks whether the nearest of these names was meant, if one is near. Text that is not UTF-8 has no
 /// name near it.
 fn question(alloc: Global, misspelled: &[u8], names: &[&str]) -> Result<String, AllocError> {
     let misspelled = str::from_utf8(misspelled).unwrap_or("");

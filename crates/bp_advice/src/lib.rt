@@ -1,5 +1,5 @@
-//! Explanations of faults of programs, for people: where in a text a fault is, the line, and what
-//! was expected there or what is wrong. Explanations of other faults share its parts.
+//! Explanations of faults of programs, for people: the place of a fault in a text, the line, and
+//! the expected tokens there or the mistake. Explanations of other faults share its parts.
 #![tactic(auto)]
 
 mod around;

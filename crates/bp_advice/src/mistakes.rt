@@ -1,5 +1,4 @@
-//! Mistakes of writers who know other languages: which one a token out of place is.
-//! What to write in place of a mistake.
+//! Mistakes of writers who know other languages, and the corrections.
 use crate::around::{Around, is_name};
 use crate::offers::Offer;
 use crate::sentences::Named;
@@ -7,7 +6,7 @@ use bp_language::TokenKind::{self, Becomes, Close, Else, End, Fi, Od, Semicolon}
 use bp_syntax::{is_reserved, spelling_of};
 use std::alloc::{AllocError, Global};
 
-/// A mistake, named for what its writer takes the language to have.
+/// A mistake, named for the writer's belief about the language.
 #[derive(Clone, Copy, PartialEq, Eq)]
 pub(crate) enum Mistake {
     /// `?` as a value.
@@ -20,16 +19,16 @@ pub(crate) enum Mistake {
     TypedFormal,
     /// More than one label after `goto`.
     ManyLabels,
-    /// Another one, by what to write in its place.
+    /// Another one, by its correction.
     Other(&'static str),
 }
 
-/// Whether the token of this kind is among the offers.
+/// Returns whether the token of this kind is among the offers.
 fn has_token(offers: &[Offer], kind: TokenKind) -> bool {
     offers.contains(&Offer::Token(kind))
 }
 
-/// Whether a name is among the offers, and no reserved word.
+/// Returns whether a name is among the offers, and no reserved word.
 fn is_name_due(offers: &[Offer]) -> bool {
     let is_word = |offer: &Offer| match offer {
         Offer::Token(kind) => is_reserved(spelling_of(*kind).as_bytes()),
@@ -38,7 +37,7 @@ fn is_name_due(offers: &[Offer]) -> bool {
     offers.contains(&Offer::Name) && !offers.iter().any(is_word)
 }
 
-/// Whether only statements are among the offers, and no word that ends a body.
+/// Returns whether only statements are among the offers, and no word that ends a body.
 fn is_statement_due(offers: &[Offer]) -> bool {
     offers.contains(&Offer::Statement)
         && !has_token(offers, End)
@@ -47,7 +46,7 @@ fn is_statement_due(offers: &[Offer]) -> bool {
         && !has_token(offers, Od)
 }
 
-/// Whether a body ends with the word.
+/// Returns whether a body ends with the word.
 fn ends_body(token: &[u8]) -> bool {
     matches!(token, b"end" | b"else" | b"fi" | b"od")
 }
@@ -65,13 +64,13 @@ const TYPES: &[&[u8]] = &[
     b"procedure",
 ];
 
-/// The words that begin what may follow a statement or a declaration.
+/// The words that begin the text after a statement or a declaration.
 const BEGINNINGS: &[&[u8]] = &[
     b"skip", b"goto", b"return", b"if", b"while", b"assert", b"assume", b"print", b"end", b"else",
     b"fi", b"od", b"decl",
 ];
 
-/// The mistake in a declaration.
+/// Returns the mistake in a declaration.
 fn declaration_mistake(offers: &[Offer], around: &Around<'_>) -> Option<Mistake> {
     if around.found == b"decl".as_slice() && offers.contains(&Offer::End) {
         Some(Mistake::Other("globals are declared before the first procedure"))
@@ -88,7 +87,7 @@ fn declaration_mistake(offers: &[Offer], around: &Around<'_>) -> Option<Mistake>
     }
 }
 
-/// The mistake in how statements stand.
+/// Returns the mistake in the order of statements.
 fn statement_mistake(offers: &[Offer], around: &Around<'_>) -> Option<Mistake> {
     let is_else_if = matches!(around.called, b"elsif" | b"elif" | b"elseif" | b"elsf");
     if around.found == b"then".as_slice() && is_else_if {
@@ -106,8 +105,8 @@ fn statement_mistake(offers: &[Offer], around: &Around<'_>) -> Option<Mistake> {
     }
 }
 
-/// The mistake in what stands in place of an expression: the token may be the second byte of
-/// another language's operator.
+/// Returns the mistake in place of an expression: the token may be the second byte of another
+/// language's operator.
 fn operator_mistake(found: &[u8]) -> Option<Mistake> {
     match found {
         b"=" => Some(Mistake::Other("equality is written '='")),
@@ -118,7 +117,7 @@ fn operator_mistake(found: &[u8]) -> Option<Mistake> {
     }
 }
 
-/// The mistake in a value.
+/// Returns the mistake in a value.
 fn value_mistake(offers: &[Offer], around: &Around<'_>) -> Option<Mistake> {
     if around.found == b"=".as_slice() && has_token(offers, Becomes) {
         Some(Mistake::Other("an assignment is written ':='"))
@@ -136,7 +135,7 @@ fn value_mistake(offers: &[Offer], around: &Around<'_>) -> Option<Mistake> {
     }
 }
 
-/// The mistake in a statement of another dialect.
+/// Returns the mistake in a statement of another dialect.
 fn dialect_mistake(around: &Around<'_>) -> Option<Mistake> {
     let is_atomic = matches!(around.before, b"atomic_begin" | b"atomic_end");
     if around.found == b",".as_slice() && around.second == b"goto".as_slice() {
@@ -154,7 +153,7 @@ fn dialect_mistake(around: &Around<'_>) -> Option<Mistake> {
     }
 }
 
-/// The mistake that the token at a place is, where the offers could stand there.
+/// Returns the mistake at a place with these offers and tokens.
 pub(crate) fn mistake_at(offers: &[Offer], around: &Around<'_>) -> Option<Mistake> {
     dialect_mistake(around)
         .or(declaration_mistake(offers, around))
@@ -162,8 +161,8 @@ pub(crate) fn mistake_at(offers: &[Offer], around: &Around<'_>) -> Option<Mistak
         .or(value_mistake(offers, around))
 }
 
-/// Whether the token at the place begins what may follow a statement or a declaration. A name may
-/// continue an expression instead: on the same line the token after it decides.
+/// Returns whether the token at the place begins the text after a statement or a declaration. A
+/// name may continue an expression instead: on the same line the token after it decides.
 fn begins_next(around: &Around<'_>) -> bool {
     if BEGINNINGS.contains(&around.found) {
         return true;
@@ -175,12 +174,12 @@ fn begins_next(around: &Around<'_>) -> bool {
     around.is_on_new_line || matches!(around.next, b":=" | b"(" | b":" | b",")
 }
 
-/// Whether a semicolon is missing before the token at a place, where the offers could stand there.
+/// Returns whether a semicolon is missing before the token at a place with these offers.
 pub(crate) fn misses_semicolon(offers: &[Offer], around: &Around<'_>) -> bool {
     has_token(offers, Semicolon) && begins_next(around) && around.found != b"constrain".as_slice()
 }
 
-/// Says how a choice becomes a value: that of a variable, if it is the first value of one alone.
+/// Explains how a choice becomes a value: that of a variable, if it is the first value of it.
 fn choice(alloc: Global, around: &Around<'_>) -> Result<String, AllocError> {
     let is_alone = around.third != b",".as_slice();
     if around.before != b":=".as_slice() || !is_alone || !is_name(around.second) {
@@ -193,7 +192,7 @@ fn choice(alloc: Global, around: &Around<'_>) -> Result<String, AllocError> {
     )
 }
 
-/// Says what to write in place of a mistake at a place with these tokens around it.
+/// Advises how to correct a mistake at a place with these tokens around it.
 pub(crate) fn advice(
     alloc: Global,
     mistake: Mistake,

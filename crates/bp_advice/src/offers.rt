@@ -1,6 +1,5 @@
-//! What a text may continue with, in few words: where all tokens of a group may follow, they are
-//! named by the group's name.
-//! The tokens that may come next in a text.
+//! The possible continuations of a text, in few words: if all tokens of a group may follow, they
+//! are named by the group's name. The tokens that may come next in a text.
 ghost use Rattle.std.specs.Prelude.{◌≡◌, ◌↔◌, ◌++◌, ◌∷◌, IsTrue, IfOk, Contains};
 ghost use Rattle.bp_language.specs.declared.tokens.TokenKind.{TokenKind};
 ghost use Rattle.bp_syntax.specs.declared.faults.ReadFault.TheVariants.{Syntax, Memory};
@@ -16,29 +15,29 @@ use std::alloc::{AllocError, Global};
 use std::fmt;
 use std::fmt::Write;
 
-/// What begins a statement, where no limit is in the way.
+/// The tokens that begin a statement, if no limit prevents one.
 const STATEMENT: [TokenKind; 9] = [Skip, Goto, Return, If, While, Assert, Assume, Print, Name];
 
-/// What begins an expression.
+/// The tokens that begin an expression.
 const EXPRESSION: [TokenKind; 5] = [Zero, One, Bang, Open, Name];
 
-/// What stands between the two sides of an expression.
+/// The tokens between the two sides of an expression.
 const OPERATOR: [TokenKind; 6] = [Bar, Caret, Ampersand, Equal, Differ, Implies];
 
-/// One thing that a text may continue with.
+/// A possible continuation of a text.
 #[derive(Clone, Copy, PartialEq, Eq)]
 pub(crate) enum Offer {
     Statement,
     Expression,
     Operator,
     Name,
-    /// Nothing more.
+    /// The end of the text.
     End,
     /// The token of this kind.
     Token(TokenKind),
 }
 
-/// Offers the group by its name, in place of its tokens, where all of these are there.
+/// Offers the group by its name, in place of its tokens, if it has all of these.
 fn offer_group(
     kinds: &mut Vec<TokenKind>,
     group: &[TokenKind],
@@ -52,7 +51,7 @@ fn offer_group(
     Ok(())
 }
 
-/// The offer of a token of its own.
+/// Returns the offer of a token of its own.
 fn offer_of(kind: TokenKind) -> Offer {
     if kind == TokenKind::Name {
         Offer::Name
@@ -61,7 +60,7 @@ fn offer_of(kind: TokenKind) -> Offer {
     }
 }
 
-/// What may follow the front of a text.
+/// Returns the possible continuations of a text.
 pub(crate) fn offers_after(alloc: Global, front: &[u8]) -> Result<Vec<Offer>, AllocError> {
     let mut kinds = kinds_after(alloc, front)?;
     let mut offers = Vec::new(alloc);
@@ -90,7 +89,7 @@ impl fmt::Display for Offer {
     }
 }
 
-/// The offers, with commas and an `or` between them.
+/// Returns the offers, with commas and an `or` between them.
 pub(crate) fn list_of(alloc: Global, offers: &[Offer]) -> Result<String, AllocError> {
     let mut list = String::new(alloc);
     for (place, offer) in offers.iter().enumerate() {
@@ -100,14 +99,14 @@ pub(crate) fn list_of(alloc: Global, offers: &[Offer]) -> Result<String, AllocEr
     Ok(list)
 }
 
-/// Whether the fault is that of refused memory.
+/// Returns whether the fault is that of refused memory.
 fn is_memory(fault: &ReadFault) -> bool
     ensures { IsTrue result ↔ (fault.now ≡ Memory) }
 {
     matches!(fault, ReadFault::Memory)
 }
 
-/// Whether the fault is that a text of this size ends too early.
+/// Returns whether the fault is that a text of this size ends too early.
 fn is_early_end(fault: &ReadFault, size: usize) -> bool
     ensures { IsTrue result ↔ (fault.now ≡ Syntax size) }
 {
@@ -131,8 +130,7 @@ fn begins_program(alloc: Global, text: &[u8]) -> Result<bool, AllocError>
     Ok(is_early_end(&fault, text.len()))
 }
 
-/// The front and then the token, which stands on a line of its own: the front may end with a
-/// comment.
+/// Returns the front and then the token on a line of its own: the front may end with a comment.
 fn text_with(alloc: Global, front: &[u8], token: &[u8]) -> Result<Vec<u8>, AllocError>
     ensures { IfOk result (λ v. v.items ≡ front.now ++ 10 ∷ token.now) }
 {
@@ -143,7 +141,7 @@ fn text_with(alloc: Global, front: &[u8], token: &[u8]) -> Result<Vec<u8>, Alloc
     Ok(text)
 }
 
-/// Whether a program begins with the front and then this token.
+/// Returns whether a program begins with the front and then this token.
 pub(crate) fn may_follow(alloc: Global, front: &[u8], token: &str) -> Result<bool, AllocError>
     ensures { IfOk result (λ b. IsTrue b ↔ MayFollow front.now token.now) }
 {
@@ -151,7 +149,7 @@ pub(crate) fn may_follow(alloc: Global, front: &[u8], token: &str) -> Result<boo
     begins_program(alloc, text.as_slice())
 }
 
-/// The kinds of the tokens that may follow the front. One name is tried for all.
+/// Returns the kinds of the tokens that may follow the front. One name is tried for all.
 pub(crate) fn kinds_after(alloc: Global, front: &[u8]) -> Result<Vec<TokenKind>, AllocError>
     ensures { IfOk result (λ v. (kind : TokenKind)
         → IsJudged front.now kind (Contains v.items kind)) }
@@ -166,7 +164,7 @@ pub(crate) fn kinds_after(alloc: Global, front: &[u8]) -> Result<Vec<TokenKind>,
     Ok(kinds)
 }
 
-/// Whether the front is a program.
+/// Returns whether the front is a program.
 pub(crate) fn may_end(alloc: Global, front: &[u8]) -> Result<bool, AllocError>
     ensures { IfOk result (λ b. IsTrue b ↔ IsProgram front.now) }
 {

@@ -1,6 +1,5 @@
-//! Sentences on faults of a text: what is wrong before the text is a tree.
-//! The explanation of a token that cannot come there in a program.
-//! Texts that are of another kind than what is due, or were saved in another way.
+//! Sentences on faults of a text that has no tree. The explanation of a token that cannot come
+//! there in a program. Texts of another kind than expected, or saved in another way.
 ghost use Rattle.std.specs.Prelude.{IfOk, IfSome};
 ghost use Rattle.bp_advice.specs.Explanations.{ExplainsSyntax, MissesSemicolon};
 
@@ -14,7 +13,7 @@ use bp_syntax::ReadFault;
 use bp_text::{Line, last_line, part_before, part_from};
 use std::alloc::{AllocError, Global};
 
-/// What a writer may have meant by a byte that begins no token.
+/// Returns the likely meaning of a byte that begins no token.
 fn hint(byte: u8) -> &'static str {
     match byte {
         b'2'..=b'9' => "; the constants are 0 and 1",
@@ -28,7 +27,7 @@ fn hint(byte: u8) -> &'static str {
     }
 }
 
-/// The same, if the token before the byte tells more. After an expression it may be an operator.
+/// Returns also its meaning after the token before it: after an expression, an operator.
 fn hint_after(before: &[u8], byte: u8) -> &'static str {
     let ends_expression = is_name(before) || matches!(before, b"0" | b"1" | b")");
     if byte == b'*' && !ends_expression {
@@ -40,13 +39,13 @@ fn hint_after(before: &[u8], byte: u8) -> &'static str {
     }
 }
 
-/// Whether a line has an open brace.
+/// Returns whether a line has an open brace.
 fn has_open_brace(line: &[u8]) -> bool {
     let last = line.iter().rfind(|byte| matches!(byte, b'{' | b'}'));
     last == Some(&b'{')
 }
 
-/// Says why the byte at this place of a text begins no token. It is named by its number if a
+/// Explains why the byte at this place of a text begins no token. It is named by its number if a
 /// terminal does not show it.
 fn bad_byte(alloc: Global, text: &[u8], at: usize) -> Result<String, AllocError> {
     if has_open_brace(last_line(part_before(text, at))) {
@@ -64,7 +63,7 @@ fn bad_byte(alloc: Global, text: &[u8], at: usize) -> Result<String, AllocError>
     }
 }
 
-/// Says why a text is not that of a tree, if no token is out of place.
+/// Explains why a text has no tree, if no token is out of place.
 pub(crate) fn read_sentence(
     alloc: Global,
     text: &[u8],
@@ -90,7 +89,7 @@ pub(crate) fn read_sentence(
     }
 }
 
-/// Says what was expected at a place of a text, what stands there instead, and what to write. A
+/// Gives the expected tokens at a place of a text, the token there instead, and a correction. A
 /// text that is nearly too long has no room for a token, and then there are no offers.
 fn misplaced(
     alloc: Global,
@@ -116,7 +115,7 @@ fn misplaced(
     format!(in alloc; "expected {list}, not {}{instead}", Quoted(around.found))
 }
 
-/// The end of the token before this place, if a semicolon is missing there.
+/// Returns the end of the token before this place, if a semicolon is missing there.
 fn semicolon_place(
     alloc: Global,
     text: &[u8],
@@ -157,16 +156,16 @@ pub(crate) fn explain_syntax<'a>(
     about_place(alloc, file, text, Some(at), sentence.as_str())
 }
 
-/// What the text of a trace begins with.
+/// The beginning of the text of a trace.
 const TRACE: &[u8] = b"btrace ";
 
-/// What a text begins with that an editor saved with a byte-order mark.
+/// The beginning of a text that an editor saved with a byte-order mark.
 const BYTE_ORDER_MARK: &[u8] = b"\xef\xbb\xbf";
 
-/// What is said of a line that ends in a carriage return and a line feed.
+/// The sentence on a line that ends in a carriage return and a line feed.
 pub const ENDS_IN_CR_LF: &str = "the line ends in CR LF; end each line in LF only";
 
-/// What is said of a text that is no program, if its beginning tells what it is.
+/// Returns the sentence on a text that is no program, if its beginning tells its kind.
 pub(crate) fn other_than_program(text: &[u8]) -> Option<&'static str> {
     if text.starts_with(TRACE) {
         return Some("this file is a trace; the program comes first");
@@ -177,7 +176,7 @@ pub(crate) fn other_than_program(text: &[u8]) -> Option<&'static str> {
     None
 }
 
-/// Whether a line ends in a carriage return and a line feed.
+/// Returns whether a line ends in a carriage return and a line feed.
 pub fn ends_in_cr_lf(line: Line<'_>) -> bool {
     line.is_ended && line.text.last() == Some(&b'\r')
 }

@@ -1,5 +1,5 @@
-//! The words of sentences: numbers with a noun, and names, also in quotes.
-//! Numbers at the front of lines of traces and schedules.
+//! The parts of sentences: numbers with a noun, and names, also in quotes. Numbers at the front of
+//! lines of traces and schedules.
 use crate::explanations::shown;
 use bp_text::{number_of, part_before, part_from};
 use std::alloc::{AllocError, Global};
@@ -22,7 +22,7 @@ impl fmt::Display for Plain<'_> {
     }
 }
 
-/// What is shown of a name: it, or its front and dots if it is long.
+/// Returns a name as shown: whole, or its front and dots if it is long.
 pub fn cut_name(name: &[u8]) -> (&[u8], &'static str) {
     let dots = if name.len() > MAX_NAME { ".." } else { "" };
     (part_before(name, MAX_NAME), dots)
@@ -39,7 +39,7 @@ impl fmt::Display for Named<'_> {
     }
 }
 
-/// The same in quotes.
+/// A name in quotes.
 #[derive(Clone, Copy)]
 pub struct Quoted<'a>(pub &'a [u8]);
 
@@ -70,7 +70,7 @@ pub fn between(place: usize, count: usize, last: &'static str) -> &'static str {
     }
 }
 
-/// How many items are listed before dots.
+/// The most items that are listed before dots.
 const MAX_LISTED: usize = 6;
 
 /// Lists the first of these items, with commas between them, and dots for the others.
@@ -89,7 +89,7 @@ pub fn listed<T: fmt::Display>(alloc: Global, items: &[T]) -> Result<String, All
 /// A greater number is no number of a thread, and too large for each limit.
 const MAX_NUMBER: u64 = 999_999_999;
 
-/// The number before the first space of a line, and what follows that space.
+/// Parses the number before the first space of a line, and returns it with the text after it.
 pub fn number_at_front(line: &[u8]) -> Option<(u32, &[u8])> {
     let end = line.iter().position(|byte| *byte == b' ')?;
     let number = number_of(part_before(line, end))?;
