@@ -7,10 +7,10 @@ ghost use Rattle.bp_arguments.specs.Commands.{option_rule, row_rule, with_rules}
 use clap::{Arg, ArgAction, Command, value_parser};
 use std::alloc::{AllocError, Global};
 
-/// An argument of a command: its name and what help says of it.
+/// An argument of a command: its name and its help.
 #[derive(Clone, Copy)]
 pub enum Row<'a> {
-    /// One value, which has to be there.
+    /// One required value.
     Required(&'a str, &'a str),
     /// Any number of values.
     Values(&'a str, &'a str),
@@ -20,7 +20,7 @@ pub enum Row<'a> {
     Number(&'a str, &'a str),
     /// An option whose value is a number of 64 bits.
     LongNumber(&'a str, &'a str),
-    /// An option whose value is a text, which help calls by the name in the middle.
+    /// An option with a text as its value, which help calls by the name in the middle.
     Text(&'a str, &'a str, &'a str),
 }
 
@@ -28,9 +28,9 @@ pub enum Row<'a> {
 #[derive(Clone, Copy)]
 pub struct Subcommand<'a> {
     pub name: &'a str,
-    /// What its help says first, and the help of the program beside its name.
+    /// The first line of its help, also shown in the help of the program beside its name.
     pub about: &'a str,
-    /// What its help says after the arguments.
+    /// The text of its help after the arguments.
     pub notes: &'a str,
     /// Its arguments after the file and the flags on explanations.
     pub rows: &'a [Row<'a>],

@@ -21,7 +21,7 @@ pub static CHECK: Subcommand<'static> = Subcommand {
     advanced: &[],
 };
 
-/// What the arguments after `check` ask for.
+/// Reads the task of the arguments after `check`.
 pub fn check_arguments<'a>(arguments: &ArgMatches<'a>) -> CheckTask<'a>
     ensures { IsCheckArgumentsOf (rows_of (found_of arguments.now)) result }
 {

@@ -32,7 +32,7 @@ pub static CODE: Subcommand<'static> = Subcommand {
     advanced: &[],
 };
 
-/// How the code is listed. JSON has the source of each instruction too.
+/// Returns the form of the listing. JSON has the source of each instruction too.
 fn listing_form(arguments: &ArgMatches<'_>) -> ListingForm
     ensures { IsFormOf (rows_of (found_of arguments.now)) result }
 {
@@ -45,7 +45,7 @@ fn listing_form(arguments: &ArgMatches<'_>) -> ListingForm
     }
 }
 
-/// What the arguments after `code` ask for.
+/// Reads the task of the arguments after `code`.
 pub fn code_arguments<'a>(arguments: &ArgMatches<'a>) -> CodeTask<'a>
     ensures { IsCodeArgumentsOf (rows_of (found_of arguments.now)) result }
 {

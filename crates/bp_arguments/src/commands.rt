@@ -21,7 +21,7 @@ use clap::error::ErrorKind;
 use clap::{ArgMatches, Command, Error};
 use std::alloc::{AllocError, Global};
 
-/// What `--help` says after the commands.
+/// The text of `--help` after the commands.
 const NOTES: &str = "\
     Without a command standard input is a bundle: a program, a line '%', and a schedule of lines\n\
     'THREAD BIT'. One thread begins with 'main', all globals are 0, and at most 2 contexts and\n\
@@ -33,7 +33,7 @@ const NOTES: &str = "\
     Exit status:\n  0  done, and no assertion failed\n  1  an assertion failed\n  \
     2  the input or the arguments were refused\n  3  memory, a device or the output failed";
 
-/// What stands before the commands.
+/// Makes the part of the program before the commands.
 fn program<'a>(alloc: Global) -> Command<'a>
     ensures { app_of result ≡ program_app }
 {
@@ -46,7 +46,7 @@ fn program<'a>(alloc: Global) -> Command<'a>
         .after_help(NOTES)
 }
 
-/// The program with its commands.
+/// Makes the program with its commands.
 fn command<'a>(alloc: Global) -> Result<Command<'a>, AllocError>
     ensures { IfOk result (λ c. app_of c ≡ btrun_app) }
 {
@@ -58,7 +58,7 @@ fn command<'a>(alloc: Global) -> Result<Command<'a>, AllocError>
     Ok(program)
 }
 
-/// The task that the arguments of a command ask for.
+/// Reads the task of the arguments of a command.
 fn task_named<'a>(
     alloc: Global,
     command: Named,
@@ -82,7 +82,7 @@ fn task_named<'a>(
     }
 }
 
-/// The task that the matched arguments name.
+/// Reads the task of the matched arguments.
 fn task_of<'a>(alloc: Global, matches: &ArgMatches<'a>) -> Result<Task<'a>, AllocError>
     requires { IsOurs (subcommand_rows_of matches.now) }
     ensures { IfOk result (IsTaskOf (subcommand_rows_of matches.now)) }
@@ -96,8 +96,8 @@ fn task_of<'a>(alloc: Global, matches: &ArgMatches<'a>) -> Result<Task<'a>, Allo
     }
 }
 
-/// The task that the arguments ask for. The first argument is the program's name. The error also
-/// has the texts of help and version.
+/// Reads the task of the arguments. The first argument is the program's name. The error also has
+/// the texts of help and version.
 pub(crate) fn task_of_arguments<'a>(
     alloc: Global,
     arguments: &'a [String],
@@ -121,7 +121,7 @@ pub(crate) fn error_of(alloc: Global, kind: ErrorKind, message: &str) -> Result<
     command(alloc)?.error(kind, message)
 }
 
-/// The error of options that `clap` takes one by one.
+/// Makes the error of options that `clap` accepts one by one.
 fn misuse_error(alloc: Global, misuse: Misuse) -> Result<Error, AllocError>
     ensures { IfOk result (λ e. kind_of e ≡ misuse_kind misuse) }
 {

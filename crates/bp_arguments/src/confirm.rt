@@ -47,7 +47,7 @@ pub static CONFIRM: Subcommand<'static> = Subcommand {
     advanced: &[],
 };
 
-/// Tells how many contexts are allowed: as many as are used, unless a number is given.
+/// Returns the bound on contexts: as many as are used, unless a number is given.
 pub fn context_bound(arguments: &ArgMatches<'_>) -> ContextBound
     ensures { result ≡ bound_in (rows_of (found_of arguments.now)) }
 {
@@ -57,7 +57,7 @@ pub fn context_bound(arguments: &ArgMatches<'_>) -> ContextBound
     }
 }
 
-/// What the arguments after `confirm` ask for.
+/// Reads the task of the arguments after `confirm`.
 pub fn confirm_arguments<'a>(
     alloc: Global,
     arguments: &ArgMatches<'a>,

@@ -31,7 +31,7 @@ pub static DRIVE: Subcommand<'static> = Subcommand {
     advanced: &[],
 };
 
-/// What the arguments after `drive` ask for.
+/// Reads the task of the arguments after `drive`.
 pub fn drive_arguments<'a>(
     alloc: Global,
     arguments: &ArgMatches<'a>,

@@ -59,7 +59,7 @@ pub static EXPLORE: Subcommand<'static> = Subcommand {
     advanced: &[],
 };
 
-/// What the arguments after `explore` ask for.
+/// Reads the task of the arguments after `explore`.
 pub fn explore_arguments<'a>(
     alloc: Global,
     arguments: &ArgMatches<'a>,

@@ -1,6 +1,5 @@
-//! What all commands on files have.
-//! When a fault is explained.
-//! Arguments that several commands take.
+//! Arguments of all commands on files. When a fault is explained. Arguments that several commands
+//! take.
 ghost use Rattle.clap.specs.Words.{found_of, rows_of};
 ghost use Rattle.bp_arguments.specs.Values.{IsExplainingOf};
 
@@ -9,7 +8,7 @@ use crate::values::is_given;
 use bp_tasks::Explaining;
 use clap::ArgMatches;
 
-/// What the arguments ask for on explanations.
+/// Reads the options on explanations.
 pub fn explaining(arguments: &ArgMatches<'_>) -> Explaining
     ensures { IsExplainingOf (rows_of (found_of arguments.now)) result }
 {
@@ -19,7 +18,7 @@ pub fn explaining(arguments: &ArgMatches<'_>) -> Explaining
     }
 }
 
-/// What each command on a file takes first: the file, and the flags on explanations.
+/// The first arguments of each command on a file: the file, and the flags on explanations.
 pub static FILE_ROWS: [Row<'static>; 3] = [
     Required("FILE", "The file of the program"),
     Flag(

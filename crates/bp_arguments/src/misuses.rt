@@ -1,4 +1,4 @@
-//! What is wrong with options that `clap` takes one by one.
+//! Errors in options that `clap` accepts one by one.
 ghost use Rattle.std.specs.Prelude.{◌≡◌, find, option_copied};
 ghost use Rattle.clap.specs.Words.{found_of, rows_of, subcommand_rows_of};
 ghost use Rattle.bp_arguments.specs.Misuses.{are_on_line, backwards_in, is_from_line, is_on_line, misuse_in, misuse_kind, misuse_of, option_name};
@@ -31,16 +31,16 @@ pub enum OptionName {
     NoExplain,
 }
 
-/// What is wrong with options that are lawful one by one.
+/// An error in options that are lawful one by one.
 #[derive(Clone, Copy, Debug, PartialEq, Eq)]
 pub enum Misuse {
     /// The initial bits are neither bits nor different names with bits.
     BadInit,
-    /// What is expected is no verdict.
+    /// The expected verdict is not a verdict.
     BadVerdict,
     /// Beside the first of these options, the second has no effect.
     Together(OptionName, OptionName),
-    /// The first call that is to be shown, this one, comes after the last, that one.
+    /// The first call to show, this one, comes after the last, that one.
     Backwards(u64, u64),
 }
 
@@ -80,7 +80,7 @@ pub const CLASHES: [(OptionName, OptionName); 31] = [
     (OptionName::Explain, OptionName::NoExplain),
 ];
 
-/// The name of an option, without the dashes before it.
+/// Returns the name of an option, without the dashes before it.
 fn option_name(option: OptionName) -> &'static str
     ensures { result.now ≡ option_name option }
 {
@@ -111,14 +111,14 @@ fn is_from_line(source: Option<ValueSource>) -> bool
     matches!(source, Some(ValueSource::CommandLine))
 }
 
-/// Whether the arguments gave an option. A default does not count.
+/// Returns whether the arguments gave an option. A default does not count.
 fn is_on_line(arguments: &ArgMatches<'_>, option: OptionName) -> bool
     ensures { result ≡ is_on_line (rows_of (found_of arguments.now)) option }
 {
     is_from_line(arguments.value_source(option_name(option)))
 }
 
-/// Whether the arguments gave both options.
+/// Returns whether the arguments gave both options.
 fn are_on_line(arguments: &ArgMatches<'_>, pair: (OptionName, OptionName)) -> bool
     ensures { result ≡ are_on_line (rows_of (found_of arguments.now)) pair }
 {
@@ -136,7 +136,7 @@ fn first_given<'p>(
     pairs.iter().find(|pair| are_on_line(arguments, **pair))
 }
 
-/// Returns the first and the last call that are to be shown, if the first comes after the last.
+/// Returns the first and the last call to show, if the first comes after the last.
 fn backwards_in(arguments: &ArgMatches<'_>) -> Option<(u64, u64)>
     ensures { result ≡ backwards_in (rows_of (found_of arguments.now)) }
 {
@@ -145,7 +145,7 @@ fn backwards_in(arguments: &ArgMatches<'_>) -> Option<(u64, u64)>
     if to < from { Some((from, to)) } else { None }
 }
 
-/// What is wrong with the options of a command: the first that applies.
+/// Returns the error in the options of a command: the first that applies.
 fn misuse_in(arguments: &ArgMatches<'_>) -> Option<Misuse>
     ensures { result ≡ misuse_in (rows_of (found_of arguments.now)) }
 {
@@ -162,7 +162,7 @@ fn misuse_in(arguments: &ArgMatches<'_>) -> Option<Misuse>
     Some(Misuse::Backwards(from, to))
 }
 
-/// What is wrong with the options of the command that the arguments name.
+/// Returns the error in the options of the command that the arguments name.
 pub fn misuse_of(matches: &ArgMatches<'_>) -> Option<Misuse>
     ensures { result ≡ misuse_of (subcommand_rows_of matches.now) }
 {
@@ -172,7 +172,7 @@ pub fn misuse_of(matches: &ArgMatches<'_>) -> Option<Misuse>
     }
 }
 
-/// The kind of error that a misuse is.
+/// Returns the kind of error of a misuse.
 pub fn misuse_kind(misuse: Misuse) -> ErrorKind
     ensures { result ≡ misuse_kind misuse }
 {
@@ -182,7 +182,7 @@ pub fn misuse_kind(misuse: Misuse) -> ErrorKind
     }
 }
 
-/// What is said of a misuse.
+/// Returns the message on a misuse.
 pub fn misuse_text(alloc: Global, misuse: Misuse) -> Result<String, AllocError> {
     match misuse {
         Misuse::BadInit => {

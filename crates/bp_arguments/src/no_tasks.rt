@@ -1,5 +1,5 @@
-//! What is said where the arguments ask for no task.
-//! The error of arguments, with the control characters of the arguments escaped.
+//! The answer to arguments that ask for no task. The error of arguments, with the control
+//! characters of the arguments escaped.
 ghost use Rattle.std.specs.Prelude.{◌≡◌, ◌⊎◌, ◌∷◌, map, string_bytes, IfOk, MatchResult};
 ghost use Rattle.clap.specs.Words.{kind_of, subcommand_of};
 ghost use Rattle.bp_arguments.specs.Commands.{btrun_app, arguments_fault, IsTaskOf};
@@ -15,14 +15,14 @@ use std::alloc::{AllocError, Global};
 /// Why arguments are refused.
 #[derive(Drop)]
 pub struct Refusal {
-    /// What is wrong with them, on one line.
+    /// The error in them, on one line.
     pub message: String,
-    /// The whole text for people: also how the command is used. Control characters but for line
-    /// feeds are escapes.
+    /// The whole text for people, with the usage of the command. Control characters other than line
+    /// feeds are escaped.
     pub text: String,
 }
 
-/// What is said where the arguments ask for no task.
+/// The answer to arguments that ask for no task.
 #[derive(Drop)]
 pub enum NoTask {
     /// Memory was refused.
@@ -33,7 +33,7 @@ pub enum NoTask {
     Refused(Refusal),
 }
 
-/// What is wrong with arguments, from the text on it: its first paragraph, on one line.
+/// Returns the first paragraph of this text, on one line.
 fn sentence(alloc: Global, text: &str) -> Result<String, AllocError> {
     let mut sentence = String::new(alloc);
     for line in message_of(text).split('\n') {
@@ -45,14 +45,14 @@ fn sentence(alloc: Global, text: &str) -> Result<String, AllocError> {
     Ok(sentence)
 }
 
-/// The text that the arguments ask for.
+/// Returns the text that the arguments ask for.
 fn printed(alloc: Global, error: &Error) -> Result<NoTask, AllocError>
     ensures { IfOk result IsPrinted }
 {
     Ok(NoTask::Printed(format!(in alloc; "{error}")?))
 }
 
-/// Why arguments are refused, by their error.
+/// Returns why arguments are refused, by their error.
 fn refused(alloc: Global, error: &Error) -> Result<NoTask, AllocError>
     ensures { IfOk result IsRefused }
 {
@@ -62,7 +62,7 @@ fn refused(alloc: Global, error: &Error) -> Result<NoTask, AllocError>
     Ok(NoTask::Refused(Refusal { message, text }))
 }
 
-/// What is said, where there is memory for it.
+/// Returns the answer, if there is memory for it.
 fn said_or_memory(said: Result<NoTask, AllocError>) -> NoTask
     ensures { MatchResult said (λ none. result ≡ none) (λ _. result ≡ NoTask.Memory) }
 {
@@ -72,7 +72,7 @@ fn said_or_memory(said: Result<NoTask, AllocError>) -> NoTask
     }
 }
 
-/// What is said of the error of arguments.
+/// Returns the answer to the error of arguments.
 fn no_task(alloc: Global, arguments: &[String], error: Error) -> NoTask
     ensures { (result ≡ NoTask.Memory) ⊎ IsOfKind (kind_of error) result }
 {
@@ -87,9 +87,8 @@ fn no_task(alloc: Global, arguments: &[String], error: Error) -> NoTask
 
 /// Reads the arguments. The first is the program's name.
 ///
-/// # Errors
-/// The text of help or version where the arguments ask for it, why they are refused, or that memory
-/// was refused.
+/// # Errors The text of help or version if the arguments ask for it, why they are refused, or that
+/// memory was refused.
 pub fn read_arguments<'a>(alloc: Global, arguments: &'a [String]) -> Result<Task<'a>, NoTask>
     ensures task { IfOk result
         (λ t. IsTaskOf (subcommand_of btrun_app (map string_bytes arguments.now)) t) }
@@ -101,7 +100,7 @@ pub fn read_arguments<'a>(alloc: Global, arguments: &'a [String]) -> Result<Task
     }
 }
 
-/// What is said of arguments that are not UTF-8.
+/// Returns the answer to arguments that are not UTF-8.
 pub fn not_utf8(alloc: Global) -> NoTask
     ensures { (result ≡ NoTask.Memory) ⊎ IsRefused result }
 {
@@ -111,7 +110,7 @@ pub fn not_utf8(alloc: Global) -> NoTask
     }
 }
 
-/// A word with its line feeds escaped.
+/// Escapes the line feeds of a word.
 fn on_one_line(alloc: Global, word: &str) -> Result<String, AllocError> {
     let mut line = String::new(alloc);
     for character in word.chars() {
@@ -124,7 +123,7 @@ fn on_one_line(alloc: Global, word: &str) -> Result<String, AllocError> {
     Ok(line)
 }
 
-/// The arguments with their line feeds escaped.
+/// Escapes the line feeds of the arguments.
 fn all_on_one_line(alloc: Global, arguments: &[String]) -> Result<Vec<String>, AllocError> {
     let mut lines = Vec::new(alloc);
     for word in arguments {
@@ -133,8 +132,8 @@ fn all_on_one_line(alloc: Global, arguments: &[String]) -> Result<Vec<String>, A
     Ok(lines)
 }
 
-/// The error of arguments, with their line feeds escaped where the same is wrong with them then.
-/// After a bad value it says how the command is used. Where memory is refused it stays as it is.
+/// Returns the error of arguments, with their line feeds escaped if the error is the same then.
+/// After a bad value it has the usage of the command. If memory is refused it is unchanged.
 pub fn error_on_lines(alloc: Global, arguments: &[String], error: Error) -> Error {
     let Ok(lines) = all_on_one_line(alloc, arguments) else {
         return error;
@@ -148,12 +147,12 @@ pub fn error_on_lines(alloc: Global, arguments: &[String], error: Error) -> Erro
     error
 }
 
-/// Whether a character turns the direction of the text around it.
+/// Returns whether a character turns the direction of the text around it.
 fn is_turning(character: char) -> bool {
     matches!(character, '\u{202a}'..='\u{202e}' | '\u{2066}'..='\u{2069}')
 }
 
-/// A text with its control characters escaped, and those that turn its direction, so that they have
+/// Escapes the control characters of a text, and those that turn its direction, so that they have
 /// no effect on a terminal. Line feeds stay, since a text has lines; `error_on_lines` escapes those
 /// of arguments.
 pub fn escaped(alloc: Global, text: &str) -> Result<String, AllocError> {

@@ -46,7 +46,7 @@ pub static RUN: Subcommand<'static> = Subcommand {
     ],
 };
 
-/// What the arguments after `run` ask for.
+/// Reads the task of the arguments after `run`.
 pub fn run_arguments<'a>(
     alloc: Global,
     arguments: &ArgMatches<'a>,

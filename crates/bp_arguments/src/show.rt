@@ -58,7 +58,7 @@ pub static SHOW: Subcommand<'static> = Subcommand {
     advanced: &[],
 };
 
-/// How what is shown is written.
+/// Returns the format of the view.
 fn view_format(arguments: &ArgMatches<'_>) -> ViewFormat
     ensures { IsViewFormatOf (rows_of (found_of arguments.now)) result }
 {
@@ -69,7 +69,7 @@ fn view_format(arguments: &ArgMatches<'_>) -> ViewFormat
     }
 }
 
-/// Which calls are shown, and how, on a screen without colours and of any width.
+/// Returns the options of the view, on a screen without colours and of any width.
 fn view_options<'a>(arguments: &ArgMatches<'a>) -> ViewOptions<'a>
     ensures { IsViewOf (rows_of (found_of arguments.now)) result }
 {
@@ -88,7 +88,7 @@ fn view_options<'a>(arguments: &ArgMatches<'a>) -> ViewOptions<'a>
     }
 }
 
-/// What the arguments after `show` ask for.
+/// Reads the task of the arguments after `show`.
 pub fn show_arguments<'a>(arguments: &ArgMatches<'a>) -> ShowTask<'a>
     ensures { IsShowOf (rows_of (found_of arguments.now)) result }
 {

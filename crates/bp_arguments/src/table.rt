@@ -1,5 +1,4 @@
-//! The table of commands: what each takes, and what its help says.
-//! The commands by their names.
+//! The table of commands: the arguments and the help of each. The commands by their names.
 ghost use Rattle.std.specs.Prelude.{◌≡◌, MatchOption, false, map, IfOk};
 ghost use Rattle.clap.specs.Words.{app_of};
 ghost use Rattle.clap.specs.Simple.{new_app};
@@ -81,7 +80,7 @@ pub fn command_named(name: &str) -> Option<Named>
     None
 }
 
-/// Makes a command with this name and this help, and with what each command takes first.
+/// Makes a command with this name and this help, and with the first arguments of each command.
 fn file_command<'a>(alloc: Global, row: &Subcommand<'a>) -> Result<Command<'a>, AllocError>
     ensures { let app = with_rules (new_app row.now.name.now) file_rules in
         IfOk result (λ c. (app_of c ≡ app) × ((out-Command c).has_globals ≡ false)) }

@@ -62,8 +62,8 @@ pub static TEST: Subcommand<'static> = Subcommand {
     advanced: &[],
 };
 
-/// How many contexts a test of these threads allows, where no other number is given: one more than
-/// there are threads, so that each may begin and one may go on.
+/// Returns the default number of contexts of a test of these threads: one more than there are
+/// threads, so that each may begin and one may continue.
 fn default_contexts(entries: &[String]) -> u32
     ensures { result ≡ contexts_for (length entries.now) }
 {
@@ -71,8 +71,8 @@ fn default_contexts(entries: &[String]) -> u32
     entries.len().min(MAX_THREADS) as u32 + 1
 }
 
-/// How many runs a test with this time makes at most, where no other number is given. Runs are
-/// counted in 64 bits, so the greatest number limits none.
+/// Returns the default limit of runs of a test with this time. Runs are counted in 64 bits, so the
+/// greatest number limits none.
 fn default_runs(seconds: Option<u64>) -> u64
     ensures { result ≡ runs_within seconds }
 {
@@ -82,7 +82,7 @@ fn default_runs(seconds: Option<u64>) -> u64
     }
 }
 
-/// What the arguments after `test` ask for.
+/// Reads the task of the arguments after `test`.
 pub fn test_arguments<'a>(
     alloc: Global,
     arguments: &ArgMatches<'a>,

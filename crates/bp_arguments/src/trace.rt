@@ -53,7 +53,7 @@ pub static SHRINK: Subcommand<'static> = Subcommand {
     advanced: &[],
 };
 
-/// What the arguments after `replay`, `migrate` or `shrink` ask for.
+/// Reads the task of the arguments after `replay`, `migrate` or `shrink`.
 pub fn trace_arguments<'a>(arguments: &ArgMatches<'a>) -> TraceTask<'a>
     ensures { IsTraceArgumentsOf (rows_of (found_of arguments.now)) result }
 {

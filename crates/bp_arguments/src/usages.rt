@@ -1,5 +1,5 @@
-//! What is said of arguments that are refused: also how the command is used, and what was meant.
-//! What was meant by arguments that are refused.
+//! The messages on arguments that are refused: with the usage of the command, and the likely
+//! intent.
 ghost use Rattle.std.specs.Prelude.{◌≡◌, map, string_bytes};
 ghost use Rattle.bp_arguments.specs.NoTasks.{asks_for_json};
 
@@ -11,7 +11,7 @@ use clap::Error;
 use clap::error::ErrorKind;
 use std::alloc::{AllocError, Global};
 
-/// Whether a word asks for JSON: one that stands before a word `--`.
+/// Returns whether a word asks for JSON: one that comes before a word `--`.
 pub fn asks_for_json(arguments: &[String]) -> bool
     ensures { result ≡ asks_for_json (map string_bytes arguments.now) }
 {
@@ -26,7 +26,7 @@ pub fn asks_for_json(arguments: &[String]) -> bool
     false
 }
 
-/// The first paragraph of the text of an error, without the word before it.
+/// Returns the first paragraph of the text of an error, without the word before it.
 pub fn message_of(text: &str) -> &str {
     let message = text.strip_prefix("error: ").unwrap_or(text);
     match message.split_once("\n\n") {
@@ -35,7 +35,7 @@ pub fn message_of(text: &str) -> &str {
     }
 }
 
-/// The name of the program, by the path by which it was called.
+/// Returns the name of the program, by the path by which it was called.
 fn program_of(path: &str) -> &str {
     match path.rsplit_once('/') {
         Some((_, name)) => name,
@@ -43,8 +43,8 @@ fn program_of(path: &str) -> &str {
     }
 }
 
-/// The error of this kind with this message and the usage of the command that the arguments name,
-/// where they name one.
+/// Makes the error of this kind with this message and the usage of the command that the arguments
+/// name, if they name one.
 fn error_with_usage(
     alloc: Global,
     arguments: &[String],
@@ -63,8 +63,8 @@ fn error_with_usage(
     Ok(Some(command.error(kind, message)?))
 }
 
-/// The same error with the usage of the command that the arguments name, where they name one. That
-/// of a value that is no number says what the option takes.
+/// Returns the error with the usage of the command that the arguments name, if they name one. That
+/// of a value that is no number gives the range of the option.
 fn same_with_usage(
     alloc: Global,
     arguments: &[String],
@@ -78,7 +78,7 @@ fn same_with_usage(
     }
 }
 
-/// An error that says more than that of these arguments, where there is more to say.
+/// Returns an error that says more than that of these arguments, if there is more to say.
 fn error_that_says_more(
     alloc: Global,
     arguments: &[String],
@@ -100,10 +100,10 @@ fn error_that_says_more(
     }
 }
 
-/// The error of arguments. That of a bad value, or of options that clash, also says how the command
-/// is used that the arguments name. That of a number below 0 says the range of its option, and that
-/// of a program's file in place of a command what was meant. Where memory is refused it stays as it
-/// is.
+/// Returns the error of arguments. That of a bad value, or of options that clash, also has the
+/// usage of the command that the arguments name. That of a number below 0 gives the range of its
+/// option, and that of a program's file in place of a command the likely intent. If memory is
+/// refused it is unchanged.
 pub fn with_usage(alloc: Global, arguments: &[String], error: Error) -> Error {
     match error_that_says_more(alloc, arguments, &error) {
         Ok(Some(other)) => other,
@@ -111,10 +111,10 @@ pub fn with_usage(alloc: Global, arguments: &[String], error: Error) -> Error {
     }
 }
 
-/// What the name of a program's file ends with.
+/// The ending of the name of a program's file.
 const PROGRAM_ENDING: &str = ".bp";
 
-/// Whether the word is a number below 0.
+/// Returns whether the word is a number below 0.
 fn is_below_zero(word: &str) -> bool {
     match word.strip_prefix("-") {
         Some(digits) => !digits.is_empty() && digits.bytes().all(|byte| byte.is_ascii_digit()),
@@ -122,7 +122,7 @@ fn is_below_zero(word: &str) -> bool {
     }
 }
 
-/// What an option takes.
+/// Returns the range of an option.
 fn range_of(alloc: Global, option: &str) -> Result<String, AllocError> {
     match option {
         "--contexts" => format!(in alloc; "{option} takes 0 to {MAX_CONTEXTS}"),
@@ -133,7 +133,7 @@ fn range_of(alloc: Global, option: &str) -> Result<String, AllocError> {
     }
 }
 
-/// What is said of the first option that has a number below 0 as its value.
+/// Returns the message on the first option that has a number below 0 as its value.
 pub fn of_number(alloc: Global, arguments: &[String]) -> Result<Option<String>, AllocError> {
     let mut last = "";
     for word in arguments {
@@ -145,15 +145,15 @@ pub fn of_number(alloc: Global, arguments: &[String]) -> Result<Option<String>, 
     Ok(None)
 }
 
-/// Why `clap` does not read a value as a number.
+/// The reasons for which `clap` does not read a value as a number.
 const NO_NUMBER: [&str; 3] = [
     "invalid digit found in string",
     "cannot parse integer from empty string",
     "number too large to fit in target type",
 ];
 
-/// What is said of a value that is no number of its option, if that is what this message of `clap`
-/// says: what the option takes stands in place of why the value is not read.
+/// Returns the message on a value that is no number of its option, if this message of `clap` is on
+/// one: the range of the option replaces the reason of `clap`.
 pub fn of_value(alloc: Global, message: &str) -> Result<Option<String>, AllocError> {
     let Some((front, reason)) = message.rsplit_once("': ") else {
         return Ok(None);
@@ -173,7 +173,7 @@ pub fn of_value(alloc: Global, message: &str) -> Result<Option<String>, AllocErr
     Ok(Some(format!(in alloc; "{front}': {range}")?))
 }
 
-/// What is said of a file of a program that stands where a command is due.
+/// Returns the message on a program's file in place of a command.
 pub fn of_file(alloc: Global, arguments: &[String]) -> Result<Option<String>, AllocError> {
     match arguments.get(1) {
         Some(file) if file.as_str().ends_with(PROGRAM_ENDING) => {

@@ -10,7 +10,7 @@ use bp_tasks::{NamedBits, Verdict, are_named_bits, gives_names, named_bits};
 use clap::ArgMatches;
 use std::alloc::{AllocError, Global};
 
-/// The text of an argument, if one is given.
+/// Returns the text of an argument, if one is given.
 pub fn given_text<'a>(arguments: &ArgMatches<'a>, name: &str) -> Option<&'a str>
     ensures { let given = first_of name.now (rows_of (found_of arguments.now)) in
         option_map (λ s. s.now) result ≡ given }
@@ -18,7 +18,7 @@ pub fn given_text<'a>(arguments: &ArgMatches<'a>, name: &str) -> Option<&'a str>
     arguments.get_str(name)
 }
 
-/// The text of an argument that has to be there; an empty one if it is not.
+/// Returns the text of a required argument, or an empty text without it.
 pub fn text<'a>(arguments: &ArgMatches<'a>, name: &str) -> &'a str
     ensures { result.now ≡ value_of name.now (rows_of (found_of arguments.now)) }
 {
@@ -35,7 +35,7 @@ fn copies(alloc: Global, names: &[&str]) -> Result<Vec<String>, AllocError>
     Ok(items)
 }
 
-/// The entries of the threads.
+/// Returns the entries of the threads.
 pub fn entries(alloc: Global, arguments: &ArgMatches<'_>) -> Result<Vec<String>, AllocError>
     ensures { IfOk result
         (λ v. map string_bytes v.items ≡ entries_in (rows_of (found_of arguments.now))) }
@@ -64,7 +64,7 @@ fn bits(alloc: Global, text: &str) -> Result<Vec<bool>, AllocError>
     Ok(bits)
 }
 
-/// The bits that a text gives in order of declaration, unless it gives them by name.
+/// Returns the bits that a text gives in order of declaration, unless it gives them by name.
 fn bits_given(alloc: Global, text: &str) -> Result<Option<Vec<bool>>, AllocError>
     ensures { IfOk result (λ o. option_map (λ v. v.items) o ≡ bits_given text.now) }
 {
@@ -74,7 +74,7 @@ fn bits_given(alloc: Global, text: &str) -> Result<Option<Vec<bool>>, AllocError
     Ok(Some(bits(alloc, text)?))
 }
 
-/// The initial bits, where they are given in order of declaration.
+/// Returns the initial bits, if they are given in order of declaration.
 pub fn init(alloc: Global, arguments: &ArgMatches<'_>) -> Result<Option<Vec<bool>>, AllocError>
     ensures { IfOk result
         (λ o. option_map (λ v. v.items) o ≡ init_in (rows_of (found_of arguments.now))) }
@@ -85,7 +85,7 @@ pub fn init(alloc: Global, arguments: &ArgMatches<'_>) -> Result<Option<Vec<bool
     }
 }
 
-/// The globals to which a text gives bits by name.
+/// Returns the globals to which a text gives bits by name.
 fn names_given(alloc: Global, text: &str) -> Result<NamedBits<'_>, AllocError>
     ensures { IfOk result (λ n. n ≡ names_given text.now) }
 {
@@ -95,7 +95,7 @@ fn names_given(alloc: Global, text: &str) -> Result<NamedBits<'_>, AllocError>
     Ok(NamedBits::none(alloc))
 }
 
-/// The globals whose initial bits are given by name.
+/// Returns the globals whose initial bits are given by name.
 pub fn named<'a>(alloc: Global, arguments: &ArgMatches<'a>) -> Result<NamedBits<'a>, AllocError>
     ensures { IfOk result (λ n. n ≡ named_in (rows_of (found_of arguments.now))) }
 {
@@ -105,7 +105,7 @@ pub fn named<'a>(alloc: Global, arguments: &ArgMatches<'a>) -> Result<NamedBits<
     }
 }
 
-/// The verdict that a text names.
+/// Returns the verdict that a text names.
 fn verdict_named(text: &str) -> Option<Verdict>
     ensures { result ≡ verdict_named text.now }
 {
@@ -117,7 +117,7 @@ fn verdict_named(text: &str) -> Option<Verdict>
     }
 }
 
-/// The verdict that is expected, if one is given.
+/// Returns the verdict that is expected, if one is given.
 pub fn expected_verdict(arguments: &ArgMatches<'_>) -> Option<Verdict>
     ensures { result ≡ expected_in (rows_of (found_of arguments.now)) }
 {
@@ -127,7 +127,7 @@ pub fn expected_verdict(arguments: &ArgMatches<'_>) -> Option<Verdict>
     }
 }
 
-/// Whether what is expected is no verdict.
+/// Returns whether the expected verdict is not a verdict.
 pub fn has_bad_verdict(arguments: &ArgMatches<'_>) -> bool
     ensures { result ≡ has_bad_verdict (rows_of (found_of arguments.now)) }
 {
@@ -165,7 +165,7 @@ pub fn given_long_number(arguments: &ArgMatches<'_>, name: &str) -> Option<u64>
     arguments.get_one(name)
 }
 
-/// Reads what a run starts from.
+/// Reads the start of a run.
 pub fn start(alloc: Global, arguments: &ArgMatches<'_>) -> Result<Start, AllocError>
     ensures { let start = start_in DEFAULT_CONTEXTS (rows_of (found_of arguments.now)) in
         IfOk result (λ s. s ≡ start) }
@@ -184,7 +184,7 @@ pub fn is_given(arguments: &ArgMatches<'_>, name: &str) -> bool
     arguments.get_flag(name)
 }
 
-/// Whether a text is bits, or gives names bits.
+/// Returns whether a text is bits, or gives names bits.
 fn is_init(text: &str) -> bool
     ensures { result ≡ is_init text.now }
 {
@@ -194,7 +194,7 @@ fn is_init(text: &str) -> bool
     is_bits(text)
 }
 
-/// Whether the initial bits are neither bits nor names with bits.
+/// Returns whether the initial bits are neither bits nor names with bits.
 pub fn has_bad_init(arguments: &ArgMatches<'_>) -> bool
     ensures { result ≡ has_bad_init (rows_of (found_of arguments.now)) }
 {
