@@ -1,6 +1,5 @@
-//! The least fault of a program.
-//! The least fault: by place, and at one place by number.
-//! A fault that was found, with its place.
+//! The least fault of a program. The least fault: by place, and at one place by number. A fault
+//! that was found, with its place.
 ghost use Rattle.std.specs.Prelude.{◌≡◌, MatchResult, IfOk};
 ghost use Rattle.bp_language.specs.Faults.{IsLawful, check_fault_number, check_fault_place, IsFault};
 ghost use Rattle.bp_code.specs.Refusals.{IsRefusal};
@@ -19,21 +18,21 @@ use std::alloc::{AllocError, Global};
 pub struct CheckRefusal {
     /// The fault with the least place, and at one place with the least number.
     pub fault: CheckFault,
-    /// The offset in the text where its name begins; 0 for `Memory`.
+    /// The offset in the text at which its name begins; 0 for `Memory`.
     pub at: u32,
-    /// The tree, given back so that the caller can still use it.
+    /// The tree, returned so that the caller can still use it.
     pub tree: Tree,
 }
 
 impl CheckRefusal {
-    /// The number that users know the fault by.
+    /// Returns the number by which users know the fault.
     pub fn number(&self) -> u32
         ensures { result ≡ check_fault_number self.now.fault }
     {
         self.fault.number()
     }
 
-    /// The offset in the text where the fault's name begins; none for `Memory`.
+    /// Returns the offset in the text at which the fault's name begins; None for `Memory`.
     pub fn place(&self) -> Option<u32>
         ensures { result ≡ check_fault_place self.now.fault self.now.at }
     {
@@ -44,7 +43,7 @@ impl CheckRefusal {
     }
 }
 
-/// Takes the trees without faults, and no others. Where memory is short the answer is `Memory`.
+/// Accepts the trees without faults, and no others. Without enough memory returns `Memory`.
 pub fn check(alloc: Global, tree: Tree) -> Result<Checked, CheckRefusal>
     ensures lawful { MatchResult result
         (λ c. (c ≡ tree) × IsLawful tree)
@@ -61,7 +60,7 @@ pub fn check(alloc: Global, tree: Tree) -> Result<Checked, CheckRefusal>
     }
 }
 
-/// The least fault inside procedures.
+/// Returns the least fault inside procedures.
 fn fault_of_procedures<'a>(
     alloc: Global,
     globals: &NameTable<'a>,
@@ -78,7 +77,7 @@ fn fault_of_procedures<'a>(
     Ok(best)
 }
 
-/// The least fault of the program with these globals and procedures.
+/// Returns the least fault of the program with these globals and procedures.
 pub(crate) fn program_fault<'a>(
     alloc: Global,
     globals: &'a [Name],
@@ -95,7 +94,7 @@ pub(crate) fn program_fault<'a>(
     Ok(least(first, least(second, third)))
 }
 
-/// The least of two faults, where there are two.
+/// Returns the least of two faults, if there are two.
 pub(crate) fn least(a: Option<Found>, b: Option<Found>) -> Option<Found>
     ensures { result ≡ least_of a b }
 {
@@ -113,6 +112,6 @@ pub(crate) fn least(a: Option<Found>, b: Option<Found>) -> Option<Found>
 #[derive(Clone, Copy, Debug, PartialEq, Eq)]
 pub struct Found {
     pub fault: CheckFault,
-    /// The offset of the byte where the name begins.
+    /// The offset of the byte at which the name begins.
     pub at: u32,
 }

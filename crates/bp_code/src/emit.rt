@@ -16,7 +16,7 @@ use bp_flat::instrs::Instr;
 use bp_language::{Block, Decider, Form, Stmt};
 use std::alloc::AllocError;
 
-/// One more instruction.
+/// Appends an instruction.
 pub(crate) fn push(out: &mut Vec<Instr>, instr: Instr) -> Result<(), AllocError>
     ensures code { OnOk result (out.new.items ≡ out.old.items ++ instr ∷ []) }
     ensures grown { OnOk result (length out.new.items ≡ length out.old.items + 1) }
@@ -25,8 +25,8 @@ pub(crate) fn push(out: &mut Vec<Instr>, instr: Instr) -> Result<(), AllocError>
     Ok(())
 }
 
-/// Where control goes into a block whose first instruction would have the number `at`, when `next`
-/// follows the block.
+/// Returns the number at which control enters a block whose first instruction would have the number
+/// `at`, if `next` follows the block.
 fn first(block: &Block, at: u32, next: u32) -> u32
     ensures { result ≡ block_entry block.now at next }
 {
@@ -37,8 +37,8 @@ fn first(block: &Block, at: u32, next: u32) -> u32
     }
 }
 
-/// Where control goes after the i-th of the statements: to the one after it, whose first
-/// instruction would have the number `after`, or to `next`.
+/// Returns the number at which control continues after the i-th of the statements: the statement
+/// after it, whose first instruction would have the number `after`, or `next`.
 fn following(stmts: &[Stmt], i: usize, after: u32, next: u32) -> u32
     requires { i < length stmts.now }
     ensures { result ≡ block_entry (block_of (drop (i + 1) stmts.now)) after next }
@@ -46,7 +46,7 @@ fn following(stmts: &[Stmt], i: usize, after: u32, next: u32) -> u32
     if i + 1 < stmts.len() { after } else { next }
 }
 
-/// Adds the instructions of a block, which `next` follows.
+/// Adds the instructions of a block, followed by `next`.
 #[cycle(emit)]
 pub(crate) fn emit_block(
     out: &mut Vec<Instr>,
@@ -73,7 +73,7 @@ pub(crate) fn emit_block(
     Ok(())
 }
 
-/// Adds the instructions of a statement, which `next` follows.
+/// Adds the instructions of a statement, followed by `next`.
 #[cycle(emit)]
 fn emit(
     out: &mut Vec<Instr>,

@@ -1,4 +1,4 @@
-//! What the names in the statements of a procedure mean.
+//! The meaning of the names in the statements of a procedure.
 ghost use Rattle.std.specs.Prelude.{◌≡◌, ◌+◌, ◌^◌, ◌<◌, ◌≤◌, ℕ, List, length, map};
 ghost use Rattle.bp_language.specs.Ast.{variables};
 ghost use Rattle.bp_code.specs.Sets.{index_in};

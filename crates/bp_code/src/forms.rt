@@ -13,7 +13,7 @@ use crate::uses::{Callees, stray_in_all, stray_in_decider, stray_names};
 use bp_language::{CheckFault, Expr, Form, Name};
 use std::alloc::{AllocError, Global};
 
-/// A variable that the statement mentions and that is not declared.
+/// Returns the least undeclared variable that the statement mentions.
 fn stray(declared: &Scope<'_, '_>, form: &Form) -> Option<Found>
     ensures { Finds (IsStray declared.now (Mentions (statement_of form.now))) result }
 {
@@ -32,7 +32,7 @@ fn stray(declared: &Scope<'_, '_>, form: &Form) -> Option<Found>
     }
 }
 
-/// A call of an unknown procedure, or with a wrong number of arguments.
+/// Returns a call of an unknown procedure, or with a wrong number of arguments.
 fn wrong_call(callees: &Callees<'_>, callee: &Name, arguments: &[Expr]) -> Option<Found>
     ensures { Finds
         (IsMisuse callees.now [] (Calls callee.now (map expression_of arguments.now)))
@@ -56,7 +56,7 @@ fn wrong_call(callees: &Callees<'_>, callee: &Name, arguments: &[Expr]) -> Optio
     }
 }
 
-/// A jump to an unknown label.
+/// Returns a jump to an unknown label.
 fn lost_jump(labels: &NameTable<'_>, to: &Name) -> Option<Found>
     ensures { Finds (IsMisuse [] labels.now (GoesTo to.now)) result }
 {
@@ -69,7 +69,7 @@ fn lost_jump(labels: &NameTable<'_>, to: &Name) -> Option<Found>
     })
 }
 
-/// The first target of an assignment whose two sides differ in number.
+/// Returns the first target of an assignment whose two sides differ in number.
 fn uneven_sides(targets: &[Name], values: &[Expr]) -> Option<Found>
     ensures { Finds
         (Only CheckFault.Lengths (IsUneven (Assigns targets.now (map expression_of values.now))))
@@ -85,7 +85,7 @@ fn uneven_sides(targets: &[Name], values: &[Expr]) -> Option<Found>
     })
 }
 
-/// The least fault of an assignment's two sides, apart from stray names.
+/// Returns the least fault of an assignment's two sides, apart from undeclared names.
 fn wrong_sides(
     alloc: Global,
     targets: &[Name],
@@ -99,7 +99,7 @@ fn wrong_sides(
     Ok(least(found, least_repeat(&names, CheckFault::TwiceTarget)))
 }
 
-/// The least fault of a statement, apart from stray names and the blocks inside it.
+/// Returns the least fault of a statement, apart from undeclared names and the blocks inside it.
 fn misuse(
     alloc: Global,
     callees: &Callees<'_>,
@@ -116,7 +116,7 @@ fn misuse(
     }
 }
 
-/// The least fault of a statement, apart from the blocks inside it.
+/// Returns the least fault of a statement, apart from the blocks inside it.
 pub(crate) fn statement_fault(
     alloc: Global,
     declared: &Scope<'_, '_>,

@@ -1,7 +1,7 @@
 //! Laws of refusals.
 ghost use Rattle.bp_code.specs.Refusals.{OneRefusal, NoRefusalOfLawful};
 
-/// Law: a program has at most one refusal, `Memory` aside, and a lawful one has none.
+/// Proves that a program has at most one refusal, `Memory` aside, and a lawful one has none.
 pub fn has_one_refusal()
     ensures one { OneRefusal }
     ensures none { NoRefusalOfLawful }

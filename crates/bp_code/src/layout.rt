@@ -1,6 +1,5 @@
-//! How the instructions of a procedure are laid out: how many each of its statements has, and the
-//! numbers of its labels. Both are written down in one walk.
-//! How many instructions statements have.
+//! The layout of the instructions of a procedure: the number of each statement's instructions, and
+//! the numbers of its labels, from one walk.
 ghost use Rattle.std.specs.Prelude.{◌≡◌, ◌+◌, ◌^◌, ◌<◌, ◌≤◌, ◌++◌, ◌∷◌, ℕ, List, None, Some, if◌then◌else◌, IfOk, OnOk, length};
 ghost use Rattle.std.specs.Option.{option_or};
 ghost use Rattle.bp_language.specs.Blocks.{block_of, statement_of};
@@ -23,7 +22,7 @@ pub(crate) struct Layout<'a> {
 }
 
 impl<'a> Layout<'a> {
-    /// The layout of a procedure whose first instruction has the number `start`.
+    /// Makes the layout of a procedure whose first instruction has the number `start`.
     pub(crate) fn new(alloc: Global, proc: &'a Proc, start: u32) -> Result<Layout<'a>, AllocError>
         requires { start + block_size proc.now.body < 2 ^ 32 }
         ensures start { IfOk result (λ l. l.start ≡ start) }
@@ -41,7 +40,7 @@ impl<'a> Layout<'a> {
         })
     }
 
-    /// How many instructions the statement of this number has.
+    /// Returns the number of instructions of the statement of this number.
     pub(crate) fn size_at(&self, number: u32) -> u32
         requires { (n : ℕ) × (more : List ℕ) × AreSizesOf self.now number (n ∷ more) }
         ensures { (n : ℕ) (more : List ℕ)
@@ -51,7 +50,7 @@ impl<'a> Layout<'a> {
         self.sizes[(number - self.start) as usize]
     }
 
-    /// How many instructions the statements have. The first has this number.
+    /// Returns the number of instructions of the statements. The first has this number.
     pub(crate) fn size_of_block(&self, stmts: &[Stmt], number: u32) -> u32
         requires room { number + block_size (block_of stmts.now) < 2 ^ 32 }
         requires placed { let sizes = block_sizes (block_of stmts.now) in
@@ -65,21 +64,21 @@ impl<'a> Layout<'a> {
         total
     }
 
-    /// The number of the procedure's first instruction.
+    /// Returns the number of the procedure's first instruction.
     pub(crate) fn start(&self) -> u32
         ensures { result ≡ self.now.start }
     {
         self.start
     }
 
-    /// How many instructions the procedure's statements have.
+    /// Returns the number of instructions of the procedure's statements.
     pub(crate) fn len(&self) -> usize
         ensures { result ≡ length self.now.sizes.items }
     {
         self.sizes.len()
     }
 
-    /// The number of the statement with this label.
+    /// Returns the number of the statement with this label.
     pub(crate) fn label(&self, text: &str) -> Option<u32>
         ensures { result ≡ index_in self.now.labels text.now }
     {
@@ -87,7 +86,7 @@ impl<'a> Layout<'a> {
     }
 }
 
-/// Notes the sizes and labels of statements, which begin after those that were noted.
+/// Appends the sizes and labels of statements.
 #[cycle(note)]
 fn note_block<'a>(
     sizes: &mut Vec<u32>,
@@ -109,7 +108,7 @@ fn note_block<'a>(
     Ok(())
 }
 
-/// Notes a statement and those inside it. Its own size is known after them.
+/// Appends a statement and those inside it. Its own size is known after them.
 #[cycle(note)]
 fn note<'a>(
     sizes: &mut Vec<u32>,
@@ -137,7 +136,7 @@ fn note<'a>(
     Ok(())
 }
 
-/// Notes the statements inside a statement, which is the last one that was noted.
+/// Appends the statements inside a statement, which is the last one appended.
 #[cycle(note)]
 fn note_inside<'a>(
     sizes: &mut Vec<u32>,
@@ -163,7 +162,7 @@ fn note_inside<'a>(
     }
 }
 
-/// Notes the number of a label, unless an earlier one is spelled so.
+/// Records the number of a label, unless an earlier one has this text.
 fn note_label<'a>(
     labels: &mut BTreeMap<&'a str, u32>,
     label: &'a Name,
@@ -180,7 +179,7 @@ fn note_label<'a>(
     Ok(())
 }
 
-/// How many instructions the statements have.
+/// Returns the number of instructions of the statements.
 #[cycle(size)]
 pub(crate) fn size_of_block(stmts: &[Stmt]) -> u32
     requires { block_size (block_of stmts.now) < 2 ^ 32 }
@@ -193,7 +192,7 @@ pub(crate) fn size_of_block(stmts: &[Stmt]) -> u32
     total
 }
 
-/// How many instructions a statement has.
+/// Returns the number of instructions of a statement.
 #[cycle(size)]
 fn size_of(form: &Form) -> u32
     requires { size (statement_of form.now) < 2 ^ 32 }

@@ -41,7 +41,7 @@ fn put_heading<W: Write>(heading: &Heading, sink: &mut Sink<'_, W>)
     put_line(&front, &[heading.formals(), heading.locals()], sink)
 }
 
-/// What an instruction does.
+/// Returns the word for the operation of an instruction.
 fn word_of(action: &Action) -> &'static [u8]
     ensures { result.now ≡ instruction_word (instruction_of action.now) }
 {
@@ -59,8 +59,8 @@ fn word_of(action: &Action) -> &'static [u8]
     }
 }
 
-/// The numbers at the end of an instruction's line: its callee and its successors. The second
-/// result says how many of the two there are.
+/// Returns the numbers at the end of an instruction's line: its callee and its successors; and the
+/// number of those.
 fn successors(action: &Action) -> ([u32; 2], usize)
     ensures numbers { let numbers = listing.successors (instruction_of action.now) in
         take result.1 result.0 ≡ numbers }
@@ -100,7 +100,7 @@ fn put_instructions<W: Write>(instrs: &[Instr], from: usize, end: usize, sink: &
     }
 }
 
-/// Where the instructions end of the procedure before the heading of this number.
+/// Returns the end of the instructions of the procedure before the heading of this number.
 fn end_of(code: &Code, next: usize) -> usize
     ensures { result ≡ end_before code.now.instructions (drop next code.now.headings) }
 {

@@ -56,7 +56,7 @@ fn gather_labels<'a>(out: &mut Vec<&'a Name>, stmts: &[&'a Stmt]) -> Result<(), 
     Ok(())
 }
 
-/// The least fault of statements.
+/// Returns the least fault of statements.
 fn fault_of_statements(
     alloc: Global,
     declared: &Scope<'_, '_>,
@@ -75,7 +75,7 @@ fn fault_of_statements(
     Ok(best)
 }
 
-/// The statements of a procedure, at any depth.
+/// Returns the statements of a procedure, at any depth.
 fn all_statements<'a>(alloc: Global, proc: &'a Proc) -> Result<Vec<&'a Stmt>, AllocError>
     ensures { IfOk result (λ v. all_labelled v.items ≡ statements proc.now.body) }
 {
@@ -92,7 +92,7 @@ fn labels_in<'a>(alloc: Global, stmts: &[&'a Stmt]) -> Result<Vec<&'a Name>, All
     Ok(labels)
 }
 
-/// The least fault among the statements and labels of a procedure.
+/// Returns the least fault among the statements and labels of a procedure.
 fn fault_of_body(
     alloc: Global,
     declared: &Scope<'_, '_>,
@@ -107,7 +107,7 @@ fn fault_of_body(
     Ok(least(found, least_repeat(&labels, CheckFault::TwiceLabel)))
 }
 
-/// The least fault inside a procedure.
+/// Returns the least fault inside a procedure.
 pub(crate) fn procedure_fault<'a>(
     alloc: Global,
     globals: &NameTable<'a>,
@@ -144,14 +144,14 @@ impl<'s, 'a> Model for Scope<'s, 'a> {
 }
 
 impl<'s, 'a> Scope<'s, 'a> {
-    /// The scope of a procedure with these variables of its own.
+    /// Returns the scope of a procedure with these variables of its own.
     pub(crate) fn new(own: NameTable<'a>, globals: &'s NameTable<'a>) -> Scope<'s, 'a>
         ensures { result ≡ own.entry ++ globals.now }
     {
         Scope { own, globals }
     }
 
-    /// Whether a variable is spelled so.
+    /// Returns whether a variable has this text.
     pub(crate) fn has(&self, text: &str) -> bool
         ensures { result ≡ has self.now text.now }
     {

@@ -20,8 +20,7 @@ use bp_language::{Name, Proc};
 use bp_syntax::Checked;
 use std::alloc::{AllocError, Global};
 
-/// The headings of the procedures. The instructions of each begin where those of the one before it
-/// end.
+/// Makes the headings of the procedures. The instructions of each begin at the end of those before.
 fn headings_of(alloc: Global, procs: &[Proc]) -> Result<Vec<Heading>, AllocError>
     requires size { procedures_size procs.now < 2 ^ 32 }
     requires few { HaveFew procs.now }

@@ -1,4 +1,4 @@
-//! Where in the text the statements of a program begin, in the order of its instructions.
+//! The places in the text at which statements begin, in the order of the instructions.
 ghost use Rattle.std.specs.Prelude.{◌≡◌, ◌++◌, IfOk, OnOk};
 ghost use Rattle.bp_language.specs.Blocks.{block_of, statement_of};
 ghost use Rattle.bp_flat.specs.StandsFor.{block_starts, inner_starts, starts_of};
@@ -7,7 +7,7 @@ use bp_language::{Form, Stmt};
 use bp_syntax::Checked;
 use std::alloc::{AllocError, Global};
 
-/// Notes where statements begin, and those inside them.
+/// Records the starts of statements, and of those inside them.
 #[cycle(note_starts)]
 fn note_block(starts: &mut Vec<Option<u32>>, stmts: &[Stmt]) -> Result<(), AllocError>
     ensures { OnOk result
@@ -20,7 +20,7 @@ fn note_block(starts: &mut Vec<Option<u32>>, stmts: &[Stmt]) -> Result<(), Alloc
     Ok(())
 }
 
-/// Notes where the statements inside a statement begin.
+/// Records the starts of the statements inside a statement.
 #[cycle(note_starts)]
 fn note_inside(starts: &mut Vec<Option<u32>>, form: &Form) -> Result<(), AllocError>
     ensures { OnOk result
@@ -36,8 +36,8 @@ fn note_inside(starts: &mut Vec<Option<u32>>, form: &Form) -> Result<(), AllocEr
     }
 }
 
-/// For each instruction of the program's code, in order, the offset of its statement's first token
-/// after its label, and none at the end of a procedure.
+/// Returns for each instruction of the program's code, in order, the offset of its statement's
+/// first token after its label, or None at the end of a procedure.
 pub fn statement_starts(alloc: Global, checked: &Checked) -> Result<Vec<Option<u32>>, AllocError>
     ensures { IfOk result (λ v. v.items ≡ starts_of checked.now) }
 {

@@ -15,7 +15,7 @@ use std::marker::Model;
 #[derive(Drop)]
 pub struct NameTable<'a> {
     names: Vec<&'a Name>,
-    /// For each text the index of the first name that is spelled so.
+    /// For each text the index of the first name with it.
     first: BTreeMap<&'a str, usize>,
 }
 
@@ -43,7 +43,7 @@ impl<'a> NameTable<'a> {
         Ok(NameTable { names, first })
     }
 
-    /// The table of a list of names. Its only error is refused memory.
+    /// Makes the table of a list of names. Fails only on allocation.
     pub fn of(alloc: Global, names: &'a [Name]) -> Result<NameTable<'a>, AllocError>
         ensures { IfOk result (λ t. t ≡ names.now) }
     {
@@ -52,8 +52,8 @@ impl<'a> NameTable<'a> {
         NameTable::new(alloc, all)
     }
 
-    /// The table of a procedure's formals and then its declared locals. Its only error is refused
-    /// memory.
+    /// Makes the table of a procedure's formals and then its declared locals. Fails only on
+    /// allocation.
     pub fn of_variables(alloc: Global, proc: &'a Proc) -> Result<NameTable<'a>, AllocError>
         ensures { IfOk result (λ t. t ≡ variables proc.now) }
     {
@@ -63,7 +63,7 @@ impl<'a> NameTable<'a> {
         NameTable::new(alloc, all)
     }
 
-    /// The table of the names of procedures. Its only error is refused memory.
+    /// Makes the table of the names of procedures. Fails only on allocation.
     pub fn of_procedures(alloc: Global, procs: &'a [Proc]) -> Result<NameTable<'a>, AllocError>
         ensures { IfOk result (λ t. t ≡ map (λ q. q.name) procs.now) }
     {
@@ -78,21 +78,21 @@ impl<'a> NameTable<'a> {
         &self.names
     }
 
-    /// The index of the first name that is spelled so.
+    /// Returns the index of the first name with this text.
     pub fn first(&self, text: &str) -> Option<usize>
         ensures { result ≡ first_index self.now text.now }
     {
         self.first.get(text).copied()
     }
 
-    /// Whether a name is spelled so.
+    /// Returns whether a name has this text.
     pub(crate) fn has(&self, text: &str) -> bool
         ensures { result ≡ has self.now text.now }
     {
         self.first(text).is_some()
     }
 
-    /// Whether one of the first `count` names is spelled so.
+    /// Returns whether one of the first `count` names has this text.
     pub(crate) fn has_before(&self, count: usize, text: &str) -> bool
         ensures { result ≡ has (take count self.now) text.now }
     {
@@ -122,8 +122,8 @@ fn gather_procedures<'a>(out: &mut Vec<&'a Name>, procs: &'a [Proc]) -> Result<(
     Ok(())
 }
 
-/// The index of the first name of each spelling. Names are put in from the last on, so that the
-/// earlier of two takes the place of the later.
+/// Returns the index of the first name of each text. Names are inserted from the last on, so that
+/// the earlier of two replaces the later.
 fn first_indices<'a>(
     alloc: Global,
     names: &[&'a Name],
@@ -138,7 +138,7 @@ fn first_indices<'a>(
     Ok(first)
 }
 
-/// The least place of a name that is spelled like an earlier one, as this fault.
+/// Returns the least place of a name with the text of an earlier one, as this fault.
 pub(crate) fn least_repeat(names: &NameTable<'_>, fault: CheckFault) -> Option<Found>
     ensures { Finds (Only fault (IsTwice names.now)) result }
 {
@@ -171,7 +171,7 @@ fn first_past(names: &NameTable<'_>, limit: usize) -> Option<Found>
     })
 }
 
-/// The least fault of names of one kind: one that appears twice, or the first past their limit.
+/// Returns the least fault of names of one kind: one appears twice, or is the first past the limit.
 pub(crate) fn fault_of_names(
     names: &NameTable<'_>,
     fault: CheckFault,

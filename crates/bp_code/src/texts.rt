@@ -11,7 +11,7 @@ use std::alloc::{AllocError, Global};
 use std::error::Error;
 use std::fmt;
 
-/// Why a text is not that of a lawful program: the first of these that applies, `Memory` aside.
+/// Why a text is not that of a lawful program: the first reason that applies, `Memory` aside.
 #[derive(Debug, Drop, PartialEq, Eq)]
 pub enum ProgramFault {
     /// It is refused as a text.
@@ -74,7 +74,7 @@ impl From<AllocError> for CodeFault {
     }
 }
 
-/// The code of the lawful program of a text.
+/// Returns the code of the lawful program of a text.
 pub fn code_of(alloc: Global, text: &[u8]) -> Result<Code, CodeFault>
     ensures { MatchResult result (λ c. IsLawfulText text.now c.tree) (IsCodeRefusal text.now) }
 {

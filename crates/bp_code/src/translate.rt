@@ -1,5 +1,4 @@
-//! From program trees to flat code.
-//! The slots, labels and first instructions that names stand for.
+//! From program trees to flat code. The slots, labels and first instructions for names.
 ghost use Rattle.std.specs.Prelude.{◌≡◌, IfOk};
 ghost use Rattle.bp_language.specs.Views.{expression_of, decision_of};
 ghost use Rattle.bp_language.specs.NamesIn.{EachName, NamesInExpression, NamesInExpressions, NamesInDecision};
@@ -15,7 +14,7 @@ use bp_flat::slots::{Index, Slot, Slots};
 use bp_language::{Decider, Expr, Exprs, Name, Names};
 use std::alloc::{AllocError, Global};
 
-/// The slots of declared variables, in order.
+/// Returns the slots of declared variables, in order.
 pub(crate) fn slots(
     alloc: Global,
     environment: &Environment<'_, '_>,
@@ -31,7 +30,7 @@ pub(crate) fn slots(
     Ok(Slots::new(items))
 }
 
-/// The expression over slots that stands for an expression over names.
+/// Returns the expression over slots that stands for an expression over names.
 pub(crate) fn expr(
     alloc: Global,
     environment: &Environment<'_, '_>,
@@ -57,7 +56,7 @@ pub(crate) fn expr(
     }
 }
 
-/// The expressions over slots that stand for expressions over names, in order.
+/// Returns the expressions over slots that stand for expressions over names, in order.
 pub(crate) fn exprs(
     alloc: Global,
     environment: &Environment<'_, '_>,
@@ -73,7 +72,7 @@ pub(crate) fn exprs(
     Ok(SlotExprs::new(items))
 }
 
-/// The test that stands for a decider.
+/// Returns the test that stands for a decider.
 pub(crate) fn test(
     alloc: Global,
     environment: &Environment<'_, '_>,
@@ -90,8 +89,8 @@ pub(crate) fn test(
 }
 
 impl<'s, 'a> Environment<'s, 'a> {
-    /// The slot of a declared variable: its place among the formals and then the locals, or else
-    /// among the globals.
+    /// Returns the slot of a declared variable: its index among the formals and then the locals, or
+    /// else among the globals.
     pub(crate) fn slot(&self, name: &Name) -> Slot
         requires { HasSlot (environment_of self.now) name.now }
         ensures { result ≡ slot_in (environment_of self.now) name.now.text }
@@ -105,7 +104,7 @@ impl<'s, 'a> Environment<'s, 'a> {
         }
     }
 
-    /// The number of the statement with this label.
+    /// Returns the number of the statement with this label.
     pub(crate) fn label(&self, name: &Name) -> u32
         requires { HasLabel (environment_of self.now) name.now }
         ensures { result ≡ label_in (environment_of self.now) name.now.text }
@@ -113,7 +112,7 @@ impl<'s, 'a> Environment<'s, 'a> {
         self.layout.label(name.text()).unwrap()
     }
 
-    /// The number of a procedure's first instruction.
+    /// Returns the number of a procedure's first instruction.
     pub(crate) fn callee(&self, name: &Name) -> u32
         requires { HasHeading (environment_of self.now) name.now }
         ensures { result ≡ callee_in (environment_of self.now) name.now.text }

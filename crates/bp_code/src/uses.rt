@@ -14,7 +14,7 @@ use bp_language::{CheckFault, Decider, Expr, Name, Proc};
 use std::alloc::{AllocError, Global};
 use std::marker::Model;
 
-/// The name, where no variable is spelled so.
+/// Returns the name, if no variable has its text.
 pub(crate) fn stray_name(declared: &Scope<'_, '_>, name: &Name) -> Option<Found>
     ensures { Finds (IsStray declared.now (λ n. name.now ≡ n)) result }
 {
@@ -27,7 +27,7 @@ pub(crate) fn stray_name(declared: &Scope<'_, '_>, name: &Name) -> Option<Found>
     })
 }
 
-/// The least stray name of an expression.
+/// Returns the least undeclared name of an expression.
 pub(crate) fn stray_in(declared: &Scope<'_, '_>, expr: &Expr) -> Option<Found>
     ensures { Finds (IsStray declared.now (Uses (expression_of expr.now))) result }
 {
@@ -42,7 +42,7 @@ pub(crate) fn stray_in(declared: &Scope<'_, '_>, expr: &Expr) -> Option<Found>
     }
 }
 
-/// The least stray name of a decider.
+/// Returns the least undeclared name of a decider.
 pub(crate) fn stray_in_decider(declared: &Scope<'_, '_>, decider: &Decider) -> Option<Found>
     ensures { Finds (IsStray declared.now (DecisionUses (decision_of decider.now))) result }
 {
@@ -52,7 +52,7 @@ pub(crate) fn stray_in_decider(declared: &Scope<'_, '_>, decider: &Decider) -> O
     }
 }
 
-/// The least stray name of expressions.
+/// Returns the least undeclared name of expressions.
 pub(crate) fn stray_in_all(declared: &Scope<'_, '_>, exprs: &[Expr]) -> Option<Found>
     ensures { Finds (IsStray declared.now (SomeUses (map expression_of exprs.now))) result }
 {
@@ -63,7 +63,7 @@ pub(crate) fn stray_in_all(declared: &Scope<'_, '_>, exprs: &[Expr]) -> Option<F
     best
 }
 
-/// The least stray name among names.
+/// Returns the least undeclared name among names.
 pub(crate) fn stray_names(declared: &Scope<'_, '_>, names: &[Name]) -> Option<Found>
     ensures { Finds (IsStray declared.now (Among names.now)) result }
 {
@@ -110,7 +110,7 @@ impl<'a> Callees<'a> {
         &self.names
     }
 
-    /// The first procedure with this name.
+    /// Returns the first procedure with this name.
     pub(crate) fn find(&self, text: &str) -> Option<&'a Proc>
         ensures { option_copied result ≡ procedure_named self.now text.now }
     {
