@@ -58,7 +58,7 @@ impl ProgramCommand for CheckTask<'_> {
     }
 }
 
-/// The listing of a program's code.
+/// Returns the listing of a program's code.
 fn plain(alloc: Global, code: &Code) -> Result<Vec<u8>, AllocError>
     ensures { IfOk result (λ v. v.items ≡ listing_text code.now) }
 {
@@ -70,7 +70,7 @@ fn plain(alloc: Global, code: &Code) -> Result<Vec<u8>, AllocError>
     }
 }
 
-/// The same with the source of each instruction.
+/// Returns the listing with the source of each instruction.
 fn sourced(alloc: Global, text: &[u8], code: &Code) -> Result<Vec<u8>, AllocError>
     ensures { let listing = listing_text code.now in
         IfOk result (λ v. IsSourcedListing text.now code.now.tree listing v.items) }
@@ -79,7 +79,7 @@ fn sourced(alloc: Global, text: &[u8], code: &Code) -> Result<Vec<u8>, AllocErro
     sourced_listing(alloc, text, code.checked(), &listing)
 }
 
-/// The listing of a program's code in this form.
+/// Returns the listing of a program's code in this form.
 fn listing_in(
     alloc: Global,
     form: ListingForm,

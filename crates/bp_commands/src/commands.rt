@@ -1,4 +1,4 @@
-//! Commands on what they are given, and on what they read.
+//! Commands on given inputs, and on inputs that they read.
 ghost use Rattle.std.specs.Prelude.{◌≡◌, List, ℕ};
 ghost use Rattle.bp_commands.specs.Commands.{Answers, AnswersOf, Command, text_alone, text_and, Pair};
 ghost use Rattle.bp_commands.specs.declared.explanations.SecondInput.{SecondInput};
@@ -15,7 +15,7 @@ use std::io::{Read, Write};
 
 /// A command on a program.
 pub trait ProgramCommand {
-    /// What it reports where it is done.
+    /// Its report after it is done.
     type Answer: CommandAnswer + Drop;
 
     ghost command: { Self → Command (List ℕ) Self.Answer };
@@ -33,12 +33,12 @@ pub trait ProgramCommand {
         ensures { AnswersOf (command self.now) text.now
             (W.contents out.old) (W.contents out.new) result };
 
-    /// What the runs of the program start from, if it is run.
+    /// Returns the start of the runs of the program, if it is run.
     fn start(&self) -> Option<NamedStart<'_>> {
         None
     }
 
-    /// The numbers among its options that have a range, beside those of its start.
+    /// Returns the numbers among its options that have a range, beside those of its start.
     fn numbers(&self) -> OptionNumbers {
         OptionNumbers::NONE
     }
@@ -46,7 +46,7 @@ pub trait ProgramCommand {
 
 /// A command on a program and an input beside it.
 pub trait PairCommand {
-    /// What it reports where it is done.
+    /// Its report after it is done.
     type Answer: CommandAnswer + Drop;
 
     ghost command: { Self → Command Pair Self.Answer };
@@ -55,7 +55,7 @@ pub trait PairCommand {
 
     ghost second_input: { Self → SecondInput };
 
-    /// How many bytes the input beside the program has at most.
+    /// Returns the most bytes of the input beside the program.
     fn limit(&self) -> usize
         ensures { result ≡ limit self.now };
 
@@ -70,22 +70,22 @@ pub trait PairCommand {
         ensures { let given : Pair = record { text = text.now; input = input.now } in
             AnswersOf (command self.now) given (W.contents out.old) (W.contents out.new) result };
 
-    /// What the input beside the program is.
+    /// Returns the kind of the second input.
     fn second_input(&self) -> SecondInput
         ensures { result ≡ second_input self.now };
 
-    /// What the run starts from, where the input does not say it.
+    /// Returns the start of the run, unless the input has it.
     fn start(&self) -> Option<NamedStart<'_>> {
         None
     }
 
-    /// The names of variables that are watched, with commas between them.
+    /// Returns the names of watched variables, with commas between them.
     fn watch(&self) -> Option<&str> {
         None
     }
 }
 
-/// Reads a program text, and does a command on it. At most 65,537 bytes are read.
+/// Reads a program text, and does a command on it. Reads at most 65,537 bytes.
 pub fn do_on_program<C: ProgramCommand, R: Read, W: Write>(
     alloc: Global,
     command: &C,
@@ -104,8 +104,8 @@ pub fn do_on_program<C: ProgramCommand, R: Read, W: Write>(
     command.apply(alloc, &program.bytes, out)
 }
 
-/// Reads a program text, and then the input beside it, and does a command on both. At most one
-/// byte more than its limit is read of each.
+/// Reads a program text, and then the input beside it, and does a command on both. Reads at most
+/// one byte more than its limit of each.
 pub fn do_on_pair<C: PairCommand, R: Read, S: Read, W: Write>(
     alloc: Global,
     command: &C,

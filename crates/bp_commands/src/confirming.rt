@@ -22,11 +22,10 @@ use bp_view::{FootFacts, facts_of_foot, facts_of_program, outcome_text, waits_te
 use std::alloc::{AllocError, Global};
 use std::io::Write;
 
-/// The exit status if the run of the steps does not end as expected, which is also that of refuted
-/// steps.
+/// The exit status if the run of the steps does not end as expected, and of refuted steps.
 const UNEXPECTED: u8 = 4;
 
-/// The verdict on steps that are a run, and how it is told.
+/// The verdict on steps that are a run, and the form of its report.
 #[derive(Drop)]
 pub struct Confirmation {
     pub verdict: Verdict,
@@ -37,13 +36,13 @@ pub struct Confirmation {
     pub waits: Vec<u8>,
     /// The last bits on which the deadlock depends, each as an object after a comma or in words.
     pub choices: Vec<u8>,
-    /// The verdict that is expected, if the exit status says whether it is this one.
+    /// The expected verdict, if the exit status tells whether it is met.
     pub expected: Option<Verdict>,
-    /// Whether it is told as a JSON object.
+    /// Whether the report is a JSON object.
     pub json: bool,
 }
 
-/// The verdict on steps whose run ends with these facts.
+/// Returns the verdict on steps whose run ends with these facts.
 fn verdict_of(foot: &FootFacts<'_>) -> Verdict
     ensures { result ≡ verdict_of (foot_in foot.now) }
 {
@@ -57,7 +56,7 @@ fn verdict_of(foot: &FootFacts<'_>) -> Verdict
     }
 }
 
-/// The word for a verdict.
+/// Returns the word for a verdict.
 fn verdict_word(verdict: Verdict) -> &'static [u8]
     ensures { result.now ≡ verdict_word verdict }
 {
@@ -68,7 +67,7 @@ fn verdict_word(verdict: Verdict) -> &'static [u8]
     }
 }
 
-/// What is said of a deadlock before the last bits on which it depends.
+/// Returns the text on a deadlock before the last bits on which it depends.
 fn deadlock_lead(choices: &[u8]) -> &'static [u8]
     ensures { result.now ≡ deadlock_lead choices.now }
 {
@@ -79,7 +78,7 @@ fn deadlock_lead(choices: &[u8]) -> &'static [u8]
     }
 }
 
-/// Writes what a user reads of a deadlock, which depends on these last bits.
+/// Writes the line of a deadlock, which depends on these last bits.
 fn put_deadlock<W: Write>(choices: &[u8], out: &mut W) -> Result<(), WriteFault>
     ensures { let line = deadlock_line choices.now in
         Writes (W.contents out.old) (W.contents out.new) line result }
@@ -88,7 +87,7 @@ fn put_deadlock<W: Write>(choices: &[u8], out: &mut W) -> Result<(), WriteFault>
     put_pieces(out, &[lead, Bytes(part_from(choices, 4)), Bytes(b"\n")])
 }
 
-/// Writes what a user reads of a verdict.
+/// Writes the line of a verdict for people.
 fn put_line<W: Write>(choices: &[u8], verdict: Verdict, out: &mut W) -> Result<(), WriteFault>
     ensures { let line = verdict_line choices.now verdict in
         Writes (W.contents out.old) (W.contents out.new) line result }
@@ -136,7 +135,7 @@ fn push_choice(text: &mut Vec<u8>, json: bool, choice: LastChoice) -> Result<(),
     )
 }
 
-/// The last bits on which a deadlock depends.
+/// Returns the last bits on which a deadlock depends.
 fn choices_text(alloc: Global, json: bool, choices: &[LastChoice]) -> Result<Vec<u8>, AllocError>
     ensures { IfOk result (λ v. v.items ≡ choices_text json choices.now) }
 {
@@ -147,7 +146,7 @@ fn choices_text(alloc: Global, json: bool, choices: &[LastChoice]) -> Result<Vec
     Ok(text)
 }
 
-/// The exit status of a verdict: whether an assertion failed, or 0 or 4 if a verdict is expected.
+/// Returns the exit status of a verdict: that of a failure, or 0 or 4 if a verdict is expected.
 fn status_of_verdict(expected: Option<Verdict>, verdict: Verdict) -> u8
     ensures { result ≡ status_of_verdict expected verdict }
 {
@@ -187,7 +186,7 @@ impl CommandAnswer for Confirmation {
     }
 }
 
-/// The verdict on steps of the program of a text, which this history takes.
+/// Returns the verdict on steps of the program of a text, which this history takes.
 fn confirmation_of(
     alloc: Global,
     text: &[u8],

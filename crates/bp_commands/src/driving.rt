@@ -19,8 +19,8 @@ use bp_trace::limits::MAX_SCHEDULE;
 use std::alloc::Global;
 use std::io::{Read, Write};
 
-/// Drives a program by a schedule from a start, in which the globals that are named have their
-/// bits, and writes the trace.
+/// Drives a program by a schedule from a start, in which the named globals have their bits, and
+/// writes the trace.
 fn drive_from<W: Write>(
     alloc: Global,
     start: &Start,
@@ -82,7 +82,7 @@ pub type BundleFault = Fault;
 
 /// Reads a bundle, a program and a schedule, drives the program by the schedule, and writes the
 /// trace: one thread begins with `main`, all globals are 0, and at most 2 contexts and 1,000 calls
-/// are allowed. At most 1,048,577 bytes are read.
+/// are allowed. Reads at most 1,048,577 bytes.
 pub fn drive_bundle<R: Read, W: Write>(
     alloc: Global,
     bundle: &mut Source<R>,
@@ -101,7 +101,7 @@ pub fn drive_bundle<R: Read, W: Write>(
     drive_from(alloc, &start, &NamedBits::none(alloc), text, schedule, out)
 }
 
-/// What follows a line that is exactly `%`, where the bytes begin with one.
+/// Returns the text after a line that is exactly `%`, if the bytes begin with one.
 fn after_separator(bytes: &[u8]) -> Option<&[u8]>
     ensures { MatchOption result
         (HasNoSeparator bytes.now)
@@ -114,7 +114,7 @@ fn after_separator(bytes: &[u8]) -> Option<&[u8]>
     }
 }
 
-/// Where the first line that is exactly `%` begins, and what follows it.
+/// Returns the start of the first line that is exactly `%`, and the text after it.
 fn first_separator(input: &[u8]) -> Option<(usize, &[u8])>
     ensures { MatchOption result
         (HasNoneBefore input.now (length input.now))
@@ -132,8 +132,8 @@ fn first_separator(input: &[u8]) -> Option<(usize, &[u8])>
     None
 }
 
-/// The program text and the schedule of a bundle: what comes before the first line that is exactly
-/// `%` and what stands after it. Without such a line all is the text.
+/// Splits a bundle into the program text and the schedule, before and after the first line that is
+/// exactly `%`. Without such a line all is the text.
 pub fn parts(input: &[u8]) -> (&[u8], &[u8])
     ensures { IsParted input.now result.0.now result.1.now }
 {

@@ -1,4 +1,4 @@
-//! What `--explain` adds after the line of a fault, for people.
+//! The text that `--explain` adds after the line of a fault, for people.
 ghost use Rattle.std.specs.Prelude.{ℕ, List, IfOk};
 ghost use Rattle.bp_advice.specs.Explanations.{IsExplanationOf};
 ghost use Rattle.bp_text.specs.Writing.{Writes};
@@ -26,7 +26,7 @@ pub(crate) struct NamedText<'a> {
     pub(crate) text: &'a [u8],
 }
 
-/// What stands beside the program of a command on two files.
+/// The kind of the second input.
 #[derive(Clone, Copy, Debug, PartialEq, Eq)]
 pub enum SecondInput {
     Schedule,
@@ -34,7 +34,7 @@ pub enum SecondInput {
     Trace,
 }
 
-/// What explains a fault of a program, where anything does.
+/// Returns the explanation of a fault of a program, if there is one.
 pub(crate) fn of_program<'a>(
     alloc: Global,
     fault: &Fault,
@@ -49,8 +49,8 @@ pub(crate) fn of_program<'a>(
     }
 }
 
-/// What explains a fault of the schedule, the steps or the trace beside a program, where anything
-/// does. A schedule and steps are of a run from this start.
+/// Returns the explanation of a fault of the schedule, the steps or the trace beside a program, if
+/// there is one. A schedule and steps are of a run from this start.
 fn of_input<'a>(
     alloc: Global,
     second_input: SecondInput,
@@ -79,8 +79,8 @@ fn of_input<'a>(
     }
 }
 
-/// What explains a fault of a program or of what stands beside it, where anything does. Without a
-/// start, the defaults apply.
+/// Returns the explanation of a fault of a program or of its second input, if there is one. Without
+/// a start, the defaults apply.
 pub(crate) fn of_pair<'a>(
     alloc: Global,
     second_input: SecondInput,
@@ -117,7 +117,7 @@ fn put_line<E: Write>(sentence: &[u8], errors: &mut E) -> Result<(), WriteFault>
     put_pieces(errors, &[Bytes(first_line(sentence)), Bytes(b"\n")])
 }
 
-/// Writes the fault in a sentence, which says what is known of the command line.
+/// Writes the fault in a sentence, with the known facts of the command line.
 fn put_sentence<E: Write>(
     alloc: Global,
     fault: &Fault,
@@ -133,8 +133,8 @@ fn put_sentence<E: Write>(
     }
 }
 
-/// Writes the lines that explain a fault; or else the fault in a sentence, where there are none or
-/// no memory for them.
+/// Writes the lines that explain a fault; or else the fault in a sentence, if there are none or no
+/// memory for them.
 pub(crate) fn put_explanation<E: Write>(
     alloc: Global,
     lines: &Result<Option<Vec<u8>>, AllocError>,

@@ -9,10 +9,10 @@ use bp_tasks::ExploreTask;
 /// The exit status if no run makes the steps.
 const NOT_MADE: u8 = 4;
 
-/// The exit status if not all runs were looked through, and nothing was found.
+/// The exit status if not all runs were explored, and nothing was found.
 const UNFINISHED: u8 = 5;
 
-/// What an exploration finds.
+/// The kind of an exploration's finding.
 #[derive(Clone, Copy, PartialEq, Eq, Debug)]
 pub enum FoundKind {
     Nothing,
@@ -25,38 +25,38 @@ pub enum FoundKind {
 #[derive(Clone, Copy)]
 pub struct EndFacts {
     pub found: FoundKind,
-    /// The contexts of the last new state, of the bound, of what was found, or those that were not
-    /// looked through.
+    /// The contexts of the last new state, of the bound, of the finding, or those that were not
+    /// explored.
     pub contexts: u32,
-    /// Whether all runs were looked through, of any number of contexts.
+    /// Whether all runs were explored, of any number of contexts.
     pub complete: bool,
-    /// Why not all was seen, if so.
+    /// Why not everything was explored, if so.
     pub reason: Option<Reason>,
     /// The calls of the trace, or of the thread that makes too many for one.
     pub calls: Option<u64>,
-    /// Whether a trace of what was found is written.
+    /// Whether a trace of the finding is written.
     pub trace: bool,
 }
 
-/// The steps of a list, for which an exploration looks.
+/// The steps of a list, for which an exploration searches.
 #[derive(Clone, Copy)]
 pub struct ListedSteps {
-    /// How many they are.
+    /// Their number.
     pub count: u32,
-    /// How many of them are made, if that is known.
+    /// The number of them that are made, if known.
     pub made: Option<u32>,
 }
 
-/// How an exploration ended, and what is said of the run that it found.
+/// How an exploration ended, and the texts of the run that it found.
 #[derive(Drop)]
 pub struct Exploration<'a> {
     pub task: &'a ExploreTask<'a>,
     pub facts: EndFacts,
-    /// The steps that a run is looked for that makes them, if any are.
+    /// The steps that a run has to make, if any.
     pub steps: Option<ListedSteps>,
-    /// How many states were seen.
+    /// The number of states.
     pub states: usize,
-    /// In how many of them a call had no room on its stack.
+    /// The number of them in which a call had no room on its stack.
     pub full_stacks: usize,
     /// The outcome of the run that was found.
     pub outcome: Vec<u8>,
@@ -66,7 +66,7 @@ pub struct Exploration<'a> {
     pub failed: bool,
 }
 
-/// An end at which nothing was found.
+/// Returns an end without a finding.
 fn missed_end(contexts: u32, complete: bool, reason: Option<Reason>) -> EndFacts
     ensures { result ≡ missed_end contexts complete reason }
 {
@@ -80,7 +80,7 @@ fn missed_end(contexts: u32, complete: bool, reason: Option<Reason>) -> EndFacts
     }
 }
 
-/// An end at which something was found.
+/// Returns an end with a finding.
 fn found_end(found: FoundKind, contexts: u32, calls: u64, trace: bool) -> EndFacts
     ensures { result ≡ found_end found contexts calls trace }
 {
@@ -103,7 +103,7 @@ fn kind_of(finding: Finding) -> FoundKind
     }
 }
 
-/// The facts of the end of an exploration.
+/// Returns the facts of the end of an exploration.
 pub(crate) fn facts_of_ending(ending: &Ending) -> EndFacts
     ensures { result ≡ facts_of_ending ending.now }
 {
@@ -127,7 +127,7 @@ pub(crate) fn facts_of_ending(ending: &Ending) -> EndFacts
     }
 }
 
-/// The facts of the end of an exploration through steps.
+/// Returns the facts of the end of an exploration through steps.
 pub(crate) fn facts_through(ending: &ThroughEnding) -> EndFacts
     ensures { result ≡ facts_through ending.now }
 {
@@ -151,7 +151,7 @@ pub(crate) fn facts_through(ending: &ThroughEnding) -> EndFacts
     }
 }
 
-/// How many of the steps are made, if that is known.
+/// Returns the number of the steps that are made, if known.
 pub(crate) fn made_through(steps: u32, ending: &ThroughEnding) -> Option<u32>
     ensures { result ≡ made_through steps ending.now }
 {
@@ -164,7 +164,7 @@ pub(crate) fn made_through(steps: u32, ending: &ThroughEnding) -> Option<u32>
     }
 }
 
-/// The exit status if nothing was found.
+/// Returns the exit status if nothing was found.
 fn status_missed(reason: Option<Reason>, steps: Option<ListedSteps>) -> u8
     ensures { result ≡ status_missed reason steps }
 {
@@ -175,7 +175,7 @@ fn status_missed(reason: Option<Reason>, steps: Option<ListedSteps>) -> u8
     }
 }
 
-/// The exit status of an exploration that ends so.
+/// Returns the exit status of an exploration with this end.
 pub(crate) fn status_found(
     found: FoundKind,
     reason: Option<Reason>,

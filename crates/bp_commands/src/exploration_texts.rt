@@ -1,4 +1,4 @@
-//! What is said of an exploration on standard error: lines for people, or one JSON object.
+//! The report of an exploration on standard error: lines for people, or one JSON object.
 ghost use Rattle.std.specs.Prelude.{◌≡◌, option_map};
 ghost use Rattle.bp_text.specs.Writing.{Given, Writes};
 ghost use Rattle.bp_commands.specs.ExplorationTexts.{anywhere_by, anywhere_text, below_text, count_of, cut_text, digit, end_text, ending_by, exploration_lines, exploration_object, exploration_text, finding_text, first_text, found_text, found_word, grouped, it_text, last_members, last_three, less_by, made_end, missed_text, of_program, plural, reason_text, reason_word, run_by, sought_text, steps_text, traceless_by, unfinished_text, were_text, within_text};
@@ -9,7 +9,7 @@ use bp_text::Piece::{Bytes, Displayed, Key, List, Number, NumberOrNull, Text, Te
 use bp_text::{Sink, WriteFault};
 use std::io::Write;
 
-/// The last digit of a number.
+/// Returns the last digit of a number.
 fn digit(number: u64) -> u8
     ensures { result ≡ digit number }
 {
@@ -45,7 +45,7 @@ fn put_grouped<W: Write>(number: u64, sink: &mut Sink<'_, W>)
     put_last_three(number, sink)
 }
 
-/// The ending of a noun after this number.
+/// Returns the ending of a noun after this number.
 fn plural(number: u64) -> &'static [u8]
     ensures { result.now ≡ plural number }
 {
@@ -69,7 +69,7 @@ fn put_steps<W: Write>(count: u32, sink: &mut Sink<'_, W>)
     sink.put(b" in this order")
 }
 
-/// Writes the first steps that no run makes, and how many of them a run makes.
+/// Writes the first steps that no run makes, and the number of them that a run makes.
 fn put_first<W: Write>(made: u32, sink: &mut Sink<'_, W>)
     ensures { Given W.contents sink.old sink.new (first_text made) }
 {
@@ -83,7 +83,7 @@ fn put_first<W: Write>(made: u32, sink: &mut Sink<'_, W>)
     sink.put(b" of them")
 }
 
-/// What no run does if nothing is found.
+/// Returns the end that no run has if nothing is found.
 fn end_text(with_deadlock: bool) -> &'static [u8]
     ensures { result.now ≡ end_text with_deadlock }
 {
@@ -94,7 +94,7 @@ fn end_text(with_deadlock: bool) -> &'static [u8]
     }
 }
 
-/// Writes what an exploration looks for.
+/// Writes the aim of an exploration.
 fn put_sought<W: Write>(x: &Exploration<'_>, sink: &mut Sink<'_, W>)
     ensures { Given W.contents sink.old sink.new (sought_text x.now) }
 {
@@ -110,7 +110,7 @@ fn put_sought<W: Write>(x: &Exploration<'_>, sink: &mut Sink<'_, W>)
     }
 }
 
-/// Why not all was seen, and what helps.
+/// Returns why not everything was explored, and the remedy.
 fn reason_text(reason: Reason) -> &'static [u8]
     ensures { result.now ≡ reason_text reason }
 {
@@ -127,7 +127,7 @@ fn were_text(number: u64) -> &'static [u8]
     if number == 1 { b" was" } else { b" were" }
 }
 
-/// Writes within how many contexts no such run was found, and why the search ended there.
+/// Writes the contexts within which no such run was found, and why the search ended there.
 fn put_unfinished<W: Write>(x: &Exploration<'_>, reason: Reason, sink: &mut Sink<'_, W>)
     ensures { Given W.contents sink.old sink.new (unfinished_text x.now reason) }
 {
@@ -144,7 +144,7 @@ fn put_unfinished<W: Write>(x: &Exploration<'_>, reason: Reason, sink: &mut Sink
     sink.put_pieces(&[Bytes(b"\n"), Bytes(reason_text(reason))])
 }
 
-/// Writes that no run of any number of contexts does what is looked for.
+/// Writes that no run of any number of contexts has the end that is searched.
 fn put_anywhere<W: Write>(x: &Exploration<'_>, sink: &mut Sink<'_, W>)
     ensures { Given W.contents sink.old sink.new (anywhere_by x.now.steps x.now) }
 {
@@ -163,7 +163,7 @@ fn put_anywhere<W: Write>(x: &Exploration<'_>, sink: &mut Sink<'_, W>)
     }
 }
 
-/// Writes the same with the states that there are.
+/// Writes that with the number of states.
 fn put_complete<W: Write>(x: &Exploration<'_>, sink: &mut Sink<'_, W>)
     ensures { Given W.contents sink.old sink.new (anywhere_text x.now) }
 {
@@ -187,7 +187,7 @@ fn put_program<W: Write>(steps: Option<ListedSteps>, file: &str, sink: &mut Sink
     }
 }
 
-/// Writes that no run within the bound does what is looked for.
+/// Writes that no run within the bound has the end that is searched.
 fn put_within<W: Write>(x: &Exploration<'_>, sink: &mut Sink<'_, W>)
     ensures { Given W.contents sink.old sink.new (within_text x.now) }
 {
@@ -222,7 +222,7 @@ fn finding_text(found: FoundKind) -> &'static [u8]
     }
 }
 
-/// Writes what is said of the last step if an assertion fails in it.
+/// Writes the note on the last step if an assertion fails in it.
 fn put_made_end<W: Write>(failed: bool, outcome: &[u8], sink: &mut Sink<'_, W>)
     ensures { Given W.contents sink.old sink.new (made_end failed outcome.now) }
 {
@@ -280,7 +280,7 @@ fn put_traceless<W: Write>(
     }
 }
 
-/// What no run within fewer contexts does.
+/// Returns the end that no run within fewer contexts has.
 fn less_text(steps: Option<ListedSteps>, with_deadlock: bool) -> &'static [u8]
     ensures { result.now ≡ less_by steps with_deadlock }
 {
@@ -290,7 +290,7 @@ fn less_text(steps: Option<ListedSteps>, with_deadlock: bool) -> &'static [u8]
     }
 }
 
-/// Writes what is known of runs within fewer contexts than these.
+/// Writes the result for runs within fewer contexts than these.
 fn put_below<W: Write>(x: &Exploration<'_>, contexts: u64, sink: &mut Sink<'_, W>)
     ensures { Given W.contents sink.old sink.new (below_text x.now contexts) }
 {
@@ -304,7 +304,7 @@ fn put_below<W: Write>(x: &Exploration<'_>, contexts: u64, sink: &mut Sink<'_, W
     sink.put(b"\n")
 }
 
-/// Writes what was found.
+/// Writes the finding.
 fn put_found<W: Write>(x: &Exploration<'_>, sink: &mut Sink<'_, W>)
     ensures { Given W.contents sink.old sink.new (found_text x.now) }
 {
@@ -328,7 +328,7 @@ fn put_ending<W: Write>(x: &Exploration<'_>, sink: &mut Sink<'_, W>)
     }
 }
 
-/// Writes how many states were cut off at a full stack.
+/// Writes the number of states that were cut off at a full stack.
 fn put_cut<W: Write>(states: u64, sink: &mut Sink<'_, W>)
     ensures { Given W.contents sink.old sink.new (cut_text states) }
 {
@@ -418,7 +418,7 @@ fn put_object<W: Write>(x: &Exploration<'_>, sink: &mut Sink<'_, W>)
     sink.put(b"}\n")
 }
 
-/// Writes what is said of an exploration: lines for people, or an object.
+/// Writes the report of an exploration: lines for people, or an object.
 pub(crate) fn put_exploration<W: Write>(x: &Exploration<'_>, out: &mut W) -> Result<(), WriteFault>
     ensures { Writes (W.contents out.old) (W.contents out.new) (exploration_text x.now) result }
 {

@@ -25,12 +25,12 @@ use bp_view::{facts_of_foot, facts_of_program, outcome_text, waits_text};
 use std::alloc::{AllocError, Global};
 use std::io::Write;
 
-/// `explore`: looks through all runs of a program, and writes the trace of one that fails, or ends
-/// in a deadlock, within the fewest contexts.
+/// `explore`: explores all runs of a program, and writes the trace of one that fails, or ends in a
+/// deadlock, within the fewest contexts.
 #[derive(Drop)]
 pub struct Explore<'a, P> {
     pub task: &'a ExploreTask<'a>,
-    /// Who is told how far it is, and says whether it continues.
+    /// Is told the progress, and decides whether to continue.
     pub watcher: &'a P,
 }
 
@@ -46,7 +46,7 @@ impl CommandAnswer for Exploration<'_> {
     }
 }
 
-/// The most contexts of the runs that are looked through, if there is a bound.
+/// Returns the most contexts of the runs to explore, if there is a bound.
 pub(crate) fn bound_of(bound: ContextBound, contexts: u32) -> Option<u32>
     ensures { result ≡ bound_of bound contexts }
 {
@@ -66,7 +66,7 @@ fn format_of(json: bool) -> ViewFormat
     }
 }
 
-/// What is said of the end of a run: its outcome, and the threads that wait.
+/// The texts on the end of a run: its outcome, and the threads that wait.
 #[derive(Drop)]
 pub(crate) struct EndTexts {
     pub(crate) outcome: Vec<u8>,
@@ -81,7 +81,7 @@ fn has_failed(report: Report) -> bool
     matches!(report.outcome, Outcome::Failed { .. })
 }
 
-/// What is said of the end of a run, after which the session stands.
+/// Returns the texts on the end of a run, after which the session stands.
 pub(crate) fn texts_of_run(
     alloc: Global,
     text: &[u8],
@@ -109,7 +109,7 @@ pub(crate) fn texts_of_run(
     })
 }
 
-/// What is said if there is no run.
+/// Returns the texts if there is no run.
 pub(crate) fn no_texts(alloc: Global, task: &ExploreTask<'_>) -> Result<EndTexts, AllocError>
     ensures { IfOk result (λ x. IsNothingSaid task.now x.outcome.items x.waits.items x.failed) }
 {
@@ -122,7 +122,7 @@ pub(crate) fn no_texts(alloc: Global, task: &ExploreTask<'_>) -> Result<EndTexts
     })
 }
 
-/// What is said of what an exploration found, if it found a run.
+/// Returns the texts on the finding of an exploration, if it found a run.
 fn finding_texts(
     alloc: Global,
     text: &[u8],

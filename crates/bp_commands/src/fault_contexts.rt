@@ -1,5 +1,5 @@
-//! What the sentence of a fault says of the command line: which file, or which option.
-//! The sentence that says what a fault is, alone.
+//! The part of a fault's sentence on the command line: the file, or the option. The sentence of a
+//! fault alone.
 use crate::inputs::Failure;
 use bp_code::ProgramFault;
 use bp_explain::{global_sentence, start_sentence, variable_sentence};
@@ -48,7 +48,7 @@ impl OptionNumbers {
     }
 }
 
-/// The option whose number is out of its range, and that range.
+/// Returns the sentence on the option whose number is out of its range, with that range.
 fn of_numbers(alloc: Global, start: &Start, numbers: OptionNumbers) -> Option<String> {
     let (contexts, calls) = (start.contexts, start.calls);
     let (turn, ring) = (numbers.turn.unwrap_or(1), numbers.ring.unwrap_or(1));
@@ -76,7 +76,7 @@ pub(crate) struct FailedFile<'a> {
     pub(crate) failure: Failure,
 }
 
-/// The file that could not be opened or read, and the system's reason.
+/// Returns the sentence on the file that could not be opened or read, with the system's reason.
 fn of_file(alloc: Global, unread: Option<FailedFile<'_>>) -> Option<String> {
     let FailedFile { name, failure } = unread?;
     let verb = failure.verb();
@@ -84,14 +84,14 @@ fn of_file(alloc: Global, unread: Option<FailedFile<'_>>) -> Option<String> {
     format!(in alloc; "cannot {verb} '{name}': {reason}").ok()
 }
 
-/// A file and how many bytes it may have.
+/// A file and the most bytes that it may have.
 #[derive(Clone, Copy)]
 pub(crate) struct Limited<'a> {
     pub(crate) name: &'a str,
     pub(crate) limit: usize,
 }
 
-/// That a file has more bytes than it may have. The number has a comma before each three digits.
+/// Returns the sentence on a file that has more bytes than its limit, with commas in the number.
 fn of_limit(alloc: Global, file: Limited<'_>) -> Option<String> {
     let Limited { name, limit } = file;
     let (millions, thousands, ones) = (limit / 1_000_000, limit / 1_000 % 1_000, limit % 1_000);
@@ -102,8 +102,8 @@ fn of_limit(alloc: Global, file: Limited<'_>) -> Option<String> {
     }
 }
 
-/// The arguments that are of the program: its text, what a run of it starts from, and the names of
-/// variables that are watched.
+/// The arguments on the program: its text, the start of its run, and the names of watched
+/// variables.
 #[derive(Clone, Copy)]
 pub(crate) struct Asked<'a, 't> {
     pub(crate) program: &'t [u8],
@@ -111,7 +111,7 @@ pub(crate) struct Asked<'a, 't> {
     pub(crate) watch: Option<&'a str>,
 }
 
-/// What does not fit the program in what a run starts from.
+/// Returns the sentence on the part of a start that does not fit the program.
 fn of_start(alloc: Global, asked: Asked<'_, '_>, fault: SetupFault) -> Option<Vec<u8>> {
     let sentence = start_sentence(alloc, asked.program, asked.start?.start, fault).ok()?;
     if sentence.is_empty() {
@@ -121,21 +121,21 @@ fn of_start(alloc: Global, asked: Asked<'_, '_>, fault: SetupFault) -> Option<Ve
     }
 }
 
-/// What is said of the watched name at this place, from 1. No variable has that name.
+/// Returns the sentence on the watched name of this number, from 1. No variable has that name.
 fn of_watch(alloc: Global, asked: Asked<'_, '_>, number: u64) -> Option<Vec<u8>> {
     let names = watched_names(alloc, asked.watch).ok()?;
     let name = names.get((number as usize).checked_sub(1)?)?;
     variable_sentence(alloc, asked.program, name).ok()
 }
 
-/// What is said of the global at this place, from 1, among those that have their bits by name. No
-/// global has that name.
+/// Returns the sentence on the global of this number, from 1, among those that have their bits by
+/// name. No global has that name.
 fn of_named(alloc: Global, asked: Asked<'_, '_>, number: u64) -> Option<Vec<u8>> {
     let name = asked.start?.named.name((number as usize).checked_sub(1)?)?;
     global_sentence(alloc, asked.program, name).ok()
 }
 
-/// What is said of the name at this place, from 1. A command has names of one option at most.
+/// Returns the sentence on the name of this number, from 1; a command has them in one option.
 fn of_name(alloc: Global, asked: Asked<'_, '_>, number: u64) -> Option<Vec<u8>> {
     match asked.watch {
         Some(_) => of_watch(alloc, asked, number),
@@ -143,11 +143,11 @@ fn of_name(alloc: Global, asked: Asked<'_, '_>, number: u64) -> Option<Vec<u8>> 
     }
 }
 
-/// What is said of a bundle without a program.
+/// The sentence on a bundle without a program.
 const EMPTY_BUNDLE: &str = "standard input has no program; without a command btrun reads a \
     program, a line '%' and a schedule ('btrun --help' shows the commands)";
 
-/// What is known of the command line of a run.
+/// The known facts of the command line of a run.
 #[derive(Clone, Copy)]
 pub(crate) struct FaultContext<'a, 't> {
     pub(crate) unread: Option<FailedFile<'a>>,
@@ -161,7 +161,7 @@ pub(crate) struct FaultContext<'a, 't> {
 }
 
 impl FaultContext<'_, '_> {
-    /// Whether it is the file of this name that could not be opened or read.
+    /// Returns whether the file of this name could not be opened or read.
     pub(crate) fn is_unread(&self, name: &str) -> bool {
         match self.unread {
             Some(unread) => unread.name == name,
@@ -169,7 +169,7 @@ impl FaultContext<'_, '_> {
         }
     }
 
-    /// What is said of a fault of a file or of a number, where there is more to say.
+    /// Returns the sentence on a fault of a file or of a number, if there is more to say.
     fn of_files(&self, alloc: Global, fault: &Fault) -> Option<String> {
         match fault {
             Fault::Device => of_file(alloc, self.unread),
@@ -185,7 +185,7 @@ impl FaultContext<'_, '_> {
         }
     }
 
-    /// What is said of a fault in place of its sentence, where there is more to say.
+    /// Returns the sentence that replaces the fault's own, if there is more to say.
     pub(crate) fn sentence(&self, alloc: Global, fault: &Fault) -> Option<Vec<u8>> {
         if let Some(sentence) = self.of_files(alloc, fault) {
             return Some(sentence.into_bytes());
@@ -201,7 +201,7 @@ impl FaultContext<'_, '_> {
     }
 }
 
-/// The fault in a sentence, which says what is known of the command line.
+/// Returns the fault in a sentence, with the known facts of the command line.
 pub(crate) fn sentence(
     alloc: Global,
     fault: &Fault,
@@ -214,7 +214,7 @@ pub(crate) fn sentence(
     Ok(sentence.into_bytes())
 }
 
-/// The same sentence for a terminal, with `?` for each byte of a control character.
+/// Returns that sentence for a terminal, with `?` for each byte of a control character.
 pub(crate) fn shown_sentence(
     alloc: Global,
     fault: &Fault,

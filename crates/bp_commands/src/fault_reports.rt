@@ -1,4 +1,4 @@
-//! What is told of the faults of the texts that a command was given.
+//! The reports on faults of the texts given to a command.
 ghost use Rattle.std.specs.Prelude.{◌≡◌, ℕ, List, Option, None, Result, IfOk};
 ghost use Rattle.bp_text.specs.Writing.{Writes};
 ghost use Rattle.bp_commands.specs.FaultReports.{IsEndOf, ExplainsPair, ExplainsText, IsSaid, IsTextOf, IsUntold, IsConcluded, IsFileOfPair, IsFileOfText, IsObjectIn, IsObjectWith, IsReported};
@@ -19,7 +19,7 @@ use bp_text::WriteFault;
 use std::alloc::{AllocError, Global};
 use std::io::Write;
 
-/// The texts that a command was given.
+/// The texts given to a command.
 pub(crate) trait Texts {
     ghost explains: { Self → SomeFault → Explanation → Type 0 };
 
@@ -27,7 +27,7 @@ pub(crate) trait Texts {
 
     ghost given: { Self → Pair };
 
-    /// What explains a fault of the texts, where anything does.
+    /// Returns the explanation of a fault of the texts, if there is one.
     fn explanation(
         &self,
         alloc: Global,
@@ -35,15 +35,15 @@ pub(crate) trait Texts {
     ) -> Result<Option<Explanation<'_>>, AllocError>
         ensures { IfOk result (IsExplanationOf (explains self.now fault.now)) };
 
-    /// The name of the file that a fault is in.
+    /// Returns the name of the file that has a fault.
     fn file(&self, fault: &Fault, context: FaultContext<'_, '_>) -> Option<&str>
         ensures { is_in self.now fault.now (name_in result) };
 
-    /// The text of the program.
+    /// Returns the text of the program.
     fn program(&self) -> &[u8]
         ensures { let texts = given self.now in result.now ≡ texts.text };
 
-    /// The input beside the program; it is empty where there is none.
+    /// Returns the input beside the program, or an empty text without one.
     fn input(&self) -> &[u8]
         ensures { let texts = given self.now in result.now ≡ texts.input };
 }
@@ -172,7 +172,7 @@ impl Texts for ReadBundle<'_> {
     }
 }
 
-/// The lines or the sentence of what explains a fault, where anything does.
+/// Returns the lines or the sentence of the explanation of a fault, if there is one.
 fn explaining_text<G: Texts>(
     alloc: Global,
     given: &G,
@@ -223,7 +223,7 @@ fn put_object_with_sentence<G: Texts, E: Write>(
     }
 }
 
-/// How a fault ends a run that tells its object.
+/// Returns the end of a run whose fault was told by its object.
 fn told_by_object(
     fault: &Fault,
     lines: Result<(), AllocError>,
@@ -245,7 +245,7 @@ fn told_by_object(
     }
 }
 
-/// Writes the object of a fault, and answers how it ends a run.
+/// Writes the object of a fault, and returns how it ends a run.
 fn end_by_object<G: Texts, E: Write>(
     alloc: Global,
     given: &G,
@@ -276,7 +276,7 @@ fn end_by_object<G: Texts, E: Write>(
     }
 }
 
-/// Ends a run by what its command answered, with a refusal in this format.
+/// Ends a run by the result of its command, with a refusal in this format.
 fn report<G: Texts, T: CommandAnswer, E: Write>(
     alloc: Global,
     format: FaultFormat,
@@ -312,8 +312,8 @@ fn explain<G: Texts, E: Write>(
     put_explanation(alloc, &lines, fault, context, errors)
 }
 
-/// Ends a run by what its command answered: writes its summary, or its refusal in this format and
-/// what explains it.
+/// Ends a run by the result of its command: writes its summary, or its refusal in this format and
+/// its explanation.
 pub(crate) fn conclude<G: Texts, T: CommandAnswer, E: Write>(
     alloc: Global,
     format: FaultFormat,

@@ -13,10 +13,10 @@ use bp_syntax::ReadFault;
 use std::alloc::Global;
 use std::io::{self, ErrorKind, Read};
 
-/// How many bytes are asked for at a time.
+/// The number of bytes that are read at a time.
 const CHUNK: usize = 4096;
 
-/// Why an input is not opened or read.
+/// Returns why an input is not opened or read.
 fn reading_fault(error: &io::Error) -> InputFault
     ensures { result ≡ reading_fault_of (error_kind error.now) }
 {
@@ -56,7 +56,7 @@ pub fn read_whole<R: Read>(
     }
 }
 
-/// An input: its reader, and what was read of it.
+/// An input: its reader, and the bytes read of it.
 #[derive(Drop)]
 pub struct Source<R> {
     pub reader: R,
@@ -65,7 +65,7 @@ pub struct Source<R> {
 }
 
 impl<R> Source<R> {
-    /// The input of this reader, before anything is read.
+    /// Makes the input of this reader, before anything is read.
     pub fn new(alloc: Global, reader: R) -> Source<R>
         ensures { result.reader ≡ reader }
     {
@@ -76,7 +76,7 @@ impl<R> Source<R> {
     }
 }
 
-/// What a fault of the program's input is.
+/// Returns the fault of a command for one of the program's input.
 fn fault_of_text(fault: InputFault) -> Fault
     ensures { result ≡ fault_of_text fault }
 {
@@ -136,11 +136,11 @@ pub fn read_pair<R: Read, S: Read>(
     read_input(alloc, limit, input)
 }
 
-/// What has files.
+/// A set of files.
 pub trait Files {
     type Input: Read + Drop;
 
-    /// The bytes of the file of a path, where they are known.
+    /// The bytes of the file of a path, if known.
     ghost bytes: { Self → List ℕ → Option (List ℕ) };
 
     /// Opens the file of a path.
@@ -156,12 +156,12 @@ pub(crate) struct Failure {
 }
 
 impl Failure {
-    /// What could not be done with the file.
+    /// Returns the operation that failed.
     pub(crate) fn verb(&self) -> &'static str {
         if self.was_open { "read" } else { "open" }
     }
 
-    /// The system's reason.
+    /// Returns the system's reason.
     pub(crate) fn reason(&self, alloc: Global) -> Option<String> {
         let error = self.error;
         let known = match error.kind() {
@@ -202,7 +202,7 @@ impl<F: Files> Read for InputFile<'_, F> {
     }
 }
 
-/// Why a file was not opened, or not read, if so.
+/// Returns why a file was not opened, or not read, if so.
 fn failure_of<T>(done: &io::Result<T>, was_open: bool) -> Option<Failure> {
     match done {
         Ok(_) => None,
@@ -229,7 +229,7 @@ impl<'a, F: Files> InputFile<'a, F> {
         file
     }
 
-    /// What is known of the file's failure, by its name.
+    /// Returns the facts of the file's failure, by its name.
     pub(crate) fn unread(&self) -> Option<FailedFile<'a>> {
         let failure = self.failure?;
         Some(FailedFile {
@@ -238,7 +238,7 @@ impl<'a, F: Files> InputFile<'a, F> {
         })
     }
 
-    /// The input that the file of this path has.
+    /// Makes the input of the file of this path.
     pub fn source(alloc: Global, files: &'a F, path: &'a str) -> Source<InputFile<'a, F>>
         ensures { let file = result.reader in
             rest_of (F.bytes file.files.now file.path.now) F.Input.remaining file.file

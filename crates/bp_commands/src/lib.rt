@@ -1,5 +1,5 @@
-//! What each command does, over any readers and writer, and how a run of it ends: from the paths of
-//! its files to the exit status and the line on standard error.
+//! Each command, over any readers and writer, and the end of its run: from the paths of its files
+//! to the exit status and the line on standard error.
 #![tactic(auto)]
 
 mod checking;

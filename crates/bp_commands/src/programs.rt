@@ -10,15 +10,14 @@ use bp_messages::Fault;
 use bp_tasks::{NamedBits, NamedStart};
 use std::alloc::{AllocError, Global};
 
-/// The code of a program, with a setup that the program takes.
+/// The code of a program, with a setup that the program accepts.
 #[derive(Drop)]
 pub(crate) struct Opened {
     pub(crate) code: Code,
     pub(crate) setup: Setup,
 }
 
-/// The program of a text with the setup of a start, in which the globals that are named have their
-/// bits.
+/// Makes the code of a text and the setup of a start, in which the named globals have their bits.
 pub(crate) fn open(
     alloc: Global,
     text: &[u8],
@@ -45,9 +44,8 @@ pub(crate) fn open(
     Ok(Opened { code, setup })
 }
 
-/// The start with the bits of the globals that are named in it, for the explanation of a fault that
-/// was found later; None where none are named, or where the program lacks one. The only error is
-/// refused memory.
+/// Returns the start with the bits of the globals that are named in it, for the explanation of a
+/// later fault; None if none are named, or if the program lacks one. Fails only on allocation.
 pub(crate) fn start_of_run(
     alloc: Global,
     text: &[u8],

@@ -13,7 +13,7 @@ use bp_trace::{Unwatched, migrate, replay, replay_watched, write_trace};
 use std::alloc::Global;
 use std::io::Write;
 
-/// `replay`: replays a trace of a program, and writes what its steps printed, and the outcome.
+/// `replay`: replays a trace of a program, and writes the values that it printed, and the outcome.
 pub(crate) fn replay_trace<W: Write>(
     alloc: Global,
     code: &Code,
@@ -41,7 +41,7 @@ pub(crate) fn migrate_trace<W: Write>(
     Ok(migrate(alloc, code, trace, out)?)
 }
 
-/// The end that a history of a session is to keep: a failure or a deadlock.
+/// Returns the end that a history of a session has to keep: a failure or a deadlock.
 fn kept_end(alloc: Global, session: &Session) -> Result<HistoryEnd, Fault>
     ensures { MatchResult result
         (λ end. EndsIn session.now end × (end ≡ HistoryEnd.Other → ⊥))
@@ -57,8 +57,8 @@ fn kept_end(alloc: Global, session: &Session) -> Result<HistoryEnd, Fault>
     Ok(end)
 }
 
-/// `shrink`: writes the trace of a history that fails where that of a trace does, or ends in the
-/// same deadlock, by no more calls and no more contexts.
+/// `shrink`: writes the trace of a history with the failure or the deadlock of a trace, by no more
+/// calls and no more contexts.
 pub(crate) fn shrink_trace<W: Write>(
     alloc: Global,
     code: &Code,

@@ -1,5 +1,5 @@
-//! How a run ends: the line on standard error, and the exit status.
-//! What follows a command that wrote through a buffer.
+//! How a run ends: the line on standard error, and the exit status. The end of a command that wrote
+//! through a buffer.
 ghost use Rattle.std.specs.Prelude.{◌≡◌, None};
 ghost use Rattle.std.specs.Io.Buffered.{writer_contents};
 ghost use Rattle.bp_messages.specs.FaultTable.{exit_status};
@@ -13,21 +13,21 @@ use bp_text::WriteFault;
 use std::alloc::AllocError;
 use std::io::{BufWriter, Write};
 
-/// What a command answers.
+/// The result of a command.
 pub trait CommandAnswer {
     ghost rule: { AnswerRule Self };
 
-    /// The exit status of a run that answers this.
+    /// Returns the exit status of a run with this result.
     fn status(&self) -> u8
         ensures { result ≡ rule.status self.now };
 
-    /// Writes the summary, where there is one.
+    /// Writes the summary, if there is one.
     fn summarize<E: Write>(&self, errors: &mut E) -> Result<(), WriteFault>
         ensures { HasSummary (rule.summary self.now)
             (E.contents errors.old) (E.contents errors.new) result };
 }
 
-/// The exit status of a run that ends with this report.
+/// Returns the exit status of a run that ends with this report.
 fn status_of_report(report: &Report) -> u8
     ensures { result ≡ exit_status (report_failed report.now) None }
 {
@@ -70,10 +70,10 @@ impl CommandAnswer for RunReport {
     }
 }
 
-/// What became of the explanation of a refusal.
+/// The outcome of the explanation of a refusal.
 #[derive(Clone, Copy, Debug, PartialEq, Eq)]
 pub struct Explained {
-    /// Whether memory was there for its lines, or for its sentence in an object. Else the
+    /// Whether there was memory for its lines, or for its sentence in an object. Otherwise the
     /// sentence of the fault is in its place.
     pub lines: Result<(), AllocError>,
     /// Whether standard error took all of it.
@@ -81,14 +81,14 @@ pub struct Explained {
 }
 
 impl Explained {
-    /// Nothing was to be explained.
+    /// There was nothing to explain.
     pub(crate) const NOTHING: Explained = Explained {
         lines: Ok(()),
         told: Ok(()),
     };
 }
 
-/// How a run ends, and what became of what was said on standard error.
+/// The end of a run, and whether its text on standard error was written.
 #[derive(Clone, Copy, Debug, PartialEq, Eq)]
 pub struct RunEnd {
     /// The exit status. It does not depend on the other parts.
@@ -98,8 +98,8 @@ pub struct RunEnd {
     pub explained: Explained,
 }
 
-/// Ends a run by what its command answered: writes its summary or the line of its fault, where
-/// there is one. Nothing is explained.
+/// Ends a run by the result of its command: writes its summary or the line of its fault, if there
+/// is one. Nothing is explained.
 pub fn end<T: CommandAnswer, E: Write>(done: &Result<T, Fault>, errors: &mut E) -> RunEnd
     ensures ends { IsEndOf T.rule HasFaultLine done.now result
         (E.contents errors.old) (E.contents errors.new) }
@@ -116,8 +116,8 @@ pub fn end<T: CommandAnswer, E: Write>(done: &Result<T, Fault>, errors: &mut E) 
     }
 }
 
-/// Flushes a buffer after a command's answer, and gives back the output. Where bytes are lost, the
-/// answer is that the output could not be written, whatever the command answered.
+/// Flushes a buffer after a command's result, and returns the output. If bytes are lost, the result
+/// is that the output could not be written, whatever the command returned.
 pub fn flushed<T: Drop, W: Write + Drop>(
     done: Result<T, Fault>,
     out: BufWriter<W>,

@@ -1,4 +1,4 @@
-//! The command `run`. It is no `ProgramCommand`: what starts threads and the gate of a run are
+//! The command `run`. It is no `ProgramCommand`: the starter of threads and the gate of a run are
 //! known in its workers as a function's own parameters alone.
 ghost use Rattle.bp_commands.specs.Commands.{Answers, text_alone};
 ghost use Rattle.bp_commands.specs.FaultReports.{AreReadOr};
@@ -19,15 +19,15 @@ use std::time::Clock;
 /// A run by real workers, one for each guest thread.
 #[derive(Drop)]
 pub struct Run<'a, T, G> {
-    /// What starts the workers.
+    /// The starter of the workers.
     pub threads: &'a T,
     /// The gate at which they wait.
     pub gate: &'a G,
     pub task: &'a RunTask<'a>,
 }
 
-/// Reads a program text, and runs its program as it is asked. The trace of the history that the
-/// workers make is written while it grows. At most 65,537 bytes are read.
+/// Reads a program text, and runs its program under the options. The trace of the history that the
+/// workers make is written while it grows. Reads at most 65,537 bytes.
 pub fn run_program<T: Threads + Wait + Clock + Sync, G: Gate, R: Read, W: Write>(
     alloc: Global,
     asked: &Run<'_, T, G>,

@@ -22,7 +22,7 @@ use std::sync::Wait;
 use std::thread::Threads;
 use std::time::Clock;
 
-/// Where a command is run: with this memory, on these files, and with faults in this form.
+/// The environment of a command: this memory, these files, and this form of faults.
 #[derive(Clone, Copy)]
 pub struct Io<'a, F> {
     pub alloc: Global,
@@ -37,7 +37,7 @@ pub struct Streams<O: Write + Drop, E: Write + Drop> {
     pub errors: E,
 }
 
-/// Flushes the output after a command's answer, and ends the run by it.
+/// Flushes the output after a command's result, and ends the run by it.
 fn finish<G: Texts, T: CommandAnswer + Drop, W: Write + Drop, E: Write + Drop>(
     alloc: Global,
     format: FaultFormat,
@@ -60,7 +60,7 @@ fn finish<G: Texts, T: CommandAnswer + Drop, W: Write + Drop, E: Write + Drop>(
     (end, Streams { output, errors })
 }
 
-/// What is known of the command line of a run on a program alone.
+/// Returns the known facts of the command line of a run on a program alone.
 fn context_of<'a>(
     program: NamedText<'a>,
     unread: Option<FailedFile<'a>>,
@@ -81,7 +81,7 @@ fn context_of<'a>(
     }
 }
 
-/// Does a command on the program of a file, and answers how it ends and the streams.
+/// Does a command on the program of a file, and returns how it ends and the streams.
 pub fn run_on_program<'a, C: ProgramCommand, F: Files, W: Write + Drop, E: Write + Drop>(
     io: Io<'a, F>,
     command: &'a C,
@@ -107,7 +107,7 @@ pub fn run_on_program<'a, C: ProgramCommand, F: Files, W: Write + Drop, E: Write
     finish(io.alloc, io.format, &given, done, context, streams)
 }
 
-/// Runs the program of a file by real workers, and answers how it ends and the streams.
+/// Runs the program of a file by real workers, and returns how it ends and the streams.
 pub fn run_by_workers<
     'a,
     F: Files,
@@ -143,8 +143,8 @@ pub fn run_by_workers<
     finish(io.alloc, io.format, &given, done, context, streams)
 }
 
-/// Does a command on the program of a file and the input that another file has, and answers how
-/// it ends and the streams.
+/// Does a command on the program of a file and the input of another file, and returns how it ends
+/// and the streams.
 pub fn run_on_pair<'a, C: PairCommand, F: Files, W: Write + Drop, E: Write + Drop>(
     io: Io<'a, F>,
     command: &'a C,
@@ -200,10 +200,10 @@ pub fn run_on_pair<'a, C: PairCommand, F: Files, W: Write + Drop, E: Write + Dro
     finish(io.alloc, io.format, &given, done, context, streams)
 }
 
-/// What a sentence calls the input of a bundle.
+/// The name of the input of a bundle in a sentence.
 const STANDARD_INPUT: &str = "standard input";
 
-/// Drives the bundle of a reader, with a refusal in this format, and answers how it ends and the
+/// Drives the bundle of a reader, with a refusal in this format, and returns how it ends and the
 /// streams.
 pub fn run_on_bundle<R: Read + Drop, W: Write + Drop, E: Write + Drop>(
     alloc: Global,

@@ -18,23 +18,23 @@ use bp_view::{contexts_of, state_at, view};
 use std::alloc::Global;
 use std::io::Write;
 
-/// How lines are shown on standard output.
+/// The form of lines on standard output.
 #[derive(Clone, Copy)]
 pub struct Screen {
     /// Whether colours are wanted.
     pub has_colour: bool,
-    /// The most columns of a line; none where it has as many as it needs.
+    /// The most columns of a line; None if it has as many as it needs.
     pub columns: Option<usize>,
 }
 
-/// What `show` is asked for, on a screen.
+/// The options of `show`, on a screen.
 #[derive(Clone, Copy)]
 pub struct Show<'a> {
     pub task: &'a ShowTask<'a>,
     pub screen: Screen,
 }
 
-/// The options of a view on this screen.
+/// Returns the options of a view on this screen.
 fn on_screen<'a>(options: ViewOptions<'a>, screen: Screen) -> ViewOptions<'a>
     ensures { result ≡ on_screen options.entry screen }
 {
@@ -46,7 +46,7 @@ fn on_screen<'a>(options: ViewOptions<'a>, screen: Screen) -> ViewOptions<'a>
 }
 
 /// `show --at`: writes the state after one of the calls of a trace: the values of the globals, and
-/// for each thread how it stands and the frames of its stack.
+/// for each thread its status and the frames of its stack.
 fn show_state<W: Write>(
     alloc: Global,
     text: &[u8],
@@ -66,7 +66,7 @@ fn show_state<W: Write>(
 }
 
 /// `show --contexts`: writes a line for each context of a trace: its thread, its first and its last
-/// call, where they begin and end, and the globals that it changed.
+/// call, their places, and the globals that it changed.
 fn show_contexts<W: Write>(
     alloc: Global,
     text: &[u8],
@@ -85,7 +85,7 @@ fn show_contexts<W: Write>(
 }
 
 /// `show --steps`: writes a line for each step of a trace, as `confirm` takes them: the thread, and
-/// the line and column at which it stands.
+/// the line and column of its statement.
 fn show_steps<W: Write>(
     alloc: Global,
     text: &[u8],
@@ -133,7 +133,7 @@ fn show_part<W: Write>(
     Ok(report)
 }
 
-/// Writes that a trace is refused after this many calls.
+/// Writes that a trace is refused after this number of calls.
 fn put_refusal<W: Write>(format: ViewFormat, calls: u64, out: &mut W) -> Result<(), WriteFault>
     ensures { Writes (W.contents out.old) (W.contents out.new) (refusal_text format calls) result }
 {
@@ -158,7 +158,7 @@ fn put_refusal<W: Write>(format: ViewFormat, calls: u64, out: &mut W) -> Result<
 }
 
 /// `show`: shows a trace, or with `--valid` its accepted calls. If the trace is refused after some
-/// calls, the trace of these is shown, a last line says how many they are, and then the trace is
+/// calls, the trace of these is shown, a last line gives their number, and then the trace is
 /// refused.
 pub(crate) fn show_trace<W: Write>(
     alloc: Global,

@@ -22,11 +22,11 @@ use std::thread::Threads;
 /// trace of that run.
 #[derive(Drop)]
 pub struct Test<'a, R, P> {
-    /// What starts the threads of the test.
+    /// The starter of the threads of the test.
     pub threads: &'a R,
-    /// What tells the time.
+    /// The clock.
     pub clock: &'a HostRuntime,
-    /// Who is told how far the test is.
+    /// Is told the progress of the test.
     pub progress: &'a P,
     pub task: &'a TestTask<'a>,
 }
@@ -49,7 +49,7 @@ impl CommandAnswer for TestReport {
     }
 }
 
-/// The lines of the statements of a program, where they are to be listed.
+/// Returns the lines of the statements of a program, if they are to be listed.
 fn lines_of(
     alloc: Global,
     task: &TestTask<'_>,

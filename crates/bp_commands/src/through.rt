@@ -22,7 +22,7 @@ use bp_trace::write_trace;
 use std::alloc::{AllocError, Global};
 use std::io::Write;
 
-/// What is said of the run that was found, if there is one.
+/// Returns the texts on the run that was found, if there is one.
 fn run_texts(
     alloc: Global,
     text: &[u8],

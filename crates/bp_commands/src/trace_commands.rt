@@ -12,7 +12,7 @@ use bp_trace::limits::MAX_TRACE;
 use std::alloc::Global;
 use std::io::Write;
 
-/// What is done with a program and a trace of it.
+/// A command on a program and a trace of it.
 #[derive(Clone, Copy)]
 pub enum TraceCommand<'a> {
     Replay,
