@@ -10,7 +10,7 @@ use bp_text::line_of;
 use bp_trace::Due;
 use std::alloc::AllocError;
 
-/// What a thread does if the reply to its call has this letter.
+/// Returns the verb for a thread whose call has a reply of this letter.
 fn verb_of(letter: u8) -> Option<&'static str> {
     match letter {
         b'x' => Some("is stopped: an assertion failed before"),
@@ -24,7 +24,7 @@ fn verb_of(letter: u8) -> Option<&'static str> {
     }
 }
 
-/// Where a thread of a session stands.
+/// Returns the position of a thread of a session.
 fn stand_of(source: &Source<'_>, session: &Session, thread: u32) -> Stand {
     let Some(top) = session.top(thread) else {
         return Stand::Ended;
@@ -36,7 +36,7 @@ fn stand_of(source: &Source<'_>, session: &Session, thread: u32) -> Stand {
 }
 
 impl RefusedLine<'_, '_> {
-    /// Says that a call is due in place of that of the line.
+    /// Says that a call is expected in place of that of the line.
     fn due(&self, call: Call) -> Result<String, AllocError> {
         let (alloc, thread, bit) = (self.alloc, call.thread, u8::from(call.bit));
         let letter = char::from(call.reply.letter());
@@ -62,7 +62,7 @@ impl RefusedLine<'_, '_> {
         }
     }
 
-    /// Says where the thread of a call stands, with the values that its statement reads.
+    /// Gives the position of the thread of a call, with the values that its statement reads.
     fn standing(&self, thread: u32) -> Result<String, AllocError> {
         let alloc = self.alloc;
         let nothing = String::new(alloc);
@@ -80,14 +80,14 @@ impl RefusedLine<'_, '_> {
         format!(in alloc; "is at {here}{read} and ")
     }
 
-    /// What the line says that the thread of its call does.
+    /// Returns the verb of the line for the thread of its call.
     fn told_verb(&self) -> Option<&'static str> {
         let (_, reply_at) = self.call()?;
         verb_of(*self.trace.get(reply_at)?)
     }
 
-    /// Says that a call of the line has another reply than the machine's own, and what each says of
-    /// the thread.
+    /// Says that a call of the line has another reply than the machine's own, with the verb of
+    /// each.
     pub(crate) fn other_reply(&self, due: Due) -> Result<String, AllocError> {
         let (alloc, expected, thread) = (self.alloc, self.due(due.call)?, due.call.thread);
         let here = match due.call.reply {

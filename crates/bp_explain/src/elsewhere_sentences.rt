@@ -1,5 +1,5 @@
-//! Words for a step whose thread stands at another place: which other thread is there, and which
-//! steps of its own lead it there.
+//! Words for a step whose thread is at another place: another thread that is there, and the steps
+//! of its own that lead it there.
 
 use crate::sources::Located;
 use crate::tried_steps::{RefusedStep, Tried};
@@ -9,10 +9,10 @@ use bp_machine::limits::MAX_THREADS;
 use std::alloc::{AllocError, Global};
 use std::fmt::Write;
 
-/// How many steps that are left out are looked for.
+/// The most steps left out that are searched for.
 const MOST_MISSING: u32 = 6;
 
-/// How many bytes of steps are tried again for each thread.
+/// The most bytes of steps that are tried again for each thread.
 const MOST_TRIED: usize = 262_144;
 
 /// Adds a line of steps without values.
@@ -26,7 +26,7 @@ fn push_step(steps: &mut Vec<u8>, thread: u32, location: Location) -> Result<(),
     steps.extend_from_slice(line.as_bytes())
 }
 
-/// The line of a statement.
+/// Returns the line of a statement.
 fn line_of(stand: Stand) -> Option<usize> {
     match stand {
         Stand::Statement(position) => Some(position.line),
@@ -34,13 +34,13 @@ fn line_of(stand: Stand) -> Option<usize> {
     }
 }
 
-/// Whether two of these statements, one after the other, begin on one line.
+/// Returns whether two of these statements, one after the other, begin on one line.
 fn share_a_line(stands: &[Stand]) -> bool {
     let mut pairs = stands.iter().zip(stands.iter().skip(1));
     pairs.any(|(stand, next)| line_of(*stand).is_some() && line_of(*stand) == line_of(*next))
 }
 
-/// The places of some steps as lines of steps name them, the last after an 'and'.
+/// Returns the places of some steps as lines of steps name them, the last after an 'and'.
 fn places(alloc: Global, stands: &[Stand], by_column: bool) -> Result<String, AllocError> {
     let mut list = String::new(alloc);
     for (index, stand) in stands.iter().enumerate() {
@@ -55,8 +55,8 @@ fn places(alloc: Global, stands: &[Stand], by_column: bool) -> Result<String, Al
 }
 
 impl RefusedStep<'_> {
-    /// What becomes of these steps with one more, of this thread at the location of the refused
-    /// step.
+    /// Returns the result of these steps with one more, of this thread at the location of the
+    /// refused step.
     fn try_with(&self, steps: &[u8], thread: u32) -> Result<Tried, AllocError> {
         let mut tried = Vec::new(self.alloc);
         tried.extend_from_slice(steps)?;
@@ -64,7 +64,7 @@ impl RefusedStep<'_> {
         self.try_steps(tried.as_slice())
     }
 
-    /// The thread that stands at the location of the refused step, if one alone does.
+    /// Returns the thread that is at the location of the refused step, if one alone is.
     fn only_thread_there(&self) -> Result<Option<u32>, AllocError> {
         let start = self.start;
         let mut only = None;
@@ -84,7 +84,8 @@ impl RefusedStep<'_> {
         Ok(only)
     }
 
-    /// Where a thread stands, as a step names it, if its next step does not depend on a choice.
+    /// Returns the thread's position as a step names it, if its next step does not depend on a
+    /// choice.
     fn location_without_choice(&self, here: StepRefusal) -> Option<Location> {
         let statement = self.source.statements.get(here.number? as usize)?;
         match here.stand {
@@ -98,8 +99,8 @@ impl RefusedStep<'_> {
         }
     }
 
-    /// Where the thread of the refused step stands before each of the steps that lead it to the
-    /// location of that step, if they do not depend on a choice and are few.
+    /// Returns the positions of the thread of the refused step before each of the steps that lead
+    /// it to the location of that step, if they do not depend on a choice and are few.
     fn missing_steps(&self) -> Result<Option<Vec<Stand>>, AllocError> {
         let mut steps = Vec::new(self.alloc);
         steps.extend_from_slice(self.before())?;
@@ -122,8 +123,8 @@ impl RefusedStep<'_> {
         Ok(None)
     }
 
-    /// Says which steps of the thread of the refused step lead it to the location of that step, if
-    /// they do not depend on a choice and are few.
+    /// Gives the steps of the thread of the refused step that lead it to the location of that step,
+    /// if they do not depend on a choice and are few.
     fn missing(&self) -> Result<String, AllocError> {
         let alloc = self.alloc;
         let Some(stands) = self.missing_steps()? else {
@@ -142,8 +143,8 @@ impl RefusedStep<'_> {
         format!(in alloc; "; {lead} {places} {verb} missing")
     }
 
-    /// Says what leads to the location of the refused step: another thread, or steps that are left
-    /// out. They are looked for after a list that is not too long.
+    /// Gives the ways to the location of the refused step: another thread, or steps that are left
+    /// out. They are searched after a list that is not too long.
     pub(crate) fn ways_there(&self) -> Result<String, AllocError> {
         let alloc = self.alloc;
         if self.before().len() > MOST_TRIED {

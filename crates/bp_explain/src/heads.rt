@@ -1,5 +1,5 @@
-//! The head of a trace, and the line of it that a fault of its setup is about.
-//! Sentences on a line of a trace that is not as expected.
+//! The head of a trace, and the line of it to which a fault of its setup refers. Sentences on a
+//! malformed line of a trace.
 ghost use Rattle.std.specs.Prelude.{◌≡◌, ◌<◌, ◌^◌, nat_lt, IfOk};
 ghost use Rattle.bp_machine.specs.declared.limits.TheConstants.{MAX_CONTEXTS};
 ghost use Rattle.bp_machine.specs.Setups.{threads};
@@ -18,10 +18,10 @@ use bp_trace::limits::MAX_TRACE;
 use bp_trace::{Head, ReplayFault, read_head};
 use std::alloc::{AllocError, Global};
 
-/// The line on which the first entry is due.
+/// The line of the first entry.
 pub(crate) const FIRST_ENTRY: usize = 2;
 
-/// The head of a trace, if it has one.
+/// Returns the head of a trace, if it has one.
 pub(crate) fn head_of(alloc: Global, trace: &[u8]) -> Result<Option<Head<'_>>, AllocError>
     ensures { IfOk result (IsReadHead trace.now) }
 {
@@ -38,7 +38,7 @@ pub(crate) fn head_of(alloc: Global, trace: &[u8]) -> Result<Option<Head<'_>>, A
     }
 }
 
-/// Returns how many threads the head of a trace says, and whether its contexts are too many.
+/// Returns the number of threads of the head of a trace, and whether its contexts are too many.
 fn numbers_of(trace: &[u8], head: &Option<Head<'_>>) -> (usize, bool)
     requires { IsReadHead trace.now head.now }
     ensures threads { (b : BeginsWithHead trace.now) → result.0 ≡ threads b.setup }
@@ -52,7 +52,7 @@ fn numbers_of(trace: &[u8], head: &Option<Head<'_>>) -> (usize, bool)
     }
 }
 
-/// The line of a trace with this head that a fault of its setup is about.
+/// Returns the line of a trace with this head to which a fault of its setup refers.
 pub(crate) fn line_of_setup(trace: &[u8], head: &Option<Head<'_>>, fault: SetupFault) -> usize
     requires { IsReadHead trace.now head.now }
     ensures { IsSetupLine trace.now fault result }
@@ -70,7 +70,7 @@ pub(crate) fn line_of_setup(trace: &[u8], head: &Option<Head<'_>>, fault: SetupF
     }
 }
 
-/// Says how many formals a procedure has, which is to be an entry.
+/// Gives the number of formals of a procedure that is an entry.
 pub(crate) fn formals_of(alloc: Global, tree: &Tree, entry: &[u8]) -> Result<String, AllocError> {
     let formals = first_procedure(tree, entry).map_or(0, |proc| proc.formals().len());
     let count = Count(formals, "formal");
@@ -78,7 +78,7 @@ pub(crate) fn formals_of(alloc: Global, tree: &Tree, entry: &[u8]) -> Result<Str
 }
 
 impl RefusedLine<'_, '_> {
-    /// Says what is wrong with the setup that the head says, which is none of the program.
+    /// Explains why the setup of the head does not fit the program.
     pub(crate) fn setup_sentence(&self, fault: SetupFault) -> Result<String, AllocError> {
         let alloc = self.alloc;
         let Some(tree) = &tree_of(alloc, self.program)? else {
@@ -114,7 +114,7 @@ impl RefusedLine<'_, '_> {
         }
     }
 
-    /// The text of the line of this number.
+    /// Returns the text of the line of this number.
     fn text_of(&self, number: usize) -> &[u8] {
         match line_of(self.trace, number) {
             Some(line) => line.text,
@@ -122,7 +122,7 @@ impl RefusedLine<'_, '_> {
         }
     }
 
-    /// What is due on the line, which is of the head. The lines before are as expected.
+    /// Returns the expected form of the line, which is of the head. The lines before are correct.
     fn due_in_head(&self) -> &'static str {
         let before = self.text_of(self.number.saturating_sub(1));
         if self.number == 1 {
@@ -139,7 +139,7 @@ impl RefusedLine<'_, '_> {
         }
     }
 
-    /// Says what is due in place of the line, which is of the head.
+    /// Gives the expected form of the line, which is of the head.
     pub(crate) fn head_sentence(&self) -> Result<String, AllocError> {
         let (alloc, due) = (self.alloc, self.due_in_head());
         match line_of(self.trace, self.number) {
@@ -150,7 +150,7 @@ impl RefusedLine<'_, '_> {
         }
     }
 
-    /// Says what the line should have been, which is no line of calls and no end.
+    /// Gives the expected form of the line, which is no line of calls and no end.
     pub(crate) fn body_sentence(&self) -> Result<String, AllocError> {
         let alloc = self.alloc;
         let before = self.text_of(self.number.saturating_sub(1));

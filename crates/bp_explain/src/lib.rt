@@ -1,5 +1,5 @@
-//! Explanations of faults of schedules, steps and traces, for people: the line, and what was
-//! expected there or what is wrong. Also what is said of the arguments that a setup is made of.
+//! Explanations of faults of schedules, steps and traces, for people: the line, and its expected
+//! form or the mistake. Also sentences on the arguments that make up a setup.
 #![tactic(auto)]
 
 mod call_sentences;

@@ -1,5 +1,4 @@
-//! Sentences on words of the command line that do not fit the program: entries, initial bits, names
-//! of variables.
+//! Sentences on arguments that do not fit the program: entries, initial bits, names of variables.
 
 use crate::heads::formals_of;
 use bp_advice::{Count, cut_name, listed, near_entry, near_global, near_name, tree_of};
@@ -9,8 +8,8 @@ use bp_machine::{SetupFault, Start};
 use bp_syntax::Tree;
 use std::alloc::{AllocError, Global};
 
-/// The sentence that has a name in quotes between these words. A name of the command line may be
-/// any text.
+/// Makes the sentence that has a name in quotes between these words. A name of the command line may
+/// be any text.
 fn with_name(alloc: Global, before: &str, name: &[u8], after: &str) -> Result<Vec<u8>, AllocError> {
     let (front, dots) = cut_name(name);
     let (start, end) = (
@@ -60,7 +59,7 @@ fn unknown_entry(
     with_name(alloc, before.as_str(), entry.as_bytes(), near.as_str())
 }
 
-/// Says how many globals there are, and their names.
+/// Lists the globals, after their number.
 fn globals_of(alloc: Global, globals: &[Name]) -> Result<String, AllocError> {
     let mut names = Vec::new(alloc);
     for name in globals {
@@ -87,8 +86,8 @@ fn init_length(alloc: Global, tree: &Tree, start: &Start) -> Result<Vec<u8>, All
     Ok(sentence.into_bytes())
 }
 
-/// The sentence on a fault of the setup that a run of the program of a text would start from. It is
-/// empty where the fault needs no word of the program. The only error is refused memory.
+/// Returns the sentence on a fault of the setup of a run of the program of a text. It is empty if
+/// the fault needs no word of the program. Fails only on allocation.
 pub fn start_sentence(
     alloc: Global,
     program: &[u8],
@@ -118,7 +117,7 @@ pub fn start_sentence(
     }
 }
 
-/// The sentence on a name that no variable of the program has. The only error is refused memory.
+/// Returns the sentence on a name that no variable of the program has. Fails only on allocation.
 pub fn variable_sentence(
     alloc: Global,
     program: &[u8],
@@ -131,7 +130,7 @@ pub fn variable_sentence(
     with_name(alloc, "no variable", name, near.as_str())
 }
 
-/// The sentence on a name that no global of the program has. The only error is refused memory.
+/// Returns the sentence on a name that no global of the program has. Fails only on allocation.
 pub fn global_sentence(alloc: Global, program: &[u8], name: &[u8]) -> Result<Vec<u8>, AllocError> {
     let near = match &tree_of(alloc, program)? {
         Some(tree) => near_global(alloc, tree, name)?,

@@ -1,5 +1,4 @@
-//! Explanations of the faults of schedules.
-//! By which call of a schedule a thread is finished, and why.
+//! Explanations of the faults of schedules. The call of a schedule that finished a thread, and why.
 ghost use Rattle.std.specs.Prelude.{IfOk};
 ghost use Rattle.bp_advice.specs.Explanations.{IsExplanationOf};
 ghost use Rattle.bp_explain.specs.Explained.{ExplainsSchedule};
@@ -12,15 +11,15 @@ use bp_text::{Line, line_of};
 use bp_trace::{DriveFault, ReplayFault, drive, replay};
 use std::alloc::{AllocError, Global};
 
-/// Says that no entry makes a thread of this number.
+/// Says "there is no thread N".
 pub(crate) fn no_entry(alloc: Global, thread: u32) -> Result<String, AllocError> {
     format!(in alloc;
         "there is no thread {thread}: the first thread is 0, and each entry makes one"
     )
 }
 
-/// Says why this line is none of a schedule. One that is a thread and a choice bit is refused for
-/// its thread.
+/// Explains why this line is none of a schedule. One that is a thread and a choice bit is refused
+/// for its thread.
 fn line_sentence(alloc: Global, line: Line<'_>) -> Result<String, AllocError> {
     match number_at_front(line.text) {
         Some((thread, b"0" | b"1")) if line.is_ended => no_entry(alloc, thread),
@@ -30,8 +29,8 @@ fn line_sentence(alloc: Global, line: Line<'_>) -> Result<String, AllocError> {
     }
 }
 
-/// The line of the last call of a thread on these lines of a schedule, and the reply to it, in the
-/// runs of a program from this start. There is none if the program, the start or a line is refused.
+/// Returns the line of the last call of a thread on these lines of a schedule, and the reply to it,
+/// in the runs of a program from this start; None if the program, start or a line is refused.
 fn last_call(
     alloc: Global,
     program: &[u8],
@@ -61,7 +60,7 @@ fn last_call(
     Ok(last.map(|(index, call)| (index.saturating_add(1), call.reply)))
 }
 
-/// Says why a thread was finished by a call with this reply, in a run from this start.
+/// Explains why a thread was finished by a call with this reply, in a run from this start.
 fn cause(alloc: Global, start: &Start, thread: u32, reply: Reply) -> Result<String, AllocError> {
     let (contexts, calls) = (start.contexts, start.calls);
     let verb = |number: u32| if number == 1 { "is" } else { "are" };
@@ -82,8 +81,8 @@ fn cause(alloc: Global, start: &Start, thread: u32, reply: Reply) -> Result<Stri
     }
 }
 
-/// Says by which call a thread was finished, in a run from this start, and why: by that of a line
-/// of a schedule or of steps, with this reply.
+/// Names the call that finished a thread, in a run from this start, and why: that of a line of a
+/// schedule or of steps, with this reply.
 pub(crate) fn last_sentence(
     alloc: Global,
     start: &Start,
@@ -102,7 +101,7 @@ pub(crate) fn last_sentence(
     format!(in alloc; "thread {thread} {answer} at line {line}: {cause}")
 }
 
-/// Says by which call the thread on the line of this number of a schedule was finished, and why, if
+/// Names the call that finished the thread on the line of this number of a schedule, and why, if
 /// that is known.
 fn finished(
     alloc: Global,
@@ -130,8 +129,8 @@ fn finished(
 
 /// Explains this fault of a schedule of the program of a text, which runs from this start, at its
 /// line. For a thread that has made its last call the schedule is played up to that line. Nothing
-/// explains a schedule that is too long, refused memory, or an output that failed. The only error
-/// is refused memory.
+/// explains a schedule that is too long, refused memory, or an output that failed. Fails only on
+/// allocation.
 pub fn explain_schedule<'a>(
     alloc: Global,
     program: &[u8],

@@ -1,6 +1,5 @@
-//! The lawful program of a text, as explanations look at it.
-//! Names of files as words of a command for a shell.
-//! Words for the places at which threads stand.
+//! The lawful program of a text, as explanations look at it. Names of files as words of a shell
+//! command. Words for the positions of threads.
 ghost use Rattle.std.specs.Prelude.{◌≡◌, None, IfOk, IfSome};
 ghost use Rattle.bp_machine.specs.Setups.{Fits};
 
@@ -16,7 +15,7 @@ use bp_text::{Position, line_of, part_before, part_from, text_from_line};
 use std::alloc::{AllocError, Global};
 use std::fmt;
 
-/// The code of a lawful program with its text, and what is shown of its statements.
+/// The code of a lawful program with its text, and its source statements.
 #[derive(Drop)]
 pub(crate) struct Source<'a> {
     pub(crate) text: &'a [u8],
@@ -25,7 +24,7 @@ pub(crate) struct Source<'a> {
     pub(crate) statements: Vec<SourceStatement>,
 }
 
-/// The lawful program of a text, if it has one.
+/// Returns the lawful program of a text, if it has one.
 pub(crate) fn source_of(alloc: Global, text: &[u8]) -> Result<Option<Source<'_>>, AllocError> {
     let code = match code_of(alloc, text) {
         Ok(code) => code,
@@ -44,7 +43,7 @@ pub(crate) fn source_of(alloc: Global, text: &[u8]) -> Result<Option<Source<'_>>
     }))
 }
 
-/// The setup of a run from this start, if the code takes it.
+/// Returns the setup of a run from this start, if the code accepts it.
 pub(crate) fn setup_of(
     alloc: Global,
     code: &Code,
@@ -59,7 +58,7 @@ pub(crate) fn setup_of(
     }
 }
 
-/// The lines of a text before the line of this number.
+/// Returns the lines of a text before the line of this number.
 pub(crate) fn lines_before(text: &[u8], number: usize) -> &[u8] {
     let rest = text_from_line(text, number);
     part_before(text, text.len().saturating_sub(rest.len()))
@@ -68,7 +67,7 @@ pub(crate) fn lines_before(text: &[u8], number: usize) -> &[u8] {
 /// A variable as a thread sees it.
 #[derive(Clone, Copy)]
 pub(crate) struct Seen<'a> {
-    /// The procedure of a local; none of a global.
+    /// The procedure of a local; None for a global.
     owner: Option<&'a Proc>,
     name: &'a [u8],
     pub(crate) value: bool,
@@ -84,7 +83,7 @@ impl fmt::Display for Seen<'_> {
     }
 }
 
-/// The local of this name of the topmost frame of a thread, if it has one.
+/// Returns the local of this name of the topmost frame of a thread, if it has one.
 fn local_of<'a>(
     source: &'a Source<'_>,
     session: &Session,
@@ -101,7 +100,7 @@ fn local_of<'a>(
     })
 }
 
-/// The variable of this name that a thread sees, if there is one: a local hides a global.
+/// Returns the variable of this name that a thread sees, if there is one: a local hides a global.
 pub(crate) fn variable_of<'a>(
     source: &'a Source<'_>,
     session: &Session,
@@ -123,8 +122,8 @@ pub(crate) fn variable_of<'a>(
 #[derive(Clone, Copy)]
 pub(crate) struct Word<'a>(&'a [u8]);
 
-/// The word of this name, if a command can name the file by one. An option and `-`, which is
-/// standard input, begin with a hyphen.
+/// Returns the word of this name, if a command can name the file by one. An option and `-`, which
+/// is standard input, begin with a hyphen.
 pub(crate) fn word_of(name: &str) -> Option<Word<'_>> {
     let bytes = name.as_bytes();
     let is_quotable = |byte: &u8| (b' '..=b'~').contains(byte) && *byte != b'\'';
@@ -134,7 +133,7 @@ pub(crate) fn word_of(name: &str) -> Option<Word<'_>> {
     Some(Word(bytes))
 }
 
-/// Whether a byte stands for itself in a word of a shell.
+/// Returns whether a byte stands for itself in a word of a shell.
 fn is_bare(byte: u8) -> bool {
     byte.is_ascii_alphanumeric() || b"_./+:@%,=-".contains(&byte)
 }
@@ -164,12 +163,12 @@ impl fmt::Display for Located {
     }
 }
 
-/// Where a thread stands in the text of a program, in words: of a statement its position and its
+/// The position of a thread in the text of a program, in words: of a statement its position and its
 /// source on that line.
 #[derive(Clone, Copy)]
 pub(crate) struct Standing<'a>(pub(crate) &'a [u8], pub(crate) Stand);
 
-/// The source from a position up to a semicolon or the end of the line.
+/// Returns the source from a position up to a semicolon or the end of the line.
 fn source_at(program: &[u8], position: Position) -> &[u8] {
     let Some(line) = line_of(program, position.line) else {
         return b"";

@@ -13,12 +13,12 @@ use std::alloc::AllocError;
 use std::fmt::Write;
 
 impl RefusedStep<'_> {
-    /// Where the thread stands in place of the location of its line.
+    /// Returns the position of the thread, not where its line says.
     fn here(&self) -> Standing<'_> {
         Standing(self.source.text, self.refusal.stand)
     }
 
-    /// Says where the thread is in place of the location of its line, and what leads there.
+    /// Gives the position of the thread, not where its line says, and the ways to that place.
     fn elsewhere(&self) -> Result<String, AllocError> {
         let (alloc, thread, ways) = (self.alloc, self.refusal.thread, self.ways_there()?);
         if self.refusal.stand == Stand::Ended {
@@ -28,7 +28,7 @@ impl RefusedStep<'_> {
         format!(in alloc; "thread {thread} is at {here}, not at {there}{ways}")
     }
 
-    /// Where the two ways of the instruction of the step begin, if that is on one line.
+    /// Returns the positions of the two ways of the step's instruction, if they begin on one line.
     fn ways(&self) -> Option<(Position, Position)> {
         let source = self.source;
         let instr = source.code.get(self.refusal.number?)?;
@@ -108,7 +108,7 @@ impl RefusedStep<'_> {
         format!(in alloc; "thread {thread} waits at {here}{read}: its assumption is false{changed}")
     }
 
-    /// Says why the machine does not grant the step.
+    /// Explains why the machine does not grant the step.
     fn refused(&self, reply: Reply) -> Result<String, AllocError> {
         let (alloc, thread) = (self.alloc, self.refusal.thread);
         match reply {
@@ -130,7 +130,7 @@ impl RefusedStep<'_> {
         }
     }
 
-    /// Says which step changed last what the thread sees.
+    /// Names the step that last changed the value that the thread sees.
     fn last_change(&self, found: Difference) -> Result<String, AllocError> {
         let alloc = self.alloc;
         let (verb, last, never) = match found.seen {
@@ -144,7 +144,7 @@ impl RefusedStep<'_> {
         }
     }
 
-    /// Says which value the thread sees in place of one of its line.
+    /// Gives the value that the thread sees instead of one of its line.
     fn differs(&self, found: Difference) -> Result<String, AllocError> {
         let (alloc, thread, change) = (self.alloc, self.refusal.thread, self.last_change(found)?);
         let Some(value) = value_on_line(self.steps, self.refusal.line, found.place) else {
@@ -160,9 +160,9 @@ impl RefusedStep<'_> {
         format!(in alloc; "{name} is {bit} after this step, not {other}{change}")
     }
 
-    /// Says how to see the run that the steps before are, if there are any, and which command looks
-    /// for a run through all listed steps, if it may find one although `confirm` refuses them. A
-    /// shell has to be able to name both files.
+    /// Gives the command that shows the run of the steps before, if there are any. Gives also the
+    /// one that searches for a run through all listed steps, if it may find one although `confirm`
+    /// refuses them. A shell has to be able to name both files.
     fn commands(&self) -> Result<String, AllocError> {
         let mut words = String::new(self.alloc);
         let (Some(program), Some(steps)) = (word_of(self.program_file), word_of(self.file)) else {
@@ -192,8 +192,8 @@ impl RefusedStep<'_> {
         Ok(words)
     }
 
-    /// Says why the step is not taken, how to see the run up to there, and how to look for a run
-    /// through all steps.
+    /// Explains why the step is not taken, how to see the run up to there, and how to search for a
+    /// run through all steps.
     pub(crate) fn sentence(&self) -> Result<String, AllocError> {
         let why = match self.refusal.reason {
             StepReason::Elsewhere => self.elsewhere()?,

@@ -14,13 +14,13 @@ use bp_source::is_braced_after;
 use bp_text::{Line, line_of, part_before, part_from};
 use std::alloc::{AllocError, Global};
 
-/// The text before the first space; the whole text if it has none.
+/// Returns the text before the first space; the whole text if it has none.
 fn word_at(text: &[u8]) -> &[u8] {
     let end = text.iter().position(|byte| *byte == b' ');
     part_before(text, end.unwrap_or(text.len()))
 }
 
-/// What follows the name that begins a text, and the equals sign after it.
+/// Returns the text after the name that begins a text, and the equals sign after it.
 fn after_name(text: &[u8]) -> Option<&[u8]> {
     let mut braced = false;
     for (i, byte) in text.iter().enumerate() {
@@ -33,12 +33,12 @@ fn after_name(text: &[u8]) -> Option<&[u8]> {
     None
 }
 
-/// What follows the space, the name and the equals sign that begin a text.
+/// Returns the text after the space, the name and the equals sign that begin a text.
 fn at_value(text: &[u8]) -> Option<&[u8]> {
     after_name(text.strip_prefix(b" ")?)
 }
 
-/// What follows the well-formed values that begin a text.
+/// Returns the text after the well-formed values that begin a text.
 fn after_values(text: &[u8]) -> &[u8] {
     let mut rest = text;
     for _value in 0..text.len() {
@@ -50,7 +50,7 @@ fn after_values(text: &[u8]) -> &[u8] {
     rest
 }
 
-/// The thread of a line that is no step, its place, and what follows its well-formed values.
+/// Splits a malformed line into its thread, its place, and the text after its well-formed values.
 fn fields_of(line: &[u8]) -> (&[u8], &[u8], &[u8]) {
     let thread = word_at(line);
     let others = part_from(line, thread.len().saturating_add(1));
@@ -62,7 +62,7 @@ fn is_comment(text: &[u8]) -> bool {
     text.starts_with(b"#") || text.starts_with(b"//")
 }
 
-/// What is wrong with a line, if that shows in no single value.
+/// Returns the mistake in a line, if it is in no single value.
 fn known_mistake(line: &[u8]) -> Option<&'static str> {
     let (thread, place, rest) = fields_of(line);
     if is_comment(line) || is_comment(place) || is_comment(rest.trim_ascii_start()) {
@@ -78,7 +78,7 @@ fn known_mistake(line: &[u8]) -> Option<&'static str> {
     }
 }
 
-/// Says why this line is no step.
+/// Explains why this line is no step.
 fn malformed(alloc: Global, line: Line<'_>) -> Result<String, AllocError> {
     if !line.is_ended {
         return format!(in alloc; "there is no line feed after this line");
@@ -100,7 +100,7 @@ fn malformed(alloc: Global, line: Line<'_>) -> Result<String, AllocError> {
     }
 }
 
-/// Says that the value of this place on a line is of no variable.
+/// Says that the value of this index on a line is of no variable.
 fn no_variable(
     alloc: Global,
     steps: &[u8],
@@ -113,7 +113,7 @@ fn no_variable(
     }
 }
 
-/// Says why this step of the program of a file, which is to run from a start, is not taken.
+/// Explains why this step of the program of a file, which runs from a start, is not taken.
 fn refusal_sentence(
     alloc: Global,
     program_file: &str,
@@ -140,8 +140,8 @@ fn refusal_sentence(
 
 /// Explains this fault of the reported steps of the program of a text, which run from this start,
 /// at its line, and a list without a step at its first. The files are those of the program and of
-/// the steps. Nothing explains steps that are too long, or refused memory, which is also the only
-/// error.
+/// the steps. Nothing explains steps that are too long, or refused memory. Fails only on
+/// allocation.
 pub fn explain_steps<'a>(
     alloc: Global,
     program_file: &str,

@@ -1,5 +1,4 @@
-//! Explanations of the faults of traces.
-//! How many calls of a refused trace are accepted.
+//! Explanations of the faults of traces. The number of accepted calls of a refused trace.
 ghost use Rattle.std.specs.Prelude.{IfOk};
 ghost use Rattle.bp_advice.specs.Explanations.{ExplainsLine, IsExplanationOf};
 ghost use Rattle.bp_explain.specs.Explained.{ExplainsTrace};
@@ -12,7 +11,7 @@ use bp_text::{first_line, position_of, push_line, push_place, take_line, text_fr
 use bp_trace::{AcceptedTrace, EndCounts, Head, ReplayFault, Version, accepted_trace};
 use std::alloc::{AllocError, Global};
 
-/// A line of a trace of the program of a text, and the fault that is of this line.
+/// A line of a trace of the program of a text, and its fault.
 #[derive(Clone, Copy)]
 pub(crate) struct RefusedLine<'a, 't> {
     pub(crate) alloc: Global,
@@ -25,13 +24,13 @@ pub(crate) struct RefusedLine<'a, 't> {
 }
 
 impl RefusedLine<'_, '_> {
-    /// Whether the trace is of version 2.
+    /// Returns whether the trace is of version 2.
     pub(crate) fn is_version_two(&self) -> bool {
         self.head.is_some_and(|head| head.version == Version::Two)
     }
 
-    /// The places in the trace of the choice bit and of the reply's letter, of the call that the
-    /// fault names. In version 1 a space is between them.
+    /// Returns the places in the trace of the choice bit and of the reply's letter, of the call
+    /// that the fault names. In version 1 a space is between them.
     pub(crate) fn call(&self) -> Option<(usize, usize)> {
         let mut before = match self.fault {
             ReplayFault::AfterFinish(_, made) => *made as usize,
@@ -58,8 +57,8 @@ impl RefusedLine<'_, '_> {
         Some((bit_at, bit_at.saturating_add(size.saturating_sub(1))))
     }
 
-    /// The trace of the calls that are accepted, if it has the head of a setup that the program
-    /// takes.
+    /// Returns the trace of the accepted calls, if it has the head of a setup that the program
+    /// accepts.
     pub(crate) fn accepted_part(&self, code: &Code) -> Result<Option<AcceptedTrace>, AllocError> {
         match accepted_trace(self.alloc, code, self.trace) {
             Ok(accepted) => Ok(accepted),
@@ -68,7 +67,7 @@ impl RefusedLine<'_, '_> {
         }
     }
 
-    /// How many calls of the trace are accepted, if any could be.
+    /// Returns the number of accepted calls of the trace, if any could be.
     fn accepted_calls(&self) -> Result<Option<u64>, AllocError> {
         match self.fault {
             ReplayFault::AfterFinish(_, made) => Ok(Some(*made)),
@@ -82,7 +81,7 @@ impl RefusedLine<'_, '_> {
         }
     }
 
-    /// Says what is wrong with the line.
+    /// Explains the mistake in the line.
     fn line_sentence(&self) -> Result<String, AllocError> {
         let alloc = self.alloc;
         match self.fault {
@@ -108,7 +107,7 @@ impl RefusedLine<'_, '_> {
         }
     }
 
-    /// Says what is wrong with the line, and how many calls of the trace are accepted.
+    /// Explains the mistake in the line, and gives the number of accepted calls of the trace.
     fn sentence(&self) -> Result<String, AllocError> {
         let (alloc, line) = (self.alloc, self.line_sentence()?);
         let Some(calls) = self.accepted_calls()? else {
@@ -127,7 +126,7 @@ impl RefusedLine<'_, '_> {
     }
 }
 
-/// Explains what is wrong with a line of a trace.
+/// Explains the mistake in a line of a trace.
 fn explain_line<'a>(
     file: &'a str,
     line: &RefusedLine<'_, '_>,
@@ -152,7 +151,7 @@ fn explain_line<'a>(
 
 /// Explains this fault of a trace of the program of a text, at its line, with a caret below the
 /// place in a call that is not the machine's own. Nothing explains a trace that is too long, or
-/// refused memory, which is also the only error.
+/// refused memory. Fails only on allocation.
 pub fn explain_trace<'a, 't>(
     alloc: Global,
     program: &'t [u8],

@@ -9,7 +9,7 @@ use bp_text::take_line;
 use bp_trace::write_trace;
 use std::alloc::{AllocError, Global};
 
-/// A step that is not taken, the texts and the files that it is of, and what the steps start from.
+/// A step that is not taken, with its texts, its files and its start.
 #[derive(Clone, Copy)]
 pub(crate) struct RefusedStep<'a> {
     pub(crate) alloc: Global,
@@ -21,17 +21,17 @@ pub(crate) struct RefusedStep<'a> {
     pub(crate) refusal: StepRefusal,
 }
 
-/// What became of steps that were tried.
+/// The result of steps that were tried.
 #[derive(Drop)]
 pub(crate) enum Tried {
     /// This is the trace of the run that makes them.
     Taken(Vec<u8>),
     Refused(StepRefusal),
-    /// There is no start, or the text is none of steps.
+    /// There is no start, or the text is malformed.
     Unread,
 }
 
-/// Steps that this history takes.
+/// Returns the trace of this history, which takes the steps.
 fn traced(alloc: Global, setup: &Setup, history: &[Call]) -> Result<Tried, AllocError> {
     let mut trace = Vec::new(alloc);
     match write_trace(setup, history, &mut trace) {
@@ -41,7 +41,7 @@ fn traced(alloc: Global, setup: &Setup, history: &[Call]) -> Result<Tried, Alloc
 }
 
 impl<'a> RefusedStep<'a> {
-    /// The steps before the refused one.
+    /// Returns the steps before the refused one.
     pub(crate) fn before(&self) -> &'a [u8] {
         lines_before(self.steps, self.refusal.line as usize)
     }
@@ -62,7 +62,7 @@ impl<'a> RefusedStep<'a> {
         }
     }
 
-    /// The threads of the steps, in their order.
+    /// Returns the threads of the steps, in their order.
     pub(crate) fn threads(&self) -> Result<Vec<u32>, AllocError> {
         let mut threads = Vec::new(self.alloc);
         let mut rest = self.steps;
@@ -77,14 +77,14 @@ impl<'a> RefusedStep<'a> {
         Ok(threads)
     }
 
-    /// The threads of the steps before the refused one, in their order.
+    /// Returns the threads of the steps before the refused one, in their order.
     pub(crate) fn threads_before(&self) -> Result<Vec<u32>, AllocError> {
         let mut threads = self.threads()?;
         threads.truncate((self.refusal.line as usize).saturating_sub(1));
         Ok(threads)
     }
 
-    /// The lines before the refused step at which contexts begin.
+    /// Returns the lines before the refused step at which contexts begin.
     pub(crate) fn context_lines(&self) -> Result<Vec<usize>, AllocError> {
         let mut lines = Vec::new(self.alloc);
         let mut last = None;

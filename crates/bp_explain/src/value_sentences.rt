@@ -7,7 +7,7 @@ use bp_trace::{ReplayFault, Unwatched, Watcher, replay_watched};
 use std::alloc::{AllocError, Global};
 use std::fmt::Write;
 
-/// The names of the variables that the assertion or the assumption of a thread reads.
+/// Returns the names of the variables that the assertion or the assumption of a thread reads.
 fn names_read<'a>(
     alloc: Global,
     source: &'a Source<'_>,
@@ -23,7 +23,7 @@ fn names_read<'a>(
     }
 }
 
-/// Says the values that the assertion or the assumption of a thread reads.
+/// Gives the values that the assertion or the assumption of a thread reads.
 pub(crate) fn values(
     alloc: Global,
     source: &Source<'_>,
@@ -41,15 +41,15 @@ pub(crate) fn values(
     Ok(words)
 }
 
-/// Notes the last call of a replay that changed what a thread sees of a variable.
+/// Records the last call of a replay that changed a thread's view of a variable.
 #[derive(Drop)]
 struct ChangeWatcher<'a> {
     source: &'a Source<'a>,
     thread: u32,
     name: &'a [u8],
-    /// How many calls were made.
+    /// The number of calls made.
     made: usize,
-    /// The last of them that changed it, from 1; none if no call did.
+    /// The last of them that changed it, from 1; None if no call did.
     changed: Option<usize>,
 }
 
@@ -77,7 +77,7 @@ impl Watcher for ChangeWatcher<'_> {
     }
 }
 
-/// The last call of a trace that changed what a thread sees of a variable, from 1.
+/// Returns the last call of a trace that changed a thread's view of a variable, from 1.
 fn last_change(
     alloc: Global,
     source: &Source<'_>,
@@ -99,8 +99,8 @@ fn last_change(
     }
 }
 
-/// Says which step of a trace changed last each of the values that the assertion or the assumption
-/// of a thread reads. The session stands after the trace.
+/// Gives the step of a trace that last changed each of the values that the assertion or the
+/// assumption of a thread reads. The session stands after the trace.
 pub(crate) fn changes(
     alloc: Global,
     source: &Source<'_>,
@@ -121,7 +121,7 @@ pub(crate) fn changes(
     Ok(words)
 }
 
-/// The session after a trace.
+/// Returns the session after a trace.
 pub(crate) fn session_after(
     alloc: Global,
     source: &Source<'_>,
