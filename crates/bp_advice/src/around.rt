@@ -78,7 +78,7 @@ fn nth<'a>(tokens: &[&'a [u8]], place: usize) -> &'a [u8] {
     }
 }
 
-/// The name right before the first bracket that follows one, in tokens from the last to the first.
+/// Returns the name right before the first bracket that follows one, in tokens read backwards.
 fn last_called<'a>(backwards: &[&'a [u8]]) -> &'a [u8] {
     let names = backwards.iter().skip(1);
     let mut pairs = backwards.iter().zip(names);
