@@ -1,5 +1,4 @@
-//! What a test was asked for: its program, and what each run started from. It is written without
-//! memory.
+//! The request for a test: its program, and the start of each run. It is written without memory.
 ghost use Rattle.std.specs.Prelude.{◌≡◌, map, string_bytes};
 ghost use Rattle.bp_text.specs.Pieces.{piece_text};
 ghost use Rattle.bp_text.specs.Writing.{Given};
@@ -10,7 +9,7 @@ use bp_text::Piece::{Bytes, Displayed, Key, Number, NumberOrNull, Text, Truth};
 use bp_text::{Piece, Sink};
 use std::io::Write;
 
-/// A name as it is, or as a string of JSON.
+/// Returns a name as it is, or as a string of JSON.
 fn name_piece<'a>(json: bool, name: &'a [u8]) -> Piece<'a>
     ensures { piece_text result ≡ name_text json name.now }
 {
@@ -38,7 +37,7 @@ fn put_names<W: Write>(
     }
 }
 
-/// Writes a digit for each global, or a dash where there is none.
+/// Writes a digit for each global, or a dash if there is none.
 fn put_init<W: Write>(bits: &[bool], sink: &mut Sink<'_, W>)
     ensures { Given W.contents sink.old sink.new (init_text bits.now) }
 {
@@ -64,7 +63,7 @@ fn put_bounds<W: Write>(tested: &TestReport, sink: &mut Sink<'_, W>)
     ])
 }
 
-/// Writes the line from which the test can be made again.
+/// Writes the line from which the test can be repeated.
 pub(crate) fn put_asked_line<W: Write>(tested: &TestReport, sink: &mut Sink<'_, W>)
     ensures { Given W.contents sink.old sink.new (asked_line tested.now) }
 {
@@ -76,7 +75,7 @@ pub(crate) fn put_asked_line<W: Write>(tested: &TestReport, sink: &mut Sink<'_, 
     put_bounds(tested, sink)
 }
 
-/// Writes members with the bounds of the runs, the seed of the first, and what else was asked for.
+/// Writes members with the bounds of the runs, the seed of the first, and the rest of the request.
 fn put_bounds_members<W: Write>(tested: &TestReport, sink: &mut Sink<'_, W>)
     ensures { Given W.contents sink.old sink.new (bounds_members tested.now) }
 {
@@ -99,7 +98,7 @@ fn put_bounds_members<W: Write>(tested: &TestReport, sink: &mut Sink<'_, W>)
     ])
 }
 
-/// Writes the member of an object with what the test was asked for.
+/// Writes the member of an object with the request for the test.
 pub(crate) fn put_asked_member<W: Write>(tested: &TestReport, sink: &mut Sink<'_, W>)
     ensures { Given W.contents sink.old sink.new (asked_member tested.now) }
 {

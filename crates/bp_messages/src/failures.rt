@@ -1,5 +1,5 @@
-//! Which assertion failed in the run that a test found, and where. It is written without memory.
-//! Which threads wait at the end of a run, and where. They are written without memory.
+//! The assertion that failed in the run that a test found, and the threads that wait at the end of
+//! a run, with their places. They are written without memory.
 ghost use Rattle.std.specs.Prelude.{◌≡◌, [], option_map};
 ghost use Rattle.bp_text.specs.Writing.{Given};
 ghost use Rattle.bp_messages.specs.Summaries.{failure_member, failed_assertion, failure_text, statement_of, position_of, wait_object, wait_objects, wait_text, waits_member, waits_text};
@@ -17,11 +17,11 @@ pub(crate) struct FailedAssertion {
     pub(crate) thread: u32,
     /// The number of its instruction.
     pub(crate) number: u32,
-    /// Where it begins.
+    /// The position at which it begins.
     pub(crate) position: Position,
 }
 
-/// The assertion that failed, where one did.
+/// Returns the assertion that failed, if one did.
 pub(crate) fn failed_assertion(tested: &TestReport) -> Option<FailedAssertion>
     ensures { result ≡ failed_assertion tested.now }
 {
@@ -40,7 +40,7 @@ pub(crate) fn failed_assertion(tested: &TestReport) -> Option<FailedAssertion>
     })
 }
 
-/// The text of its statement, among those of the instructions.
+/// Returns the text of its statement, among those of the instructions.
 pub(crate) fn statement_of(statements: &[Vec<u8>], failure: Option<FailedAssertion>) -> &[u8]
     ensures { result.now ≡ statement_of statements.now failure }
 {
@@ -53,7 +53,7 @@ pub(crate) fn statement_of(statements: &[Vec<u8>], failure: Option<FailedAsserti
     }
 }
 
-/// Writes in which run of how many an assertion failed, and where in a file that is.
+/// Writes the number of the run in which an assertion failed, and the assertion's place in a file.
 pub(crate) fn put_failure<'a, W: Write>(
     failure: Option<FailedAssertion>,
     statement: &'a [u8],
@@ -117,7 +117,7 @@ pub(crate) fn put_failure_member<'a, W: Write>(
     }
 }
 
-/// Where the statement of an instruction begins, where those of all begin there.
+/// Returns the position of the statement of an instruction, from the positions of all.
 pub(crate) fn position_of(positions: &[Option<Position>], number: u32) -> Option<Position>
     ensures { result ≡ position_of positions.now number }
 {
@@ -127,7 +127,7 @@ pub(crate) fn position_of(positions: &[Option<Position>], number: u32) -> Option
     }
 }
 
-/// Writes a thread that waits, after these words, and where in a file.
+/// Writes a thread that waits, after these words, and its place in a file.
 fn put_wait<'a, W: Write>(
     file: &'a [u8],
     before: &'a [u8],
@@ -154,7 +154,7 @@ fn put_wait<'a, W: Write>(
     }
 }
 
-/// Writes the threads that wait, and where in a file, after a colon.
+/// Writes the threads that wait, and their places in a file, after a colon.
 #[tactic(auto, using(bp_text::proofs::Givings::left_after))]
 pub(crate) fn put_waits<W: Write>(
     file: &[u8],
@@ -192,7 +192,7 @@ pub(crate) fn column_of(position: Option<Position>) -> Option<u64>
     Some(position.column as u64)
 }
 
-/// Writes the object of a thread that waits, after this.
+/// Writes the object of a thread that waits, after this text.
 fn put_wait_object<W: Write>(
     before: &[u8],
     thread: u32,

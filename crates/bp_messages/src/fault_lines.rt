@@ -21,7 +21,7 @@ fn put_head<W: Write>(row: Row, sink: &mut Sink<'_, W>)
     sink.put_pieces(&[Bytes(b"btrun: "), number, Bytes(b" "), Bytes(row.name)])
 }
 
-/// The bit that a thread sees, or a dash where it sees no variable of the name.
+/// Returns the bit that a thread sees, or a dash if it sees no variable of the name.
 fn seen_text(seen: Option<bool>) -> &'static [u8]
     ensures { result.now ≡ seen_text seen }
 {
@@ -52,7 +52,7 @@ fn put_step<W: Write>(refusal: StepRefusal, sink: &mut Sink<'_, W>)
     }
 }
 
-/// Writes what a fault names.
+/// Writes the detail of a fault.
 fn put_detail<W: Write>(detail: Detail, sink: &mut Sink<'_, W>)
     ensures { Given W.contents sink.old sink.new (detail_text detail) }
 {
@@ -71,7 +71,7 @@ fn put_detail<W: Write>(detail: Detail, sink: &mut Sink<'_, W>)
     }
 }
 
-/// Writes the line of a fault: its number, its name, and what it names.
+/// Writes the line of a fault: its number, its name, and its detail.
 pub fn show_fault<W: Write>(fault: &Fault, out: &mut W) -> Result<(), WriteFault>
     ensures { Writes (W.contents out.old) (W.contents out.new) (fault_line fault.now) result }
 {

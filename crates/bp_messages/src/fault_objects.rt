@@ -14,7 +14,7 @@ use bp_text::Piece::{Bytes, Key, Letter, Number, NumberOrNull, Text, TextOrNull}
 use bp_text::{Piece, Sink, WriteFault, position_of};
 use std::io::Write;
 
-/// The byte of the program text that a fault names.
+/// Returns the byte of the program text that a fault names.
 fn byte_of(detail: Detail) -> Option<u64>
     ensures { result ≡ byte_of detail }
 {
@@ -24,7 +24,7 @@ fn byte_of(detail: Detail) -> Option<u64>
     }
 }
 
-/// The guest thread that a fault names.
+/// Returns the guest thread that a fault names.
 fn thread_of(detail: Detail) -> Option<u64>
     ensures { result ≡ thread_of detail }
 {
@@ -53,7 +53,7 @@ fn place_in(text: &[u8], detail: Detail) -> (Option<u64>, Option<u64>)
     }
 }
 
-/// The letter of the reply that is wanted, as a trace has it.
+/// Returns the letter of the expected reply, as a trace has it.
 fn wanted_letter<'a>(detail: Detail) -> Piece<'a>
     ensures { piece_text result ≡ string_or_null (letter_text detail) }
 {
@@ -63,7 +63,7 @@ fn wanted_letter<'a>(detail: Detail) -> Piece<'a>
     }
 }
 
-/// The bytes of a name, where there is one.
+/// Returns the bytes of a name, if there is one.
 fn bytes_of<'a>(name: Option<&'a str>) -> Option<&'a [u8]>
     ensures { name_in result ≡ name_in name.entry }
 {
@@ -118,10 +118,10 @@ fn put_refutation<W: Write>(detail: Detail, sink: &mut Sink<'_, W>)
     }
 }
 
-/// Writes the object of a fault: its row of the table, the file that it is in, its place there, the
-/// step that it is about, and a sentence that says what it is. The text is that of the program, and
-/// the value is the one on a line of steps that the fault names. If the fault refutes steps, the
-/// object of that verdict comes first.
+/// Writes the object of a fault: its row of the table, its file, its place there, the step that it
+/// is about, and a sentence on it. The text is that of the program, and the value is the one on a
+/// line of steps that the fault names. If the fault refutes steps, the object of that verdict comes
+/// first.
 pub fn put_fault_object<'a, W: Write>(
     fault: &Fault,
     file: Option<&'a str>,

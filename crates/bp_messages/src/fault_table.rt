@@ -1,4 +1,4 @@
-//! The table of the faults: the number, the name, and what the fault names.
+//! The table of the faults: the number, the name, and the detail of each.
 ghost use Rattle.std.specs.Prelude.{◌≡◌};
 ghost use Rattle.bp_messages.specs.FaultTable.{check_row, exit_status, fault_row, long_row, memory_row, read_row, row_of, schedule_row, setup_row, status_of, step_row, steps_row, trace_row, write_row};
 ghost use Rattle.bp_messages.specs.declared.fault_table.Detail.TheVariants.{Step};
@@ -11,9 +11,9 @@ use bp_machine::{Reply, SetupFault};
 use bp_syntax::ReadFault;
 use bp_trace::{DriveFault, ReplayFault};
 
-/// The exit status of a run. By the number of the fault that ended it, it is 3 for memory, devices,
-/// the output and workers that do not start or stop early, 4 for a step that is not taken, and 2
-/// for any other. Without a fault it is 1 if an assertion failed, else 0.
+/// Returns the exit status of a run. A fault that ended it gives 3 if its number is that of memory,
+/// devices, the output or workers that do not start or stop early. It gives 4 for a step that is
+/// not taken, and 2 for any other. Without a fault it is 1 if an assertion failed, else 0.
 pub fn exit_status(has_failed: bool, fault: Option<u32>) -> u8
     ensures { result ≡ exit_status has_failed fault }
 {
@@ -25,7 +25,7 @@ pub fn exit_status(has_failed: bool, fault: Option<u32>) -> u8
     }
 }
 
-/// What a fault names.
+/// The detail of a fault.
 #[derive(Clone, Copy)]
 pub enum Detail {
     Nothing,
@@ -43,7 +43,7 @@ pub enum Detail {
     Wanted(u32, Reply),
 }
 
-/// How users know a fault: a row of the table.
+/// The number, the name and the detail of a fault: a row of the table.
 #[derive(Clone, Copy)]
 pub struct Row {
     pub number: u32,
@@ -195,7 +195,7 @@ fn steps_row(fault: &ConfirmFault) -> Row
 }
 
 impl Fault {
-    /// How users know the fault: its row of the table.
+    /// Returns the fault's row of the table.
     pub fn row(&self) -> Row
         ensures { row_of result ≡ fault_row self.now }
     {
@@ -218,14 +218,14 @@ impl Fault {
         }
     }
 
-    /// The number that users know the fault by.
+    /// Returns the number by which users know the fault.
     pub fn number(&self) -> u32
         ensures { let row = fault_row self.now in result ≡ row.number }
     {
         self.row().number
     }
 
-    /// The exit status of a run that the fault ended.
+    /// Returns the exit status of a run that the fault ended.
     pub fn status(&self) -> u8
         ensures { result ≡ status_of self.now }
     {

@@ -17,7 +17,7 @@ use bp_view::ViewFault;
 use std::alloc::AllocError;
 use thiserror::Error;
 
-/// Why a command is refused: the first of these that applies, `Memory` aside. Refused memory is one
+/// Why a command is refused: the first reason that applies, `Memory` aside. Refused memory is one
 /// value, whichever library reports it. So are a failed write and an input that is too long.
 #[derive(Debug, Drop, PartialEq, Eq, Error)]
 pub enum Fault {
@@ -54,7 +54,7 @@ pub enum Fault {
     /// A worker could not be started.
     #[error("a worker could not be started")]
     Start,
-    /// The worker of this thread stopped although the line is open and the next step takes no
+    /// The worker of this thread stopped although the line is open and the next step needs no
     /// memory. The trace is written.
     #[error("the worker of thread {0} stopped before the thread was finished")]
     Early(u32),

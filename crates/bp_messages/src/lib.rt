@@ -1,5 +1,5 @@
-//! What a user is told: why a command is refused, what a test found, what a replay printed, each as
-//! lines or as JSON objects.
+//! Reports to a user: why a command is refused, the findings of a test, the output of a replay,
+//! each as lines or as JSON objects.
 #![tactic(auto)]
 
 mod asked_tests;

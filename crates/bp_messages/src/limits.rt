@@ -1,7 +1,7 @@
-//! Numbers of summaries.
+//! The limits of summaries.
 
-/// A note counts runs which are one in this many or more.
+/// The share from which a note counts runs: one in this number, or more.
 pub const NOTED_SHARE: u64 = 20;
 
-/// So many runs are no limit, since they are counted in 64 bits.
+/// The number of runs that is no limit, since runs are counted in 64 bits.
 pub const MOST_RUNS: u64 = u64::MAX;

@@ -1,5 +1,5 @@
-//! Where a test may mislead: what it did not look at, and what it was not asked for.
-//! How many new runs of a test would be new.
+//! Possible caveats of a test: what it did not explore, and what it did not search for. The share
+//! of further runs that would be new.
 ghost use Rattle.std.specs.Prelude.{◌≡◌, flat_map};
 ghost use Rattle.bp_text.specs.Pieces.{piece_text};
 ghost use Rattle.bp_text.specs.Writing.{Given};
@@ -12,24 +12,23 @@ use bp_text::Piece::{Bytes, Key, Number, Truth};
 use bp_text::{Piece, Sink};
 use std::io::Write;
 
-/// Why what a test says of a program may be little. All but the first are of tests that found
-/// nothing.
+/// The caveats of a test's result. All but the first are for tests that found nothing.
 #[derive(Clone, Copy, Debug, PartialEq, Eq)]
 struct Notes {
-    /// Runs ended in a deadlock, and the test did not look for one.
+    /// Runs ended in a deadlock, and the test did not search for one.
     deadlocked: bool,
     /// Fewer contexts were allowed than there are threads.
     few_contexts: bool,
     no_run: bool,
-    /// The program has no assertion, and the test looked for nothing else.
+    /// The program has no assertion, and the test searched for nothing else.
     no_assertion: bool,
     /// The program has assertions, there were runs, and none reached one.
     no_assertion_reached: bool,
     /// Many runs ended too early for want of contexts.
     out_of_contexts: bool,
-    /// Many runs did for want of calls.
+    /// Many runs ended too early for want of calls.
     cut_off: bool,
-    /// Many runs did since a stack was full.
+    /// Many runs ended too early because a stack was full.
     full_stack: bool,
 }
 
@@ -56,7 +55,7 @@ fn are_many(count: u64, runs: u64) -> bool
     0 < count && runs <= count.saturating_mul(NOTED_SHARE)
 }
 
-/// Where a test may mislead.
+/// Returns the caveats of a test.
 fn notes_of(tested: &TestReport) -> Notes
     ensures { result ≡ notes_of tested.now }
 {
@@ -76,7 +75,7 @@ fn notes_of(tested: &TestReport) -> Notes
     }
 }
 
-/// A note on how many of the runs came to this.
+/// Makes a note on the number of runs with this property.
 fn count_note<'a>(count: u64, runs: u64, said: &'a [u8]) -> [Piece<'a>; 6]
     ensures { flat_map piece_text result ≡ count_note count runs said.now }
 {
@@ -90,7 +89,7 @@ fn count_note<'a>(count: u64, runs: u64, said: &'a [u8]) -> [Piece<'a>; 6]
     ]
 }
 
-/// The pieces of a note, where it applies.
+/// Returns the pieces of a note, if it applies.
 fn note_if<'a>(applies: bool, note: &'a [Piece<'a>]) -> &'a [Piece<'a>]
     ensures { flat_map piece_text result.now ≡ note_if applies (flat_map piece_text note.now) }
 {
@@ -107,8 +106,8 @@ fn put_each<W: Write>(notes: &[&[Piece<'_>]], sink: &mut Sink<'_, W>)
     }
 }
 
-/// Writes a line for each note that applies. If nothing was found, it also says how many new runs
-/// would be new.
+/// Writes a line for each note that applies. If nothing was found, also writes the share of further
+/// runs that would be new.
 pub(crate) fn put_notes<W: Write>(tested: &TestReport, sink: &mut Sink<'_, W>)
     ensures { Given W.contents sink.old sink.new (notes_text tested.now) }
 {
@@ -135,7 +134,7 @@ pub(crate) fn put_notes<W: Write>(tested: &TestReport, sink: &mut Sink<'_, W>)
     )
 }
 
-/// Writes the member that says which notes apply, and the end of the object.
+/// Writes the member with the notes that apply, and the end of the object.
 pub(crate) fn put_notes_members<W: Write>(tested: &TestReport, sink: &mut Sink<'_, W>)
     ensures { Given W.contents sink.old sink.new (notes_members (notes_of tested.now)) }
 {
@@ -161,8 +160,8 @@ pub(crate) fn put_notes_members<W: Write>(tested: &TestReport, sink: &mut Sink<'
     ])
 }
 
-/// How many of a hundred new runs would be new, rounded down, if there were runs. Good and Turing
-/// estimate it by the share of the runs that were seen once.
+/// Returns the number of new runs among a hundred further ones, rounded down, if there were runs.
+/// Good and Turing estimate it by the share of the runs that were seen once.
 pub(crate) fn new_percent(distinct: Distinct) -> Option<u64>
     ensures { result ≡ new_percent distinct }
 {
@@ -177,8 +176,8 @@ const ALL_SEEN: &[u8] =
 
 const FEW_NEW: &[u8] = b"note: less than 1% of new runs would be new\n";
 
-/// Returns the note on new runs, if this many runs were seen once and this share of further runs,
-/// in percent, would be new.
+/// Returns the note on new runs, if `once` runs were seen once and `percent` of a hundred further
+/// runs would be new.
 fn novelty_said<'a>(once: u64, percent: u64) -> [Piece<'a>; 3]
     ensures { flat_map piece_text result ≡ novelty_said once percent }
 {
@@ -195,7 +194,7 @@ fn novelty_said<'a>(once: u64, percent: u64) -> [Piece<'a>; 3]
     ]
 }
 
-/// The note on how many new runs would be new.
+/// Returns the note on the share of further runs that would be new.
 pub(crate) fn novelty_note<'a>(distinct: Distinct) -> [Piece<'a>; 3]
     ensures { flat_map piece_text result ≡ novelty_note distinct }
 {

@@ -8,28 +8,28 @@ use bp_text::Piece::{Bytes, Number};
 use bp_text::{WriteFault, put, put_pieces};
 use std::io::Write;
 
-/// What puts the cursor of a terminal at the beginning of the line and clears it.
+/// Returns the text that moves the cursor of a terminal to the beginning of the line and clears it.
 fn cleared() -> &'static [u8]
     ensures { result.now ≡ cleared }
 {
     b"\r\x1b[K"
 }
 
-/// How many runs are made in a second, at the rate of those that were made in this time.
+/// Returns the number of runs made in a second, at the rate of those made in this time.
 fn rate_of(done: u64, millis: u64) -> u64
     ensures { result ≡ rate_of done millis }
 {
     done.saturating_mul(1000) / millis.max(1)
 }
 
-/// How many seconds the other runs take at this rate, rounded down.
+/// Returns the number of seconds that the other runs take at this rate, rounded down.
 fn seconds_left(done: u64, runs: u64, rate: u64) -> u64
     ensures { result ≡ seconds_left done runs rate }
 {
     runs.saturating_sub(done) / rate.max(1)
 }
 
-/// These seconds, and no more than are left of the time of a test, where that is limited.
+/// Returns these seconds, and no more than are left of the time of a test, if that is limited.
 fn within_time(millis: u64, seconds: Option<u64>, left: u64) -> u64
     ensures { result ≡ within_time millis seconds left }
 {
@@ -39,8 +39,8 @@ fn within_time(millis: u64, seconds: Option<u64>, left: u64) -> u64
     }
 }
 
-/// Writes a line over the one before: how many runs of all are done, how many are made in a second,
-/// and how many seconds are left of a test that has this time, where that is limited.
+/// Writes a line over the one before: the number of runs done, of all, and made in a second, and
+/// the seconds that are left of a test with this time, if that is limited.
 pub fn put_progress<W: Write>(
     done: u64,
     runs: u64,
@@ -69,8 +69,8 @@ pub fn put_progress<W: Write>(
     )
 }
 
-/// Writes a line over the one before: how many contexts an exploration looks through, how many
-/// states it has, and how many of them it found in a second.
+/// Writes a line over the one before: the number of contexts that an exploration explores, of its
+/// states, and of those found in a second.
 pub fn put_exploration_progress<W: Write>(
     contexts: u64,
     states: u64,
@@ -96,7 +96,7 @@ pub fn put_exploration_progress<W: Write>(
     )
 }
 
-/// Takes the line of progress away.
+/// Removes the line of progress.
 pub fn clear_progress<W: Write>(out: &mut W) -> Result<(), WriteFault>
     ensures { Writes (W.contents out.old) (W.contents out.new) cleared result }
 {

@@ -10,7 +10,7 @@ use bp_text::{Sink, WriteFault};
 use bp_trace::{Printed, Replayed};
 use std::io::Write;
 
-/// Writes the line of what a step printed.
+/// Writes the line of the values that a step printed.
 fn put_row<W: Write>(row: &Printed, sink: &mut Sink<'_, W>)
     ensures { Given W.contents sink.old sink.new (row_line (row_of row.now)) }
 {

@@ -1,5 +1,5 @@
-//! What the object of a fault says of a step that is not taken.
-//! The verdict on reported steps in JSON. It is written without memory.
+//! The part of a fault's object on a step that is not taken. The verdict on reported steps in JSON.
+//! It is written without memory.
 ghost use Rattle.std.specs.Prelude.{◌≡◌, option_map, flat_map};
 ghost use Rattle.bp_text.specs.Pieces.{piece_text, string_or_null};
 ghost use Rattle.bp_text.specs.Writing.{Given, Writes};
@@ -26,7 +26,7 @@ fn place_named(location: Location) -> (Option<u64>, Option<u64>)
     }
 }
 
-/// Returns the position of the statement at which a thread stands.
+/// Returns the position of the statement at which a thread is.
 fn position_of_stand(stand: Stand) -> Option<Position>
     ensures { result ≡ position_of_stand stand }
 {
@@ -36,14 +36,14 @@ fn position_of_stand(stand: Stand) -> Option<Position>
     }
 }
 
-/// Whether a thread has ended.
+/// Returns whether a thread has ended.
 fn has_ended(stand: Stand) -> bool
     ensures { result ≡ has_ended stand }
 {
     matches!(stand, Stand::Ended)
 }
 
-/// The letter of the reply that is no step, as a trace has it.
+/// Returns the letter of the reply that is no step, as a trace has it.
 fn reply_piece<'a>(reason: StepReason) -> Piece<'a>
     ensures { piece_text result ≡ string_or_null (reply_text reason) }
 {
@@ -53,7 +53,7 @@ fn reply_piece<'a>(reason: StepReason) -> Piece<'a>
     }
 }
 
-/// The bit that the thread sees in place of a value.
+/// Returns the bit that the thread sees instead of a value.
 fn seen_in(reason: StepReason) -> Option<bool>
     ensures { result ≡ seen_in reason }
 {
@@ -63,7 +63,7 @@ fn seen_in(reason: StepReason) -> Option<bool>
     }
 }
 
-/// The line of the last step that changed what the thread sees of the variable of the value.
+/// Returns the line of the last step that changed the thread's view of the variable of the value.
 fn changed_in(reason: StepReason) -> Option<u64>
     ensures { result ≡ changed_in reason }
 {
@@ -78,7 +78,7 @@ fn changed_in(reason: StepReason) -> Option<u64>
     }
 }
 
-/// The name of a value.
+/// Returns the name of a value.
 fn name_piece<'a>(value: Option<SeenValue<'a>>) -> Piece<'a>
     ensures { let named = option_map value_of value.entry in
         piece_text result ≡ string_or_null (name_of_value named) }
@@ -89,7 +89,7 @@ fn name_piece<'a>(value: Option<SeenValue<'a>>) -> Piece<'a>
     }
 }
 
-/// The bit of a value.
+/// Returns the bit of a value.
 fn bit_in(value: Option<SeenValue<'_>>) -> Option<bool>
     ensures { result ≡ bit_in (option_map value_of value.entry) }
 {
@@ -99,7 +99,7 @@ fn bit_in(value: Option<SeenValue<'_>>) -> Option<bool>
     }
 }
 
-/// The value on a line of the steps that a fault names, where it names one.
+/// Returns the value on a line of the steps that a fault names, if any.
 pub fn value_in<'a>(steps: &'a [u8], detail: Detail) -> Option<SeenValue<'a>>
     ensures { IsValueIn steps.now detail (option_map value_of result) }
 {
@@ -150,7 +150,7 @@ fn put_refusal<W: Write>(refusal: StepRefusal, value: Option<SeenValue<'_>>, sin
     ])
 }
 
-/// Writes the member of the step that a fault names; null where it names none.
+/// Writes the member of the step that a fault names, or null.
 pub(crate) fn put_step<W: Write>(
     detail: Detail,
     value: Option<SeenValue<'_>>,
@@ -165,14 +165,14 @@ pub(crate) fn put_step<W: Write>(
     }
 }
 
-/// What is said of the verdict on reported steps.
+/// The facts of the verdict on reported steps.
 #[derive(Clone, Copy)]
 pub struct VerdictFacts<'a> {
     /// `failure`, `deadlock`, `run` or `refuted`.
     pub verdict: &'a [u8],
-    /// How many steps a run makes.
+    /// The number of steps that a run makes.
     pub steps: u64,
-    /// How many contexts they use, if all of them are confirmed.
+    /// The number of contexts that they use, if all of them are confirmed.
     pub contexts: Option<u64>,
     /// The object of the assertion that failed, or `null`.
     pub failure: &'a [u8],
@@ -212,7 +212,7 @@ pub fn put_verdict<'a, W: Write>(facts: VerdictFacts<'a>, out: &mut W) -> Result
     put_pieces(out, &verdict_pieces(facts))
 }
 
-/// Writes the object of the verdict on steps that a run makes as far as this many.
+/// Writes the object of the verdict on steps of which a run makes the first `steps`.
 pub(crate) fn put_refuted<W: Write>(steps: u64, sink: &mut Sink<'_, W>)
     ensures { Given W.contents sink.old sink.new (verdict_object (refuted_after steps)) }
 {

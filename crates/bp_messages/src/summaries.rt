@@ -1,6 +1,5 @@
-//! The summary of a test: what was found, and how well the program was tested.
-//! How many runs a test was to make, after those that it made.
-//! What a test found, and how well the program was tested.
+//! The summary of a test: its finding, and the coverage of the program. The number of runs that a
+//! test was to make, after the number made.
 ghost use Rattle.std.specs.Prelude.{◌≡◌};
 ghost use Rattle.bp_text.specs.Writing.{Writes, Given};
 ghost use Rattle.bp_text.specs.Pieces.{piece_text};
@@ -18,7 +17,7 @@ use bp_text::Piece::{Bytes, Number};
 use bp_text::{Piece, Position, Sink, WriteFault};
 use std::io::Write;
 
-/// Writes that a deadlock was found in a run of this test, and where its threads wait.
+/// Writes that a deadlock was found in a run of this test, and the places at which threads wait.
 fn put_deadlock<W: Write>(tested: &TestReport, run: u64, sink: &mut Sink<'_, W>)
     ensures { Given W.contents sink.old sink.new (deadlock_text tested.now run) }
 {
@@ -34,7 +33,7 @@ fn put_deadlock<W: Write>(tested: &TestReport, run: u64, sink: &mut Sink<'_, W>)
     sink.put(b"\n")
 }
 
-/// What was looked for and not found.
+/// Returns the end that was searched for and not found.
 fn nothing_phrase(with_deadlock: bool) -> &'static [u8]
     ensures { result.now ≡ nothing_phrase with_deadlock }
 {
@@ -45,8 +44,8 @@ fn nothing_phrase(with_deadlock: bool) -> &'static [u8]
     }
 }
 
-/// Writes that nothing was found in the runs that were made, how many were to be made, and within
-/// how many contexts.
+/// Writes that nothing was found in the runs that were made, of the runs to be made, within this
+/// number of contexts.
 fn put_nothing<W: Write>(phrase: &[u8], made: u64, runs: u64, contexts: u32, sink: &mut Sink<'_, W>)
     ensures { Given W.contents sink.old sink.new (nothing_text phrase.now made runs contexts) }
 {
@@ -73,7 +72,7 @@ fn put_nothing<W: Write>(phrase: &[u8], made: u64, runs: u64, contexts: u32, sin
     ])
 }
 
-/// Writes what was found.
+/// Writes the finding.
 fn put_finding<W: Write>(tested: &TestReport, sink: &mut Sink<'_, W>)
     ensures { Given W.contents sink.old sink.new (finding_text tested.now tested.now.found) }
 {
@@ -98,7 +97,7 @@ fn put_finding<W: Write>(tested: &TestReport, sink: &mut Sink<'_, W>)
     }
 }
 
-/// Writes how many runs were made, how they ended, and what they reached.
+/// Writes the number of runs made, how they ended, and the statements and threads reached.
 fn put_counts<W: Write>(counts: &Counts, sink: &mut Sink<'_, W>)
     ensures { Given W.contents sink.old sink.new (counts_text counts.now) }
 {
@@ -141,7 +140,7 @@ fn put_counts<W: Write>(counts: &Counts, sink: &mut Sink<'_, W>)
     ])
 }
 
-/// Writes how many of the runs were different.
+/// Writes the number of different runs.
 fn put_distinct<W: Write>(distinct: Distinct, sink: &mut Sink<'_, W>)
     ensures { Given W.contents sink.old sink.new (distinct_text distinct) }
 {
@@ -156,7 +155,7 @@ fn put_distinct<W: Write>(distinct: Distinct, sink: &mut Sink<'_, W>)
     ])
 }
 
-/// The line of a statement that was not reached.
+/// Returns the line of a statement that was not reached.
 fn line_unless(is_reached: bool, line: &Vec<u8>) -> &[u8]
     ensures { result.now ≡ line_unless is_reached line.now }
 {
@@ -199,21 +198,21 @@ pub fn put_summary<W: Write>(tested: &TestReport, out: &mut W) -> Result<(), Wri
     sink.finish()
 }
 
-/// Whether a number of runs is a limit.
+/// Returns whether a number of runs is a limit.
 fn is_limit(runs: u64) -> bool
     ensures { result ≡ is_limit runs }
 {
     runs != MOST_RUNS
 }
 
-/// How many runs there are at most, where that is limited.
+/// Returns the most runs, if they are limited.
 pub(crate) fn limit_of(runs: u64) -> Option<u64>
     ensures { result ≡ limit_of runs }
 {
     if is_limit(runs) { Some(runs) } else { None }
 }
 
-/// The word before the most runs, where they are limited.
+/// Returns the word before the most runs, if they are limited.
 pub(crate) fn of_word<'a>(runs: u64) -> Piece<'a>
     ensures { piece_text result ≡ of_word runs }
 {
@@ -224,7 +223,7 @@ pub(crate) fn of_word<'a>(runs: u64) -> Piece<'a>
     }
 }
 
-/// The most runs, where they are limited.
+/// Returns the most runs as a piece, if they are limited.
 pub(crate) fn limit_piece<'a>(runs: u64) -> Piece<'a>
     ensures { piece_text result ≡ limit_text runs }
 {
@@ -235,28 +234,28 @@ pub(crate) fn limit_piece<'a>(runs: u64) -> Piece<'a>
     }
 }
 
-/// What a test found, and how well the program was tested.
+/// The finding of a test, and the coverage of the program.
 #[derive(Drop)]
 pub struct TestReport {
     /// The name of the program's text.
     pub file: Vec<u8>,
-    /// What was asked for.
+    /// The options of the test.
     pub options: TestOptions,
-    /// What each run started from, but for its seed.
+    /// The start of each run, except for its seed.
     pub setup: Setup,
     pub found: Found,
-    /// The instruction whose assertion failed in the run that was found, where one did.
+    /// The instruction whose assertion failed in the run that was found, if one did.
     pub failed: Option<u32>,
     /// The threads that wait at the end of the run that was found.
     pub waiting: Vec<Waiting>,
-    /// Where the statements of the instructions begin.
+    /// The positions at which the statements of the instructions begin.
     pub positions: Vec<Option<Position>>,
     /// The texts of the statements of the instructions.
     pub statements: Vec<Vec<u8>>,
     pub counts: Counts,
-    /// How many of the runs were different.
+    /// The number of different runs.
     pub distinct: Distinct,
-    /// The lines of the program's statements, where those that no run reached are listed.
+    /// The lines of the program's statements, if those that no run reached are listed.
     pub lines: Vec<Vec<u8>>,
     /// For each instruction of the code, whether a run reached it.
     pub reached: Vec<bool>,
@@ -265,7 +264,7 @@ pub struct TestReport {
 }
 
 impl TestReport {
-    /// Whether the test found what it looks for.
+    /// Returns whether the test found a run that it searches for.
     pub fn has_found(&self) -> bool
         ensures { result ≡ has_found self.now.found }
     {

@@ -1,4 +1,4 @@
-//! The summary of a test in JSON: an object of what was found and of what the runs reached, and one
+//! The summary of a test in JSON: an object of the finding and of the reached statements, and one
 //! for each statement that no run reached. It is written without memory.
 ghost use Rattle.std.specs.Prelude.{◌≡◌};
 ghost use Rattle.bp_text.specs.Writing.{Writes, Given};
@@ -13,7 +13,7 @@ use bp_text::Piece::{Bytes, Key, Number, NumberOrNull, Text};
 use bp_text::{Sink, WriteFault};
 use std::io::Write;
 
-/// The word for what was found.
+/// Returns the word for the finding.
 fn found_name(found: Found) -> &'static [u8]
     ensures { result.now ≡ found_name found }
 {
@@ -24,7 +24,7 @@ fn found_name(found: Found) -> &'static [u8]
     }
 }
 
-/// The run in which something was found.
+/// Returns the run in which something was found.
 fn found_run(found: Found) -> Option<u64>
     ensures { result ≡ found_run found }
 {
@@ -34,7 +34,7 @@ fn found_run(found: Found) -> Option<u64>
     }
 }
 
-/// Writes what was found, and in which run.
+/// Writes the finding, and its run.
 fn put_finding_members<W: Write>(found: Found, sink: &mut Sink<'_, W>)
     ensures { Given W.contents sink.old sink.new (finding_members found) }
 {
@@ -47,7 +47,7 @@ fn put_finding_members<W: Write>(found: Found, sink: &mut Sink<'_, W>)
     ])
 }
 
-/// Writes how many runs were made, how they ended, and what those lacked that ended too early.
+/// Writes the number of runs made, how they ended, and the lacks of those that ended too early.
 fn put_ends_members<W: Write>(counts: &Counts, sink: &mut Sink<'_, W>)
     ensures { Given W.contents sink.old sink.new (ends_members counts.now) }
 {
@@ -78,7 +78,7 @@ fn put_ends_members<W: Write>(counts: &Counts, sink: &mut Sink<'_, W>)
     ])
 }
 
-/// Writes how many contexts the runs used, and what they reached.
+/// Writes the number of contexts that the runs used, and the statements and threads reached.
 fn put_reach_members<W: Write>(counts: &Counts, sink: &mut Sink<'_, W>)
     ensures { Given W.contents sink.old sink.new (reach_members counts.now) }
 {
@@ -105,7 +105,7 @@ fn put_reach_members<W: Write>(counts: &Counts, sink: &mut Sink<'_, W>)
     ])
 }
 
-/// Writes how many of the runs were different, and how many new ones would be new.
+/// Writes the number of different runs, and the share of further ones that would be new.
 fn put_distinct_member<W: Write>(distinct: Distinct, sink: &mut Sink<'_, W>)
     ensures { Given W.contents sink.old sink.new (distinct_member distinct) }
 {
@@ -122,7 +122,7 @@ fn put_distinct_member<W: Write>(distinct: Distinct, sink: &mut Sink<'_, W>)
     ])
 }
 
-/// Writes the object of what was found and of what the runs reached.
+/// Writes the object of the finding and of the statements and threads that the runs reached.
 fn put_summary_object<W: Write>(tested: &TestReport, sink: &mut Sink<'_, W>)
     ensures { Given W.contents sink.old sink.new (summary_object tested.now) }
 {
