@@ -1,5 +1,5 @@
-//! What decides the assertions and the assumptions of a program, and the variables that a decider
-//! reads.
+//! The deciders of the assertions and the assumptions of a program, and the variables that a
+//! decider reads.
 ghost use Rattle.std.specs.Prelude.{◌≡◌, ◌++◌, Some, map, option_map, slice_get, IfOk, OnOk};
 ghost use Rattle.bp_language.specs.Blocks.{block_of, statement_of};
 ghost use Rattle.bp_language.specs.Views.{decision_of, expression_of};
@@ -10,7 +10,7 @@ use crate::names::is_named;
 use bp_language::{Decider, Expr, Form, Proc, Stmt};
 use std::alloc::{AllocError, Global};
 
-/// Adds a name, where it is not among the names.
+/// Adds a name, if it is not among the names.
 fn add_name<'a>(names: &mut Vec<&'a [u8]>, name: &'a [u8]) -> Result<(), AllocError>
     ensures { let old = map (λ n. n.now) names.old.items in
         OnOk result (map (λ n. n.now) names.new.items ≡ with_name old name.entry.now) }
@@ -38,7 +38,7 @@ fn add_names<'a>(names: &mut Vec<&'a [u8]>, expr: &'a Expr) -> Result<(), AllocE
     }
 }
 
-/// The names of the variables that a decider reads, each once, in the order of their first use.
+/// Returns the names of the variables that a decider reads, each once, by their first use.
 pub fn variables_read<'a>(alloc: Global, decider: &'a Decider) -> Result<Vec<&'a [u8]>, AllocError>
     ensures { let read = variables_read (decision_of decider.entry.now) in
         IfOk result (λ v. map (λ n. n.now) v.items ≡ read) }
@@ -50,7 +50,7 @@ pub fn variables_read<'a>(alloc: Global, decider: &'a Decider) -> Result<Vec<&'a
     Ok(names)
 }
 
-/// What decides a statement, where it is an assertion or an assumption.
+/// Returns the decider of a statement, if it is an assertion or an assumption.
 fn decision_in<'a>(form: &'a Form) -> Option<&'a Decider>
     ensures { let decides = decision_in (statement_of form.entry.now) in
         option_map (λ d. decision_of d.now) result ≡ decides }
@@ -61,7 +61,7 @@ fn decision_in<'a>(form: &'a Form) -> Option<&'a Decider>
     }
 }
 
-/// Notes what decides each of these statements, and those inside them.
+/// Appends the decider of each of these statements, and of those inside them.
 #[cycle(note_deciders)]
 fn note_block<'a>(
     deciders: &mut Vec<Option<&'a Decider>>,
@@ -79,7 +79,7 @@ fn note_block<'a>(
     Ok(())
 }
 
-/// Notes what decides each of the statements inside a statement.
+/// Appends the decider of each of the statements inside a statement.
 #[cycle(note_deciders)]
 fn note_inside<'a>(
     deciders: &mut Vec<Option<&'a Decider>>,
@@ -99,8 +99,8 @@ fn note_inside<'a>(
     }
 }
 
-/// For each instruction of the program's code, in order, what decides its statement where that is
-/// an assertion or an assumption.
+/// Returns for each instruction of the program's code, in order, the decider of its statement if
+/// that is an assertion or an assumption.
 fn deciders_in<'a>(alloc: Global, procs: &'a [Proc]) -> Result<Vec<Option<&'a Decider>>, AllocError>
     ensures { let decides = map (λ x. next_decision x.left) (places_of procs.entry.now) in
         IfOk result (λ v. map reading_of v.items ≡ decides) }
@@ -113,8 +113,8 @@ fn deciders_in<'a>(alloc: Global, procs: &'a [Proc]) -> Result<Vec<Option<&'a De
     Ok(deciders)
 }
 
-/// What decides the statement of the instruction with this number, where that is an assertion or an
-/// assumption.
+/// Returns the decider of the statement of the instruction with this number, if that is an
+/// assertion or an assumption.
 pub fn decider_at<'a>(
     alloc: Global,
     procs: &'a [Proc],

@@ -8,28 +8,28 @@ use bp_syntax::{Lexeme, take_lexeme};
 use bp_text::push_on_one_line;
 use std::alloc::{AllocError, Global};
 
-/// Whether these bytes end a statement's own text: `;` and two keywords do.
+/// Returns whether these bytes end a statement's own text: `;` and two keywords do.
 fn is_ending(bytes: &[u8]) -> bool
     ensures { result ≡ is_ending bytes.now }
 {
     matches!(bytes, b";" | b"then" | b"do")
 }
 
-/// Whether an excerpt leaves the lexeme out: white and comments.
+/// Returns whether an excerpt leaves the lexeme out: white and comments.
 fn is_gap(lexeme: Lexeme<'_>) -> bool
     ensures { result ≡ is_gap lexeme.entry.kind }
 {
     matches!(lexeme.kind, Some(LexemeKind::White | LexemeKind::Comment))
 }
 
-/// Whether these bytes are the sign of a choice.
+/// Returns whether these bytes are the sign of a choice.
 fn is_choice(bytes: &[u8]) -> bool
     ensures { result ≡ is_choice bytes.now }
 {
     matches!(bytes, b"?")
 }
 
-/// Takes the next lexeme of a statement's own text from the text, where one is left.
+/// Takes the next lexeme of a statement's own text from the text, if one is left.
 fn take_own_lexeme<'a>(text: &mut &'a [u8]) -> Option<Lexeme<'a>>
     ensures lexeme { MatchOption result
         (IsAtEnd text.old.now)
@@ -52,7 +52,7 @@ pub struct Excerpt {
     pub reads_choice: bool,
 }
 
-/// Adds a lexeme, after a space where there was a gap; a gap adds nothing.
+/// Adds a lexeme, after a space if there was a gap; a gap adds nothing.
 fn push_lexeme(line: &mut Vec<u8>, lexeme: Lexeme<'_>, had_gap: bool) -> Result<(), AllocError>
     ensures is { let word = lexeme_text had_gap lexeme.entry.kind lexeme.entry.text.now in
         OnOk result (line.new.items ≡ line.old.items ++ word) }
@@ -66,7 +66,7 @@ fn push_lexeme(line: &mut Vec<u8>, lexeme: Lexeme<'_>, had_gap: bool) -> Result<
 }
 
 #[tactic(auto, using(bp_text::proofs::LinesOfTexts::one_line_after))]
-/// The text of its first statement alone: up to `;`, `then` or `do`.
+/// Returns the text of the first statement alone: up to `;`, `then` or `do`.
 pub(crate) fn excerpt_of(alloc: Global, text: &[u8]) -> Result<Excerpt, AllocError>
     ensures is { IfOk result (λ e. IsStatement text.now e.text.items e.reads_choice) }
     ensures one_line { IfOk result (λ e. IsOneLine e.text.items) }

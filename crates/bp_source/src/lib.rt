@@ -1,5 +1,5 @@
-//! Programs for people, without a history: where each statement stands and what it says, listings
-//! with their source, names, and the same in JSON.
+//! Programs for people, without a history: the place and the text of each statement, listings with
+//! their source, names, and the same in JSON.
 #![tactic(auto)]
 
 mod assertions;

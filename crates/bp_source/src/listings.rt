@@ -20,8 +20,8 @@ pub(crate) const INSTRUCTION_WIDTH: usize = 20;
 /// The width of the column of a place.
 pub(crate) const PLACE_WIDTH: usize = 7;
 
-/// Whether the line of a listing is that of a procedure: it begins with `proc`, and any other with
-/// a number.
+/// Returns whether the line of a listing is that of a procedure: it begins with `proc`, and any
+/// other with a number.
 fn is_heading(instruction: &[u8]) -> bool
     ensures { result ≡ is_heading instruction.now }
 {
@@ -57,8 +57,8 @@ fn push_plain(out: &mut Vec<u8>, instruction: &[u8]) -> Result<(), AllocError>
     push_two(out, Bytes(instruction), Bytes(b"\n"))
 }
 
-/// Adds the line of a listing. Where it is the line of an instruction, the first of these source
-/// statements is shown beside it, and is then taken.
+/// Adds the line of a listing. Beside the line of an instruction the first of these source
+/// statements is shown, and is then taken.
 fn push_listed(
     out: &mut Vec<u8>,
     instruction: &[u8],
@@ -79,8 +79,8 @@ fn push_listed(
     push_sourced(out, instruction, statement)
 }
 
-/// The listing of the code of a lawful program, and after each instruction the place and the
-/// statement that `show` prints of it. `listing` is that listing.
+/// Returns the listing of the code of a lawful program, and after each instruction the place and
+/// the statement that `show` prints of it. `listing` is that listing.
 pub fn sourced_listing(
     alloc: Global,
     text: &[u8],
@@ -100,7 +100,7 @@ pub fn sourced_listing(
     Ok(out)
 }
 
-/// The word for what an instruction does, as the listing has it.
+/// Returns the word for the operation of an instruction, as in the listing.
 fn operation_name(kind: Kind) -> &'static [u8]
     ensures { result.now ≡ operation_name kind }
 {
@@ -149,7 +149,7 @@ fn push_headings(items: &mut Vec<u8>, headings: &[Heading]) -> Result<(), AllocE
     Ok(())
 }
 
-/// Adds the object of a code: its procedures, and how many instructions follow.
+/// Adds the object of a code: its procedures, and the number of instructions that follow.
 fn push_code(out: &mut Vec<u8>, alloc: Global, code: &Code) -> Result<(), AllocError>
     ensures { OnOk result (out.new.items ≡ out.old.items ++ code_object code.now) }
 {
@@ -168,7 +168,7 @@ fn push_code(out: &mut Vec<u8>, alloc: Global, code: &Code) -> Result<(), AllocE
     )
 }
 
-/// Adds the object of the instruction with this number, and what is shown of it.
+/// Adds the object of the instruction with this number, and its source statement.
 fn push_instruction<'a>(
     out: &mut Vec<u8>,
     procs: &'a [Proc],
@@ -228,8 +228,8 @@ fn push_instructions(
     Ok(())
 }
 
-/// The code of a lawful program, an object a line: that of the code with its procedures, and one
-/// for each instruction, with the place and the statement that `show` prints of it.
+/// Returns the code of a lawful program, an object a line: that of the code with its procedures,
+/// and one for each instruction, with the place and the statement that `show` prints of it.
 pub fn code_objects(alloc: Global, text: &[u8], code: &Code) -> Result<Vec<u8>, AllocError>
     ensures { IfOk result (λ v. IsCodeInJson text.now code.now.tree code.now v.items) }
 {
@@ -244,7 +244,7 @@ pub fn code_objects(alloc: Global, text: &[u8], code: &Code) -> Result<Vec<u8>, 
     Ok(out)
 }
 
-/// The line of a place, where there is one.
+/// Returns the line of a place, if there is one.
 pub fn line_of(position: Option<Position>) -> Option<u64>
     ensures { result ≡ line_of position }
 {
@@ -254,7 +254,7 @@ pub fn line_of(position: Option<Position>) -> Option<u64>
     }
 }
 
-/// The column of a place, where there is one.
+/// Returns the column of a place, if there is one.
 pub fn column_of(position: Option<Position>) -> Option<u64>
     ensures { result ≡ column_of position }
 {
@@ -264,7 +264,7 @@ pub fn column_of(position: Option<Position>) -> Option<u64>
     }
 }
 
-/// The same number in 64 bits.
+/// Returns the number in 64 bits.
 pub fn wide(number: Option<u32>) -> Option<u64>
     ensures { result ≡ number }
 {

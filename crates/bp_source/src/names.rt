@@ -16,21 +16,21 @@ use bp_flat::{local_slot_of, slot_of};
 use bp_language::{Name, Proc};
 use bp_text::{part_before, part_from};
 
-/// Whether this is one of the names.
+/// Returns whether this is one of the names.
 pub fn is_named(names: &[&[u8]], name: &[u8]) -> bool
     ensures { result ≡ is_among names.now name.now }
 {
     names.contains(&name)
 }
 
-/// Whether a procedure has a variable of this name.
+/// Returns whether a procedure has a variable of this name.
 fn is_local(procs: &[Proc], name: &[u8]) -> bool
     ensures { result ≡ has_local procs.now name.now }
 {
     procs.iter().any(|proc| local_slot_of(proc, name).is_some())
 }
 
-/// What follows the name of a procedure and a dot, if these begin a text.
+/// Returns the text after the name of a procedure and a dot, if these begin it.
 pub fn own_name<'a>(text: &'a [u8], procedure: &[u8]) -> Option<&'a [u8]>
     ensures { MatchOption result
         ((own : List ℕ) → text.now ≢ qualified procedure.now own)
@@ -48,7 +48,7 @@ pub fn own_name<'a>(text: &'a [u8], procedure: &[u8]) -> Option<&'a [u8]>
     Some(own)
 }
 
-/// Whether a text is the name of a procedure, a dot, and this name.
+/// Returns whether a text is the name of a procedure, a dot, and this name.
 pub fn is_qualified(text: &[u8], procedure: &[u8], name: &[u8]) -> bool
     ensures { result ≡ bytes_eq text.now (qualified procedure.now name.now) }
 {
@@ -58,7 +58,7 @@ pub fn is_qualified(text: &[u8], procedure: &[u8], name: &[u8]) -> bool
     }
 }
 
-/// Whether a text says which of these variables of a procedure is meant, with the name of that.
+/// Returns whether a text says which of these variables is meant, with the procedure's name.
 fn is_qualified_among(names: &[Name], procedure: &[u8], text: &[u8]) -> bool
     ensures { let own = procedure.now in
         result ≡ list_any (λ v. bytes_eq text.now (qualified own v.text)) names.now }
@@ -66,7 +66,7 @@ fn is_qualified_among(names: &[Name], procedure: &[u8], text: &[u8]) -> bool
     names.iter().any(|name| is_qualified(text, procedure, name.text().as_bytes()))
 }
 
-/// Whether a text says which variable of a procedure is meant, with the name of that.
+/// Returns whether a text says which variable of a procedure is meant, with the name of that.
 fn qualifies(proc: &Proc, text: &[u8]) -> bool
     ensures { let own = proc.now.name.text in
         result ≡ list_any (λ v. bytes_eq text.now (qualified own v.text)) (variables proc.now) }
@@ -75,15 +75,15 @@ fn qualifies(proc: &Proc, text: &[u8]) -> bool
     is_qualified_among(proc.formals(), own, text) || is_qualified_among(proc.locals(), own, text)
 }
 
-/// Whether a text says which local is meant, with the name of its procedure.
+/// Returns whether a text says which local is meant, with the name of its procedure.
 fn is_qualified_local(procs: &[Proc], text: &[u8]) -> bool
     ensures { result ≡ has_qualified procs.now text.now }
 {
     procs.iter().any(|proc| qualifies(proc, text))
 }
 
-/// Whether a text says which variable of the program is meant: by its name, or by the name of its
-/// procedure, a dot and its name.
+/// Returns whether a text says which variable of the program is meant: by its name, or by the name
+/// of its procedure, a dot and its name.
 pub fn declares(checked: &Checked, text: &[u8]) -> bool
     ensures { result ≡ declares checked.now text.now }
 {
@@ -94,14 +94,14 @@ pub fn declares(checked: &Checked, text: &[u8]) -> bool
         || is_qualified_local(procs, text)
 }
 
-/// Whether what follows this byte is inside braces, where the byte itself is inside or outside.
+/// Returns whether the next byte is inside braces, if this byte is inside or outside.
 pub fn is_braced_after(braced: bool, byte: u8) -> bool
     ensures { result ≡ is_braced_after braced byte }
 {
     if braced { byte != b'}' } else { byte == b'{' }
 }
 
-/// How many bytes are before the first comma outside braces, or in all where there is none.
+/// Returns the number of bytes before the first comma outside braces, or of all if there is none.
 pub fn piece_size(text: &[u8]) -> usize
     ensures { result ≡ piece_size false text.now }
 {
@@ -115,7 +115,7 @@ pub fn piece_size(text: &[u8]) -> usize
     text.len()
 }
 
-/// The first piece of a text, and what is after its comma, where it has one.
+/// Returns the first piece of a text, and the text after its comma, if it has one.
 pub fn first_piece(text: &[u8]) -> (&[u8], Option<&[u8]>)
     ensures pieces { pieces false text.now ≡ result.0.now ∷ pieces_left result.1 }
     ensures shorter { MatchOption result.1 Unit (λ rest. length rest.now < length text.now) }
@@ -127,7 +127,7 @@ pub fn first_piece(text: &[u8]) -> (&[u8], Option<&[u8]>)
     (text, None)
 }
 
-/// The name of the procedure with this number.
+/// Returns the name of the procedure with this number.
 pub fn name_at(procs: &[Proc], number: usize) -> Option<&[u8]>
     ensures { option_map (λ s. s.now) result ≡ name_at procs.now number }
 {
@@ -137,7 +137,7 @@ pub fn name_at(procs: &[Proc], number: usize) -> Option<&[u8]>
     }
 }
 
-/// The procedure of the instruction with this number.
+/// Returns the procedure of the instruction with this number.
 pub fn procedure_at<'a>(
     statements: &[SourceStatement],
     procs: &'a [Proc],

@@ -1,5 +1,5 @@
-//! Pieces that are added one after the other. A slice of them takes twice as long, so texts that
-//! are made often are made by these.
+//! Pieces that are added one after the other. A slice of them takes twice as long, so frequent
+//! texts are made by these functions.
 ghost use Rattle.std.specs.Prelude.{◌≡◌, ◌++◌, OnOk};
 ghost use Rattle.bp_text.specs.Pieces.{piece_text};
 

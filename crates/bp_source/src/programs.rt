@@ -60,8 +60,8 @@ fn push_procedures(
     Ok(())
 }
 
-/// The object of a lawful program: its procedures, each with its formals and declared locals, and
-/// its globals.
+/// Returns the object of a lawful program: its procedures, each with its formals and declared
+/// locals, and its globals.
 pub fn program_object(alloc: Global, checked: &Checked) -> Result<Vec<u8>, AllocError>
     ensures { IfOk result (λ v. v.items ≡ program_object checked.now) }
 {

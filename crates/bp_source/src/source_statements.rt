@@ -1,4 +1,4 @@
-//! What is shown of each instruction.
+//! The source statement of each instruction.
 ghost use Rattle.std.specs.Prelude.{◌≡◌, ℕ, List, None, Some, slice_get, IfOk};
 ghost use Rattle.bp_language.specs.Ast.{Procedure};
 ghost use Rattle.bp_flat.specs.StandsFor.{Place, start_of_block};
@@ -13,20 +13,20 @@ use bp_text::Piece::{Bytes, Number};
 use bp_text::{FIRST, Position, part_from, position_from, push_bytes, push_on_one_line};
 use std::alloc::{AllocError, Global};
 
-/// What is shown of an instruction: the place of its statement, as it is printed, and its text.
+/// The shown facts of an instruction: the place of its statement, as printed, and its text.
 #[derive(Drop)]
 pub struct SourceStatement {
     pub place: Vec<u8>,
     pub excerpt: Excerpt,
-    /// Where the statement begins in the text; none at the end of a procedure.
+    /// The offset at which the statement begins; None at the end of a procedure.
     pub start: Option<u32>,
-    /// The same as a line and a column.
+    /// The start as a line and a column.
     pub position: Option<Position>,
-    /// The procedure's place among the procedures.
+    /// The procedure's index among the procedures.
     pub procedure: usize,
 }
 
-/// The text of a place.
+/// Returns the text of a place.
 fn place_text(alloc: Global, position: Position) -> Result<Vec<u8>, AllocError>
     ensures { IfOk result (λ v. v.items ≡ position_text position) }
 {
@@ -36,7 +36,7 @@ fn place_text(alloc: Global, position: Position) -> Result<Vec<u8>, AllocError>
     Ok(text)
 }
 
-/// The source statement of a statement that begins at this offset.
+/// Returns the source statement of a statement that begins at this offset.
 fn begun_statement(
     alloc: Global,
     text: &[u8],
@@ -60,7 +60,7 @@ fn begun_statement(
     })
 }
 
-/// The source statement of the end of a procedure.
+/// Returns the source statement of the end of a procedure.
 fn procedure_end(
     alloc: Global,
     name: &[u8],
@@ -89,7 +89,7 @@ fn procedure_end(
     })
 }
 
-/// The name of a procedure.
+/// Returns the name of a procedure.
 fn name_of(procs: &[Proc], procedure: usize) -> &[u8]
     ensures { (p : Procedure)
         → slice_get procs.now procedure ≡ Some p
@@ -101,7 +101,7 @@ fn name_of(procs: &[Proc], procedure: usize) -> &[u8]
     }
 }
 
-/// A source statement for each instruction of the program of a text, in their order.
+/// Returns a source statement for each instruction of the program of a text, in their order.
 pub fn source_statements_of(
     alloc: Global,
     text: &[u8],

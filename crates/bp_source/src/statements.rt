@@ -1,5 +1,5 @@
-//! The statements of a program: a line each, their texts, and where they begin.
-//! Objects in JSON that name the statements of a program that no run reached.
+//! The statements of a program: a line each, their texts, and their positions. Objects in JSON that
+//! name the statements of a program that no run reached.
 ghost use Rattle.std.specs.Prelude.{◌≡◌, ◌++◌, map, IfOk, OnOk};
 ghost use Rattle.bp_flat.specs.StandsFor.{places_of};
 ghost use Rattle.bp_source.specs.StatementLines.{said_of, AreSaid, line_of_statement, positions_of, AreStatementLines, object_of_statement, AreUnreachedObjects};
@@ -12,12 +12,12 @@ use bp_text::Piece::{Bytes, Displayed, Key, NumberOrNull, Text};
 use bp_text::{Position, push_bytes, push_pieces};
 use std::alloc::{AllocError, Global};
 
-/// What is said of each statement.
+/// The rendering of each statement.
 #[derive(Clone, Copy)]
 pub(crate) enum Said<'a> {
     /// Its line, in the file of this name.
     Line(&'a str),
-    /// Its object where no run reached it, in the file of this name.
+    /// Its object if no run reached it, in the file of this name.
     Unreached(&'a str),
     /// Its text.
     Text,
@@ -49,7 +49,7 @@ fn push_line<'a>(
     )
 }
 
-/// Adds what is said of an instruction's statement.
+/// Adds the rendering of an instruction's statement.
 fn push_said(
     text: &mut Vec<u8>,
     said: Said<'_>,
@@ -64,7 +64,7 @@ fn push_said(
     }
 }
 
-/// For each instruction of the program of a text, in their order, what is said of its statement.
+/// Returns for each instruction of the program of a text the rendering of its statement, in order.
 pub(crate) fn all_said(
     alloc: Global,
     said: Said<'_>,
@@ -85,7 +85,7 @@ pub(crate) fn all_said(
     Ok(texts)
 }
 
-/// For each instruction of the program of a text, in their order, the line of its statement:
+/// Returns for each instruction of the program of a text, in order, the line of its statement:
 /// `FILE:LINE:COLUMN STATEMENT` and a line feed. The end of a procedure has an empty one.
 pub fn statement_lines(
     alloc: Global,
@@ -100,8 +100,8 @@ pub fn statement_lines(
     all_said(alloc, Said::Line(file), text, checked)
 }
 
-/// Where the statement of each instruction begins in the program of a text. The end of a procedure
-/// begins nowhere.
+/// Returns the position of the statement of each instruction in the program of a text. The end of a
+/// procedure has none.
 pub fn statement_positions(
     alloc: Global,
     text: &[u8],
@@ -117,8 +117,8 @@ pub fn statement_positions(
     Ok(positions)
 }
 
-/// The text of each instruction's statement in the program of a text, on one line. At the end of a
-/// procedure it says that.
+/// Returns the text of each instruction's statement in the program of a text, on one line. At the
+/// end of a procedure it says that.
 pub fn statement_texts(
     alloc: Global,
     text: &[u8],
@@ -161,8 +161,8 @@ pub(crate) fn push_object<'a>(
     )
 }
 
-/// For each instruction of the program of a text, in their order, the object that names its
-/// statement where no run reached it, on a line. The end of a procedure has an empty one.
+/// Returns for each instruction of the program of a text, in order, the object that names its
+/// statement if no run reached it, on a line. The end of a procedure has an empty one.
 pub fn unreached_objects(
     alloc: Global,
     file: &str,
