@@ -38,7 +38,7 @@ impl Checked {
         Checked { tree }
     }
 
-    /// The tree, which has no fault.
+    /// Returns the tree, which has no fault.
     pub fn tree(&self) -> &Tree
         ensures value { result.now ≡ self.now }
         ensures lawful { IsLawful self.now }
@@ -54,37 +54,38 @@ impl Checked {
         Ok(Checked { tree })
     }
 
-    /// Law: the tree is that of some text.
+    /// Proves that the tree is that of some text.
     pub fn is_of_a_text(&self)
         ensures { HasText self.now }
     {
         self.tree.is_of_a_text();
     }
 
-    /// Law: procedures, globals, and the formals and locals of each procedure keep to their limits.
+    /// Proves that procedures, globals, and formals and locals of a procedure are within the
+    /// limits.
     pub fn has_few_names(&self)
         ensures { HasFewNames self.now }
     {
         let _ = &self.tree;
     }
 
-    /// Law: no two globals, no two procedures, and in a procedure no two labels and no two formals
-    /// or locals are spelled alike.
+    /// Proves that no two globals, no two procedures, and in a procedure no two labels and no two
+    /// formals or locals have the same text.
     pub fn has_distinct_names(&self)
         ensures { HasDistinctNames self.now }
     {
         let _ = &self.tree;
     }
 
-    /// Law: each variable, label and procedure that a statement names is declared, an assignment
-    /// has targets, and an assignment and a call have as many values as they need.
+    /// Proves that each variable, label and procedure that a statement names is declared, an
+    /// assignment has targets, and an assignment and a call have as many values as they need.
     pub fn has_sound_statements(&self)
         ensures { HasSoundStatements self.now }
     {
         self.tree.is_of_a_text();
     }
 
-    /// Law: there are no more statements and procedures together than a text has bytes.
+    /// Proves that there are no more statements and procedures together than a text has bytes.
     pub fn has_few_statements(&self)
         ensures { procedures_size self.now.procedures ≤ TEXT_LIMIT }
     {

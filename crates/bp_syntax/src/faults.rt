@@ -24,8 +24,7 @@ pub enum ReadFault {
     /// The first token past `SUCCESSION_LIMIT` in succession without a separator.
     #[error("too many tokens at {0}")]
     TooManyTokens(u32),
-    /// The first token after which no program can continue; the text's length where it ends too
-    /// early.
+    /// The first token after which no program can continue; the text's length if it ends too early.
     #[error("syntax at {0}")]
     Syntax(u32),
     /// An allocation failed.
@@ -34,7 +33,7 @@ pub enum ReadFault {
 }
 
 impl ReadFault {
-    /// The number of the fault, 1 to 7.
+    /// Returns the number of the fault, 1 to 7.
     pub fn number(&self) -> u32
         ensures { result ≡ read_fault_number self.now }
     {
@@ -49,7 +48,7 @@ impl ReadFault {
         }
     }
 
-    /// The offset of the byte that the fault names, where it names one.
+    /// Returns the offset of the byte that the fault names, if any.
     pub fn place(&self) -> Option<u32>
         ensures { result ≡ read_fault_place self.now }
     {

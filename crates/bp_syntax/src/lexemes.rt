@@ -10,18 +10,18 @@ use crate::tokens::{
 };
 use bp_language::LexemeKind;
 
-/// What a text begins with: a lexeme of some kind, or a byte that begins none.
+/// The beginning of a text: a lexeme of some kind, or a byte that begins none.
 #[derive(Clone, Copy, PartialEq, Eq)]
 pub(crate) enum FirstLexeme {
     /// The longest lexeme that fits, and its length.
     Fits(LexemeKind, usize),
-    /// A brace that begins no name. No name begins in this many bytes from it on.
+    /// A brace that begins no name. No name begins in this number of bytes from it on.
     OpenBrace(usize),
     /// Another byte that begins no lexeme.
     BadByte,
 }
 
-/// Whether a lexeme of the kind may continue with this byte after its first.
+/// Returns whether a lexeme of the kind may continue with this byte after its first.
 fn is_continuation(kind: LexemeKind, b: u8) -> bool
     ensures { result ≡ is_continuation kind b }
 {
@@ -33,7 +33,7 @@ fn is_continuation(kind: LexemeKind, b: u8) -> bool
     }
 }
 
-/// How many further bytes continue a lexeme of the kind.
+/// Returns the number of further bytes that continue a lexeme of the kind.
 fn run(kind: LexemeKind, text: &[u8]) -> usize
     ensures value { result ≡ run (is_continuation kind) text.now }
     ensures within { result ≤ length text.now }
@@ -46,7 +46,7 @@ fn run(kind: LexemeKind, text: &[u8]) -> usize
     text.len()
 }
 
-/// The comment that a slash begins, where these bytes follow it, and its length.
+/// Returns the comment that a slash before these bytes begins, and its length.
 fn comment(rest: &[u8]) -> Option<(LexemeKind, usize)>
     ensures { result ≡ comment rest.now }
 {
@@ -60,7 +60,7 @@ fn comment(rest: &[u8]) -> Option<(LexemeKind, usize)>
     }
 }
 
-/// The symbol that the text begins with, and its length.
+/// Returns the symbol that begins the text, and its length.
 fn first_symbol(first: u8, rest: &[u8]) -> Option<(LexemeKind, usize)>
     ensures { result ≡ first_symbol first rest.now }
 {
@@ -76,7 +76,7 @@ fn first_symbol(first: u8, rest: &[u8]) -> Option<(LexemeKind, usize)>
     }
 }
 
-/// The longest lexeme at the start of a text that begins with no brace, and its length.
+/// Returns the longest lexeme at the start of a text that begins with no brace, and its length.
 fn unbraced_lexeme(first: u8, rest: &[u8]) -> Option<(LexemeKind, usize)>
     ensures { result ≡ unbraced_lexeme first rest.now }
 {
@@ -96,7 +96,7 @@ fn unbraced_lexeme(first: u8, rest: &[u8]) -> Option<(LexemeKind, usize)>
     }
 }
 
-/// The lexeme that a brace begins, where these bytes follow it.
+/// Returns the lexeme that a brace before these bytes begins.
 fn braced_lexeme(rest: &[u8]) -> FirstLexeme
     ensures { IsFirstLexeme (123 ∷ rest.now) result }
 {
@@ -108,8 +108,8 @@ fn braced_lexeme(rest: &[u8]) -> FirstLexeme
     }
 }
 
-/// The first lexeme of a text in whose first `nameless` bytes no braced name begins. So no byte is
-/// searched twice for the end of a name.
+/// Returns the first lexeme of a text in whose first `nameless` bytes no braced name begins. So no
+/// byte is searched twice for the end of a name.
 pub(crate) fn first_lexeme(text: &[u8], nameless: usize) -> FirstLexeme
     requires some { 0 < length text.now }
     requires nameless { IsNameless nameless text.now }
@@ -130,16 +130,16 @@ pub(crate) fn first_lexeme(text: &[u8], nameless: usize) -> FirstLexeme
     }
 }
 
-/// A lexeme of a text: the longest that fits at its place, or one byte where none fits.
+/// A lexeme of a text: the longest that fits at its place, or one byte if none fits.
 #[derive(Clone, Copy, Debug)]
 pub struct Lexeme<'a> {
-    /// The kind of the lexeme, and `None` for a byte that begins no lexeme.
+    /// The kind of the lexeme, or `None` for a byte that begins no lexeme.
     pub kind: Option<LexemeKind>,
     pub text: &'a [u8],
 }
 
 impl Lexeme<'_> {
-    /// Whether the lexeme is white or a comment.
+    /// Returns whether the lexeme is white or a comment.
     pub fn is_gap(&self) -> bool
         ensures { IsTrue result ↔ ((self.now.kind ≡ Some White) ⊎ (self.now.kind ≡ Some Comment)) }
     {
@@ -150,7 +150,7 @@ impl Lexeme<'_> {
     }
 }
 
-/// The kind and the size of the first lexeme of a text.
+/// Returns the kind and the size of the first lexeme of a text.
 fn first_kind(text: &[u8]) -> (Option<LexemeKind>, usize)
     requires { 0 < length text.now }
     ensures { IsFirst result.0 text.now result.1 }
@@ -162,7 +162,7 @@ fn first_kind(text: &[u8]) -> (Option<LexemeKind>, usize)
     }
 }
 
-/// Takes the first lexeme from a text, where any bytes are left.
+/// Takes the first lexeme from a text, if any bytes are left.
 pub fn take_lexeme<'a>(text: &mut &'a [u8]) -> Option<Lexeme<'a>>
     ensures lexeme { MatchOption result
         (text.old.now ≡ [])

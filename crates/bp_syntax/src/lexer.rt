@@ -1,7 +1,5 @@
-//! The lexer: the scan of a text into tokens.
-//! Tokens in succession without a separator.
-//! How deep statements nest.
-//! How a text is read: the lexer, the two limits on its tokens, and the parser.
+//! The lexer: the scan of a text into tokens. Tokens in succession without a separator. The depth
+//! of nested statements. Reading a text: the lexer, the two limits on its tokens, and the parser.
 ghost use Rattle.std.specs.Prelude.{true, ◌≡◌, ◌≤◌, ◌++◌, [], length, MatchResult, OnOk};
 ghost use Rattle.bp_language.specs.Ast.{Program};
 ghost use Rattle.bp_language.specs.Tokens as spelling;
@@ -21,7 +19,7 @@ use bp_language::limits::{NESTING_LIMIT, SUCCESSION_LIMIT, TEXT_LIMIT};
 use bp_language::{LexemeKind, TokenKind};
 use std::alloc::{AllocError, Global};
 
-/// The tokens of a text, or its first bad byte, or its first open brace.
+/// Returns the tokens of a text, or its first bad byte, or its first open brace.
 pub(crate) fn scan<'a>(alloc: Global, text: &'a [u8]) -> Result<Vec<Token<'a>>, ReadFault>
     requires { length text.now ≤ TEXT_LIMIT }
     ensures { MatchResult result
@@ -57,7 +55,7 @@ pub(crate) fn scan<'a>(alloc: Global, text: &'a [u8]) -> Result<Vec<Token<'a>>, 
     }
 }
 
-/// Adds the token that a lexeme is, unless it is white or a comment.
+/// Adds the token of a lexeme, unless it is white or a comment.
 fn push_token<'a>(
     tokens: &mut Vec<Token<'a>>,
     lexeme: LexemeKind,
@@ -79,7 +77,7 @@ fn push_token<'a>(
     Ok(())
 }
 
-/// Whether a token of the kind separates successions.
+/// Returns whether a token of the kind separates successions.
 fn is_separator(kind: TokenKind) -> bool
     ensures { result ≡ rule.is_separator kind }
 {
@@ -96,7 +94,7 @@ fn is_separator(kind: TokenKind) -> bool
     )
 }
 
-/// The place of the first token that is one too many in succession without a separator.
+/// Returns the place of the first token that is one too many in succession without a separator.
 pub(crate) fn first_too_many(tokens: &[Token]) -> Option<u32>
     ensures { result ≡ first_too_many 0 (token_list tokens.now) }
 {
@@ -124,7 +122,7 @@ fn depth_after(kind: TokenKind, depth: usize) -> usize
     }
 }
 
-/// The place of the first token that goes too deep.
+/// Returns the place of the first token that is too deep.
 pub(crate) fn first_too_deep(tokens: &[Token]) -> Option<u32>
     ensures { result ≡ first_too_deep 0 (token_list tokens.now) }
 {
@@ -138,9 +136,9 @@ pub(crate) fn first_too_deep(tokens: &[Token]) -> Option<u32>
     None
 }
 
-/// Reads a program text. It is refused for the first fault that applies, each looked for in the
-/// whole text before the next: `TooLong`, `BadByte`, `OpenName`, `TooNested`, `TooManyTokens`,
-/// `Syntax`. `Memory` may come only once the text is known to be not too long.
+/// Reads a program text. It is refused for the first fault that applies, each searched in the whole
+/// text before the next: `TooLong`, `BadByte`, `OpenName`, `TooNested`, `TooManyTokens`, `Syntax`.
+/// `Memory` may come only once the text is known to be not too long.
 pub fn read(alloc: Global, text: &[u8]) -> Result<Tree, ReadFault>
     ensures answer { MatchResult result (IsTextOf text.now) (IsRefusal text.now) }
     ensures whole { (p : Program) → IsTextOf text.now p

@@ -1,5 +1,5 @@
-//! The parser: a recursive descent over the tokens that are left. What is left when a function
-//! stops is where the text has its syntax fault.
+//! The parser: a recursive descent over the tokens that are left. Those left when a function stops
+//! begin at the text's syntax fault.
 ghost use Rattle.std.specs.Prelude.{◌≡◌, ◌<◌, ◌≤◌, [], length, drop, OnOk, if◌then◌else◌};
 ghost use Rattle.bp_syntax.specs.ParserState.{Wanted, WordThen, NameThen, NamesThen, AnyNamesThen, ReadsBy, ReadsPhrase, kind_ahead, place_ahead, is_at, place_or};
 
@@ -61,7 +61,7 @@ impl<'a> Model for Parser<'a> {
 }
 
 impl<'a> Parser<'a> {
-    /// The kind of the next token, `None` after the last.
+    /// Returns the kind of the next token, `None` after the last.
     pub(crate) fn peek(&self) -> Option<TokenKind>
         ensures { result ≡ kind_ahead self.now }
     {
@@ -71,14 +71,14 @@ impl<'a> Parser<'a> {
         }
     }
 
-    /// Whether the next token is of the kind.
+    /// Returns whether the next token is of the kind.
     pub(crate) fn at(&self, kind: TokenKind) -> bool
         ensures { result ≡ is_at kind self.now }
     {
         self.peek() == Some(kind)
     }
 
-    /// Whether the token after the next is of the kind.
+    /// Returns whether the token after the next is of the kind.
     pub(crate) fn at_second(&self, kind: TokenKind) -> bool
         ensures { result ≡ is_at kind (drop 1 self.now) }
     {
@@ -91,7 +91,7 @@ impl<'a> Parser<'a> {
         after.at(kind)
     }
 
-    /// The place of the next token; 0 where there is none.
+    /// Returns the place of the next token, or 0 if there is none.
     pub(crate) fn place(&self) -> u32
         ensures { result ≡ place_ahead self.now }
     {
@@ -101,7 +101,7 @@ impl<'a> Parser<'a> {
         }
     }
 
-    /// The place of the next token, `end` where there is none.
+    /// Returns the place of the next token, or `end` if there is none.
     pub(crate) fn place_or(&self, end: u32) -> u32
         ensures { result ≡ place_or end self.now }
     {
@@ -118,7 +118,7 @@ impl<'a> Parser<'a> {
         self.left = &self.left[1..];
     }
 
-    /// Goes past the next token if it is of the kind.
+    /// Skips the next token if it is of the kind.
     pub(crate) fn eat(&mut self, kind: TokenKind) -> bool
         ensures value { result ≡ is_at kind self.old }
         ensures left { self.new ≡ (if result then drop 1 self.old else self.old) }
@@ -130,7 +130,7 @@ impl<'a> Parser<'a> {
         found
     }
 
-    /// Goes past the next token, which has to be of the kind.
+    /// Skips the next token, which has to be of the kind.
     pub(crate) fn expect(&mut self, kind: TokenKind) -> Result<(), Stop>
         ensures reads { (next : Wanted)
             → ReadsBy result (WordThen kind next) self.old self.new (λ _. next) }
@@ -160,7 +160,7 @@ impl<'a> Parser<'a> {
         Ok(name)
     }
 
-    /// Reads NAME,+ and adds it to the names that are there.
+    /// Reads NAME,+ and appends it to the names.
     pub(crate) fn names(&mut self, alloc: Global, names: &mut Vec<Name>) -> Result<(), Stop>
         ensures reads { ReadsPhrase result (NamesThen names.old.items)
             self.old self.new (λ _. names.new.items) }

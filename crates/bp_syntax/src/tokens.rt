@@ -1,5 +1,4 @@
-//! What the bytes of a text spell: the kinds of lexemes, and the kinds of tokens.
-//! A spelling of each kind of token.
+//! The bytes of each kind of lexeme and of token. A spelling of each kind of token.
 ghost use Rattle.std.specs.Prelude.{◌≡◌};
 ghost use Rattle.bp_language.specs.Tokens as spelling;
 ghost use Rattle.bp_language.specs.Tokens.{IsReal};
@@ -15,42 +14,42 @@ pub(crate) struct Token<'a> {
     pub(crate) text: &'a str,
 }
 
-/// Whether the byte is a space, a tab, a line feed or a carriage return.
+/// Returns whether the byte is a space, a tab, a line feed or a carriage return.
 pub(crate) fn is_white(b: u8) -> bool
     ensures { result ≡ spelling.is_white b }
 {
     b == b' ' || b == b'\t' || b == b'\n' || b == b'\r'
 }
 
-/// Whether an identifier may begin with the byte.
+/// Returns whether an identifier may begin with the byte.
 pub(crate) fn is_letter(b: u8) -> bool
     ensures { result ≡ spelling.is_letter b }
 {
     b.is_ascii_alphabetic() || b == b'_'
 }
 
-/// Whether an identifier may continue with the byte.
+/// Returns whether an identifier may continue with the byte.
 pub(crate) fn is_word_byte(b: u8) -> bool
     ensures { result ≡ spelling.is_word_byte b }
 {
     b.is_ascii_alphanumeric() || b == b'_'
 }
 
-/// Whether a comment may continue with the byte.
+/// Returns whether a comment may continue with the byte.
 pub(crate) fn is_comment_byte(b: u8) -> bool
     ensures { result ≡ spelling.is_comment_byte b }
 {
     b != b'\n'
 }
 
-/// Whether a braced name may have the byte inside.
+/// Returns whether a braced name may have the byte inside.
 pub(crate) fn is_braced_byte(b: u8) -> bool
     ensures { result ≡ spelling.is_braced_byte b }
 {
     32 <= b && b <= 126 && b != b'}'
 }
 
-/// The kind of the constant that the byte is.
+/// Returns the kind of the constant with this byte.
 pub(crate) fn constant(b: u8) -> Option<TokenKind>
     ensures { result ≡ spelling.constant b }
 {
@@ -61,7 +60,7 @@ pub(crate) fn constant(b: u8) -> Option<TokenKind>
     }
 }
 
-/// The kind of the symbol that the byte is.
+/// Returns the kind of the symbol with this byte.
 pub(crate) fn symbol(b: u8) -> Option<TokenKind>
     ensures { result ≡ spelling.symbol b }
 {
@@ -81,7 +80,7 @@ pub(crate) fn symbol(b: u8) -> Option<TokenKind>
     }
 }
 
-/// The kind of the symbol that the two bytes are.
+/// Returns the kind of the symbol with these two bytes.
 pub(crate) fn long_symbol(b: u8, c: u8) -> Option<TokenKind>
     ensures { result ≡ spelling.long_symbol b c }
 {
@@ -96,7 +95,7 @@ pub(crate) fn long_symbol(b: u8, c: u8) -> Option<TokenKind>
     }
 }
 
-/// How many words are reserved.
+/// The number of reserved words.
 const WORDS: usize = 16;
 
 /// The kinds of the reserved words.
@@ -119,7 +118,7 @@ const RESERVED: [TokenKind; WORDS] = [
     TokenKind::Assume,
 ];
 
-/// The kind of the reserved word that the bytes are.
+/// Returns the kind of the reserved word with these bytes.
 fn reserved_word(text: &[u8]) -> Option<TokenKind>
     ensures { result ≡ spelling.reserved_word text.now }
 {
@@ -132,21 +131,21 @@ fn reserved_word(text: &[u8]) -> Option<TokenKind>
     None
 }
 
-/// Whether the bytes are a reserved word.
+/// Returns whether the bytes are a reserved word.
 pub fn is_reserved(text: &[u8]) -> bool
     ensures { result ≡ spelling.is_reserved text.now }
 {
     reserved_word(text).is_some()
 }
 
-/// The kind of an identifier: a reserved word, or a name.
+/// Returns the kind of an identifier: a reserved word, or a name.
 fn word_kind(text: &[u8]) -> TokenKind
     ensures { result ≡ spelling.word_kind text.now }
 {
     reserved_word(text).unwrap_or(TokenKind::Name)
 }
 
-/// The kind of the token that a lexeme is. White and comments are no tokens.
+/// Returns the kind of the token of a lexeme. White and comments have none.
 pub(crate) fn kind_of(kind: LexemeKind, text: &[u8]) -> Option<TokenKind>
     ensures { result ≡ spelling.kind_of kind text.now }
 {
@@ -160,7 +159,7 @@ pub(crate) fn kind_of(kind: LexemeKind, text: &[u8]) -> Option<TokenKind>
     }
 }
 
-/// How many kinds of tokens there are.
+/// The number of kinds of tokens.
 const KINDS: usize = 33;
 
 /// Each kind of token.
@@ -200,7 +199,7 @@ pub const TOKEN_KINDS: [TokenKind; KINDS] = [
     TokenKind::Implies,
 ];
 
-/// The word or the symbol of a kind; for names, one of them.
+/// Returns the word or the symbol of a kind; for names, one of them.
 pub(crate) fn word_of(kind: TokenKind) -> &'static str
     ensures { result.now ≡ spelling kind }
 {
@@ -241,7 +240,7 @@ pub(crate) fn word_of(kind: TokenKind) -> &'static str
     }
 }
 
-/// A spelling of the kind: its word or its symbol, and for names one of them.
+/// Returns a spelling of the kind: its word or its symbol, and for names one of them.
 pub fn spelling_of(kind: TokenKind) -> &'static str
     ensures { IsReal (record { kind = kind; at = 0; text = result.now }) }
 {

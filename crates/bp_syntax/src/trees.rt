@@ -42,7 +42,7 @@ impl Model for Tree {
 }
 
 impl Tree {
-    /// The tree of these globals and procedures. Fails only if memory is refused.
+    /// Makes the tree of these globals and procedures. Fails only on allocation.
     pub(crate) fn new(alloc: Global, globals: Names, procs: Procs) -> Result<Tree, AllocError>
         requires { HasText (record { globals = globals; procedures = procs }) }
         ensures { IfOk result (λ t. t ≡ record { globals = globals; procedures = procs }) }
@@ -59,7 +59,7 @@ impl Tree {
         Ok(Tree { parts })
     }
 
-    /// The declared variables, in order of declaration.
+    /// Returns the declared variables, in order of declaration.
     pub fn globals(&self) -> &[Name]
         ensures value { result.now ≡ self.now.globals }
         ensures of_text { HasText self.now }
@@ -67,7 +67,7 @@ impl Tree {
         self.parts.globals.as_slice()
     }
 
-    /// The procedures, in order of their text.
+    /// Returns the procedures, in order of their text.
     pub fn procs(&self) -> &[Proc]
         ensures value { result.now ≡ self.now.procedures }
         ensures of_text { HasText self.now }
@@ -75,29 +75,29 @@ impl Tree {
         self.parts.procs.as_slice()
     }
 
-    /// Law: a program has no more statements and procedures together than a text has bytes.
+    /// Proves that a program has no more statements and procedures together than a text has bytes.
     pub fn has_few_statements(&self)
         ensures { procedures_size self.now.procedures ≤ TEXT_LIMIT }
     {
         let _ = &self.parts;
     }
 
-    /// Law: no name in a program is longer than a text.
+    /// Proves that no name in a program is longer than a text.
     pub fn has_short_names(&self)
         ensures { HasShortNames TEXT_LIMIT self.now }
     {
         let _ = &self.parts;
     }
 
-    /// Law: each name in a program is an identifier that is not reserved, or a braced name. So it
-    /// holds no line feed (`has_names_on_one_line`).
+    /// Proves that each name in a program is an identifier that is not reserved, or a braced name.
+    /// So it holds no line feed (`has_names_on_one_line`).
     pub fn has_spelled_names(&self)
         ensures { HasSpelledNames self.now }
     {
         let _ = &self.parts;
     }
 
-    /// Law: each tree is that of some text.
+    /// Proves that each tree is that of some text.
     pub fn is_of_a_text(&self)
         ensures { HasText self.now }
     {

@@ -51,7 +51,7 @@ impl<'a> Parser<'a> {
         }
     }
 
-    /// Reads an operand of the operators of a precedence: un, and what tighter operators combine.
+    /// Reads an operand of the operators of a precedence: un, and the tighter operators after it.
     #[cycle(expr)]
     fn operand(&mut self, alloc: Global, precedence: Precedence) -> Result<Expr, Stop>
         ensures reads { ReadsPhrase result (OperandThen precedence)
@@ -84,7 +84,7 @@ impl<'a> Parser<'a> {
         }
     }
 
-    /// Goes past the next token if it is an operator of the precedence.
+    /// Skips the next token if it is an operator of the precedence.
     fn eat_operator(&mut self, precedence: Precedence) -> Option<Op>
         ensures value { result ≡ operator_ahead precedence self.old }
         ensures left { MatchOption result (self.new ≡ self.old) (λ _. self.new ≡ drop 1 self.old) }
@@ -131,7 +131,7 @@ impl<'a> Parser<'a> {
         Ok(left)
     }
 
-    /// Reads expr,+ and adds it to the expressions that are there.
+    /// Reads expr,+ and appends it to the expressions.
     fn exprs(&mut self, alloc: Global, exprs: &mut Vec<Expr>) -> Result<(), Stop>
         ensures reads { ReadsPhrase result (ExprsThen (map expression_of exprs.old.items))
             self.old self.new (λ _. map expression_of exprs.new.items) }
@@ -154,7 +154,7 @@ impl<'a> Parser<'a> {
         Ok(Exprs::new(exprs))
     }
 
-    /// Whether the next token begins an expression.
+    /// Returns whether the next token begins an expression.
     fn at_expr(&self) -> bool
         ensures { result ≡ is_at_expr self.now }
     {

@@ -4,7 +4,7 @@ ghost use Rattle.bp_syntax.specs.ParserState as rule;
 
 use bp_language::{Op, TokenKind};
 
-/// How strongly an operator that associates to the left binds: the strongest first.
+/// The precedence of an operator that associates to the left: the strongest first.
 #[derive(Clone, Copy, PartialEq, Eq)]
 pub(crate) enum Precedence {
     /// `=` and `!=`.
@@ -17,7 +17,7 @@ pub(crate) enum Precedence {
     Disjunction,
 }
 
-/// The operator of the precedence that a token of the kind is.
+/// Returns the operator of the precedence for a token of the kind.
 pub(crate) fn operator(precedence: Precedence, kind: TokenKind) -> Option<Op>
     ensures { result ≡ rule.operator precedence kind }
 {

@@ -71,7 +71,7 @@ impl<'a> Parser<'a> {
     }
 }
 
-/// The globals and procedures of a program, from its tokens. `end` is the length of the text.
+/// Parses the globals and procedures of a program. `end` is the length of the text.
 pub(crate) fn parse(alloc: Global, tokens: &[Token], end: u32) -> Result<(Names, Procs), ReadFault>
     ensures { MatchResult result
         (λ p. Parses (token_list tokens.now) (program_of p.0 p.1))

@@ -168,7 +168,7 @@ impl<'a> Parser<'a> {
         Ok(Form::While(decider, body))
     }
 
-    /// Reads what begins with a name: a call or an assignment.
+    /// Reads a call or an assignment, which begin with a name.
     fn call_or_assignment(&mut self, alloc: Global) -> Result<Form, Stop>
         requires { is_at kind.Name self.old ≡ true }
         ensures reads { (next : ℕ → tree.Statement → Wanted)
@@ -183,7 +183,7 @@ impl<'a> Parser<'a> {
         }
     }
 
-    /// Reads form; the next token says which.
+    /// Reads form, by the next token.
     #[cycle(stmt)]
     fn form(&mut self, alloc: Global) -> Result<Form, Stop>
         ensures reads { (next : ℕ → tree.Statement → Wanted)
@@ -235,7 +235,7 @@ impl<'a> Parser<'a> {
         Ok(Stmt::new(label, at, form))
     }
 
-    /// Whether the next token begins a statement.
+    /// Returns whether the next token begins a statement.
     fn at_stmt(&self) -> bool
         ensures { result ≡ is_at_form self.now }
     {
