@@ -1,4 +1,4 @@
-//! What a user asks for, as plain data: the tasks, their files and their options, and the initial
+//! The requests of a user, as plain data: the tasks, their files and their options, and the initial
 //! bits of globals by their names.
 #![tactic(auto)]
 

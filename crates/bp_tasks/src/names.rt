@@ -15,14 +15,14 @@ use bp_text::{part_before, part_from};
 use std::alloc::{AllocError, Global};
 use std::marker::Model;
 
-/// A global, by its name, and the bit that it begins with.
+/// A global, by its name, and its initial bit.
 #[derive(Clone, Copy)]
 pub struct NamedBit<'a> {
     pub name: &'a [u8],
     pub bit: bool,
 }
 
-/// Globals by their names, as a program spells them, each with the bit that it begins with.
+/// Globals by their names, as written in a program, each with its initial bit.
 #[derive(Drop)]
 pub struct NamedBits<'a> {
     items: Vec<NamedBit<'a>>,
@@ -46,7 +46,7 @@ impl<'a> NamedBits<'a> {
         NamedBits { items }
     }
 
-    /// No global.
+    /// Returns an empty list.
     pub fn none(alloc: Global) -> NamedBits<'a>
         ensures { result ≡ [] }
     {
@@ -61,14 +61,14 @@ impl<'a> NamedBits<'a> {
         self.items.as_slice()
     }
 
-    /// Whether no global is named.
+    /// Returns whether no global is named.
     pub fn is_empty(&self) -> bool
         ensures { IsTrue result ↔ (self.now ≡ []) }
     {
         self.items.is_empty()
     }
 
-    /// The name at this place in the list, from 0.
+    /// Returns the name of this number in the list, from 0.
     pub fn name(&self, n: usize) -> Option<&'a [u8]>
         ensures { let names = option_map (λ it. it.name) (slice_get self.now n) in
             option_map (λ it. it.now) result ≡ names }
@@ -80,28 +80,28 @@ impl<'a> NamedBits<'a> {
     }
 }
 
-/// Whether a text gives bits by name: it has an equals sign.
+/// Returns whether a text gives bits by name: it has an equals sign.
 pub fn gives_names(text: &str) -> bool
     ensures { result ≡ gives_names text.now }
 {
     text.as_bytes().iter().any(|byte| *byte == b'=')
 }
 
-/// The bytes before the last two.
+/// Returns the bytes before the last two.
 fn name_in(piece: &[u8]) -> &[u8]
     ensures { result.now ≡ name_in piece.now }
 {
     part_before(piece, piece.len().saturating_sub(2))
 }
 
-/// The last two bytes.
+/// Returns the last two bytes.
 fn ending_of(piece: &[u8]) -> &[u8]
     ensures { result.now ≡ ending_of piece.now }
 {
     part_from(piece, piece.len().saturating_sub(2))
 }
 
-/// Whether a piece is a name with `=0` or `=1`.
+/// Returns whether a piece is a name with `=0` or `=1`.
 fn is_named_bit(piece: &[u8]) -> bool
     ensures { result ≡ is_named_bit piece.now }
 {
@@ -109,7 +109,7 @@ fn is_named_bit(piece: &[u8]) -> bool
     !name_in(piece).is_empty() && (ending == b"=0".as_slice() || ending == b"=1".as_slice())
 }
 
-/// Whether one of the pieces that are left gives this name a bit.
+/// Returns whether one of the pieces that are left gives this name a bit.
 fn is_named_in(list: Option<&[u8]>, name: &[u8]) -> bool
     ensures { result ≡ is_named_in (pieces_left list.entry) name.now }
 {
@@ -124,8 +124,8 @@ fn is_named_in(list: Option<&[u8]>, name: &[u8]) -> bool
     false
 }
 
-/// Whether a text has names with bits between its commas, `NAME=0` or `NAME=1`, and no name twice.
-/// A name in braces may have commas too.
+/// Returns whether a text has names with bits between its commas, `NAME=0` or `NAME=1`, and no name
+/// twice. A name in braces may have commas too.
 pub fn are_named_bits(text: &str) -> bool
     ensures { result ≡ are_named_bits text.now }
 {
@@ -149,7 +149,7 @@ fn named_bit_in(piece: &[u8]) -> NamedBit<'_>
     }
 }
 
-/// The names with bits that such a text has. The only error is refused memory.
+/// Returns the names with bits of such a text. Fails only on allocation.
 pub fn named_bits(alloc: Global, text: &str) -> Result<NamedBits<'_>, AllocError>
     ensures { IfOk result (λ n. n ≡ named_bits text.now) }
 {
@@ -170,14 +170,14 @@ pub struct NamedStart<'a> {
     pub named: &'a NamedBits<'a>,
 }
 
-/// Whether this gives a global of this name the bit 1.
+/// Returns whether this gives a global of this name the bit 1.
 fn is_set(it: &NamedBit<'_>, name: &[u8]) -> bool
     ensures { result ≡ is_set (named_bit it.now.name.now it.now.bit) name.now }
 {
     it.name == name && it.bit
 }
 
-/// The bit that a global of this name begins with: 1 if it is named with 1, and else 0.
+/// Returns the initial bit of a global of this name: 1 if it is named with 1, and else 0.
 fn bit_of(named: &[NamedBit<'_>], name: &[u8]) -> bool
     ensures { let given = named.now in
         result ≡ list_any (λ it. is_set (named_bit it.name.now it.bit) name.now) given }
@@ -185,7 +185,7 @@ fn bit_of(named: &[NamedBit<'_>], name: &[u8]) -> bool
     named.iter().any(|it| is_set(it, name))
 }
 
-/// The bits of the globals in order of declaration.
+/// Returns the bits of the globals in order of declaration.
 fn bits_by_name(
     alloc: Global,
     named: &[NamedBit<'_>],
@@ -216,7 +216,7 @@ fn has_global(checked: &Checked, it: &NamedBit<'_>) -> bool
     slot_of(checked.tree().globals(), it.name).is_some()
 }
 
-/// The number, from 1, of the first name that no global has.
+/// Returns the number, from 1, of the first name that no global has.
 fn first_unknown(checked: &Checked, named: &[NamedBit<'_>]) -> Option<u64>
     ensures { let named = values_of named.now in
         MatchOption result (AreGlobals checked.now named) (IsUnknown checked.now named) }
@@ -230,7 +230,7 @@ fn first_unknown(checked: &Checked, named: &[NamedBit<'_>]) -> Option<u64>
 }
 
 impl NamedBits<'_> {
-    /// The number, from 1, of the first name that no global of the program has.
+    /// Returns the number, from 1, of the first name that no global of the program has.
     pub fn unknown(&self, checked: &Checked) -> Option<u64>
         ensures { MatchOption result
             (AreGlobals checked.now self.now)
@@ -239,8 +239,8 @@ impl NamedBits<'_> {
         first_unknown(checked, self.as_slice())
     }
 
-    /// This start, in which each global of the program begins with the bit of its name, and with 0
-    /// where it is not named. The only error is refused memory.
+    /// Returns this start, in which each global of the program has the initial bit of its name, or
+    /// 0 if it is not named. Fails only on allocation.
     pub fn start(
         &self,
         alloc: Global,

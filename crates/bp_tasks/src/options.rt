@@ -1,21 +1,18 @@
-//! What a run by real threads starts from.
-//! What a test is asked for.
-//! What an exploration is asked for.
-//! What a view shows.
+//! The start of a run by real threads. The options of a test, of an exploration and of a view.
 use crate::tasks::ContextBound;
 use bp_machine::Start;
 use std::marker::Model;
 
-/// What a run by real threads starts from, beside the program.
+/// The start of a run by real threads, apart from the program.
 #[derive(Drop)]
 pub struct RunOptions {
-    /// What each run starts from.
+    /// The start of each run.
     pub start: Start,
-    /// How many calls a worker makes at most while it holds the lock of the board: 1 to 64.
+    /// The most calls of a worker while it holds the lock of the board: 1 to 64.
     pub turn: u32,
     /// The seed of the choice bits.
     pub seed: u64,
-    /// How many calls the ring holds through which the history leaves the board: 1 to 65,536.
+    /// The number of calls of the ring through which the history leaves the board: 1 to 65,536.
     pub ring: u32,
 }
 
@@ -27,37 +24,37 @@ impl Model for RunOptions {
     ghost view = { λ o. options_of o.start o.turn o.seed o.ring };
 }
 
-/// What a test looks for, and among how many runs.
+/// The ends for which a test searches, and the number of its runs.
 #[derive(Clone, Copy, Debug, PartialEq, Eq)]
 pub struct TestOptions {
     /// The seed of the first run. Each other run has the seed after that of the run before it.
     pub seed: u64,
-    /// How many runs there are at most.
+    /// The most runs.
     pub runs: u64,
-    /// After how many seconds no run begins. Where that is not said, all runs are made.
+    /// The seconds after which no run begins. If `None`, all runs are made.
     pub seconds: Option<u64>,
-    /// How many blocks of runs are made side by side, each in a thread of its own. What is found
-    /// does not depend on it. It counts as 1 where it is 0, and as `MAX_JOBS` where it is greater.
+    /// The number of blocks of runs that are made side by side, each in a thread of its own. The
+    /// finding does not depend on it. It counts as 1 if it is 0, and as `MAX_JOBS` if it is over
+    /// that.
     pub jobs: u32,
-    /// Whether the test also looks for a run that ends in a deadlock.
+    /// Whether the test also searches for a run that ends in a deadlock.
     pub with_deadlock: bool,
 }
 
-/// What an exploration looks for, and how far it goes.
+/// The ends for which an exploration searches, and its limits.
 #[derive(Clone, Copy, Debug, PartialEq, Eq)]
 pub struct ExploreOptions {
-    /// Within how many contexts runs are looked through: within as many as the setup allows, or
-    /// within any number.
+    /// The contexts within which runs are explored: as many as the setup allows, or any number.
     pub bound: ContextBound,
-    /// How many states are kept at most.
+    /// The most states that are kept.
     pub states: u64,
-    /// After how many seconds the exploration ends. If that is not said, nothing limits its time.
+    /// The seconds after which the exploration ends. If `None`, nothing limits its time.
     pub seconds: Option<u64>,
-    /// Whether it also looks for deadlocks.
+    /// Whether it also searches for deadlocks.
     pub with_deadlock: bool,
 }
 
-/// How a view is written.
+/// The format of a view.
 #[derive(Clone, Copy)]
 pub enum ViewFormat {
     /// For people, in columns.
@@ -66,12 +63,12 @@ pub enum ViewFormat {
     Json,
 }
 
-/// Which calls a view shows, and how.
+/// The calls that a view shows, and their form.
 #[derive(Clone, Copy)]
 pub struct ViewOptions<'a> {
     /// Of this thread alone.
     pub thread: Option<u32>,
-    /// How many of the last calls of the history are shown.
+    /// The number of the last calls of the history that are shown.
     pub last: Option<u64>,
     /// The number of the first call that is shown.
     pub from: Option<u64>,
@@ -90,7 +87,7 @@ pub struct ViewOptions<'a> {
     pub is_brief: bool,
     /// With the colours of a terminal.
     pub has_colour: bool,
-    /// The most columns of a line of a call; none where it has as many as it needs.
+    /// The most columns of a line of a call; None if it has as many as it needs.
     pub columns: Option<usize>,
     pub format: ViewFormat,
 }

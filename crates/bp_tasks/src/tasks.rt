@@ -1,9 +1,6 @@
-//! What a user wants done: a task, its files and its options.
-//! How the code of a program is listed.
-//! How many contexts are allowed.
-//! How the run of confirmed steps ends.
-//! In which form a refusal is reported on standard error.
-//! When a fault is explained.
+//! The request of a user: a task, its files and its options. The form of a listing. The bound on
+//! contexts. The end of a run of confirmed steps. The form of a refusal on standard error. When a
+//! fault is explained.
 ghost use Rattle.std.specs.Prelude.{◌≡◌};
 ghost use Rattle.bp_tasks.specs.FaultFormats.{fault_format, reporting, is_explained, explains};
 
@@ -16,7 +13,7 @@ use bp_machine::Start;
 pub struct CheckTask<'a> {
     /// The path of the program's text.
     pub program: &'a str,
-    /// Whether what is printed is a JSON object, and a fault too.
+    /// Whether the output is a JSON object, and a fault too.
     pub json: bool,
     pub explain: Explaining,
 }
@@ -31,7 +28,7 @@ pub struct CodeTask<'a> {
     pub explain: Explaining,
 }
 
-/// A program and a schedule, and what driving starts from beside them.
+/// A program and a schedule, and the start of driving it.
 #[derive(Drop)]
 pub struct DriveTask<'a> {
     /// The path of the program's text.
@@ -44,7 +41,7 @@ pub struct DriveTask<'a> {
     pub explain: Explaining,
 }
 
-/// A program and reported steps, and what they start from.
+/// A program and reported steps, and their start.
 #[derive(Drop)]
 pub struct ConfirmTask<'a> {
     /// The path of the program's text.
@@ -55,14 +52,14 @@ pub struct ConfirmTask<'a> {
     /// The globals whose initial bits are given by name.
     pub named: NamedBits<'a>,
     pub bound: ContextBound,
-    /// How the run is to end, if the exit status is to say whether it ends so.
+    /// The expected end of the run, if the exit status has to tell whether it is met.
     pub expected: Option<Verdict>,
     /// Whether the verdict is a JSON object, and a fault too.
     pub json: bool,
     pub explain: Explaining,
 }
 
-/// A program, and what its run starts from beside it.
+/// A program, and the start of its run.
 #[derive(Drop)]
 pub struct RunTask<'a> {
     /// The path of the program's text.
@@ -75,12 +72,12 @@ pub struct RunTask<'a> {
     pub explain: Explaining,
 }
 
-/// A program, and by how many runs it is tested.
+/// A program, and the runs by which it is tested.
 #[derive(Drop)]
 pub struct TestTask<'a> {
     /// The path of the program's text.
     pub program: &'a str,
-    /// What each run starts from.
+    /// The start of each run.
     pub start: Start,
     /// The globals whose initial bits are given by name.
     pub named: NamedBits<'a>,
@@ -92,16 +89,16 @@ pub struct TestTask<'a> {
     pub explain: Explaining,
 }
 
-/// A program, and how far all its runs are looked through.
+/// A program, and the bounds within which all its runs are explored.
 #[derive(Drop)]
 pub struct ExploreTask<'a> {
     /// The path of the program's text.
     pub program: &'a str,
-    /// What each run starts from, and the bound on contexts if there is one.
+    /// The start of each run, and the bound on contexts if there is one.
     pub start: Start,
     /// The globals whose initial bits are given by name.
     pub named: NamedBits<'a>,
-    /// The path of the steps that a run is looked for that makes them in their order, if any is.
+    /// The path of the steps that a run has to make in their order, if any.
     pub through: Option<&'a str>,
     pub options: ExploreOptions,
     /// Whether the summary is a JSON object, and a fault too.
@@ -119,15 +116,15 @@ pub struct TraceTask<'a> {
     pub explain: Explaining,
 }
 
-/// A program, a trace of it, and what is shown of it: the state after a number of calls, the
-/// contexts, the steps, or the calls, by the first of these that is asked for.
+/// A program, a trace of it, and its view: the state after a number of calls, the contexts, the
+/// steps, or the calls, by the first of these that is asked for.
 #[derive(Drop)]
 pub struct ShowTask<'a> {
     /// The path of the program's text.
     pub program: &'a str,
     /// The path of the trace.
     pub trace: &'a str,
-    /// After how many calls the state is shown.
+    /// The number of calls after which the state is shown.
     pub at: Option<u64>,
     /// Whether a line for each context is shown.
     pub contexts: bool,
@@ -135,12 +132,12 @@ pub struct ShowTask<'a> {
     pub steps: bool,
     /// Whether the accepted calls are shown of a trace that is refused.
     pub valid: bool,
-    /// Which calls are shown, and how. In JSON a fault is an object too.
+    /// The calls that are shown, and their form. In JSON a fault is an object too.
     pub options: ViewOptions<'a>,
     pub explain: Explaining,
 }
 
-/// What the user wants done.
+/// The task that the user wants done.
 #[derive(Drop)]
 pub enum Task<'a> {
     /// Drive the bundle that standard input has.
@@ -176,7 +173,7 @@ const ON_TERMINALS: Explaining = Explaining {
 };
 
 impl Task<'_> {
-    /// Whether the task reports its faults as JSON, and when it explains them.
+    /// Returns whether the task reports its faults as JSON, and when it explains them.
     fn reporting(&self) -> (bool, Explaining)
         ensures { result ≡ reporting self.now }
     {
@@ -197,7 +194,8 @@ impl Task<'_> {
         }
     }
 
-    /// In which form the task reports its faults on a standard error that is a terminal or not.
+    /// Returns the form in which the task reports faults on a standard error that may be a
+    /// terminal.
     pub fn fault_format(&self, on_terminal: bool) -> FaultFormat
         ensures { result ≡ fault_format self.now on_terminal }
     {
@@ -212,27 +210,27 @@ impl Task<'_> {
     }
 }
 
-/// How the code of a program is listed.
+/// The form of a listing.
 #[derive(Clone, Copy, Debug, PartialEq, Eq)]
 pub enum ListingForm {
     /// A line for each procedure and each instruction.
     Lines,
-    /// The same, and on the line of an instruction its place and its statement.
+    /// The same lines, and on the line of an instruction its place and its statement.
     Sourced,
     /// A JSON object on each line, with the place and the statement of each instruction.
     Json,
 }
 
-/// How many contexts are allowed to reported steps, or to the runs of an exploration.
+/// The bound on the contexts of reported steps, or of the runs of an exploration.
 #[derive(Clone, Copy, Debug, PartialEq, Eq)]
 pub enum ContextBound {
     /// As many as the setup allows.
     Kept,
-    /// As many as they use, and at most 1,000 in a trace, which says so in place of the setup.
+    /// As many as they use, and at most 1,000 in a trace, which gives this number as its own.
     AsUsed,
 }
 
-/// How the run ends that confirmed steps are.
+/// The end of the run of confirmed steps.
 #[derive(Clone, Copy, Debug, PartialEq, Eq)]
 pub enum Verdict {
     /// An assertion fails at the last step.
@@ -243,7 +241,7 @@ pub enum Verdict {
     Run,
 }
 
-/// In which form a refusal is reported on standard error.
+/// The form in which a refusal is reported on standard error.
 #[derive(Clone, Copy, Debug, PartialEq, Eq)]
 pub enum FaultFormat {
     /// The line of the fault.
@@ -255,7 +253,7 @@ pub enum FaultFormat {
 }
 
 impl FaultFormat {
-    /// Whether lines that explain the fault follow.
+    /// Returns whether lines that explain the fault follow.
     pub fn is_explained(self) -> bool
         ensures { result ≡ is_explained self }
     {
@@ -263,8 +261,8 @@ impl FaultFormat {
     }
 }
 
-/// When lines that explain a fault follow its line. Where neither is asked for, they do on a
-/// standard error that is a terminal.
+/// When lines that explain a fault follow its line. If neither is asked for, they do on a standard
+/// error that is a terminal.
 #[derive(Clone, Copy, Debug, PartialEq, Eq)]
 pub struct Explaining {
     /// Whether each fault is to be explained.
@@ -274,7 +272,7 @@ pub struct Explaining {
 }
 
 impl Explaining {
-    /// Whether a fault is explained on a standard error that is a terminal or not.
+    /// Returns whether a fault is explained on a standard error that is a terminal or not.
     pub fn explains(self, on_terminal: bool) -> bool
         ensures { result ≡ explains self on_terminal }
     {
