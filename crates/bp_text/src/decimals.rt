@@ -1,11 +1,11 @@
-//! Decimals: how many digits a number has, and the number whose decimal some digits are.
+//! Decimals: the number of digits of a number, and the number with these digits.
 ghost use Rattle.std.specs.Prelude.{◌≡◌, MatchOption, length, decimal};
 ghost use Rattle.bp_text.specs.Pieces.{IsNumber, IsNoNumber};
 
 use crate::formats::long_number_at;
 use itoa::Buffer;
 
-/// How many digits a number has.
+/// Returns the number of digits of a number.
 pub fn digits(number: u64) -> usize
     ensures { result ≡ length (decimal number) }
 {

@@ -1,5 +1,5 @@
-//! Texts for a terminal: a question mark stands for each byte of a control character.
-//! Strings of JSON: a text as it stands between quotation marks.
+//! Texts for a terminal: a question mark stands for each byte of a control character. Strings of
+//! JSON: a text between quotation marks.
 ghost use Rattle.std.specs.Prelude.{◌≡◌, ◌++◌, ◌∷◌, [], true, OnOk, ◌<◌, flat_map};
 ghost use Rattle.std.specs.List.{slice_index};
 ghost use Rattle.bp_text.specs.Pieces.{control_bytes, control_size, displayed, displayed_byte, is_among, is_turning, NoControlIsDisplayed, hex_digit, string_byte, string_text, StringsAreReadBack};
@@ -17,14 +17,14 @@ fn is_among(least: u8, byte: u8, most: u8) -> bool
     least <= byte && byte <= most
 }
 
-/// Whether a character with these last two bytes turns the direction of a text.
+/// Returns whether a character with these last two bytes turns the direction of a text.
 fn is_turning(second: u8, third: u8) -> bool
     ensures { result ≡ is_turning second third }
 {
     second == 0x80 && is_among(0xaa, third, 0xae) || second == 0x81 && is_among(0xa6, third, 0xa9)
 }
 
-/// How many bytes the control character has that begins with these, or 0 if none does.
+/// Returns the number of bytes of the control character that begins with these, or 0 if none does.
 fn control_size(first: u8, second: u8, third: u8) -> usize
     ensures { result ≡ control_size first second third }
 {
@@ -39,14 +39,14 @@ fn control_size(first: u8, second: u8, third: u8) -> usize
     }
 }
 
-/// The byte at a place, or 0 if the text is shorter.
+/// Returns the byte at a place, or 0 if the text is shorter.
 fn byte_at(text: &[u8], at: usize) -> u8
     ensures { result ≡ slice_index text.now at }
 {
     text.get(at).copied().unwrap_or(0)
 }
 
-/// How many bytes of a control character come next in a text: some are left of one, or one begins.
+/// Returns the number of next bytes of a control character: those left of one, or of a new one.
 fn control_bytes(left: usize, text: &[u8]) -> usize
     ensures { result ≡ control_bytes left text.now }
 {
@@ -87,7 +87,7 @@ pub(crate) fn put_displayed<W: Write>(text: &[u8], sink: &mut Sink<'_, W>)
     }
 }
 
-/// States that no control character is left of a text that is displayed.
+/// Proves that a displayed text has no control character.
 pub fn no_control_is_displayed()
     ensures { NoControlIsDisplayed }
 {}
@@ -98,7 +98,7 @@ const DELETE: u8 = 127;
 /// The code of the letter a, less ten.
 const LETTERS: u8 = b'a' - 10;
 
-/// The hexadecimal digit of a number below 16.
+/// Returns the hexadecimal digit of a number below 16.
 fn hex_digit(number: u8) -> u8
     requires { number < 16 }
     ensures { result ≡ hex_digit number }
@@ -110,14 +110,14 @@ fn hex_digit(number: u8) -> u8
     }
 }
 
-/// Whether a byte stands for itself in a string.
+/// Returns whether a byte stands for itself in a string.
 fn is_plain_byte(byte: u8) -> bool
     ensures { result ≡ true → string_byte byte ≡ byte ∷ [] }
 {
     byte >= b' ' && byte != DELETE && byte != b'"' && byte != b'\\'
 }
 
-/// Whether each byte of a text stands for itself in a string. Most texts are so, and are then added
+/// Returns whether each byte of a text stands for itself in a string. Most texts do, and are added
 /// at once.
 fn is_plain(text: &[u8]) -> bool
     ensures { result ≡ true → flat_map string_byte text.now ≡ text.now }
@@ -203,7 +203,7 @@ pub(crate) fn push_string(line: &mut Vec<u8>, text: &[u8]) -> Result<(), AllocEr
     Ok(())
 }
 
-/// States that a reader of JSON reads each string as the bytes that it was made of.
+/// Proves that a reader of JSON reads each string as the bytes from which it was made.
 pub fn strings_are_read_back()
     ensures { StringsAreReadBack }
 {}

@@ -4,24 +4,24 @@ use crate::lines::{first_line, last_line, part_before, part_from, text_from_line
 use crate::pieces::push_spaces;
 use std::alloc::{AllocError, Global};
 
-/// How many spaces indent each line of an excerpt.
+/// The number of spaces that indent each line of an excerpt.
 const INDENT: usize = 4;
 
-/// How many bytes of a line are shown before a place.
+/// The number of bytes of a line that are shown before a place.
 const MAX_BEFORE: usize = 60;
 
-/// How many bytes of a line are shown from a place on.
+/// The number of bytes of a line that are shown from a place on.
 const MAX_AFTER: usize = 40;
 
-/// What stands for the bytes of a line that are not shown.
+/// The text for the bytes of a line that are not shown.
 const CUT: &[u8] = b"..";
 
-/// The dots where the bytes are more than are shown.
+/// Returns dots if the bytes are more than are shown.
 fn dots(bytes: &[u8], shown: usize) -> &'static [u8] {
     if shown < bytes.len() { CUT } else { b"" }
 }
 
-/// The end of the bytes, after dots where they are more than are shown.
+/// Returns the end of the bytes, after dots if they are more than are shown.
 fn end_of(alloc: Global, bytes: &[u8], shown: usize) -> Result<Vec<u8>, AllocError> {
     let mut end = Vec::new(alloc);
     end.extend_from_slice(dots(bytes, shown))?;
@@ -29,7 +29,7 @@ fn end_of(alloc: Global, bytes: &[u8], shown: usize) -> Result<Vec<u8>, AllocErr
     Ok(end)
 }
 
-/// Adds a line of an excerpt: what stands in front, and then no more of the bytes than are shown.
+/// Adds a line of an excerpt: `front`, and then no more of the bytes than are shown.
 fn push_indented(
     out: &mut Vec<u8>,
     front: &[u8],
@@ -44,7 +44,7 @@ fn push_indented(
     Ok(())
 }
 
-/// Adds a line with a caret after this number of bytes.
+/// Adds a line with a caret after `column` bytes.
 fn push_caret(out: &mut Vec<u8>, column: usize) -> Result<(), AllocError> {
     push_spaces(out, INDENT)?;
     push_spaces(out, column)?;
@@ -59,8 +59,8 @@ fn push_with_caret(out: &mut Vec<u8>, front: &[u8], after: &[u8]) -> Result<(), 
     push_caret(out, front.len())
 }
 
-/// Adds the line of the text at this place, and a line with a caret below the place. Nothing is
-/// added where that line is empty.
+/// Adds the line of the text at this place, and a line with a caret below the place. Adds nothing
+/// if that line is empty.
 pub fn push_place(out: &mut Vec<u8>, text: &[u8], at: usize) -> Result<(), AllocError> {
     let before = last_line(part_before(text, at));
     let after = first_line(part_from(text, at));
@@ -71,7 +71,7 @@ pub fn push_place(out: &mut Vec<u8>, text: &[u8], at: usize) -> Result<(), Alloc
     push_with_caret(out, front.as_slice(), after)
 }
 
-/// The excerpt for a fault that names this byte of the text, or none.
+/// Returns the excerpt for a fault that names this byte of the text, or none.
 pub fn excerpt_of(alloc: Global, text: &[u8], place: Option<u32>) -> Result<Vec<u8>, AllocError> {
     let mut excerpt = Vec::new(alloc);
     let Some(at) = place else {
@@ -81,8 +81,8 @@ pub fn excerpt_of(alloc: Global, text: &[u8], place: Option<u32>) -> Result<Vec<
     Ok(excerpt)
 }
 
-/// Adds the front of the line of a text that has this number. Nothing is added where there is no
-/// such line, or an empty one.
+/// Adds the front of the line of a text that has this number. Adds nothing if there is no such
+/// line, or an empty one.
 pub fn push_line(out: &mut Vec<u8>, text: &[u8], number: usize) -> Result<(), AllocError> {
     let line = first_line(text_from_line(text, number));
     if line.is_empty() {

@@ -5,7 +5,7 @@ ghost use Rattle.bp_text.specs.Formats.Format.{Number, Span};
 
 use crate::lines::part_before;
 
-/// What is after this byte, where it comes first.
+/// Skips this byte, if it comes first, and returns the rest of the text.
 #[inline(always)]
 pub fn after(text: &[u8], byte: u8) -> Option<&[u8]>
     ensures { FindsAfter (byte ∷ []) text.now result }
@@ -19,14 +19,14 @@ pub fn after(text: &[u8], byte: u8) -> Option<&[u8]>
     Some(rest)
 }
 
-/// What is after this word, where it comes first.
+/// Skips this word, if it comes first, and returns the rest of the text.
 pub fn after_word<'a>(text: &'a [u8], own: &[u8]) -> Option<&'a [u8]>
     ensures { FindsAfter own.now text.now result }
 {
     text.strip_prefix(own)
 }
 
-/// The bit of a digit.
+/// Returns the bit of a digit.
 fn bit_of(byte: u8) -> Option<bool>
     ensures { MatchOption result
         ((b : Bool) → byte ≢ bit_digit b)
@@ -39,7 +39,7 @@ fn bit_of(byte: u8) -> Option<bool>
     }
 }
 
-/// The bit whose digit comes first, and what is after it.
+/// Parses the digit of a bit, and returns the bit with the rest of the text.
 #[inline(always)]
 pub fn bit_at(text: &[u8]) -> Option<(bool, &[u8])>
     ensures { Finds bit text.now result }
@@ -53,7 +53,7 @@ pub fn bit_at(text: &[u8]) -> Option<(bool, &[u8])>
     }
 }
 
-/// The number with one more digit, if it has 64 bits.
+/// Returns the number with one more digit, if it has 64 bits.
 fn with_digit(number: u64, digit: u8) -> Option<u64>
     requires low { 47 < digit }
     requires high { digit < 58 }
@@ -64,7 +64,7 @@ fn with_digit(number: u64, digit: u8) -> Option<u64>
     number.checked_mul(10)?.checked_add(u64::from(digit - b'0'))
 }
 
-/// The number of 64 bits that comes first, and what is after its digits.
+/// Parses a number of 64 bits, and returns it with the rest of the text.
 #[inline(always)]
 pub fn long_number_at(text: &[u8]) -> Option<(u64, &[u8])>
     ensures { Finds (Number (2 ^ 64)) text.now result }
@@ -94,7 +94,7 @@ pub fn long_number_at(text: &[u8]) -> Option<(u64, &[u8])>
     Some((number, rest))
 }
 
-/// The number below a bound that comes first, and what is after its digits.
+/// Parses a number below a bound, and returns it with the rest of the text.
 #[inline(always)]
 pub fn number_at(text: &[u8], bound: u64) -> Option<(u64, &[u8])>
     ensures found { Finds (Number bound) text.now result }
@@ -109,7 +109,7 @@ pub fn number_at(text: &[u8], bound: u64) -> Option<(u64, &[u8])>
     Some((number, rest))
 }
 
-/// The same, where the bound has 32 bits.
+/// Parses a number below a bound of 32 bits, and returns it with the rest of the text.
 #[inline(always)]
 pub fn short_number_at(text: &[u8], bound: u32) -> Option<(u32, &[u8])>
     ensures { Finds (Number bound) text.now result }
@@ -126,17 +126,16 @@ pub trait Machine: Copy {
 
     ghost may_end: { Self → Bool };
 
-    /// What it is after this byte, if it takes it.
+    /// Returns the machine after this byte, if it takes it.
     fn after(self, byte: u8) -> Option<Self>
         ensures { result ≡ takes self byte };
 
-    /// Whether the span may end here.
+    /// Returns whether the span may end here.
     fn is_end(self) -> bool
         ensures { result ≡ may_end self };
 }
 
-/// The bytes at the front of a text that the machine takes, if a span may end after them, and what
-/// is after them.
+/// Splits a text after the bytes that the machine takes, if a span may end after them.
 #[inline(always)]
 pub fn span_at<M: Machine>(first: M, text: &[u8]) -> Option<(&[u8], &[u8])>
     ensures { FindsPart (Span M.takes M.may_end first) text.now result }

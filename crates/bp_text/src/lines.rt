@@ -1,7 +1,5 @@
-//! Lines of a text, which are counted from 1.
-//! Texts on one line: a space stands for each line feed.
-//! Where in a text a byte stands, as editors count.
-//! Parts of a text.
+//! Lines of a text, which are counted from 1. Texts on one line: a space stands for each line feed.
+//! The position of a byte in a text, as editors count. Parts of a text.
 ghost use Rattle.std.specs.Prelude.{◌≡◌, ◌==◌, ◌<◌, ◌↔◌, length, IsTrue, IfSome, MatchOption, ◌++◌, map, OnOk, ◌∷◌, ◌≤◌, ◌+◌, ◌^◌, [], ℕ, List, take, drop};
 ghost use Rattle.std.specs.List.{after_first, position_or_len};
 ghost use Rattle.bp_text.specs.Lines.{first_line, on_one_line, AddsOneLine, position_after, position_at};
@@ -16,7 +14,7 @@ pub struct Line<'a> {
     pub is_ended: bool,
 }
 
-/// Takes the first line from a text, where any bytes are left.
+/// Takes the first line from a text, if any bytes are left.
 pub fn take_line<'a>(text: &mut &'a [u8]) -> Option<Line<'a>>
     ensures size { MatchOption result
         (length text.old.now ≡ 0)
@@ -39,7 +37,7 @@ pub fn take_line<'a>(text: &mut &'a [u8]) -> Option<Line<'a>>
     })
 }
 
-/// The text from the line of this number on. It is empty where there is no such line.
+/// Returns the text from the line of this number on, or an empty text if there is no such line.
 pub fn text_from_line(text: &[u8], number: usize) -> &[u8] {
     let mut rest = text;
     for _taken in 1..number {
@@ -50,13 +48,13 @@ pub fn text_from_line(text: &[u8], number: usize) -> &[u8] {
     rest
 }
 
-/// The line of this number.
+/// Returns the line of this number.
 pub fn line_of(text: &[u8], number: usize) -> Option<Line<'_>> {
     let mut rest = text_from_line(text, number);
     take_line(&mut rest)
 }
 
-/// The byte, or a space for a line feed.
+/// Returns the byte, or a space for a line feed.
 fn on_one_line(byte: u8) -> u8
     ensures { result ≡ on_one_line byte }
 {
@@ -81,10 +79,10 @@ pub struct Position {
     pub column: usize,
 }
 
-/// Where a text begins.
+/// The position at which a text begins.
 pub const FIRST: Position = Position { line: 1, column: 1 };
 
-/// The position after one more byte.
+/// Returns the position after one more byte.
 fn after(position: Position, byte: u8) -> Position
     requires line { position.line + 1 < 2 ^ 64 }
     requires column { position.column + 1 < 2 ^ 64 }
@@ -106,7 +104,7 @@ fn after(position: Position, byte: u8) -> Position
     }
 }
 
-/// The position after the bytes.
+/// Returns the position after the bytes.
 pub fn after_all(position: Position, bytes: &[u8]) -> Position
     requires line { position.line + length bytes.now < 2 ^ 64 }
     requires column { position.column + length bytes.now < 2 ^ 64 }
@@ -121,7 +119,7 @@ pub fn after_all(position: Position, bytes: &[u8]) -> Position
     position
 }
 
-/// The position of the byte at this offset, or that after the text where it has none.
+/// Returns the position of the byte at this offset, or that after the text if it has none.
 pub fn position_of(text: &[u8], at: usize) -> Position
     ensures { result ≡ position_at text.now at }
 {
@@ -131,8 +129,8 @@ pub fn position_of(text: &[u8], at: usize) -> Position
     after_all(FIRST, text)
 }
 
-/// The position of the byte at this offset, from that of another byte: quickly where that one is
-/// before it.
+/// Returns the position of the byte at this offset, from that of another byte: quickly if that one
+/// is before it.
 pub fn position_from(text: &[u8], from: usize, position: Position, at: usize) -> Position
     requires { position ≡ position_at text.now from }
     ensures { result ≡ position_at text.now at }
@@ -144,7 +142,7 @@ pub fn position_from(text: &[u8], from: usize, position: Position, at: usize) ->
     position_of(text, at)
 }
 
-/// The bytes before this offset, or all of them where the text is shorter.
+/// Returns the bytes before this offset, or all of them if the text is shorter.
 pub fn part_before(text: &[u8], at: usize) -> &[u8]
     ensures { result.now ≡ take at text.now }
 {
@@ -154,7 +152,7 @@ pub fn part_before(text: &[u8], at: usize) -> &[u8]
     text
 }
 
-/// The bytes from this offset on.
+/// Returns the bytes from this offset on.
 pub fn part_from(text: &[u8], at: usize) -> &[u8]
     ensures { result.now ≡ drop at text.now }
 {
@@ -164,7 +162,7 @@ pub fn part_from(text: &[u8], at: usize) -> &[u8]
     text.split_at(text.len()).1
 }
 
-/// How many bytes are before the first line feed, or in all where there is none.
+/// Returns the number of bytes before the first line feed, or of all if there is none.
 fn line_size(text: &[u8]) -> usize
     ensures { result ≡ position_or_len (λ b. b == 10) text.now }
 {
@@ -176,14 +174,14 @@ fn line_size(text: &[u8]) -> usize
     text.len()
 }
 
-/// The bytes before the first line feed.
+/// Returns the bytes before the first line feed.
 pub fn first_line(text: &[u8]) -> &[u8]
     ensures { result.now ≡ first_line text.now }
 {
     part_before(text, line_size(text))
 }
 
-/// The bytes after the last line feed, or all where there is none.
+/// Returns the bytes after the last line feed, or all if there is none.
 pub fn last_line(text: &[u8]) -> &[u8] {
     for at in (0..text.len()).rev() {
         if text[at] == b'\n' {

@@ -1,5 +1,5 @@
-//! Pieces of a text, and the calls that write them. A piece says what stands at its place.
-//! Fields of a line, filled with spaces to a width.
+//! Pieces of a text, and the calls that write them. A piece has the text at its place. Fields of a
+//! line, filled with spaces to a width.
 ghost use Rattle.std.specs.Prelude.{◌≡◌, ◌++◌, decimal, flat_map, OnOk};
 ghost use Rattle.bp_text.specs.Pieces.{bit_text, key_text, list_text, piece_text, truth_text, spaces, at_left, at_right};
 ghost use Rattle.bp_text.specs.Writing.{Given, Writes};
@@ -18,7 +18,7 @@ pub enum Piece<'a> {
     Bytes(&'a [u8]),
     /// The decimal of a number.
     Number(u64),
-    /// This number of spaces.
+    /// A number of spaces.
     Spaces(usize),
     /// The bytes at the left of a field of this width.
     Left(usize, &'a [u8]),
@@ -44,18 +44,18 @@ pub enum Piece<'a> {
     Bit(bool),
     /// 1 or 0, or null.
     BitOrNull(Option<bool>),
-    /// A list of JSON. Each item that is given begins with a comma.
+    /// A list of JSON. Each given item begins with a comma.
     List(&'a [u8]),
 }
 
-/// The text of a truth value.
+/// Returns the text of a truth value.
 fn truth_text(value: bool) -> &'static [u8]
     ensures { result.now ≡ truth_text value }
 {
     if value { b"true" } else { b"false" }
 }
 
-/// The digit of a bit.
+/// Returns the digit of a bit.
 fn bit_text(bit: bool) -> &'static [u8]
     ensures { result.now ≡ bit_text bit }
 {
@@ -117,7 +117,7 @@ pub(crate) fn put_piece<W: Write>(piece: Piece<'_>, sink: &mut Sink<'_, W>)
     }
 }
 
-/// Writes the pieces one after the other. It needs no memory.
+/// Writes the pieces one after the other, without memory.
 pub fn put_pieces<W: Write>(out: &mut W, pieces: &[Piece<'_>]) -> Result<(), WriteFault>
     ensures { let text = flat_map piece_text pieces.now in
         Writes (W.contents out.old) (W.contents out.new) text result }
@@ -155,8 +155,8 @@ fn push_list(line: &mut Vec<u8>, items: &[u8]) -> Result<(), AllocError>
     Ok(())
 }
 
-/// Adds a piece. Texts that are made often are made by one call for each piece, since a slice of
-/// pieces takes twice as long.
+/// Adds a piece. Frequent texts are made by one call for each piece, since a slice of pieces takes
+/// twice as long.
 #[inline(always)]
 pub fn push_piece(line: &mut Vec<u8>, piece: Piece<'_>) -> Result<(), AllocError>
     ensures { OnOk result (line.new.items ≡ line.old.items ++ piece_text piece.entry) }
@@ -211,7 +211,7 @@ pub fn push_bytes(line: &mut Vec<u8>, bytes: &[u8]) -> Result<(), AllocError>
     }
 }
 
-/// Adds this number of spaces.
+/// Adds `count` spaces.
 pub fn push_spaces(line: &mut Vec<u8>, count: usize) -> Result<(), AllocError>
     ensures { OnOk result (line.new.items ≡ line.old.items ++ spaces count) }
 {
@@ -235,7 +235,7 @@ pub fn push_left(line: &mut Vec<u8>, width: usize, bytes: &[u8]) -> Result<(), A
     push_spaces(line, width.saturating_sub(bytes.len()))
 }
 
-/// Writes this number of spaces.
+/// Writes `count` spaces.
 pub(crate) fn put_spaces<W: Write>(count: usize, sink: &mut Sink<'_, W>)
     ensures { Given W.contents sink.old sink.new (spaces count) }
 {

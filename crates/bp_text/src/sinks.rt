@@ -37,7 +37,7 @@ impl<'a, W: Write> Sink<'a, W> {
         self.refused = put(self.out, bytes).is_err();
     }
 
-    /// Gives the writer the pieces one after the other. It needs no memory.
+    /// Gives the writer the pieces one after the other, without memory.
     pub fn put_pieces(&mut self, pieces: &[Piece<'_>])
         ensures { Given W.contents self.old self.new (flat_map piece_text pieces.now) }
     {
@@ -87,13 +87,13 @@ impl<'a, W: Write> Sink<'a, W> {
 /// Why a text was not written whole.
 #[derive(Clone, Copy, Debug, PartialEq, Eq, Error)]
 pub enum WriteFault {
-    /// A write answered an error, or `Ok(0)`.
+    /// A write returned an error, or `Ok(0)`.
     #[error("the output could not be written")]
     Write,
 }
 
-/// Writes all the bytes. It stops at the first write that answers an error or `Ok(0)`: the writer
-/// then has the bytes that the earlier writes took, which are not all of them.
+/// Writes all the bytes. Stops at the first write that returns an error or `Ok(0)`: the writer then
+/// has the bytes that the earlier writes took, which are not all of them.
 pub fn put<W: Write>(out: &mut W, bytes: &[u8]) -> Result<(), WriteFault>
     ensures { Writes (W.contents out.old) (W.contents out.new) bytes.now result }
 {
