@@ -5,7 +5,7 @@ use std::fs::File;
 use std::io::{self, Error, ErrorKind, Read, Stdin};
 use std::sync::atomic::{AtomicBool, Ordering};
 
-/// The path that stands for standard input.
+/// The path for standard input.
 const STANDARD_INPUT: &str = "-";
 
 /// A file that is read, or standard input.
@@ -28,21 +28,21 @@ impl Read for HostInput {
 #[derive(Drop)]
 pub struct HostFiles<'a> {
     rt: &'a HostRuntime,
-    /// Whether a path stands for standard input already.
+    /// Whether a path was standard input already.
     is_taken: AtomicBool,
     /// Why standard input cannot be read, if so.
     unreadable: Option<Error>,
 }
 
-/// Why standard input cannot be read, if so. A read of no byte takes nothing from it.
+/// Returns why standard input cannot be read, if so. A read of no byte takes nothing from it.
 fn why_unreadable(rt: &HostRuntime) -> Option<Error> {
     rt.stdin().read(&mut []).err()
 }
 
 impl<'a> HostFiles<'a> {
-    /// The files, before any is opened. A word `-` may be a path.
+    /// Makes the files, before any is opened. A word `-` may be a path.
     ///
-    /// Where standard input is closed, the first file that is opened takes its number, and would be
+    /// If standard input is closed, the first file that is opened takes its number, and would be
     /// read in its place. So it is tried before. Without such a word it is not, since a process in
     /// the background is stopped when it reads from its terminal.
     pub fn new(rt: &'a HostRuntime, arguments: &[String]) -> HostFiles<'a> {
@@ -58,7 +58,7 @@ impl<'a> HostFiles<'a> {
         }
     }
 
-    /// Standard input, for the first who asks.
+    /// Returns standard input, to the first caller.
     fn standard_input(&self) -> io::Result<HostInput> {
         if self.is_taken.swap(true, Ordering::SeqCst) {
             return Err(Error::from(ErrorKind::AlreadyExists));

@@ -12,14 +12,14 @@ pub struct ProgressLine<'a> {
     /// Whether the line is shown: standard error is a terminal, NO_PROGRESS is not set to a text,
     /// and no JSON was asked for.
     pub is_shown: bool,
-    /// When the task began, if the clock said so.
+    /// The time at which the task began, if the clock tells it.
     pub start: Option<Instant>,
     /// The seconds that the task has, if they are limited.
     pub seconds: Option<u64>,
 }
 
 impl ProgressLine<'_> {
-    /// How many milliseconds have passed, if the clock says so.
+    /// Returns the number of milliseconds that have passed, if the clock tells it.
     fn passed(&self) -> Option<u64> {
         let Some(start) = &self.start else {
             return None;

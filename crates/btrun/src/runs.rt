@@ -14,12 +14,12 @@ use std::sync::Wait;
 use std::thread::Threads;
 use std::time::{Clock, Instant};
 
-/// The arguments of the command line. The first is the program's name.
+/// Returns the arguments of the command line. The first is the program's name.
 fn arguments(rt: &HostRuntime) -> io::Result<Vec<String>> {
     Ok(env::args(rt)?.collect(rt.alloc())?)
 }
 
-/// Whether this variable of the environment is set to a text.
+/// Returns whether this variable of the environment is set to a text.
 fn is_set(rt: &HostRuntime, name: &str) -> bool {
     match env::var(rt, name) {
         Ok(value) => !value.is_empty(),
@@ -30,7 +30,7 @@ fn is_set(rt: &HostRuntime, name: &str) -> bool {
 /// The fewest columns of a terminal for which lines are cut.
 const LEAST_COLUMNS: u64 = 40;
 
-/// The columns that COLUMNS gives a terminal; none where it gives no number, or too few.
+/// Returns the columns that COLUMNS gives a terminal; None if it gives no number, or too few.
 fn columns(rt: &HostRuntime) -> Option<usize> {
     let Ok(value) = env::var(rt, "COLUMNS") else {
         return None;
@@ -41,8 +41,8 @@ fn columns(rt: &HostRuntime) -> Option<usize> {
     }
 }
 
-/// How lines are shown on standard output. On a terminal they are cut, and in colour where NO_COLOR
-/// is not set to a text.
+/// Returns the form of lines on standard output. On a terminal they are cut, and in colour if
+/// NO_COLOR is not set to a text.
 fn screen(rt: &HostRuntime) -> Screen {
     if !rt.stdout().is_terminal() {
         return Screen {
@@ -56,13 +56,13 @@ fn screen(rt: &HostRuntime) -> Screen {
     }
 }
 
-/// Whether faults are explained if no option says so: standard error is a terminal, or
+/// Returns whether faults are explained if no option says so: standard error is a terminal, or
 /// BTRUN_EXPLAIN is set to a text.
 fn explains_faults(rt: &HostRuntime) -> bool {
     is_set(rt, "BTRUN_EXPLAIN") || rt.stderr().is_terminal()
 }
 
-/// The seconds that a task has, where they are limited.
+/// Returns the seconds that a task has, if they are limited.
 fn seconds_of(task: &Task<'_>) -> Option<u64> {
     match task {
         Task::Test(task) => task.options.seconds,
@@ -71,7 +71,7 @@ fn seconds_of(task: &Task<'_>) -> Option<u64> {
     }
 }
 
-/// The line of progress of a test or an exploration that starts now.
+/// Returns the line of progress of a test or an exploration that starts now.
 fn progress_line<'a>(rt: &'a HostRuntime, task: &Task<'_>) -> ProgressLine<'a> {
     let is_json = matches!(task.fault_format(false), FaultFormat::Json);
     let is_asked_not_to = is_json || is_set(rt, "NO_PROGRESS");
@@ -83,11 +83,11 @@ fn progress_line<'a>(rt: &'a HostRuntime, task: &Task<'_>) -> ProgressLine<'a> {
     }
 }
 
-/// What is said where nobody gave a command, and standard input is a terminal.
+/// The message if no command was given, and standard input is a terminal.
 const WAITS: &[u8] =
     b"btrun: waiting for a bundle on standard input; 'btrun --help' shows the commands\n";
 
-/// Says that a bundle is waited for, where a terminal is to give it.
+/// Says that a bundle is expected, if a terminal has to give it.
 fn say_that_it_waits(rt: &HostRuntime, task: &Task<'_>) {
     if matches!(task, Task::Bundle) && rt.stdin().is_terminal() {
         // Where standard error fails, the bundle is read all the same.
@@ -95,8 +95,8 @@ fn say_that_it_waits(rt: &HostRuntime, task: &Task<'_>) {
     }
 }
 
-/// Does the task that the arguments ask for on the files and streams of the machine, and answers
-/// the exit status.
+/// Does the task of the arguments on the files and streams of the machine, and returns the exit
+/// status.
 fn do_on_host<T: Threads + Wait + Clock + Sync>(
     rt: &HostRuntime,
     threads: &T,
@@ -125,12 +125,12 @@ fn do_on_host<T: Threads + Wait + Clock + Sync>(
     end.status
 }
 
-/// Ends a run whose arguments ask for no task, and answers the exit status.
+/// Ends a run whose arguments ask for no task, and returns the exit status.
 fn end_on_host(rt: &HostRuntime, none: &NoTask, json: bool) -> u8 {
     end_without_task(none, json, &mut rt.stdout(), &mut rt.stderr()).status
 }
 
-/// Does what the arguments ask for, and answers the exit status. Workers are started by `threads`.
+/// Does the task of the arguments, and returns the exit status. Workers are started by `threads`.
 pub fn run<T: Threads + Wait + Clock + Sync>(rt: &HostRuntime, threads: &T) -> u8 {
     let arguments = match arguments(rt) {
         Ok(arguments) => arguments,

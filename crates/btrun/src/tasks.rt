@@ -1,4 +1,4 @@
-//! What each task does, over any files and streams.
+//! Carries out tasks, over any files and streams.
 ghost use Rattle.std.specs.Io.Buffered.{writer_contents};
 ghost use Rattle.std.specs.Prelude.{◌≡◌, is_some};
 ghost use Rattle.bp_commands.specs.Jobs.{held, IsRun};
@@ -18,23 +18,23 @@ use std::sync::Wait;
 use std::thread::Threads;
 use std::time::Clock;
 
-/// Where a task is done: the memory, the files, what starts threads, and what the streams are.
+/// The environment of a task: the memory, the files, the starter of threads, and the streams.
 #[derive(Clone, Copy)]
 pub struct Host<'a, F, T, P> {
     pub alloc: Global,
     pub files: &'a F,
     pub threads: &'a T,
-    /// What tells the time.
+    /// The clock.
     pub clock: &'a HostRuntime,
-    /// Who is told how far a test or an exploration is.
+    /// Is told the progress of a test or an exploration.
     pub progress: &'a P,
-    /// How lines are shown on standard output.
+    /// The form of lines on standard output.
     pub screen: Screen,
     /// Whether faults are explained if no option says so, as on a terminal.
     pub on_terminal: bool,
 }
 
-/// The gate that draws who takes each turn, where that is asked for.
+/// Returns the gate that draws the thread of each turn, if that is asked for.
 fn gate_of(task: &RunTask<'_>) -> Option<Spread>
     ensures { is_some result ≡ task.now.spread }
 {
@@ -46,7 +46,7 @@ fn gate_of(task: &RunTask<'_>) -> Option<Spread>
     }
 }
 
-/// Carries out a task, and answers how it ends and the streams.
+/// Carries out a task, and returns how it ends and the streams.
 pub fn carry_out<
     F: Files,
     T: Threads + Wait + Clock + Sync,

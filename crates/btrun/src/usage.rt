@@ -1,5 +1,5 @@
-//! A run whose arguments ask for no task: for help or the version, or for nothing that there is.
-//! What is said of refused arguments to programs: one JSON object.
+//! A run whose arguments ask for no task: for help or the version, or for nothing known. The report
+//! of refused arguments to programs: one JSON object.
 ghost use Rattle.std.specs.IoError.{error_kind};
 ghost use Rattle.bp_text.specs.Writing.{Writes};
 ghost use Rattle.bp_commands.specs.Jobs.{held};
@@ -16,7 +16,7 @@ use std::io::{self, Write};
 /// The exit status of a fault in the use of the program.
 const USAGE_STATUS: u8 = 2;
 
-/// What is said of arguments that were not read: memory was refused, or one is not UTF-8.
+/// Returns the answer to arguments that were not read: memory was refused, or one is not UTF-8.
 pub fn unread(alloc: Global, error: &io::Error) -> NoTask
     ensures { IsUnread (error_kind error.now) result }
 {
@@ -83,7 +83,7 @@ pub fn end_without_task<W: Write, E: Write>(
     }
 }
 
-/// Writes the object on refused arguments, which says what is wrong with them.
+/// Writes the object on refused arguments, with this message.
 pub(crate) fn put_refusal<W: Write>(message: &[u8], out: &mut W) -> Result<(), WriteFault>
     ensures { Writes (W.contents out.old) (W.contents out.new) (refusal_object message.now) result }
 {
