@@ -3,7 +3,7 @@ use bp_code::Code;
 use std::alloc::{AllocError, Global};
 use std::test::Fail;
 
-/// The code of a lawful program.
+/// Returns the code of a lawful program.
 pub(crate) fn code_of(alloc: Global, text: &[u8]) -> Result<Code, Fail> {
     match bp_code::code_of(alloc, text) {
         Ok(code) => Ok(code),
@@ -11,7 +11,7 @@ pub(crate) fn code_of(alloc: Global, text: &[u8]) -> Result<Code, Fail> {
     }
 }
 
-/// The entries of this many threads that begin with `main`.
+/// Returns the entries of `count` threads that begin with `main`.
 pub(crate) fn mains(alloc: Global, count: u32) -> Result<Vec<String>, AllocError> {
     let mut entries = Vec::new(alloc);
     for _ in 0..count {
@@ -20,7 +20,7 @@ pub(crate) fn mains(alloc: Global, count: u32) -> Result<Vec<String>, AllocError
     Ok(entries)
 }
 
-/// The names.
+/// Returns the names.
 pub(crate) fn names(alloc: Global, texts: &[&str]) -> Result<Vec<String>, AllocError> {
     let mut names = Vec::new(alloc);
     for text in texts {

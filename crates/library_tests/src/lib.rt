@@ -1,4 +1,4 @@
-//! Tests of public calls: what no command shows. They stand here, and not in the crates that they
+//! Tests of public calls that no command shows. They are here, and not in the crates that they
 //! test, since a crate with tests is proved once more with them. A file is named for that crate,
 //! without `bp_`; `growths` has those of several.
 #![tactic(auto)]

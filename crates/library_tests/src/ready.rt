@@ -1,4 +1,4 @@
-//! What the calls need, and the lines that the script reads.
+//! Programs and setups for the calls, and the lines that the script reads.
 ghost use Rattle.std.specs.Prelude.{◌≡◌, IfOk};
 ghost use Rattle.bp_machine.specs.Setups.{Fits};
 
@@ -18,18 +18,18 @@ const PROGRAM: &[u8] = b"decl x, y; \
 /// A procedure that calls itself, so that each step takes a frame.
 const CALLS: &[u8] = b"decl x, y; main() begin f(0); end f(a) begin f(!a); end";
 
-/// The text of the first of these programs: a function hands it out, so that no proof of a test
-/// reads all of it.
+/// Returns the text of the first of these programs: a function returns it, so that no proof of a
+/// test reads all of it.
 pub(crate) fn program() -> &'static [u8] {
     PROGRAM
 }
 
-/// The text of the second one.
+/// Returns the text of the second one.
 pub(crate) fn calls() -> &'static [u8] {
     CALLS
 }
 
-/// The setup of this many threads with 20 calls each, with the seed 42 or without one.
+/// Makes the setup of this number of threads with 20 calls each, with the seed 42 or without one.
 pub(crate) fn setup(
     alloc: Global,
     code: &Code,
@@ -57,7 +57,7 @@ pub(crate) fn tell<R: Runtime>(rt: &R, was_refused: bool) -> io::Result<()> {
     say(rt, if was_refused { "refused" } else { "done" })
 }
 
-/// A failure unless the answer is right.
+/// Fails unless the result is right.
 pub(crate) fn wants(is_right: bool) -> Result<(), Fail> {
     if is_right {
         Ok(())

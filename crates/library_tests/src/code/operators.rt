@@ -4,7 +4,7 @@ use bp_syntax::{Expr, Form, Op, Tree, read};
 use std::alloc::Global;
 use std::test::Fail;
 
-/// The sign of an expression's topmost operator; a dot where it has none.
+/// Returns the sign of an expression's topmost operator, or a dot if it has none.
 fn sign_of(expr: &Expr) -> u8 {
     match expr {
         Expr::Const(_) | Expr::Var(_) => b'.',
@@ -18,7 +18,7 @@ fn sign_of(expr: &Expr) -> u8 {
     }
 }
 
-/// The signs of an expression's left operand, of itself and of its right operand, if it has two.
+/// Returns the signs of an expression's left operand, of itself and of its right one, if any.
 fn signs_of(expr: &Expr) -> Option<[u8; 3]> {
     match expr {
         Expr::Binary(_, left, right) => {
@@ -28,7 +28,7 @@ fn signs_of(expr: &Expr) -> Option<[u8; 3]> {
     }
 }
 
-/// The signs of what the only statement of a program prints.
+/// Returns the signs of the expression that the only statement of a program prints.
 fn printed_signs(tree: &Tree) -> Option<[u8; 3]> {
     let [procedure] = tree.procs() else {
         return None;
@@ -43,7 +43,7 @@ fn printed_signs(tree: &Tree) -> Option<[u8; 3]> {
 }
 
 /// Programs that print an expression, and the signs of its two topmost levels: `>` for `=>` and `#`
-/// for `!=`. Since the operands stand in the order of the text, these levels say the whole tree.
+/// for `!=`. Since the operands are in the order of the text, these levels determine the tree.
 const ROWS: [(&[u8], [u8; 3]); 8] = [
     (b"main() begin print (a => b => c); end", *b".>>"),
     (b"main() begin print (!a = b); end", *b"!=."),
@@ -55,7 +55,7 @@ const ROWS: [(&[u8], [u8; 3]); 8] = [
     (b"main() begin print (a | b | c); end", *b"||."),
 ];
 
-/// Whether the text is read so that the expression has these signs.
+/// Returns whether the text is read so that the expression has these signs.
 fn is_read_so(alloc: Global, text: &[u8], signs: [u8; 3]) -> Result<bool, Fail> {
     Ok(printed_signs(&read(alloc, text)?) == Some(signs))
 }

@@ -1,5 +1,5 @@
-//! Calls that take memory: each is made, and made again if it is refused. Then it succeeds; which
-//! value it has is proved.
+//! Calls that allocate: each is made, and made again if it is refused. Then it succeeds; its value
+//! is proved.
 ghost use Rattle.std.specs.Prelude.{◌≡◌, None};
 ghost use Rattle.bp_machine.specs.Setups.{Fits};
 
@@ -13,7 +13,7 @@ use std::alloc::Global;
 use std::rt::Runtime;
 use std::test::Fail;
 
-/// A call that takes memory.
+/// A call that allocates.
 #[derive(Clone, Copy)]
 enum Taking {
     Read,
@@ -40,7 +40,7 @@ const TAKING: [Taking; 8] = [
 /// A schedule that goes once through the loop of the program, and prints.
 const SCHEDULE: &[u8] = b"0 1\n0 0\n0 0\n0 0\n0 0\n0 0\n0 0\n0 0\n0 0\n";
 
-/// Whether the check of the tree succeeds. A tree that is refused is kept.
+/// Returns whether the check of the tree succeeds. A tree that is refused is kept.
 fn checks(alloc: Global, tree: &mut Option<Tree>) -> bool {
     let Some(given) = tree.take() else {
         return false;
@@ -54,7 +54,7 @@ fn checks(alloc: Global, tree: &mut Option<Tree>) -> bool {
     }
 }
 
-/// Whether a setup of one thread of the program is made.
+/// Returns whether a setup of one thread of the program is made.
 fn makes_a_setup(alloc: Global, code: &Code) -> bool {
     match mains(alloc, 1) {
         Ok(entries) => {
@@ -64,8 +64,8 @@ fn makes_a_setup(alloc: Global, code: &Code) -> bool {
     }
 }
 
-/// Whether a call succeeds. It is of the program, in a setup that fits it; a check uses up the
-/// tree, and what is written goes to `out`.
+/// Returns whether a call succeeds. It is of the program, in a setup that fits it; a check uses up
+/// the tree, and the output goes to `out`.
 fn succeeds(
     alloc: Global,
     call: Taking,

@@ -1,5 +1,5 @@
-//! Calls that take no memory. Each test prints a line once all is ready; `.ci/growths` refuses each
-//! growth after it, and none may be asked for.
+//! Calls that allocate nothing. Each test prints a line once all is ready; `.ci/growths` refuses
+//! each growth after it, and none may be asked for.
 use crate::common::code_of;
 use crate::ready::{begin, calls, program, setup, wants};
 use crate::run::growths::boards::{Way, makes_calls};
@@ -8,7 +8,7 @@ use bp_machine::{Call, Choices, Outcome, Reply, Report, Session, Setup, open_lin
 use bp_trace::{write_call, write_end, write_head, write_trace, write_trace2};
 use std::test::Fail;
 
-/// Whether a session of two threads stands after one step of one context.
+/// Returns whether a session of two threads stands after one step of one context.
 fn stands_after_a_step(session: &Session) -> bool {
     session.setup().is_in_range();
     let report = Report {
@@ -24,7 +24,7 @@ fn stands_after_a_step(session: &Session) -> bool {
         && session.open_lines() == 2
 }
 
-/// Whether the session tells that its threads go on at one frame each, and the globals.
+/// Returns whether the session tells that its threads continue at one frame each, and the globals.
 fn tells_frames(session: &Session) -> bool {
     (session.globals(), session.global(0)) == (0, Some(false))
         && !session.waits(0)
@@ -58,7 +58,7 @@ fn boards(rt: HostRuntime) -> Result<(), Fail> {
     makes_calls(&rt, rt.alloc(), Way::Gathered)
 }
 
-/// Whether the code is that of the program that calls itself.
+/// Returns whether the code is that of the program that calls itself.
 fn has_parts(code: &Code) -> bool {
     let Some(call) = code.get(0) else {
         return false;
@@ -69,8 +69,8 @@ fn has_parts(code: &Code) -> bool {
         && (call.next(), call.other(), call.callee()) == (Some(1), None, Some(2))
 }
 
-/// Whether the setup of one thread fits the code, and tells its parts; and the first choices by its
-/// seed, in order.
+/// Returns whether the setup of one thread fits the code, and tells its parts; and the first
+/// choices by its seed, in order.
 fn has_choices(code: &Code, setup: &Setup) -> bool {
     let mut choices = Choices::new(42, 0);
     let first = [
@@ -86,7 +86,7 @@ fn has_choices(code: &Code, setup: &Setup) -> bool {
         && first == [true, true, true, false]
 }
 
-/// What is written of a copy of a code, and of two calls of a setup.
+/// The text of a copy of a code, and of two calls of a setup.
 const WRITTEN: &[u8] = b"proc main 0 0\n0 call 2 1\n1 return\n\
     proc f 1 0\n2 call 2 3\n3 return\n\
     -\n\

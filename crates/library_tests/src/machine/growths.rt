@@ -8,14 +8,14 @@ use bp_machine::{AskFault, Call, Session, Setup};
 use std::alloc::Global;
 use std::test::Fail;
 
-/// How a call is made.
+/// The kind of a call.
 #[derive(Clone, Copy, PartialEq, Eq)]
 enum Way {
     Ask,
     AskWith,
 }
 
-/// Makes a session, once more where it is refused. It is new.
+/// Makes a session, once more if it is refused. It is new.
 fn makes_a_session(rt: &HostRuntime, code: &Code, setup: &Setup) -> Result<(), Fail>
     requires fits { Fits code.now.tree setup.now }
 {
@@ -36,14 +36,14 @@ fn make_a_session(rt: HostRuntime) -> Result<(), Fail> {
     makes_a_session(&rt, &code, &setup)
 }
 
-/// A session of one thread of a program.
+/// Returns a session of one thread of a program.
 fn session_of(alloc: Global, text: &[u8], seed: Option<u64>) -> Result<Session, Fail> {
     let code = code_of(alloc, text)?;
     let setup = setup(alloc, &code, 1, seed)?;
     Ok(Session::new(alloc, &code, &setup)?)
 }
 
-/// The next call of thread 0.
+/// Returns the next call of thread 0.
 fn call(session: &mut Session, way: Way) -> Result<Call, AskFault> {
     match way {
         Way::Ask => session.ask(0),
@@ -51,8 +51,8 @@ fn call(session: &mut Session, way: Way) -> Result<Call, AskFault> {
     }
 }
 
-/// Makes calls of thread 0, once more where one is refused memory: whether one was. That has to
-/// leave the report as it was.
+/// Makes calls of thread 0, once more if one is refused memory, and returns whether one was. A
+/// refusal has to leave the report as it was.
 fn make_calls(session: &mut Session, way: Way, made: &mut [Option<Call>]) -> Result<bool, Fail> {
     let mut was_refused = false;
     for place in made.iter_mut() {
@@ -85,7 +85,7 @@ fn are_alike(
     wants(first == second && first[19].is_some())
 }
 
-/// The same of the program that calls itself.
+/// Makes them also for the program that calls itself.
 fn calls_alike(rt: &HostRuntime, way: Way) -> Result<(), Fail> {
     let seed = if way == Way::AskWith { None } else { Some(42) };
     let mut one = session_of(rt.alloc(), calls(), seed)?;
@@ -103,7 +103,7 @@ fn ask_with(rt: HostRuntime) -> Result<(), Fail> {
     calls_alike(&rt, Way::AskWith)
 }
 
-/// Whether two zeros are printed.
+/// Returns whether two zeros are printed.
 fn are_two_zeros(printed: &Result<Option<Vec<bool>>, AskFault>) -> bool {
     match printed {
         Ok(Some(values)) => values.as_slice() == [false, false].as_slice(),
@@ -111,7 +111,7 @@ fn are_two_zeros(printed: &Result<Option<Vec<bool>>, AskFault>) -> bool {
     }
 }
 
-/// Asks what the thread prints next, once more where that is refused. It is two zeros.
+/// Asks for the next values that the thread prints, once more if refused. They are two zeros.
 fn prints_next(rt: &HostRuntime, session: &Session) -> Result<(), Fail> {
     begin(rt)?;
     let printed = session.next_print(0);

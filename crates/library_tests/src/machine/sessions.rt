@@ -1,4 +1,4 @@
-//! Sessions by hand: what they refuse. Cases of the commands show what calls do.
+//! Sessions by hand, and their refusals. Cases of the commands show what calls do.
 
 use crate::common::{code_of, mains};
 use bp_machine::{AskFault, Call, Reply, Session, Setup, SetupFault};
@@ -8,7 +8,7 @@ use std::test::Fail;
 /// A loop with a choice.
 const LOOP: &[u8] = b"main() begin while (?) do skip; od end";
 
-/// How a call is asked for.
+/// The choice bit of a call.
 #[derive(Clone, Copy)]
 enum Ask {
     /// With the bit that the seed draws.
@@ -17,7 +17,7 @@ enum Ask {
     Given(bool),
 }
 
-/// How a call is asked for, its thread, and the answer.
+/// The choice bit of a call, its thread, and the result.
 type Row = (Ask, u32, Result<Call, AskFault>);
 
 /// A step of thread 0 with the bit 1.
@@ -34,7 +34,7 @@ const ZERO: Result<Call, AskFault> = Ok(Call {
     reply: Reply::Stepped,
 });
 
-/// The answers of a session without a seed, whose thread has one call.
+/// The results of a session without a seed, whose thread has one call.
 const UNSEEDED: [Row; 6] = [
     (Ask::Drawn, 1, Err(AskFault::NoThread)),
     (Ask::Drawn, 0, Err(AskFault::Unseeded)),
@@ -44,7 +44,7 @@ const UNSEEDED: [Row; 6] = [
     (Ask::Given(false), 1, Err(AskFault::NoThread)),
 ];
 
-/// The answers by the seed 42, up to the last of seven calls. Refused calls use no bit.
+/// The results by the seed 42, up to the last of seven calls. Refused calls use no bit.
 const SEEDED: [Row; 10] = [
     (Ask::Drawn, 1, Err(AskFault::NoThread)),
     (Ask::Given(true), 0, Err(AskFault::Seeded)),
@@ -65,7 +65,7 @@ fn asked(session: &mut Session, ask: Ask, thread: u32) -> Result<Call, AskFault>
     }
 }
 
-/// Whether a session answers so, and has no print of a thread that is not there.
+/// Returns whether a session has these results, and no print of a missing thread.
 fn answers(session: &mut Session, rows: &[Row]) -> bool {
     for row in rows {
         let (ask, thread, answer) = *row;
@@ -76,7 +76,7 @@ fn answers(session: &mut Session, rows: &[Row]) -> bool {
     matches!(session.next_print(1), Err(AskFault::NoThread))
 }
 
-/// Whether a session of the loop answers so, within this many calls and with this seed.
+/// Returns whether a session of the loop has these results, within these calls and with this seed.
 fn is_so(alloc: Global, calls: u32, seed: Option<u64>, rows: &[Row]) -> Result<bool, Fail> {
     let code = code_of(alloc, LOOP)?;
     let entries = mains(alloc, 1)?;
@@ -97,7 +97,7 @@ fn calls_by_a_seed(rt: HostRuntime) -> Result<(), Fail> {
     Ok(())
 }
 
-/// Whether a setup without threads is refused.
+/// Returns whether a setup without threads is refused.
 fn wants_threads(alloc: Global) -> Result<bool, Fail> {
     let code = code_of(alloc, LOOP)?;
     let refused = Setup::new(alloc, &code, &[], &[], 1, 10, None).err();

@@ -19,7 +19,7 @@ const LOOP: &[u8] = b"main() begin while (?) do skip; od end";
 /// An assumption that never holds.
 const WAIT: &[u8] = b"main() begin assume (0); end";
 
-/// A setup of this many threads that begin with `main`, with this many contexts and calls of a
+/// Makes a setup of threads that begin with `main`, with these numbers of contexts and calls of a
 /// thread, and the seed 42.
 fn setup_of(
     alloc: Global,
@@ -34,7 +34,7 @@ fn setup_of(
     Ok(Setup::new(alloc, code, &entries, &[], contexts, calls, Some(42))?)
 }
 
-/// A kit for the threads of the setup.
+/// Returns a kit for the threads of the setup.
 fn kit_of(alloc: Global, setup: &Setup, ring: u32) -> Result<Kit, Fail>
     ensures { IfOk result (λ k. k.threads ≡ threads setup.now) }
 {

@@ -20,8 +20,7 @@ use std::time::Clock;
 /// A loop without an end.
 const ENDLESS: &[u8] = b"main() begin while (1) do skip; od end";
 
-/// What a test runs with: this many threads that begin with `main`, and the other numbers. The seed
-/// is 42.
+/// The numbers of a test: of threads that begin with `main`, and the others. The seed is 42.
 #[derive(Clone, Copy)]
 struct Numbers {
     threads: u32,
@@ -40,7 +39,7 @@ const ONE: Numbers = Numbers {
     ring: 1024,
 };
 
-/// The options of these numbers.
+/// Returns the options of these numbers.
 fn options(alloc: Global, numbers: Numbers) -> Result<RunOptions, AllocError> {
     Ok(RunOptions {
         start: Start {
@@ -68,7 +67,7 @@ fn runs<W: Write, G: Gate, R: Threads + Wait + Clock + Sync>(
     run(rt, alloc, text, &options, gate, out)
 }
 
-/// How many calls a run with these numbers makes; none if it is refused or leaves a line open.
+/// Returns the number of calls of a run with these numbers; None if refused or a line is open.
 fn calls<W: Write, G: Gate, R: Threads + Wait + Clock + Sync>(
     rt: &R,
     alloc: Global,
@@ -81,7 +80,7 @@ fn calls<W: Write, G: Gate, R: Threads + Wait + Clock + Sync>(
     (done.report.left_open == 0).then_some(done.report.calls)
 }
 
-/// The threads of the calls of a trace, in order, each as its digit. There are at most ten.
+/// Returns the threads of the calls of a trace, in order, each as its digit. There are at most ten.
 fn order_of(alloc: Global, trace: &[u8]) -> Result<Vec<u8>, AllocError> {
     let mut order = Vec::new(alloc);
     for line in trace.split(|byte| *byte == b'\n') {
@@ -92,7 +91,7 @@ fn order_of(alloc: Global, trace: &[u8]) -> Result<Vec<u8>, AllocError> {
     Ok(order)
 }
 
-/// Looks at the word until it has this value, and gives way in between: whether it was seen.
+/// Looks at the word until it has this value, yielding in between, and returns whether it was seen.
 fn comes_to(word: &AtomicU64, value: u64) -> bool {
     for _ in 0..1_000_000u32 {
         if word.load(Ordering::SeqCst) == value {

@@ -15,7 +15,7 @@ use std::marker::Brand;
 use std::sync::ledger::Ledger;
 use std::test::Fail;
 
-/// How a seat asks.
+/// The request of a seat.
 #[derive(Clone, Copy)]
 enum Ask {
     /// For one call.
@@ -26,10 +26,10 @@ enum Ask {
     Most,
 }
 
-/// What is done, and what is seen then.
+/// An action, and its expected result.
 #[derive(Clone, Copy)]
 enum Act {
-    /// The seat asks: the answer, and how many calls it has made.
+    /// The seat asks: the result, and its number of calls.
     Ask(Ask, Result<Reply, AskFault>, u64),
     /// A look at the tap: the call that it gives.
     Take(Option<Call>),
@@ -49,7 +49,7 @@ const TURNS: [Act; 3] = [
     Act::Ask(Ask::Three, Err(AskFault::Finished), 9),
 ];
 
-/// Single calls, where four are allowed.
+/// Single calls, if four are allowed.
 const CALLS: [Act; 6] = [
     Act::Ask(Ask::Call, Ok(Reply::Stepped), 1),
     Act::Ask(Ask::Call, Ok(Reply::Stepped), 2),
@@ -59,7 +59,7 @@ const CALLS: [Act; 6] = [
     Act::Take(FIRST),
 ];
 
-/// Turns and calls where the ring has four places.
+/// Turns and calls, if the ring has four places.
 const BUSY: [Act; 7] = [
     Act::Ask(Ask::Most, Err(AskFault::Busy), 4),
     Act::Ask(Ask::Call, Err(AskFault::Busy), 4),
@@ -70,7 +70,7 @@ const BUSY: [Act; 7] = [
     Act::Take(FIRST),
 ];
 
-/// A turn where two calls are allowed, and looks at the tap until it is empty.
+/// A turn if two calls are allowed, and looks at the tap until it is empty.
 const FEW: [Act; 5] = [
     Act::Ask(Ask::Most, Ok(Reply::Stepped), 2),
     Act::Ask(Ask::Three, Err(AskFault::Finished), 2),
@@ -79,7 +79,7 @@ const FEW: [Act; 5] = [
     Act::Take(None),
 ];
 
-/// Turns at an assumption of 0, where three calls are allowed.
+/// Turns at an assumption of 0, if three calls are allowed.
 const WAITS: [Act; 4] = [
     Act::Ask(Ask::Most, Ok(Reply::Blocked), 1),
     Act::Ask(Ask::Most, Ok(Reply::Blocked), 2),
@@ -87,7 +87,7 @@ const WAITS: [Act; 4] = [
     Act::Ask(Ask::Most, Err(AskFault::Finished), 3),
 ];
 
-/// The answer of the desk.
+/// Returns the result of the desk.
 fn turn<C: Calls, O: Ledger>(
     desk: &mut Desk<C, O>,
     seat: &mut Seat<C, O>,
@@ -100,7 +100,7 @@ fn turn<C: Calls, O: Ledger>(
     }
 }
 
-/// Whether all is seen that the acts say.
+/// Returns whether the acts have their expected results.
 fn is_seen<C: Calls, O: Ledger>(
     desk: &mut Desk<C, O>,
     seat: &mut Seat<C, O>,
@@ -120,7 +120,7 @@ fn is_seen<C: Calls, O: Ledger>(
     true
 }
 
-/// The same at a desk of this kit.
+/// Returns whether they do at a desk of this kit.
 fn is_seen_at<C: Calls, O: Ledger>(
     alloc: Global,
     kit: Kit,
@@ -142,7 +142,7 @@ fn is_seen_at<C: Calls, O: Ledger>(
     }
 }
 
-/// The same at a desk of one thread of a program, within this many calls.
+/// Returns whether they do at a desk of one thread of a program, within this number of calls.
 fn plays(alloc: Global, text: &[u8], calls: u32, ring: u32, acts: &[Act]) -> Result<bool, Fail> {
     let code = code_of(alloc, text)?;
     let setup = setup_of(alloc, &code, 1, 1, calls)?;

@@ -1,4 +1,4 @@
-//! Turns at a board, and the calls and the report that it is gathered with.
+//! Turns at a board, and the calls and the report with which it is gathered.
 
 ghost use Rattle.std.specs.Prelude.{◌≡◌, true, is_some};
 ghost use Rattle.bp_machine.specs.Setups.{threads, Fits};
@@ -18,18 +18,18 @@ use std::sync::Wait;
 use std::sync::ledger::Ledger;
 use std::test::Fail;
 
-/// The calls that a turn may make, and its answer.
+/// The calls that a turn may make, and its result.
 type Turn = (u32, Result<Reply, AskFault>);
 
-/// Turns of the only thread of a program, and what the board is gathered with after them.
+/// Turns of the only thread of a program, and the result of gathering the board after them.
 #[derive(Clone, Copy)]
 struct Play {
     text: &'static [u8],
-    /// How many contexts and calls are allowed.
+    /// The numbers of contexts and calls allowed.
     bounds: (u32, u32),
     ring: u32,
     turns: &'static [Turn],
-    /// How many calls are taken before the board is gathered.
+    /// The number of calls taken before the board is gathered.
     taken: usize,
     /// The bit and the letter of each call.
     history: &'static [u8],
@@ -109,7 +109,7 @@ const PLAYS: [Play; 6] = [
     FAILURE,
 ];
 
-/// Whether a call of thread 0 has the bit and the letter.
+/// Returns whether a call of thread 0 has the bit and the letter.
 fn is_call(call: Option<Call>, symbol: &[u8]) -> bool {
     match call {
         Some(call) => {
@@ -120,7 +120,7 @@ fn is_call(call: Option<Call>, symbol: &[u8]) -> bool {
     }
 }
 
-/// Whether the tap gives these calls of thread 0.
+/// Returns whether the tap gives these calls of thread 0.
 fn gives<C: Calls>(tap: &mut Tap<C>, history: &[u8]) -> bool {
     for symbol in history.chunks(2) {
         if !is_call(tap.next(), symbol) {
@@ -130,7 +130,7 @@ fn gives<C: Calls>(tap: &mut Tap<C>, history: &[u8]) -> bool {
     true
 }
 
-/// Whether the turns of a seat have these answers.
+/// Returns whether the turns of a seat have these results.
 fn turns_are_answered<C: Calls, O: Ledger, R: Wait + Runtime>(
     rt: &R,
     board: &Board<C, O>,
@@ -145,8 +145,8 @@ fn turns_are_answered<C: Calls, O: Ledger, R: Wait + Runtime>(
     true
 }
 
-/// Whether a board is gathered with the report of a whole play, after this many of its calls were
-/// taken; the tap then gives the others.
+/// Returns whether a board is gathered with the report of a whole play, after this number of its
+/// calls were taken; the tap then gives the others.
 fn is_gathered<C: Calls, O: Ledger>(
     board: Board<C, O>,
     seats: Vec<Seat<C, O>>,
@@ -171,7 +171,7 @@ fn is_gathered<C: Calls, O: Ledger>(
     gathered.report == report && gives(&mut gathered.tap, left) && gathered.tap.next().is_none()
 }
 
-/// Whether a play comes out at a board of this kit.
+/// Returns whether a play comes out at a board of this kit.
 fn is_played_at<C: Calls, O: Ledger, R: Wait + Runtime>(
     rt: &R,
     alloc: Global,
@@ -200,7 +200,7 @@ fn is_played_at<C: Calls, O: Ledger, R: Wait + Runtime>(
     Ok(is_answered && is_gathered(board, seats, tap, play))
 }
 
-/// Whether a play comes out at a board.
+/// Returns whether a play comes out at a board.
 fn is_played<R: Wait + Runtime>(rt: &R, alloc: Global, play: Play) -> Result<bool, Fail> {
     let code = code_of(alloc, play.text)?;
     let setup = setup_of(alloc, &code, 1, play.bounds.0, play.bounds.1)?;

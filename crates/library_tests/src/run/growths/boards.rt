@@ -1,4 +1,4 @@
-//! Desks and boards: what was asked before a refusal stands, and the thread continues after it.
+//! Desks and boards: the calls before a refusal are kept, and the thread continues after it.
 ghost use Rattle.std.specs.Prelude.{◌≡◌, true, is_some, IfOk};
 ghost use Rattle.bp_machine.specs.Setups.{threads, Fits};
 ghost use Rattle.bp_run.specs.Desks.{IsNamed};
@@ -16,7 +16,7 @@ use std::sync::Wait;
 use std::sync::ledger::Ledger;
 use std::test::Fail;
 
-/// How the calls of a thread are made.
+/// The kind of the calls of a thread.
 #[derive(Clone, Copy, PartialEq, Eq)]
 pub(crate) enum Way {
     /// Single calls at a desk.
@@ -27,7 +27,7 @@ pub(crate) enum Way {
     BoardTurns,
     /// The work of a worker at a board.
     Work,
-    /// The same where no memory is left.
+    /// The work of a worker with no memory left.
     Starved,
     /// None: a board is gathered after a turn.
     Gathered,
@@ -41,7 +41,7 @@ fn make_a_kit(rt: HostRuntime) -> Result<(), Fail> {
     wants(!is_refused || Kit::new(rt.alloc(), 3, 64).is_ok())
 }
 
-/// Whether a tap gives the first calls of thread 0 of a session, and nothing more.
+/// Returns whether a tap gives the first calls of thread 0 of a session, and nothing more.
 fn gives_calls_of<C: Calls>(tap: &mut Tap<C>, session: &mut Session) -> bool {
     for _ in 0..20 {
         let call = session.ask(0).ok();
@@ -52,7 +52,7 @@ fn gives_calls_of<C: Calls>(tap: &mut Tap<C>, session: &mut Session) -> bool {
     tap.next().is_none()
 }
 
-/// Makes the calls of a seat at a desk: whether one was refused.
+/// Makes the calls of a seat at a desk, and returns whether one was refused.
 fn play_at_desk<C: Calls, O: Ledger>(
     desk: &mut Desk<C, O>,
     seat: &mut Seat<C, O>,
@@ -69,7 +69,7 @@ fn play_at_desk<C: Calls, O: Ledger>(
     was_refused
 }
 
-/// Makes a turn or does the work of a seat at a board: whether it was refused memory.
+/// Makes a turn or does the work of a seat at a board, and returns whether it was refused memory.
 fn is_refused<C: Calls, O: Ledger, R: Wait + Runtime>(
     rt: &R,
     board: &Board<C, O>,
@@ -82,8 +82,8 @@ fn is_refused<C: Calls, O: Ledger, R: Wait + Runtime>(
     }
 }
 
-/// Makes the calls of a seat at a board, once more where that is refused. The tap gives all of
-/// them; where no memory is left the seat is open.
+/// Makes the calls of a seat at a board, once more if that is refused. The tap gives all of them;
+/// with no memory left the seat is open.
 fn plays<C: Calls, O: Ledger, R: Wait + Runtime>(
     rt: &R,
     board: &Board<C, O>,
@@ -187,7 +187,7 @@ fn at_a_desk<C: Calls, O: Ledger, R: Runtime>(
     wants(gives_calls_of(&mut tap, session))
 }
 
-/// Whether a board of this kit is opened.
+/// Returns whether a board of this kit is opened.
 fn is_opened<C: Calls, O: Ledger>(alloc: Global, kit: Kit, code: &Code, setup: &Setup) -> bool
     requires named { IsNamed kit C.name C.parts O.name O.parts C.ring }
     requires code { code.now ≡ C.code }
@@ -199,7 +199,7 @@ fn is_opened<C: Calls, O: Ledger>(alloc: Global, kit: Kit, code: &Code, setup: &
     Board::<C, O>::open(alloc, kit, code, setup).is_ok()
 }
 
-/// The same under names of its own.
+/// Returns whether one is opened under names of its own.
 fn opens(alloc: Global, kit: Kit, code: &Code, setup: &Setup) -> bool
     requires threads { kit.threads ≡ threads setup.now }
     requires fits { Fits code.now.tree setup.now }
@@ -208,7 +208,7 @@ fn opens(alloc: Global, kit: Kit, code: &Code, setup: &Setup) -> bool
     is_opened::<Brand, Brand>(alloc, kit, code, setup)
 }
 
-/// A kit for the threads of the setup.
+/// Returns a kit for the threads of the setup.
 fn kit(alloc: Global, setup: &Setup) -> Result<Kit, AllocError>
     ensures { IfOk result (λ k. k.threads ≡ threads setup.now) }
 {
@@ -216,7 +216,7 @@ fn kit(alloc: Global, setup: &Setup) -> Result<Kit, AllocError>
     Kit::new(alloc, setup.threads(), 64)
 }
 
-/// The same at a desk or a board of the program that calls itself.
+/// Makes the calls at a desk or a board of the program that calls itself.
 pub(crate) fn makes_calls<R: Wait + Runtime>(rt: &R, alloc: Global, way: Way) -> Result<(), Fail> {
     let code = code_of(alloc, calls())?;
     let threads = if way == Way::Gathered { 2 } else { 1 };

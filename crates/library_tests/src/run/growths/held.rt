@@ -1,4 +1,4 @@
-//! A run in which one worker alone takes frames, after the others were started. Where it is refused
+//! A run in which one worker alone takes frames, after the others were started. If it is refused
 //! one, the others end, and its line stays open after the calls that it made.
 use crate::common::{code_of, names};
 use crate::ready::{begin, say, wants};
@@ -22,7 +22,7 @@ const PROGRAM: &[u8] = b"decl x; a() begin x := 1; x := 0; end b() begin b(); en
 /// The thread of `b`.
 const CALLER: u32 = 1;
 
-/// How many calls the other two threads make.
+/// The number of calls of the other two threads.
 const OTHERS: u64 = 8;
 
 /// A gate that holds the thread of `b` ahead of its first turn until the thread after it comes, and
@@ -43,7 +43,7 @@ impl Held {
         }
     }
 
-    /// Waits until the thread after `b` has come: whether it did.
+    /// Waits until the thread after `b` has come, and returns whether it did.
     fn waits(&self) -> bool {
         for _ in 0..1_000_000u32 {
             if self.come.load(Ordering::SeqCst) == 1 {
@@ -54,7 +54,7 @@ impl Held {
         false
     }
 
-    /// How many turns of `b` were answered, none if it came too early.
+    /// Returns the number of answered turns of `b`, or None if it came too early.
     fn answered(&self) -> Option<u64> {
         if self.missed.load(Ordering::SeqCst) == 0 {
             Some(self.answered.load(Ordering::SeqCst))
@@ -81,7 +81,7 @@ impl Gate for Held {
     }
 }
 
-/// Ten calls of each thread, by turns of one.
+/// Returns the options for ten calls of each thread, by turns of one.
 fn options(alloc: Global) -> Result<RunOptions, AllocError> {
     Ok(RunOptions {
         start: Start {
@@ -96,8 +96,8 @@ fn options(alloc: Global) -> Result<RunOptions, AllocError> {
     })
 }
 
-/// Whether a run is right after this many answered turns of `b`, each of one call. It made all its
-/// calls, or its line is open after those that it made. Its worker counted the same.
+/// Returns whether a run is right after this number of answered turns of `b`, each of one call. It
+/// made all its calls, or its line is open after those that it made. Its worker counted the same.
 fn is_right(done: &RunReport, own: u64) -> bool {
     let count = WorkerCount {
         thread: CALLER,
@@ -111,7 +111,7 @@ fn is_right(done: &RunReport, own: u64) -> bool {
         && done.report.left_open == u32::from(count.is_open)
 }
 
-/// How many calls of the thread of `b` a trace has.
+/// Returns the number of calls of the thread of `b` in a trace.
 fn calls_of_caller(trace: &[u8]) -> u64 {
     let mut count: u64 = 0;
     for line in trace.split(|byte| *byte == b'\n') {
@@ -122,14 +122,14 @@ fn calls_of_caller(trace: &[u8]) -> u64 {
     count
 }
 
-/// Whether the trace is one of the program, with this report.
+/// Returns whether the trace is one of the program, with this report.
 fn is_replayed(alloc: Global, trace: &[u8], report: Report) -> Result<bool, Fail> {
     let code = code_of(alloc, PROGRAM)?;
     let replayed = replay(alloc, &code, trace)?;
     Ok(replayed.report == report)
 }
 
-/// Whether a run was refused memory, or a worker that needs it was not started.
+/// Returns whether a run was refused memory, or a worker that needs it was not started.
 fn is_for_want_of_memory(fault: &RunFault) -> bool {
     matches!(
         fault,
@@ -141,7 +141,7 @@ fn is_for_want_of_memory(fault: &RunFault) -> bool {
     )
 }
 
-/// Looks at the answer of a run, after the line that tells of refused memory was written: the run
+/// Checks the result of a run, after the line that tells of refused memory was written: the run
 /// itself may be refused, and has then written nothing.
 fn looks(
     alloc: Global,
@@ -159,8 +159,8 @@ fn looks(
     }
 }
 
-/// What the line says of a run: whether all calls were made, the worker of `b` was refused memory,
-/// or the run.
+/// Returns the word of the line for a run: whether all calls were made, the worker of `b` was
+/// refused memory, or the run.
 fn word_of(done: &Result<RunReport, RunFault>) -> &'static str {
     match done {
         Ok(done) if done.report.left_open == 0 => "done",
@@ -169,7 +169,7 @@ fn word_of(done: &Result<RunReport, RunFault>) -> &'static str {
     }
 }
 
-/// Runs the program, and looks at what it came to.
+/// Runs the program, and checks the result.
 fn runs<R: Threads + Wait + Runtime + Sync>(rt: &R, alloc: Global) -> Result<(), Fail> {
     let options = options(alloc)?;
     let mut out = Vec::with_capacity(alloc, 4096)?;

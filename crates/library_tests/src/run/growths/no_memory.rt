@@ -1,4 +1,4 @@
-//! Calls that want memory where there is none. Each test prints a line once all is ready;
+//! Calls that need memory when there is none. Each test prints a line once all is ready;
 //! `.ci/growths` refuses each growth after it, so the call has to be refused, and to end.
 use super::boards::{Way, makes_calls};
 use std::test::Fail;

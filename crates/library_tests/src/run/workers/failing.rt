@@ -1,4 +1,4 @@
-//! Runs whose writer fails after some bytes: what it took is a beginning of the trace.
+//! Runs whose writer fails after some bytes, which are a prefix of the trace.
 use super::{Numbers, ONE, runs};
 use bp_run::{Open, RunFault};
 use std::alloc::Global;
@@ -15,7 +15,7 @@ const BRANCH: &[u8] = b"main() begin if (?) then skip; else skip; fi end";
 const TRACE: &[u8] = b"btrace 1\nentry main\ninit -\ncontexts 1\ncalls 10\nseed 42\n\
     0 1 s\n0 1 s\n0 1 s\n0 0 e\nend 4 0\n";
 
-/// A writer that takes this many more bytes, and then fails.
+/// A writer that takes `left` more bytes, and then fails.
 #[derive(Drop)]
 struct Filling {
     taken: Vec<u8>,
@@ -42,8 +42,8 @@ impl Write for Filling {
     }
 }
 
-/// Whether a run with this ring is refused after this many bytes, which are the first of the trace;
-/// or if these are all, is done.
+/// Returns whether a run with this ring is refused after `left` bytes, which are the first of the
+/// trace; or if these are all, is done.
 fn writes<R: Threads + Wait + Clock + Sync>(rt: &R, alloc: Global, ring: u32, left: usize) -> bool {
     let numbers = Numbers {
         contexts: 1,

@@ -1,4 +1,4 @@
-//! Workers that run at the same time: gates that wait for what only another thread does.
+//! Workers that run at the same time: gates that wait for another thread.
 use super::{Numbers, ONE, calls, comes_to, order_of};
 use bp_machine::Reply;
 use bp_run::Gate;
@@ -12,8 +12,8 @@ use std::time::Clock;
 /// The least program: each thread makes three calls.
 const SKIP: &[u8] = b"main() begin skip; end";
 
-/// How many calls this many threads of the least program make, with a ring of one. The trace goes
-/// to the end of `trace`.
+/// Returns the number of calls that these threads of the least program make, with a ring of one.
+/// The trace goes to the end of `trace`.
 fn skips<G: Gate, R: Threads + Wait + Clock + Sync>(
     rt: &R,
     alloc: Global,
@@ -50,7 +50,7 @@ impl Gate for Meeting {
     fn after(&self, _thread: u32, _reply: Reply) {}
 }
 
-/// Whether this many threads, whose bits are these, meet ahead of their first turns.
+/// Returns whether these threads, with these bits, meet ahead of their first turns.
 fn meet<R: Threads + Wait + Clock + Sync>(rt: &R, alloc: Global, threads: u32, all: u64) -> bool {
     let gate = Meeting {
         wanted: all,
@@ -94,8 +94,8 @@ impl Gate for Behind {
     }
 }
 
-/// Whether this one of two threads waits at its gate while the other makes all its calls. The trace
-/// goes to the end of `trace`.
+/// Returns whether this one of two threads waits at its gate while the other makes all its calls.
+/// The trace goes to the end of `trace`.
 fn is_behind<R: Threads + Wait + Clock + Sync>(
     rt: &R,
     alloc: Global,

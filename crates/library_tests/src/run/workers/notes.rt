@@ -1,4 +1,4 @@
-//! What a worker says to its gate.
+//! The messages of a worker to its gate.
 use super::{ENDLESS, Numbers, ONE, calls};
 use bp_machine::Reply;
 use bp_run::Gate;
@@ -11,9 +11,9 @@ use std::time::Clock;
 /// A loop with a choice: by the seed it makes eight steps and ends.
 const LOOP: &[u8] = b"main() begin while (?) do skip; od end";
 
-/// A gate that notes a digit each time: ahead of a turn the number of calls, and after it 1 for
+/// A gate that records a digit each time: ahead of a turn the number of calls, and after it 1 for
 /// Stepped, 2 for Ended, 3 for Blocked and 5 for another reply. Once the thread takes no further
-/// turn it notes a 4.
+/// turn it records a 4.
 #[derive(Drop)]
 struct Notes {
     digits: AtomicU64,
@@ -49,7 +49,7 @@ impl Gate for Notes {
     }
 }
 
-/// The digits that a run of one thread is noted with.
+/// Returns the digits that are recorded for a run of one thread.
 fn digits<R: Threads + Wait + Clock + Sync>(
     rt: &R,
     alloc: Global,
@@ -63,10 +63,10 @@ fn digits<R: Threads + Wait + Clock + Sync>(
     gate.digits.load(Ordering::SeqCst)
 }
 
-/// A program, how many calls its thread may make, by turns of how many, and the digits.
+/// A program, the allowed number of calls of its thread and of each turn, and the digits.
 type Row = (&'static [u8], u32, u32, u64);
 
-/// The loop by three kinds of turns; turns that are cut where no call is left; waits.
+/// The loop by three kinds of turns; turns that are cut when no call is left; waits.
 const ROWS: [Row; 5] = [
     (LOOP, 10, 1, 111_213_141_516_171_824),
     (LOOP, 10, 3, 131_624),

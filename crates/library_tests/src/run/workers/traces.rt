@@ -20,7 +20,7 @@ const BUMPS: &[u8] = b"decl turn, hits; \
 /// The lines of thread 0 of that program, by the seed 42.
 const FIRST_LINES: &[u8] = b"0 1 s\n0 1 s\n0 1 s\n0 0 s\n0 1 s\n0 1 s\n0 0 s\n0 1 s\n0 0 e\n";
 
-/// A gate that gives way this many times ahead of each turn.
+/// A gate that yields this number of times ahead of each turn.
 #[derive(Drop)]
 struct Slow {
     yields: u32,
@@ -36,7 +36,7 @@ impl Gate for Slow {
     fn after(&self, _thread: u32, _reply: Reply) {}
 }
 
-/// The lines of thread 0 in a trace, in order.
+/// Returns the lines of thread 0 in a trace, in order.
 fn lines_of_first(alloc: Global, trace: &[u8]) -> Result<Vec<u8>, AllocError> {
     let mut lines = Vec::new(alloc);
     for line in trace.split(|byte| *byte == b'\n') {
@@ -48,7 +48,7 @@ fn lines_of_first(alloc: Global, trace: &[u8]) -> Result<Vec<u8>, AllocError> {
     Ok(lines)
 }
 
-/// Whether a run of three workers made all its calls, and has this trace.
+/// Returns whether a run of three workers made all its calls, and has this trace.
 fn is_traced(alloc: Global, done: &RunReport, trace: &[u8]) -> Result<bool, Fail> {
     let code = code_of(alloc, BUMPS)?;
     let replayed = replay(alloc, &code, trace)?;
@@ -60,7 +60,7 @@ fn is_traced(alloc: Global, done: &RunReport, trace: &[u8]) -> Result<bool, Fail
     Ok(is_whole && replayed.report == done.report && lines.as_slice() == FIRST_LINES)
 }
 
-/// Whether three workers with this ring, turn and gate write a whole trace.
+/// Returns whether three workers with this ring, turn and gate write a whole trace.
 fn trace_all<R: Threads + Wait + Runtime + Sync>(
     rt: &R,
     alloc: Global,
@@ -90,7 +90,7 @@ fn three_workers_make_all_their_calls(rt: HostRuntime) -> Result<(), Fail> {
     Ok(())
 }
 
-/// How many calls one worker makes by turns of this many at a board with a ring of four.
+/// Returns the number of calls of one worker, by turns of `turn`, at a board with a ring of four.
 fn calls_by_turns_of<R: Threads + Wait + Clock + Sync>(
     rt: &R,
     alloc: Global,

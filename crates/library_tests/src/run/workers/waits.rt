@@ -1,4 +1,4 @@
-//! What is written while workers run: a gate or a writer waits for a word that the other one sets.
+//! The trace written while workers run: a gate or a writer waits for a word of the other one.
 use super::{ENDLESS, Numbers, ONE, calls, comes_to};
 use bp_machine::Reply;
 use bp_run::Gate;
@@ -51,8 +51,8 @@ impl<'a> Gate for Reader<'a> {
     fn after(&self, _thread: u32, _reply: Reply) {}
 }
 
-/// Whether, with this ring, this many bytes are written and handed on before the call of this number
-/// is made.
+/// Returns whether, with this ring, `wanted` bytes are written and handed on before this call is
+/// made.
 fn is_written<R: Threads + Wait + Clock + Sync>(
     rt: &R,
     alloc: Global,
@@ -74,7 +74,7 @@ fn is_written<R: Threads + Wait + Clock + Sync>(
     calls == Some(10) && gate.missed.load(Ordering::SeqCst) == 0
 }
 
-/// How many bytes the head of the trace has.
+/// The number of bytes of the head of the trace.
 const HEAD: u64 = 58;
 
 #[test]
@@ -131,8 +131,8 @@ impl<'a> Gate for Full<'a> {
     fn after(&self, _thread: u32, _reply: Reply) {}
 }
 
-/// Whether a worker makes as many calls as its ring holds while nobody takes them, and makes the
-/// others later.
+/// Returns whether a worker makes as many calls as its ring holds while nobody takes them, and
+/// makes the others later.
 fn fills_its_ring<R: Threads + Wait + Clock + Sync>(rt: &R, alloc: Global, ring: u32) -> bool {
     let word = AtomicU64::new(0);
     let told = AtomicU64::new(u64::MAX);
