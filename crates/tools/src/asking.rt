@@ -23,9 +23,9 @@ fn print<R: Runtime>(rt: &R, cases: &[Case], has_times: bool) -> io::Result<()> 
     Ok(())
 }
 
-/// Makes this many rounds, and prints a line for each case with the number of asks. If times are
-/// asked for, it also prints how many seconds the asks took, and how many the looks at the tap by
-/// which their calls were taken from the ring.
+/// Makes `rounds` rounds, and prints a line for each case with the number of asks. If times are
+/// asked for, it also prints the seconds of the asks, and of the looks at the tap by which their
+/// calls were taken from the ring.
 pub fn ask<R: Wait + Clock>(
     host: &HostRuntime,
     rt: &R,

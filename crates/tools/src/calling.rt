@@ -14,7 +14,7 @@ const TEXT: &[u8] = b"decl ready, data;\n\
 /// A step of the writer, and then two of the reader.
 const SCHEDULE: &[u8] = b"0 0\n1 0\n1 0\n";
 
-/// What was expected did not come.
+/// Returns the error for an unexpected result.
 fn unexpected() -> io::Error {
     io::Error::other("an answer is missing")
 }

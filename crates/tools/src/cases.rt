@@ -1,13 +1,13 @@
-//! What the rounds of a case took.
+//! The times of the rounds of a case.
 
 use bp_run::{Calls, Tap};
 use std::io;
 use std::time::{Clock, Duration, Instant};
 
-/// How many asks fill the ring.
+/// The number of asks that fill the ring.
 pub const RING: u32 = 1_024;
 
-/// How many asks there were, and how long these took, and the looks at the tap.
+/// The number of asks, and the times of these and of the looks at the tap.
 #[derive(Drop)]
 pub struct Case {
     pub name: &'static str,
@@ -16,7 +16,7 @@ pub struct Case {
     pub taking: Duration,
 }
 
-/// A case before any round.
+/// Makes a case before any round.
 pub fn unmeasured(name: &'static str) -> Case {
     Case {
         name,
@@ -26,12 +26,12 @@ pub fn unmeasured(name: &'static str) -> Case {
     }
 }
 
-/// The fault of something that cannot be.
+/// Returns the fault of an impossible result.
 pub fn unexpected() -> io::Error {
     io::Error::from(io::ErrorKind::InvalidData)
 }
 
-/// Takes the calls of the ring. Answers whether these were as many as it holds.
+/// Takes the calls of the ring, and returns whether these were as many as it holds.
 fn is_emptied<C: Calls>(tap: &mut Tap<C>) -> bool {
     for _ in 0..RING {
         if tap.next().is_none() {
@@ -42,7 +42,7 @@ fn is_emptied<C: Calls>(tap: &mut Tap<C>) -> bool {
 }
 
 impl Case {
-    /// Counts a fill that began at this moment, where each of its asks was a step.
+    /// Counts a fill that began at this moment, if each of its asks was a step.
     pub fn asked<R: Clock>(
         &mut self,
         rt: &R,

@@ -6,7 +6,7 @@ use bp_machine::Outcome;
 use bp_trace::{drive, replay};
 use std::alloc::Global;
 
-/// The outcome of a program that a schedule drives. Its trace is replayed.
+/// Returns the outcome of a program that a schedule drives. Its trace is replayed.
 pub fn outcome_of(alloc: Global, text: &[u8], schedule: &[u8]) -> Option<Outcome> {
     let code = code_of(alloc, text).ok()?;
     let start = start_of(alloc).ok()?;

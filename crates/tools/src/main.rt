@@ -1,7 +1,7 @@
-//! `tools`: what the scripts run of the libraries. Without a word it makes a few asks and the calls
-//! of docs/dev/calling.md, and reads the texts of one byte and of up to two tokens. With `times` it
-//! measures the asks, for `bench/asking.py`. With `bytes` it reads the texts of up to three bytes,
-//! with `tokens` those of up to five tokens, for `.ci/texts`.
+//! `tools`: the scripts' entry to the libraries. Without arguments it makes a few asks and the
+//! calls of docs/dev/calling.md, and reads the texts of one byte and of up to two tokens. With
+//! `times` it measures the asks, for `bench/asking.py`. With `bytes` it reads the texts of up to
+//! three bytes, with `tokens` those of up to five tokens, for `.ci/texts`.
 #![tactic(auto)]
 
 mod asking;

@@ -10,7 +10,7 @@ const TOKENS: [&str; 33] = [
     "assert", "print", "assume",
 ];
 
-/// What texts are made of.
+/// The kinds of pieces of texts.
 #[derive(Clone, Copy)]
 pub enum Pieces {
     Bytes,
@@ -19,7 +19,7 @@ pub enum Pieces {
 }
 
 impl Pieces {
-    /// How many there are.
+    /// Returns the number of pieces.
     fn count(&self) -> u32
         ensures { 0 < result }
     {
@@ -29,13 +29,13 @@ impl Pieces {
         }
     }
 
-    /// How many texts there are of this many pieces.
+    /// Returns the number of texts of `length` pieces.
     pub fn texts(&self, length: u32) -> u32 {
         self.count().saturating_pow(length)
     }
 }
 
-/// Puts the piece that has this number.
+/// Appends the piece that has this number.
 fn put_piece(text: &mut Vec<u8>, pieces: Pieces, number: u32) -> Result<(), AllocError> {
     if let Pieces::Bytes = pieces {
         text.push(u8::try_from(number).unwrap_or(0))?;
@@ -47,7 +47,7 @@ fn put_piece(text: &mut Vec<u8>, pieces: Pieces, number: u32) -> Result<(), Allo
     text.extend_from_slice(TOKENS.get(number as usize).unwrap_or(&"").as_bytes())
 }
 
-/// Makes this the text of this many pieces that has this number. Its first piece counts slowest.
+/// Makes this the text of `length` pieces that has this number. Its first piece counts slowest.
 pub fn put_text(
     text: &mut Vec<u8>,
     pieces: Pieces,

@@ -18,13 +18,13 @@ use std::time::{Clock, Instant};
 /// A thread that steps as often as it is asked.
 const PROGRAM: &[u8] = b"main() begin while (1) do skip; od end";
 
-/// How many calls a thread may make.
+/// The number of calls that a thread may make.
 const CALLS: u32 = 100_000;
 
-/// How often a round fills the ring.
+/// The number of times that a round fills the ring.
 const FILLS: u32 = CALLS / RING;
 
-/// The setup of the thread.
+/// Returns the setup of the thread.
 fn setup(alloc: Global, code: &Code) -> io::Result<Setup>
     ensures { IfOk result (λ s. Fits code.now.tree s × (is_some s.seed ≡ true)) }
 {
@@ -35,7 +35,7 @@ fn setup(alloc: Global, code: &Code) -> io::Result<Setup>
     }
 }
 
-/// Fills no ring: whether each ask of a session was a step.
+/// Makes the asks without a ring, and returns whether each ask of a session was a step.
 fn fills_session(session: &mut Session) -> bool {
     for _ in 0..RING {
         match session.ask(0) {
@@ -46,7 +46,7 @@ fn fills_session(session: &mut Session) -> bool {
     true
 }
 
-/// Fills the ring by single calls: whether each was a step.
+/// Fills the ring by single calls, and returns whether each was a step.
 fn fills_desk<C: Calls, O: Ledger>(desk: &mut Desk<C, O>, seat: &mut Seat<C, O>) -> bool {
     for _ in 0..RING {
         if desk.ask(seat) != Ok(Reply::Stepped) {
@@ -56,7 +56,7 @@ fn fills_desk<C: Calls, O: Ledger>(desk: &mut Desk<C, O>, seat: &mut Seat<C, O>)
     true
 }
 
-/// Fills the ring by turns of the most calls: whether the last call of each was a step.
+/// Fills the ring by turns of the most calls, and returns whether the last call of each was a step.
 fn fills_board<C: Calls, O: Ledger, R: Wait>(
     rt: &R,
     board: &Board<C, O>,
@@ -111,7 +111,7 @@ fn ask_board<C: Calls, O: Ledger, R: Wait + Clock>(
     Ok(())
 }
 
-/// A round at a desk of this kit, or at a board.
+/// Makes a round at a desk of this kit, or at a board.
 fn round_at<C: Calls, O: Ledger, R: Wait + Clock>(
     rt: &R,
     alloc: Global,
@@ -142,7 +142,7 @@ fn round_at<C: Calls, O: Ledger, R: Wait + Clock>(
     }
 }
 
-/// A round at a desk or a board.
+/// Makes a round at a desk or a board.
 fn round<R: Wait + Clock>(
     rt: &R,
     alloc: Global,
@@ -159,7 +159,7 @@ fn round<R: Wait + Clock>(
     round_at::<Brand, Brand, R>(rt, alloc, kit, code, setup, is_board, case)
 }
 
-/// Makes this many rounds of all cases. Each round has all cases, so that a busy moment of the
+/// Makes `rounds` rounds of all cases. Each round has all cases, so that a busy moment of the
 /// machine spoils a round of each, and not all rounds of one.
 pub fn measure<R: Wait + Clock>(
     rt: &R,

@@ -25,7 +25,7 @@ impl Gate for Count {
     }
 }
 
-/// Runs a program by real threads, and writes the trace. It answers how many turns were counted.
+/// Runs a program by real threads, writes the trace, and returns the number of turns counted.
 pub fn turns_of<R: Threads + Wait + Clock + Sync>(
     rt: &R,
     alloc: Global,

@@ -16,7 +16,7 @@ fn ask_each(session: &mut Session, threads: u32) -> Result<(), AskFault> {
     Ok(())
 }
 
-/// The report after this many rounds.
+/// Returns the report after `rounds` rounds.
 pub fn report_of(alloc: Global, text: &[u8], rounds: u32) -> Option<Report> {
     let code = code_of(alloc, text).ok()?;
     let start = start_of(alloc).ok()?;

@@ -1,4 +1,4 @@
-//! What `read` answers for each text, as two bytes.
+//! The results of `read` for each text, as two bytes.
 
 use crate::pieces::{Pieces, put_text};
 use bp_syntax::read;
@@ -6,13 +6,13 @@ use std::alloc::Global;
 use std::io;
 use std::io::{BufWriter, Write};
 
-/// The byte that is so far from `0`.
+/// Returns the byte that is `number` after `0`.
 fn digit(number: u32) -> u8 {
     b'0'.wrapping_add(u8::try_from(number).unwrap_or(0))
 }
 
-/// The number of the fault of a text as a digit, 0 where it is read, and the place as a byte from
-/// `0`, or `-`.
+/// Returns the number of the fault of a text as a digit, 0 if it is read, and the place as a byte
+/// from `0`, or `-`.
 fn answer(alloc: Global, text: &[u8]) -> [u8; 2] {
     match read(alloc, text) {
         Ok(_) => [b'0', b'-'],
@@ -23,7 +23,7 @@ fn answer(alloc: Global, text: &[u8]) -> [u8; 2] {
     }
 }
 
-/// Prints the answers for all texts of this many pieces, on a line.
+/// Prints the results for all texts of `length` pieces, on a line.
 fn print_length<W: Write>(
     alloc: Global,
     pieces: Pieces,
@@ -38,7 +38,7 @@ fn print_length<W: Write>(
     out.write_all(b"\n")
 }
 
-/// Prints the answers for the texts of up to this many pieces, each length from one on a line.
+/// Prints the results for the texts of up to `most` pieces, each length from one on a line.
 fn print_lengths<W: Write>(
     alloc: Global,
     pieces: Pieces,
@@ -51,7 +51,7 @@ fn print_lengths<W: Write>(
     Ok(())
 }
 
-/// Prints the answers for the texts of up to this many bytes, and then of up to this many tokens.
+/// Prints the results for the texts of up to `bytes` bytes, and then of up to `tokens` tokens.
 pub fn print<W: Write + Drop>(output: W, alloc: Global, bytes: u32, tokens: u32) -> io::Result<()> {
     let mut out = BufWriter::new(alloc, output)?;
     print_lengths(alloc, Pieces::Bytes, bytes, &mut out)?;

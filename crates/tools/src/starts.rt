@@ -1,9 +1,9 @@
-//! What a run starts from.
+//! The start of a run.
 
 use bp_machine::Start;
 use std::alloc::{AllocError, Global};
 
-/// Two threads, at most two contexts, and all globals 0.
+/// Returns two threads, at most two contexts, and all globals 0.
 pub fn start_of(alloc: Global) -> Result<Start, AllocError> {
     let mut entries = Vec::new(alloc);
     entries.push(String::from_str(alloc, "writer")?)?;

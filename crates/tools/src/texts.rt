@@ -4,7 +4,7 @@ use bp_code::{Code, check, compile};
 use bp_syntax::read;
 use std::alloc::Global;
 
-/// The code of a program text, or the number and the place of its first fault.
+/// Returns the code of a program text, or the number and the place of its first fault.
 pub fn code_or_fault(alloc: Global, text: &[u8]) -> Result<Code, (u32, Option<u32>)> {
     let tree = match read(alloc, text) {
         Ok(tree) => tree,

@@ -1,4 +1,4 @@
-//! Lines of answers and of faults, and the exit status. The test prints a line once all is ready;
+//! Lines of results and of faults, and the exit status. The test prints a line once all is ready;
 //! `.ci/growths` refuses each growth after it, and none may be asked for.
 use bp_code::{Checked, Code, WriteFault, check, compile};
 use bp_commands::show_check;
@@ -16,7 +16,7 @@ const PROGRAM: &[u8] = b"decl x, y; main() begin x, y := y, x; print (x, y); end
 const TRACE: &[u8] = b"btrace 1\nentry main\ninit 10\ncontexts 2\ncalls 9\nseed none\n\
     0 0 s\n0 0 s\nend 2 1\n";
 
-/// What is written of them, and of a refused setup.
+/// The lines of them, and of a refused setup.
 const LINES: &[u8] = b"ok 1 2\nprint 0 01\noutcome clean\nbtrun: 32 UnknownEntry thread 3\n";
 
 /// Writes the lines.
@@ -26,7 +26,7 @@ fn shows(checked: &Checked, replayed: &Replayed, out: &mut Vec<u8>) -> Result<()
     show_fault(&Fault::Setup(SetupFault::UnknownEntry(3)), out)
 }
 
-/// The program, checked and compiled.
+/// Returns the program, checked and compiled.
 fn programs(alloc: Global) -> Result<(Checked, Code), Fail> {
     let tree = read(alloc, PROGRAM)?;
     let Ok(checked) = check(alloc, tree) else {
