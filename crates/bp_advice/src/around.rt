@@ -45,7 +45,7 @@ pub(crate) fn size_to_last_token(text: &[u8]) -> usize
     size
 }
 
-/// Returns whether a text is white and comments alone.
+/// Returns whether a text is only white space and comments.
 pub(crate) fn is_gap(text: &[u8]) -> bool
     ensures { IsTrue result → HasTokens text.now [] }
 {

@@ -63,7 +63,7 @@ on_calls =
 abbrev pub pairs_of : OptionName → List OptionName → List (OptionName × OptionName)
 pairs_of first others = map (λ other. (first, other)) others
 
--- Beside the first option of a pair, the second has no effect. A view in place of the calls clashes
+-- With the first option of a pair, the second has no effect. A view in place of the calls clashes
 -- with other views, and with the options on calls. Steps have no line that says that a trace is
 -- refused. A run through steps need not end in a deadlock.
 abbrev pub clashes : List (OptionName × OptionName)
@@ -111,6 +111,6 @@ abbrev pub misuse_kind : Misuse → ErrorKind
 misuse_kind (Together first second) = ArgumentConflict
 misuse_kind _ = InvalidValue
 
--- the kind of error of options that `clap` takes one by one
+-- the kind of error of options that `clap` accepts one by one
 abbrev pub misuse_fault : Option (Text × List Row) → Kinds
 misuse_fault command = option_map_or (λ m. misuse_kind m ∷ []) (misuse_of command) []

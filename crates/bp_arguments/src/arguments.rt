@@ -28,7 +28,7 @@ pub enum Row<'a> {
 #[derive(Clone, Copy)]
 pub struct Subcommand<'a> {
     pub name: &'a str,
-    /// The first line of its help, also shown in the help of the program beside its name.
+    /// The first line of its help, also shown in the help of the program next to its name.
     pub about: &'a str,
     /// The text of its help after the arguments.
     pub notes: &'a str,

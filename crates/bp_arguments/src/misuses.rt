@@ -31,20 +31,20 @@ pub enum OptionName {
     NoExplain,
 }
 
-/// An error in options that are lawful one by one.
+/// An error in options that are valid one by one.
 #[derive(Clone, Copy, Debug, PartialEq, Eq)]
 pub enum Misuse {
     /// The initial bits are neither bits nor different names with bits.
     BadInit,
     /// The expected verdict is not a verdict.
     BadVerdict,
-    /// Beside the first of these options, the second has no effect.
+    /// With the first of these options, the second has no effect.
     Together(OptionName, OptionName),
     /// The first call to show, this one, comes after the last, that one.
     Backwards(u64, u64),
 }
 
-/// The options that clash: beside the first of a pair, the second has no effect. Earlier pairs are
+/// The options that clash: with the first of a pair, the second has no effect. Earlier pairs are
 /// reported first.
 pub const CLASHES: [(OptionName, OptionName); 31] = [
     (OptionName::At, OptionName::Contexts),

@@ -80,28 +80,28 @@ module _ (old new : Option (List ℕ)) where
   abbrev pub text_alone : Inputs (List ℕ)
   text_alone = record { Holds = IsText; Unread = IsTextUnread }
 
--- the contents of a program and an input beside it
+-- the contents of a program and a second input
 pub record Pair : Type 0 where
   pub text : List ℕ
   pub input : List ℕ
 
--- a program text with nothing beside it
+-- a program text without a second input
 abbrev pub text_alone_of : List ℕ → Pair
 text_alone_of text = record { text = text; input = [] }
 
--- a program text, and then an input beside it, which has a limit
+-- a program text, and then a second input, which has a limit
 module _ (limit : ℕ) (text_old text_new old new : Option (List ℕ)) where
   pub record IsPairIn (pair : Pair) : Type 0 where
     pub text : IsText text_old text_new pair.text
     pub input : IsInput limit old new pair.input
 
-  -- the text was read, and the input beside it was not
+  -- the text was read, and the second input was not
   pub record IsInputUnread (f : Fault) : Type 0 where
     pub text : List ℕ
     pub whole : IsText text_old text_new text
     pub unread : IsReadRefused limit old new f
 
-  -- the text was not read, and the input beside it was not touched
+  -- the text was not read, and the second input was not touched
   abbrev pub IsPairUnread : Fault → Type 0
   IsPairUnread f = ((new ≡ old) × IsTextUnread text_old text_new f) ⊎ IsInputUnread f
 

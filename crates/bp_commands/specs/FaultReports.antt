@@ -1,4 +1,4 @@
--- How a run ends, and how a refusal is told and explained.
+-- How a run ends, and how a refusal is reported and explained.
 use Rattle.std.specs.Prelude.{◌≡◌, ℕ, List, [], ◌∷◌, Option, None, Result, Ok, Err, Bool, false, if◌then◌else◌, ◌⊎◌, ◌++◌, Some, IsErr, IsErrAnd, Vec}
 use Rattle.std.specs.declared.alloc.AllocError.{AllocError}
 use Rattle.std.specs.declared.alloc.Global.{Global}
@@ -82,7 +82,7 @@ abbrev pub ExplainsText : List ℕ → List ℕ → Fault → Explanation → Ty
 ExplainsText name text (Program f) e = ExplainsProgram name text f e
 ExplainsText name text f e = ⊥
 
--- this explains a fault of the input beside the program, in the file of this name
+-- this explains a fault of the second input, in the file of this name
 abbrev pub ExplainsInput : SecondInput → List ℕ → List ℕ → Fault → Explanation → Type 0
 ExplainsInput second.Trace name trace (Trace f) e = ExplainsTrace name trace f e
 ExplainsInput second.Trace name trace (Setup f) e = ExplainsTrace name trace (replay.Setup f) e
@@ -190,8 +190,8 @@ IsFileOfText name Device file = file ≡ Some name
 IsFileOfText name (Program f) file = file ≡ Some name
 IsFileOfText name f file = file ≡ None
 
--- The file of a fault of a command on a program and an input beside it. It does not say which of
--- them could not be read.
+-- The file of a fault of a command on a program and a second input. It does not say which of them
+-- could not be read.
 abbrev pub IsFileOfPair : SecondInput → List ℕ → List ℕ → Fault → Option (List ℕ) → Type 0
 IsFileOfPair kind name input_name Device file = (file ≡ Some name) ⊎ (file ≡ Some input_name)
 IsFileOfPair kind name input_name (Program f) file = file ≡ Some name
@@ -239,7 +239,7 @@ on_pair kind name input_name = record {
       IsObjectIn (IsFileOfPair kind name input_name) given Explains;
 }
 
--- a fault of a bundle is told in a sentence alone, and is in no file
+-- a fault of a bundle is told only in a sentence, and is in no file
 abbrev pub on_bytes : FaultReport (List ℕ)
 on_bytes = record {
   Explains = λ _ _ _. ⊥;

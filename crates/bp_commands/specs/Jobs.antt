@@ -99,7 +99,7 @@ module _ (bytes : List ℕ → Option (List ℕ)) (format : FaultFormat) where
     format = format;
   }
 
-  -- a command on the program of a file and the input beside it, which has a limit
+  -- a command on the program of a file and the second input, which has a limit
   abbrev pub on_files
       : {R : Type 0} → Command Pair R → AnswerRule R → ℕ → SecondInput
       → (path input_path : List ℕ) → Job

@@ -52,7 +52,7 @@ AreContextsOf format text t s h written = AreContextLines format t text s h writ
 abbrev pub AreStepsOf : TextRule
 AreStepsOf text t s h written = written ≡ own_steps_text (own_steps text t s h)
 
--- the trace has no thread of a number, whose calls alone are to be shown
+-- only the calls of one thread are to be shown, which the trace does not have
 pub record HasNoThread (o : ViewOptions) (given : Pair) (f : Fault) : Type 0 where
   pub program : Program
   pub setup : SetupOf

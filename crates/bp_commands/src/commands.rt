@@ -38,13 +38,13 @@ pub trait ProgramCommand {
         None
     }
 
-    /// Returns the numbers among its options that have a range, beside those of its start.
+    /// Returns the numbers among its options that have a range, apart from those of its start.
     fn numbers(&self) -> OptionNumbers {
         OptionNumbers::NONE
     }
 }
 
-/// A command on a program and an input beside it.
+/// A command on a program and a second input.
 pub trait PairCommand {
     /// Its report after it is done.
     type Answer: CommandAnswer + Drop;
@@ -55,11 +55,11 @@ pub trait PairCommand {
 
     ghost second_input: { Self → SecondInput };
 
-    /// Returns the most bytes of the input beside the program.
+    /// Returns the most bytes of the second input.
     fn limit(&self) -> usize
         ensures { result ≡ limit self.now };
 
-    /// Does the command on the text of a program and the input beside it.
+    /// Does the command on the text of a program and the second input.
     fn apply<W: Write>(
         &self,
         alloc: Global,
@@ -104,8 +104,8 @@ pub fn do_on_program<C: ProgramCommand, R: Read, W: Write>(
     command.apply(alloc, &program.bytes, out)
 }
 
-/// Reads a program text, and then the input beside it, and does a command on both. Reads at most
-/// one byte more than its limit of each.
+/// Reads a program text, and then the second input, and does a command on both. Reads at most one
+/// byte more than its limit of each.
 pub fn do_on_pair<C: PairCommand, R: Read, S: Read, W: Write>(
     alloc: Global,
     command: &C,

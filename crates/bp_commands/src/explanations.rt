@@ -49,8 +49,8 @@ pub(crate) fn of_program<'a>(
     }
 }
 
-/// Returns the explanation of a fault of the schedule, the steps or the trace beside a program, if
-/// there is one. A schedule and steps are of a run from this start.
+/// Returns the explanation of a fault of the second input, if there is one. A schedule and steps
+/// are of a run from this start.
 fn of_input<'a>(
     alloc: Global,
     second_input: SecondInput,

@@ -15,7 +15,7 @@ use bp_text::push_displayed;
 use bp_view::watched_names;
 use std::alloc::{AllocError, Global};
 
-/// The numbers among the options of a command that have a range, beside those of its start.
+/// The numbers among the options of a command that have a range, apart from those of its start.
 #[derive(Clone, Copy, PartialEq, Eq)]
 pub struct OptionNumbers {
     turn: Option<u32>,
@@ -153,7 +153,7 @@ pub(crate) struct FaultContext<'a, 't> {
     pub(crate) unread: Option<FailedFile<'a>>,
     pub(crate) numbers: OptionNumbers,
     pub(crate) asked: Asked<'a, 't>,
-    /// The file of the program, and that of the input beside it.
+    /// The file of the program, and that of the second input.
     pub(crate) program: &'a str,
     pub(crate) input: Option<Limited<'a>>,
     /// Whether the program is that of a bundle.

@@ -43,7 +43,7 @@ pub(crate) trait Texts {
     fn program(&self) -> &[u8]
         ensures { let texts = given self.now in result.now ≡ texts.text };
 
-    /// Returns the input beside the program, or an empty text without one.
+    /// Returns the second input, or an empty text without one.
     fn input(&self) -> &[u8]
         ensures { let texts = given self.now in result.now ≡ texts.input };
 }
@@ -138,7 +138,7 @@ impl Texts for NamedPair<'_> {
     }
 }
 
-/// A bundle that was read. Its faults are told in sentences.
+/// A bundle that was read. Its faults are reported in sentences.
 #[derive(Clone, Copy)]
 pub(crate) struct ReadBundle<'a> {
     pub(crate) bytes: &'a [u8],
@@ -297,7 +297,7 @@ fn report<G: Texts, T: CommandAnswer, E: Write>(
     }
 }
 
-/// Explains a fault by lines, or else tells it in a sentence.
+/// Explains a fault by lines, or else reports it in a sentence.
 fn explain<G: Texts, E: Write>(
     alloc: Global,
     given: &G,

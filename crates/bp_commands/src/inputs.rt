@@ -116,7 +116,7 @@ pub fn read_input<R: Read>(alloc: Global, limit: usize, input: &mut Source<R>) -
     Ok(())
 }
 
-/// Reads a program text, and then an input beside it, of at most `limit` bytes.
+/// Reads a program text, and then a second input, of at most `limit` bytes.
 pub fn read_pair<R: Read, S: Read>(
     alloc: Global,
     limit: usize,

@@ -76,7 +76,7 @@ pub struct Explained {
     /// Whether there was memory for its lines, or for its sentence in an object. Otherwise the
     /// sentence of the fault is in its place.
     pub lines: Result<(), AllocError>,
-    /// Whether standard error took all of it.
+    /// Whether standard error has all of it.
     pub told: Result<(), WriteFault>,
 }
 
@@ -93,7 +93,7 @@ impl Explained {
 pub struct RunEnd {
     /// The exit status. It does not depend on the other parts.
     pub status: u8,
-    /// Whether standard error took all of the summary, or of the line or the object of the fault.
+    /// Whether standard error has all of the summary, or of the line or object of the fault.
     pub told: Result<(), WriteFault>,
     pub explained: Explained,
 }

@@ -1,5 +1,5 @@
 //! The command `run`. It is no `ProgramCommand`: the starter of threads and the gate of a run are
-//! known in its workers as a function's own parameters alone.
+//! known in its workers only as a function's own parameters.
 ghost use Rattle.bp_commands.specs.Commands.{Answers, text_alone};
 ghost use Rattle.bp_commands.specs.FaultReports.{AreReadOr};
 ghost use Rattle.bp_commands.specs.Runs.{runs};

@@ -139,7 +139,7 @@ differ true b = not b
 differ false b = b
 
 -- The threads below n whose last bit decides a deadlock, with that bit, from those that wait after
--- a 0 and those that wait after a 1: a thread decides if it waits after one of the two alone.
+-- a 0 and those that wait after a 1: a thread decides if it waits after only one of the two.
 abbrev pub deciding : (after_0 after_1 : ℕ → Bool) → (n : ℕ) → List LastChoice
 deciding after_0 after_1 zero = []
 deciding after_0 after_1 (suc n) =

@@ -166,7 +166,7 @@ NoRefusalOfConfirmed =
 -- Laws: the text of a run's own steps is confirmed, if it is neither empty nor too long; so is a
 -- deadlock at its end.
 
--- The text of the steps of a legal history is refused for memory alone, if it is neither empty nor
+-- The text of the steps of a legal history is refused only for memory, if it is neither empty nor
 -- too long. The setup keeps the limit of threads, and also that of contexts if the trace allows the
 -- number that the steps use.
 abbrev pub OwnTextIsConfirmed : Type 0

@@ -197,7 +197,7 @@ fn differ(one: bool, other: bool) -> bool
     one != other
 }
 
-/// Adds the bit by which a thread waits, if it waits after one of its bits alone.
+/// Adds the bit by which a thread waits, if it waits after only one of its bits.
 fn add_deciding(
     choices: &mut Vec<LastChoice>,
     thread: u32,

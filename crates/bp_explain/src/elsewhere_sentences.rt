@@ -64,7 +64,7 @@ impl RefusedStep<'_> {
         self.try_steps(tried.as_slice())
     }
 
-    /// Returns the thread that is at the location of the refused step, if one alone is.
+    /// Returns the thread that is at the location of the refused step, if it is the only one.
     fn only_thread_there(&self) -> Result<Option<u32>, AllocError> {
         let start = self.start;
         let mut only = None;

@@ -82,7 +82,7 @@ EntriesOnOneLine =
     → All (λ e. All (λ b. b ≢ 10) e) s.entries
 
 -- programs of one code have the same legal histories, which print the same rows; their reports are
--- equal as well, since a report depends on the setup and the calls alone
+-- equal as well, since a report depends only on the setup and the calls
 abbrev pub OneCodeOneMeaning : Type 0
 OneCodeOneMeaning =
     (c : Flat) (t u : Program) (s : SetupOf) (h : List Call)

@@ -136,7 +136,7 @@ history_of_run [] failed = []
 history_of_run (x ∷ xs) failed =
     record x { reply = reply_of_step xs failed } ∷ history_of_run xs failed
 
--- the history is legal, has granted calls alone, and leads to d
+-- the history is legal, has only granted calls, and leads to d
 pub record IsHistoryOfSteps (t : Program) (s : SetupOf) (h : List Call) (d : Configuration)
     : Type 0 where
   pub legal : IsLegal t s h

@@ -41,7 +41,7 @@ use Rattle.bp_messages.specs.declared.fault_table.Row.{Row}
 -- The faults of the libraries as a command reports them. Refused memory, a failed write and an
 -- input that is too long are each one value.
 
--- an input beside the program, or a bundle
+-- a second input, or a bundle
 abbrev pub fault_of_input : InputFault → Fault
 fault_of_input input.Device = Device
 fault_of_input input.TooLong = TooLong

@@ -24,7 +24,7 @@ pub enum Fault {
     /// An input could not be read.
     #[error("the file could not be read")]
     Device,
-    /// An input beside the program, or a bundle, is longer than its limit.
+    /// A second input, or a bundle, is longer than its limit.
     #[error("the input is too long")]
     TooLong,
     /// The program text is refused.
@@ -42,7 +42,7 @@ pub enum Fault {
     /// The reported steps are refused.
     #[error("{0}")]
     Steps(ConfirmFault),
-    /// The trace has no thread of this number, whose calls alone were asked for.
+    /// Only the calls of this thread were asked for, and the trace does not have it.
     #[error("the trace has no thread {0}")]
     NoThread(u32),
     /// No variable of the program has this one of the watched names, from 1.

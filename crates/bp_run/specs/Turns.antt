@@ -100,7 +100,7 @@ pub record IsCutTurn (old new : DeskOf) (seat after : SeatOf) (n : ℕ) (f : Ask
 
 -- The seat after a turn, whatever others do at the desk.
 
--- a desk refuses a call for these reasons alone
+-- a desk refuses a call only for these reasons
 abbrev pub IsDeskFault : AskFault → Type 0
 IsDeskFault fault.Finished = ⊤
 IsDeskFault fault.Memory = ⊤

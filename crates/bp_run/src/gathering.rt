@@ -33,8 +33,8 @@ struct Sums<C: Calls, O: Ledger> {
     lines: Share<O>,
 }
 
-/// Adds the shares of the seats to those beside them, audits the ledgers, and returns to each seat
-/// its own share.
+/// Adds the shares of the seats to those of the others, audits the ledgers, and returns to each
+/// seat its own share.
 fn audited<C: Calls, O: Ledger>(
     sums: Sums<C, O>,
     made: &mut Book<C>,

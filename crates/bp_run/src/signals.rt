@@ -1,4 +1,4 @@
-//! Signals between the workers and the scribe of a run beside the board. Bells: a thread that has
+//! Signals between the workers and the scribe of a run outside the board. Bells: a thread that has
 //! nothing to do sleeps at one, until another thread rings it.
 use std::hint;
 use std::sync::Wait;
@@ -144,7 +144,7 @@ impl Drop for Idle<'_> {
     }
 }
 
-/// The state that the threads of a run share beside the board: the number of workers that have
+/// The state that the threads of a run share outside the board: the number of workers that have
 /// ended, whether they must stop, and the bells at which they wait for each other.
 #[derive(Drop)]
 pub struct Signals {

@@ -57,7 +57,7 @@ fn push_plain(out: &mut Vec<u8>, instruction: &[u8]) -> Result<(), AllocError>
     push_two(out, Bytes(instruction), Bytes(b"\n"))
 }
 
-/// Adds the line of a listing. Beside the line of an instruction the first of these source
+/// Adds the line of a listing. Next to the line of an instruction the first of these source
 /// statements is shown, and is then taken.
 fn push_listed(
     out: &mut Vec<u8>,

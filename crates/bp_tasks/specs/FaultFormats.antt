@@ -19,7 +19,7 @@ is_explained other = false
 abbrev pub explains : Explaining → (on_terminal : Bool) → Bool
 explains x on_terminal = not x.never && (x.always || on_terminal)
 
--- faults are explained on a terminal alone
+-- faults are explained only on a terminal
 abbrev pub on_terminals : Explaining
 on_terminals = record { always = false; never = false }
 

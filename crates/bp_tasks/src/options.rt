@@ -66,7 +66,7 @@ pub enum ViewFormat {
 /// The calls that a view shows, and their form.
 #[derive(Clone, Copy)]
 pub struct ViewOptions<'a> {
-    /// Of this thread alone.
+    /// Only those of this thread.
     pub thread: Option<u32>,
     /// The number of the last calls of the history that are shown.
     pub last: Option<u64>,
@@ -74,7 +74,7 @@ pub struct ViewOptions<'a> {
     pub from: Option<u64>,
     /// The number of the last call that is shown.
     pub to: Option<u64>,
-    /// Those alone that change a variable of one of these names, as `watched_names` of `bp_view`
+    /// Only those that change a variable of one of these names, as `watched_names` of `bp_view`
     /// reads them. It is a global, or a formal or a local of any procedure. A step that enters a
     /// procedure changes its formals.
     pub watch: Option<&'a str>,

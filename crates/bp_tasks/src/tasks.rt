@@ -166,7 +166,7 @@ pub enum Task<'a> {
     Shrink(TraceTask<'a>),
 }
 
-/// Explanations on terminals alone.
+/// Explanations only on terminals.
 const ON_TERMINALS: Explaining = Explaining {
     always: false,
     never: false,

@@ -12,7 +12,7 @@ pub const QUICK_WAVE: u64 = 250;
 /// The most runs of a test that are compared: the first ones.
 pub const MAX_KEYS: usize = 1 << 20;
 
-/// The most calls that are driven to make a history smaller, beside those that its length allows.
+/// The most calls that are driven to make a history smaller, on top of those for its length.
 pub const WORK: u64 = 1_500_000;
 
 /// The most calls that are driven for each call of a history that is made smaller.

@@ -115,7 +115,7 @@ fn reach_waits(reached: &mut Vec<bool>, session: &Session)
     }
 }
 
-/// The facts of a run beside its calls.
+/// The facts of a run apart from its calls.
 #[derive(Clone, Copy)]
 pub(crate) struct FollowedRun {
     /// The key of its steps, or of the whole run.

@@ -35,7 +35,7 @@ const WITH_FEW: u32 = 5;
 /// The share of schedules that return to a thread that had to wait as soon as it may step.
 const RESUMING: u32 = 14;
 
-/// The weight of a thread that has not made a call, beside one that has.
+/// The weight of a thread that has not made a call, against one that has.
 const UNMOVED: u32 = 3;
 
 /// Threads to which a schedule may switch, as masks.

@@ -125,7 +125,7 @@ pub enum HistoryEnd {
     Other,
 }
 
-/// Returns the end of the history of a session. It allocates in a deadlock alone.
+/// Returns the end of the history of a session. Allocates only in a deadlock.
 pub fn history_end(alloc: Global, session: &Session) -> Result<HistoryEnd, AllocError>
     ensures end { IfOk result (EndsIn session.now) }
     ensures memory { IfErr result (λ _.

@@ -119,7 +119,7 @@ fn first_of(
 
 /// Returns the number of runs of the blocks of the next wave, after one with blocks of this size.
 /// After a quick wave the size doubles, so jobs seldom wait for each other. After a slow one it is
-/// the same, so a failure is told soon.
+/// the same, so that a failure is reported soon.
 fn next_size(size: u64, is_quick: bool) -> u64
     requires { size ≤ LONGEST_BLOCK }
     ensures is { result ≡ (if is_quick then min (size * 2) LONGEST_BLOCK else size) }

@@ -164,7 +164,7 @@ pub record IsViewContextOf (t : Program) (text : List ℕ) (x : ViewContext) : T
   pub filter : x.filter ≡ filter_of x.options
   pub names : map (λ n. n.now) x.names.now ≡ watched_names x.options.watch
 
--- a thread whose calls alone are to be shown is one of n threads
+-- if only the calls of one thread are to be shown, it is one of n threads
 abbrev pub IsThere : Option ℕ → (n : ℕ) → Type 0
 IsThere None n = Unit {0}
 IsThere (Some i) n = i < n
@@ -260,7 +260,7 @@ module _
   abbrev pub IsViewed : Report → Type 0
   IsViewed report = IsWritten (λ view. IsViewOfTrace t text trace o file view report) old new
 
-  -- the trace has no thread i, whose calls alone were to be shown
+  -- only the calls of thread i were to be shown, which the trace does not have
   pub record HasNoThread (i : ℕ) : Type 0 where
     pub replayed : Replayed
     pub is : IsReplayed t trace replayed
@@ -284,7 +284,7 @@ module _
       IsStopped (λ view. (report : Report) × IsViewOfTrace t text trace o file view report)
       old new f
 
--- A device: thread i is to be shown alone, and is none of n threads.
+-- A device: only thread i is to be shown, and it is none of n threads.
 abbrev pub IsMissing : Option ℕ → (n : ℕ) → ViewFault → Type 0
 IsMissing only n f = (i : ℕ) × (only ≡ Some i) × (n ≤ i) × (f ≡ NoThread i)
 

@@ -11,10 +11,10 @@ pub enum ViewFault {
     /// The text is no trace of the program, or memory was refused before anything was written.
     #[error("{0}")]
     Replay(ReplayFault),
-    /// The calls of this thread alone were asked for, and the trace does not have it.
+    /// Only the calls of this thread were asked for, and the trace does not have it.
     #[error("the trace has no thread {0}")]
     NoThread(u32),
-    /// The calls that change a variable of some names alone were asked for, and no variable of the
+    /// Only the calls that change a variable of some names were asked for, and no variable of the
     /// program has this one of the names, from 1.
     #[error("the program has no variable that is name {0} of --watch")]
     NoVariable(u64),

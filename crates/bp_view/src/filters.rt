@@ -24,7 +24,7 @@ fn calls_from(calls: &[Call], count: u64) -> &[Call]
 /// The calls of a history that are asked for.
 #[derive(Clone, Copy)]
 pub struct CallFilter {
-    /// Those of this thread alone.
+    /// Only those of this thread.
     pub thread: Option<u32>,
     /// The number of the last calls.
     pub last: Option<u64>,

@@ -76,7 +76,7 @@ impl Front {
         }
     }
 
-    /// Makes the text anew.
+    /// Rebuilds the text.
     fn remake(&mut self, key: FrontKey, mark: u8, digit: u8) -> Result<(), AllocError>
         ensures { OnOk result (self.new.text.items ≡ front_text key mark digit) }
     {

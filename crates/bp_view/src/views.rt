@@ -32,7 +32,7 @@ use bp_trace::ReplayFault;
 use std::alloc::{AllocError, Global};
 use std::io::Write;
 
-/// Refuses a missing thread, if the calls of one thread alone are to be shown.
+/// Refuses a missing thread, if only the calls of one thread are to be shown.
 fn check_thread(options: ViewOptions<'_>, setup: &Setup) -> Result<(), ViewFault>
     ensures { MatchResult result
         (λ _. IsThere options.entry.thread (threads setup.now))

@@ -190,7 +190,7 @@ pub(crate) fn all_calls<'a>(format: ViewFormat) -> ViewOptions<'a>
     }
 }
 
-/// Returns the calls that are asked for. Equal waits have one line in columns alone.
+/// Returns the calls that are asked for. Equal waits have one line only in columns.
 pub(crate) fn filter_of(options: &ViewOptions<'_>) -> CallFilter
     ensures { result ≡ filter_of options.now }
 {

@@ -78,7 +78,7 @@ abbrev pub refusal_text : (json : Bool) → Refusal → List ℕ
 refusal_text true refusal = refusal_object (string_bytes refusal.message)
 refusal_text false refusal = string_bytes refusal.text
 
--- the reason for refusing the arguments was told, and nothing was printed
+-- the reason for refusing the arguments was reported, and nothing was printed
 pub record IsRefusalEnd (text : List ℕ) (before after : Held) (end : RunEnd) : Type 0 where
   pub printed : after.output ≡ before.output
   pub status : end.status ≡ 2

@@ -15,7 +15,7 @@ const PROGRAM: &[u8] = b"decl x, y; \
     main() begin decl h; while (?) do h := !h; f(h, 1); od print (x, y); end \
     f(a, b) begin x, y := a, b; if (?) then f(b, a); else skip; fi end";
 
-/// A procedure that calls itself, so that each step takes a frame.
+/// A procedure that calls itself, so that each step pushes a frame.
 const CALLS: &[u8] = b"decl x, y; main() begin f(0); end f(a) begin f(!a); end";
 
 /// Returns the text of the first of these programs: a function returns it, so that no proof of a

@@ -1,4 +1,4 @@
-//! A run in which one worker alone takes frames, after the others were started. If it is refused
+//! A run in which only one worker pushes frames, after the others were started. If it is refused
 //! one, the others end, and its line stays open after the calls that it made.
 use crate::common::{code_of, names};
 use crate::ready::{begin, say, wants};
@@ -16,7 +16,7 @@ use std::thread;
 use std::thread::Threads;
 use std::time::Clock;
 
-/// The threads of `a` make four calls each; that of `b` takes a frame with each of its ten.
+/// The threads of `a` make four calls each; that of `b` pushes a frame with each of its ten.
 const PROGRAM: &[u8] = b"decl x; a() begin x := 1; x := 0; end b() begin b(); end";
 
 /// The thread of `b`.
