@@ -165,7 +165,7 @@ const BYTE_ORDER_MARK: &[u8] = b"\xef\xbb\xbf";
 /// The sentence on a line that ends in a carriage return and a line feed.
 pub const ENDS_IN_CR_LF: &str = "the line ends in CR LF; end each line in LF only";
 
-/// Returns the sentence on a text that is no program, if its beginning tells its kind.
+/// Returns the sentence on a text that is not a program, if its beginning tells its kind.
 pub(crate) fn other_than_program(text: &[u8]) -> Option<&'static str> {
     if text.starts_with(TRACE) {
         return Some("this file is a trace; the program comes first");

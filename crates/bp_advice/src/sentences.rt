@@ -86,7 +86,7 @@ pub fn listed<T: fmt::Display>(alloc: Global, items: &[T]) -> Result<String, All
     Ok(list)
 }
 
-/// A greater number is no number of a thread, and too large for each limit.
+/// A greater number is not a thread's, and too large for each limit.
 const MAX_NUMBER: u64 = 999_999_999;
 
 /// Parses the number before the first space of a line, and returns it with the text after it.

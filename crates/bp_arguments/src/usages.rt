@@ -64,7 +64,7 @@ fn error_with_usage(
 }
 
 /// Returns the error with the usage of the command that the arguments name, if they name one. That
-/// of a value that is no number gives the range of the option.
+/// of a value that is not a number gives the range of the option.
 fn same_with_usage(
     alloc: Global,
     arguments: &[String],
@@ -152,8 +152,8 @@ const NO_NUMBER: [&str; 3] = [
     "number too large to fit in target type",
 ];
 
-/// Returns the message on a value that is no number of its option, if this message of `clap` is on
-/// one: the range of the option replaces the reason of `clap`.
+/// Returns the message on a value that is not a number of its option, if this message of `clap` is
+/// on one: the range of the option replaces the reason of `clap`.
 pub fn of_value(alloc: Global, message: &str) -> Result<Option<String>, AllocError> {
     let Some((front, reason)) = message.rsplit_once("': ") else {
         return Ok(None);

@@ -260,7 +260,7 @@ fn it_text(steps: Option<ListedSteps>) -> &'static [u8]
     }
 }
 
-/// Writes why there is no trace of the run, if there is none.
+/// Writes why there is not a trace of the run, if there is none.
 fn put_traceless<W: Write>(
     trace: bool,
     calls: Option<u64>,

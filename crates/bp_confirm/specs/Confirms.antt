@@ -110,7 +110,7 @@ module _ (t : Program) (s : SetupOf) (h : List Call) (x : StepOf) where
     pub ambiguous :
         IsAmbiguousOnStack t x.thread later (stack_of (configuration_after t s h) x.thread)
 
-  -- its thread may make a call; with either choice bit the reply is r, which is no step
+  -- its thread may make a call; with either choice bit the reply is r, which is not a step
   pub record IsAnswered (r : Reply) : Type 0 where
     pub call : Call
     pub thread : call.thread ≡ x.thread

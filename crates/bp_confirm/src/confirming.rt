@@ -128,7 +128,7 @@ pub struct Difference {
 pub enum StepReason {
     /// Its thread is not at its location.
     Elsewhere,
-    /// Its thread makes no further call: its assertion failed, or its calls are used up.
+    /// Its thread makes no more calls: its assertion failed, or its calls are used up.
     Finished,
     /// The machine does not grant it, and gives this reply.
     Refused(Reply),

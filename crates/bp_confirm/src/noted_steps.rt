@@ -103,7 +103,7 @@ impl Watcher for StepWatcher<'_> {
 }
 
 /// Returns the steps of the history of a trace, each at the column at which its statement begins in
-/// the program text. A text that is no trace of the program is refused as a replay refuses it.
+/// the program text. A text that is not a trace of the program is refused as a replay refuses it.
 pub fn own_steps(
     alloc: Global,
     text: &[u8],

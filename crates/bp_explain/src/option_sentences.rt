@@ -37,7 +37,7 @@ fn possible_entries(alloc: Global, tree: &Tree) -> Result<String, AllocError> {
     format!(in alloc; "; name an entry for each thread: {list}")
 }
 
-/// Says that the entry of a thread is no procedure.
+/// Says that the entry of a thread is not a procedure.
 fn unknown_entry(
     alloc: Global,
     tree: &Tree,

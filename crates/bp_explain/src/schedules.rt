@@ -18,8 +18,8 @@ pub(crate) fn no_entry(alloc: Global, thread: u32) -> Result<String, AllocError>
     )
 }
 
-/// Explains why this line is none of a schedule. One that is a thread and a choice bit is refused
-/// for its thread.
+/// Explains why this line is not one of a schedule. One that is a thread and a choice bit is
+/// refused for its thread.
 fn line_sentence(alloc: Global, line: Line<'_>) -> Result<String, AllocError> {
     match number_at_front(line.text) {
         Some((thread, b"0" | b"1")) if line.is_ended => no_entry(alloc, thread),

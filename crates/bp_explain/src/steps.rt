@@ -1,5 +1,4 @@
-//! Explanations of the faults of reported steps.
-//! Sentences on a line that is no step.
+//! Explanations of the faults of reported steps. Sentences on a line that is not a step.
 ghost use Rattle.std.specs.Prelude.{IfOk};
 ghost use Rattle.bp_advice.specs.Explanations.{IsExplanationOf};
 ghost use Rattle.bp_explain.specs.Explained.{ExplainsSteps};
@@ -78,7 +77,7 @@ fn known_mistake(line: &[u8]) -> Option<&'static str> {
     }
 }
 
-/// Explains why this line is no step.
+/// Explains why this line is not a step.
 fn malformed(alloc: Global, line: Line<'_>) -> Result<String, AllocError> {
     if !line.is_ended {
         return format!(in alloc; "there is no line feed after this line");

@@ -57,7 +57,7 @@ is_granted Stepped = true
 is_granted Failed = true
 is_granted r = false
 
--- the thread makes no further call after this reply
+-- the thread makes no more calls after this reply
 abbrev pub is_last : Reply → Bool
 is_last Stepped = false
 is_last Blocked = false
@@ -65,7 +65,7 @@ is_last r = true
 
 -- The reply to a call of a thread, and the configuration after it.
 
--- no further frame fits on the stack
+-- no more frames fit on the stack
 abbrev pub is_full : List Frame → Bool
 is_full stack = nat_le MAX_FRAMES (length stack)
 

@@ -117,7 +117,7 @@ abbrev pub MayGrow : State → ℕ → Transition → Type 0
 MayGrow x i (Stays r) = Unit {0}
 MayGrow x i v = used_with x.contexts i < 2 ^ 32
 
--- the thread makes no further call
+-- the thread makes no more calls
 abbrev pub is_over : SetupOf → GuestThreadOf → Bool
 is_over s guest = guest.ended || nat_le s.calls guest.calls
 
@@ -136,7 +136,7 @@ pub record GoesOn (s : SetupOf) (x : State) (i : ℕ) : Type 0 where
   pub has : slice_get x.threads i ≡ Some guest
   pub goes_on : is_over s guest ≡ false
 
--- the thread exists, and makes no further call
+-- the thread exists, and makes no more calls
 pub record IsOver (s : SetupOf) (x : State) (i : ℕ) : Type 0 where
   pub guest : GuestThreadOf
   pub has : slice_get x.threads i ≡ Some guest

@@ -14,7 +14,7 @@ pub enum AskFault {
     /// There is no such thread.
     #[error("there is no such thread")]
     NoThread,
-    /// The thread makes no further call.
+    /// The thread makes no more calls.
     #[error("the thread has made its last call")]
     Finished,
     /// A choice bit was given, although the setup has a seed.
@@ -80,7 +80,7 @@ impl Reply {
         }
     }
 
-    /// Returns whether the thread makes no further call after this reply.
+    /// Returns whether the thread makes no more calls after this reply.
     pub fn is_last(&self) -> bool
         ensures { result ≡ is_last self.now }
     {
@@ -98,7 +98,7 @@ pub struct Call {
     pub reply: Reply,
 }
 
-/// Returns whether the thread makes no further call after the history.
+/// Returns whether the thread makes no more calls after the history.
 fn is_finished(setup: &Setup, history: &[Call], thread: u32) -> bool
     ensures { result ≡ is_finished setup.now history.now thread }
 {

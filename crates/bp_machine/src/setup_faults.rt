@@ -15,7 +15,7 @@ pub enum SetupFault {
     /// There are no threads, or more than 64.
     #[error("there must be 1 to 64 guest threads")]
     Threads,
-    /// The entry of this thread is no procedure of the program.
+    /// The entry of this thread is not a procedure of the program.
     #[error("thread {0} begins with a procedure that is not there")]
     UnknownEntry(u32),
     /// The entry of this thread has formals.

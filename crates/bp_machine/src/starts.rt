@@ -131,8 +131,8 @@ fn own_names(alloc: Global, code: &Code, entries: &[&[u8]]) -> Result<Vec<String
 }
 
 impl Setup {
-    /// As `new`, but from a text: a name that is no procedure's may be any bytes, and a number may
-    /// be too large for its type, and then is out of its range.
+    /// As `new`, but from a text: a name of no procedure may be any bytes, and a number may be too
+    /// large for its type, and then is out of its range.
     pub fn from_names(
         alloc: Global,
         code: &Code,

@@ -91,7 +91,7 @@ impl GuestThread {
         &self.stack
     }
 
-    /// Returns whether the thread makes no further call, if it may make `calls` calls.
+    /// Returns whether the thread makes no more calls, if it may make `calls` calls.
     pub(crate) fn is_finished(&self, calls: u32) -> bool
         ensures { result ≡ (self.now.guest.ended || nat_le calls self.now.guest.calls) }
     {

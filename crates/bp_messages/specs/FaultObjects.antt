@@ -37,7 +37,7 @@ abbrev pub has_ended : Stand → Bool
 has_ended stand.Ended = true
 has_ended other = false
 
--- the letter of the reply that is no step
+-- the letter of the reply that is not a step
 abbrev pub reply_text : StepReason → Option (List ℕ)
 reply_text (Refused r) = Some (letter_of r ∷ [])
 reply_text reason = None

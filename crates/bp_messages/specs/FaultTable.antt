@@ -238,7 +238,7 @@ abbrev pub seen_text : Option Bool → List ℕ
 seen_text None = codes "-"
 seen_text (Some bit) = bit_text bit
 
--- the line of a step that is not taken, and the reply that is no step, or the value that is seen
+-- the line of a step that is not taken, and the reply that is not a step, or the value that is seen
 abbrev pub step_detail : ℕ → StepReason → List ℕ
 step_detail n (Refused r) =
     concat (codes " line " ∷ decimal n ∷ codes " reply " ∷ (letter_of r ∷ []) ∷ [])

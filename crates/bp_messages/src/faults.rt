@@ -36,7 +36,7 @@ pub enum Fault {
     /// The schedule is refused.
     #[error("{0}")]
     Schedule(DriveFault),
-    /// The text is no trace of the program.
+    /// The text is not a trace of the program.
     #[error("{0}")]
     Trace(ReplayFault),
     /// The reported steps are refused.

@@ -43,7 +43,7 @@ fn has_ended(stand: Stand) -> bool
     matches!(stand, Stand::Ended)
 }
 
-/// Returns the letter of the reply that is no step, as a trace has it.
+/// Returns the letter of the reply that is not a step, as a trace has it.
 fn reply_piece<'a>(reason: StepReason) -> Piece<'a>
     ensures { piece_text result ≡ string_or_null (reply_text reason) }
 {

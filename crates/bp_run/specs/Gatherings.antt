@@ -27,7 +27,7 @@ abbrev pub HaveStopped : Program → SetupOf → List Call → Type 0
 HaveStopped t s h =
     (i : ℕ) → i < threads s → is_finished s h i ≡ false → is_at_call t s h i ≡ true
 
--- the line of thread i is open, although its next step is no call
+-- the line of thread i is open, although its next step is not a call
 pub record StoppedEarly (t : Program) (s : SetupOf) (h : List Call) (i : ℕ) : Type 0 where
   pub own : i < threads s
   pub line : is_finished s h i ≡ false

@@ -62,7 +62,7 @@ module _ (t : Program) (s : SetupOf) (old new : Option (List ℕ)) where
   IsPlayedBy r = IsPlayedFrom (map seat_of_worker r.workers.items) r.counts_agree r.report
 
   -- The trace of one legal history was written, with the bits of the seed. In it the line of this
-  -- thread is open, although its next step is no call.
+  -- thread is open, although its next step is not a call.
   pub record IsEarly (thread : ℕ) : Type 0 where
     pub history : List Call
     pub legal : IsLegal t s history

@@ -207,7 +207,7 @@ fn is_at_call(session: &Session, thread: u32) -> bool
     }
 }
 
-/// Returns the first thread whose line is open although its next step is no call, if there is one.
+/// Returns the first thread whose line is open although its next step is not a call, if any.
 pub(crate) fn stopped_early(session: &Session) -> Option<u32>
     ensures { AfterEach session.now (λ t h. TellsEarly t session.now.setup h result) }
 {

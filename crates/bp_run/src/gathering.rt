@@ -14,8 +14,8 @@ use bp_machine::{Report, Session};
 use std::sync::ledger::{Book, Ledger, Share};
 
 /// A gathered board: the seats; the tap, which gives the calls not taken yet; the report of the
-/// history; the first thread whose line is open although its next step is no call; and whether each
-/// seat agrees with the machine on the calls of its thread, and on whether its line is finished.
+/// history; the first thread whose line is open although its next step is not a call; and whether
+/// each seat agrees with the machine on its thread's calls and on whether its line is finished.
 #[derive(Drop)]
 pub struct Gathered<C: Calls, O: Ledger> {
     pub seats: Vec<Seat<C, O>>,

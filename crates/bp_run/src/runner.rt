@@ -75,7 +75,7 @@ fn open_and_play<
 ///
 /// Nothing is written before all workers were started. If a write or a flush fails the workers
 /// stop, and a proper prefix of the trace of a history is written. A worker that is refused memory
-/// ends, and its line stays open: that is no refusal of the run.
+/// ends, and its line stays open: that is not a refusal of the run.
 pub fn run_code<G: Gate, W: Write, R: Threads + Wait + Clock + Sync>(
     rt: &R,
     alloc: Global,

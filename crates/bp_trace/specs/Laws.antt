@@ -89,7 +89,7 @@ OneRefusal =
     → IsReplayRefusal t text g
     → f ≡ g
 
--- a text that is refused for anything but memory is no trace of the lawful program of a text
+-- a text that is refused for anything but memory is not a trace of the lawful program of a text
 abbrev pub RefusedIsNoTrace : Type 0
 RefusedIsNoTrace =
     (t : Program) (v : Version) (s : SetupOf) (h : List Call) (text : List ℕ) (f : ReplayFault)

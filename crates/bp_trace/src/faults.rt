@@ -1,4 +1,4 @@
-//! Why a schedule is not played, why a text is no trace, and why a trace is not migrated.
+//! Why a schedule is not played, why a text is not a trace, and why a trace is not migrated.
 use bp_machine::{Call, SetupFault};
 use bp_text::WriteFault;
 use std::alloc::AllocError;
@@ -62,7 +62,7 @@ pub struct EndCounts {
     pub left_open: u32,
 }
 
-/// Why a text is no trace of a program: the first reason that applies. Lines are counted from 1.
+/// Why a text is not a trace of a program: the first reason that applies. Lines are counted from 1.
 #[derive(Clone, Copy, Debug, PartialEq, Eq, Error)]
 pub enum ReplayFault {
     /// The text has more than 67,108,864 bytes.
@@ -113,7 +113,7 @@ impl From<AllocError> for ReplayFault {
 /// Why a trace is not migrated: the first reason that applies.
 #[derive(Clone, Copy, Debug, PartialEq, Eq, Error)]
 pub enum MigrateFault {
-    /// The text is no trace of the program.
+    /// The text is not a trace of the program.
     #[error("{0}")]
     Replay(ReplayFault),
     /// The new text could not be written whole.

@@ -35,7 +35,7 @@ pub fn no_two_have_one_text()
 {}
 
 /// Proves that a text has at most one refusal apart from memory: the line, head or end that refuses
-/// a text does so alone. And a text that is refused so is no trace of the program.
+/// a text does so alone. And a text that is refused so is not a trace of the program.
 pub fn refusals_are_single()
     ensures one { OneRefusal }
     ensures none { RefusedIsNoTrace }

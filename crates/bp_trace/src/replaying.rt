@@ -1,5 +1,5 @@
 //! Replaying a trace: a text is the trace of a legal history, or is refused at its first mistake.
-//! Migrating a trace to version 2. The accepted calls of a text that as a whole is no trace.
+//! Migrating a trace to version 2. The accepted calls of a text that as a whole is not a trace.
 ghost use Rattle.std.specs.Prelude.{◌≡◌, [], IfOk, None, MatchResult, MatchOption};
 ghost use Rattle.bp_machine.specs.Sessions.{Stands};
 ghost use Rattle.bp_machine.specs.Setups.{setup_fault, IsSetupRefusal};

@@ -28,7 +28,7 @@ last_reply [] = None
 last_reply (x ∷ []) = Some x.reply
 last_reply (x ∷ y ∷ xs) = last_reply (y ∷ xs)
 
--- why a thread makes no further call, by the reply to its last one
+-- why a thread makes no more calls, by the reply to its last one
 abbrev pub standing_after : Option Reply → Standing
 standing_after (Some reply.Ended) = Finished
 standing_after (Some reply.Failed) = Failed
@@ -39,7 +39,7 @@ standing_after (Some reply.Blocked) = OutOfCalls
 standing_after (Some reply.Stepped) = OutOfCalls
 standing_after None = OutOfCalls
 
--- The status of thread i after the history h, by the first that applies: it makes no further call;
+-- The status of thread i after the history h, by the first that applies: it makes no more calls;
 -- its next statement is an assumption of 0, whatever its choice bit is; an assertion failed. If
 -- none does, it continues.
 abbrev pub standing : Program → SetupOf → List Call → ℕ → Standing

@@ -8,7 +8,7 @@ use thiserror::Error;
 /// Why a view is not written whole: the first reason that applies, `Memory` aside.
 #[derive(Clone, Copy, Debug, Error)]
 pub enum ViewFault {
-    /// The text is no trace of the program, or memory was refused before anything was written.
+    /// The text is not a trace of the program, or memory was refused before anything was written.
     #[error("{0}")]
     Replay(ReplayFault),
     /// Only the calls of this thread were asked for, and the trace does not have it.

@@ -113,8 +113,8 @@ fn push_times(note: &mut Buffer, calls: usize)
     }
 }
 
-/// Adds the note of a call: the choice bit if it is read, the reply if it is no step, the number of
-/// calls in the line, and the variables that the step changed.
+/// Adds the note of a call: the choice bit if it is read, the reply if it is not a step, the number
+/// of calls in the line, and the variables that the step changed.
 fn push_note(line: &mut Buffer, facts: &CallFacts<'_>, calls: usize)
     ensures { Grown line.old line.new (note_text (facts_in facts.now) calls) }
 {

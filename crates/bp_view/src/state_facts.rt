@@ -28,7 +28,7 @@ pub enum Standing {
     OutOfCalls,
     /// Its next step is a call, and its stack has no room for a frame.
     FullStack,
-    /// An assertion failed, so it makes no further step.
+    /// An assertion failed, so it makes no more steps.
     Stopped,
     /// Its next statement is an assumption of 0.
     Waiting,
@@ -51,7 +51,7 @@ fn last_reply(history: &[Call], thread: u32) -> Option<Reply>
 }
 
 impl Standing {
-    /// Returns why a thread makes no further call, by the reply to its last one.
+    /// Returns why a thread makes no more calls, by the reply to its last one.
     fn after(last: Option<Reply>) -> Standing
         ensures { result ≡ standing_after last }
     {

@@ -226,8 +226,8 @@ pub(crate) fn push_state_of(
 
 /// Returns the state after the first `number` calls of a trace, or after the last if there are
 /// fewer, and the report of the whole trace. The state has the values of the globals, the status of
-/// each thread, and the frames of its stack. A text that is no trace of the program is refused as
-/// `replay` refuses it.
+/// each thread, and the frames of its stack. A text that is not a trace of the program is refused
+/// as `replay` refuses it.
 pub fn state_at(
     alloc: Global,
     text: &[u8],

@@ -129,8 +129,8 @@ pub(crate) struct ShownTrace {
     pub(crate) replayed: Replayed,
 }
 
-/// Replays a trace of the program of a text. A text that is no trace of the program is refused as
-/// `replay` refuses it.
+/// Replays a trace of the program of a text. A text that is not a trace of the program is refused
+/// as `replay` refuses it.
 pub(crate) fn shown_trace_of(
     alloc: Global,
     text: &[u8],

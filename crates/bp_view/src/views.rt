@@ -145,11 +145,12 @@ fn write_view<W: Write>(
 /// Writes a view of the history of a trace of a program, and returns its report. The view has the
 /// setup, a line for each call that is shown, and the foot. The state after the last call follows
 /// if it is asked for. The places in the foot have the name of the program's text before them. The
-/// lines are written as they are made, after the trace was replayed. For them the calls are made
-/// once more, from the first that is asked for.
+/// lines are written as they are made, after the trace was replayed, with the calls made once more,
+/// from the first that is asked for.
 ///
-/// A text that is no trace of the program is refused as `replay` refuses it. Then a missing thread
-/// is refused, and then a watched name that no variable has. Nothing is written of a refused one.
+/// A text that is not a trace of the program is refused as `replay` refuses it. Then a missing
+/// thread is refused, and then a watched name that no variable has. Nothing is written of a refused
+/// one.
 pub fn view<W: Write>(
     alloc: Global,
     text: &[u8],

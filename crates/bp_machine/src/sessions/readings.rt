@@ -15,7 +15,7 @@ use crate::tops::Top;
 use bp_flat::{Kind, Store};
 
 impl Session {
-    /// Returns whether a thread makes no further call.
+    /// Returns whether a thread makes no more calls.
     pub fn is_finished(&self, thread: u32) -> bool
         requires { thread < threads self.now.setup }
         ensures { (t : Program) (h : List Answered)

@@ -19,7 +19,7 @@ fn operation(alloc: Global, op: Op, left: Expr, right: Expr) -> Result<Expr, All
 }
 
 impl<'a> Parser<'a> {
-    /// Reads un. `!` and `(` are no separators, so the limit on tokens in succession bounds the
+    /// Reads un. `!` and `(` are not separators, so the limit on tokens in succession bounds the
     /// recursion.
     #[cycle(expr)]
     pub(crate) fn unary(&mut self, alloc: Global) -> Result<Expr, Stop>

@@ -12,8 +12,8 @@ use std::time::Clock;
 const LOOP: &[u8] = b"main() begin while (?) do skip; od end";
 
 /// A gate that records a digit each time: ahead of a turn the number of calls, and after it 1 for
-/// Stepped, 2 for Ended, 3 for Blocked and 5 for another reply. Once the thread takes no further
-/// turn it records a 4.
+/// Stepped, 2 for Ended, 3 for Blocked and 5 for another reply. Once the thread takes no more turns
+/// it records a 4.
 #[derive(Drop)]
 struct Notes {
     digits: AtomicU64,
