@@ -1,4 +1,4 @@
--- Each kind of token is tried, and offered where it may follow.
+-- Each kind of token is tried, and offered if it may follow.
 use Rattle.bp_advice.proofs.Common.{◌≡◌, ◌&&◌, ℕ, Bool, true, false, cond, List, [], ◌∷◌, Option, None, Some, refl, sym, ap, ◌∙◌, nat_eq, ◌<◌, ◌+◌, ◌++◌, get_or, subst, arith, below_more, ◌≢◌, ◌↔◌, IsTrue, length, inl, inr, ◌⊎◌, rules, All-contains, All-push, Contains-append_left, Contains-push, false≢true, constants, symbols, long_symbols, reserved_word, reserved_words, kind_of, IsReal, Lexeme, IsCut, ends, first_bad_byte, first_open_brace, tokens_of, HasTokens, MayFollow, MayFollowAs, IsJudged, IsProgram, BeginsProgram}
 use Rattle.std.proofs.lemmas.Bool.Decides.{Decides-eqb}
 use Rattle.std.proofs.lemmas.Slice.Eq.{bytes_eq-Decides}

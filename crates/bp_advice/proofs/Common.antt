@@ -1,4 +1,4 @@
--- What the proofs of this crate name of std, of the crates below and of its own definitions.
+-- The imports of this crate's proofs: from std, the crates below and its own definitions.
 pub use Rattle.bp_advice.specs.Explanations.{BeginsProgram, IsJudged, IsPlain, IsProgram, MayFollow, MayFollowAs, is_plain, shown}
 pub use Rattle.bp_language.specs.Tokens.{HasTokens, IsCut, IsReal, Lexeme, constants, ends, first_bad_byte, first_open_brace, kind_of, long_symbols, reserved_word, reserved_words, symbols, tokens_of}
 pub use Rattle.std.proofs.Common.{Bool, Err, IfOk, IsTrue, List, None, Ok, Option, Result, Some, Vec, [], ap, arith, below_more, cond, false, get_or, if◌then◌else◌, inl, inr, length, length-take, map, nat_eq, refl, rules, slice_index_or, subst, sym, take, true, ℕ, ◌&&◌, ◌++◌, ◌+◌, ◌<◌, ◌==◌, ◌||◌, ◌↔◌, ◌∙◌, ◌∷◌, ◌≡◌, ◌≢◌, ◌≤◌, ◌⊎◌}

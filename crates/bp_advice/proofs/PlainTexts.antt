@@ -1,4 +1,4 @@
--- What is shown is plain.
+-- Shown texts are plain.
 use Rattle.bp_advice.proofs.Common.{◌≡◌, ◌==◌, ◌||◌, ℕ, Bool, true, List, map, slice_index_or, refl, if◌then◌else◌, arith, All-map, is_plain, shown, IsPlain}
 
 plain_if : (b : ℕ) (p w : Bool) → is_plain b ≡ p → is_plain (if p then b else if w then 32 else 63) ≡ true

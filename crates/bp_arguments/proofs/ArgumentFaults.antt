@@ -1,4 +1,4 @@
--- Which kind of fault refuses arguments, from what a parse of them answers.
+-- The kind of fault that refuses arguments, from the result of a parse of them.
 use Rattle.bp_arguments.proofs.Common.{◌≡◌, ◌∙◌, ap, ap₂, refl, sym, subst, inl, inr, true, List, Option, Some, None, [], ◌∷◌, arith, HasKind, Kinds, or_else, HasMatchesOf, app_of, is_simple, subcommand_of, subcommand_rows_of, fault_of, is_simple_and_free, Row, Text, Command, btrun_app, arguments_fault, misuse_fault, misuse_kind, misuse_of}
 use Rattle.std.specs.Option.{option_map_or}
 use Rattle.clap.specs.Values.{kind_of}

@@ -1,4 +1,4 @@
--- What the proofs of this crate name of std, of the crates below and of its own definitions.
+-- The imports of this crate's proofs: from std, the crates below and its own definitions.
 pub use Rattle.bp_arguments.specs.Commands.{IsOurs, arguments_fault, btrun_app, command_app, row_rule, with_commands, with_rules}
 pub use Rattle.bp_arguments.specs.Misuses.{is_from_line, is_on_line, misuse_fault, misuse_kind, misuse_of, option_name}
 pub use Rattle.bp_arguments.specs.NoTasks.{IsOfKind, IsOfOne, asks_for_json}

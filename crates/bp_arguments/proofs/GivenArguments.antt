@@ -1,4 +1,4 @@
--- What a match on an argument's value says of the rows of a parse.
+-- A match on an argument's value determines the rows of a parse.
 use Rattle.bp_arguments.proofs.Common.{◌≡◌, refl, codes, map, option_map, unwrap_or, List, [], ◌∷◌, Bor, Option, Some, None, ◌∙◌, ap, sym, Bool, true, if◌then◌else◌, ◌^◌, ◌<◌, ℕ, Result, find, option_and_then, length, nat_lt, ltb-true, lt-ltb, arith, rules, Text, Row, row_of, rows_of, bytes_eq, find_row, both, matched_of, ReadsOne, list_all, is_from_line, is_on_line, option_name, is_number_text, number_in, number_of}
 use Rattle.clap.specs.Facts.{Entry}
 use Rattle.clap.specs.declared.parser.matches.Found.{Found}

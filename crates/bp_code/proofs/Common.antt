@@ -1,4 +1,4 @@
--- What the proofs of this crate name of std, of the crates below and of its own definitions.
+-- The imports of this crate's proofs: from std, the crates below and its own definitions.
 pub use Rattle.bp_code.specs.Compilable.{AllCompilableIn, AreSizesAt, AreSizesOf, HasNames, HasNamesIn, HaveFew, IsCompilable, IsCompilableIn, block_sizes, inner_sizes}
 pub use Rattle.bp_code.specs.Compiled.{Environment, block_code, block_entry, block_size, callee_in, flat_of, formula_in, formulas_in, headings_from, inner_number, label_in, label_number, procedures_code, procedures_size, size, slot_in, slot_of, slots_in, statement_code, test_in}
 pub use Rattle.bp_code.specs.Environments.{environment_of}

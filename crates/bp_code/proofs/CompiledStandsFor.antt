@@ -1,4 +1,4 @@
--- What a program is compiled to stands for it.
+-- The code of a program stands for it.
 use Rattle.bp_code.proofs.Common.{◌≡◌, refl, sym, ap, subst, ◌∙◌, ℕ, zero, suc, ◌+◌, true, false, cond, List, [], ◌∷◌, ◌++◌, Option, None, Some, IsSome, option_map, unwrap_or, length, length-append, slice_get, bytes_eq, arith, add-one, add-zero, rules, option_or, regrouped, Name, Block, Done, Then, Statement, Skips, GoesTo, Returns, Assigns, Branches, Loops, Asserts, Assumes, Prints, Calls, Procedure, Program, Instruction, Heading, heading_named, chain, has_label, from_label, from_inside, StandsFor, Place, place, places, places_in, places_of, Remains, Does, Heads, IsCompilable, AllCompilableIn, HasNames, HasNamesIn, Environment, block_size, size, label_number, inner_number, label_in, callee_in, block_entry, block_code, statement_code, headings_from, procedures_code, flat_of, test_in, formulas_in, slots_in}
 use Rattle.bp_flat.specs.Moves.{procedure_named}
 use Rattle.bp_code.proofs.SlotsAreVariables.{are_values, tests, targets}

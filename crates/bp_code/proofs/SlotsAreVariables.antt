@@ -1,4 +1,4 @@
--- Slots are read and written as the variables are that they stand for.
+-- Slots are read and written like the variables for which they stand.
 use Rattle.bp_code.proofs.Common.{◌≡◌, refl, sym, ap, ◌∙◌, ℕ, suc, ◌+◌, ◌<◌, true, false, cond, List, [], ◌∷◌, length, map, get_or, Option, None, Some, IsSome, option_map, unwrap_or, bytes_eq, arith, add-one, subst, Bool, not, slice_get, rules, option_and_then, option_or, length-map, slice_get-get_or, Name, Expression, Constant, Variable, Negation, Operation, Decision, Procedure, Program, first_index_from, first_index, EachName, NamesInExpression, NamesInExpressions, NamesInDecision, Heading, heading_named, lookup, update, variable_value, after_write, after_assignment, operation_value, expression_value, expression_values, Store, valuation_of, named_store, AreValues, IsTestOf, AreTargets, slot_of, Environment, slot_in, slots_in, formula_in, formulas_in, test_in}
 use Rattle.bp_flat.specs.declared.slots.Slot.{Slot}
 use Rattle.bp_flat.specs.declared.slots.Slot.TheVariants.{Global, Local}

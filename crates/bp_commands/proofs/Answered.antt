@@ -1,4 +1,4 @@
--- What a command answers where it refuses, and of what it read.
+-- The answer of a command that refuses, and of the inputs that it read.
 use Rattle.bp_commands.proofs.Common.{refl, inl, inr, ℕ, List, Option, Result, Ok, Err, Keeps-refl, AppendsPart, Fault, Write, Answers, AnswersOf, Command, IsNotDone, IsRefusedWith, Inputs}
 
 module _ {X R : Type 0} (command : Command X R) (given : X) (old : Option (List ℕ)) where

@@ -1,4 +1,4 @@
--- What the proofs of this crate name of std, of the crates below and of its own definitions.
+-- The imports of this crate's proofs: from std, the crates below and its own definitions.
 pub use Rattle.bp_code.specs.LawfulTexts.{IsLawfulText, IsProgramRefusal}
 pub use Rattle.bp_commands.specs.Commands.{Answers, AnswersOf, Command, Inputs, IsDoneWith, IsNotDone, IsRefusedWith, Pair, bundle_alone, text_alone, text_alone_of}
 pub use Rattle.bp_commands.specs.Confirms.{IsOfSteps, choice_text, choices_text, confirmation_shown, confirms, line_as, verdict_word}

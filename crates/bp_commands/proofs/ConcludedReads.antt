@@ -1,4 +1,4 @@
--- What a run tells of a fault is of the inputs that were read, or of why they were not.
+-- The report of a fault in a run is of the inputs that were read, or of why they were not.
 use Rattle.bp_commands.proofs.Common.{◌≡◌, ℕ, List, Option, Result, Ok, Err, inl, inr, true, None, Some, IfOk, Vec, ◌∙◌, subst, arith, Writes, Fault, AnswerRule, IsEndOf, AreReadOr, IsSaid, IsSaidOfRead, IsTold, IsConcluded, IsObjectRead, IsReported, IsSaidFor, IsTextOf, IsFlushed, Inputs, Held, IsFinished}
 use Rattle.std.specs.declared.alloc.AllocError.{AllocError}
 use Rattle.std.specs.declared.alloc.Global.{Global}

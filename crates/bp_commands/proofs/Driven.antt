@@ -1,4 +1,4 @@
--- What driving a program says of the command `drive`.
+-- The answer of the command `drive`, from the result of driving a program.
 use Rattle.bp_commands.proofs.Common.{◌≡◌, refl, sym, subst, inl, inr, List, ℕ, Option, arith, [], ◌∷◌, ◌∙◌, ap, ◌+◌, ◌-◌, ◌<◌, ◌≤◌, ◌==◌, true, false, ◌++◌, length, take, drop, get_or, add-one, take-suc, take-append-drop, length-take-le, rules, Keeps, Keeps-refl, all_from, Program, IsLawfulText, Report, SetupOf, StartOf, NamedBitOf, trace_text, trace_text_2, IsMigrated, IsMigrateRefusal, fault_of_schedule, fault_of_migration, IsDoneWith, IsRefusedWith, Pair, IsOpened, drives, migrates, ends_line, HasNoSeparator, HasNoneBefore, IsScheduleRefused, IsSeparated, IsSplit}
 use Rattle.std.proofs.Math.Seq.{take-append_seam, drop-append_seam}
 use Rattle.std.proofs.lemmas.Bool.{cases_lt, true≢false}

@@ -1,4 +1,4 @@
--- What a text of a history says of a command on its trace.
+-- The answer of a command on a trace, from a text of its history.
 use Rattle.bp_commands.proofs.Common.{ℕ, List, Option, arith, AppendsAll, AppendsPart, Program, IsLawfulText, Call, Report, IsReport, SetupOf, IsReplayRefusal, IsTrace, fault_of_trace, Write, IsDoneWith, IsRefusedWith, Pair, on_trace, IsOfTrace, TextRule}
 use Rattle.bp_trace.specs.declared.faults.ReplayFault.{ReplayFault}
 use Rattle.bp_trace.specs.declared.traces.Version.{Version}

@@ -1,4 +1,4 @@
--- What a run of a code says of the command `run`.
+-- The answer of the command `run`, from the result of running a code.
 use Rattle.bp_commands.proofs.Common.{◌≡◌, refl, sym, subst, inl, inr, List, ℕ, Option, true, false, Keeps, Keeps-refl, Program, SetupOf, NamedBitOf, OptionsOf, trace_text, IsDoneWith, IsOpened, IsRefusedWith, fault_of_run, fault_of_setup, runs, seeded, IsRunnable, IsRunReport}
 use Rattle.bp_machine.specs.declared.setup_faults.SetupFault.TheVariants.{OutOfRange}
 use Rattle.bp_run.specs.declared.answers.RunReport.{RunReport}

@@ -1,4 +1,4 @@
--- What shrinking the history of a trace says of the command `shrink`.
+-- The answer of the command `shrink`, from the result of shrinking a trace's history.
 use Rattle.bp_commands.proofs.Common.{◌≡◌, ◌⊎◌, true, List, refl, ap, sym, subst, arith, inl, inr, Program, IsLawfulText, Call, outcome_of, is_failure, SetupOf, IsDeadlock, IsEnd, budgeted, IsShrunk, One, trace_text, IsReplayed, IsTrace, Fault, Memory, Pair, IsOfTrace, IsTraceOf, IsTraceReport, FailAlike, DeadlockAlike, IsEndRefusal, IsShrunkText, HasNoFailure, LacksMemory}
 use Rattle.bp_test.specs.declared.shrinking.HistoryEnd.{HistoryEnd}
 use Rattle.bp_test.specs.declared.shrinking.HistoryEnd.TheVariants.{Failure, Deadlock, Other}

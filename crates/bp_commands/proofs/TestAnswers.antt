@@ -1,4 +1,4 @@
--- What testing a program says of the command `test`.
+-- The answer of the command `test`, from the result of testing a program.
 use Rattle.bp_commands.proofs.Common.{◌≡◌, refl, sym, subst, inl, inr, ℕ, ◌<◌, ◌≤◌, ◌^◌, length, List, [], ◌∷◌, ◌++◌, Option, Some, map, arith, Appends, Appends-nil, Keeps-refl, Program, AppendsAll, SetupOf, trace_text, MAX_JOBS, setup_of_run, IsFound, IsTest, IsTestRefusal, IsDoneWith, IsRefusedWith, IsOpened, fault_of_setup, fault_of_test, Memory, tests, AreListed, IsTestable}
 use Rattle.bp_flat.specs.StandsFor.{places_of}
 use Rattle.bp_machine.specs.declared.setup_faults.SetupFault.TheVariants.{OutOfRange}

@@ -1,4 +1,4 @@
--- What a view of a trace says of the command `show`.
+-- The answer of the command `show`, from a view of a trace.
 use Rattle.bp_commands.proofs.Common.{◌++◌, ℕ, List, Option, refl, sym, inl, inr, subst, Some, arith, Keeps, Keeps-refl, AppendsAll, AppendsPart, all_then, part_first, part_then, Program, Report, IsReport, IsAcceptedTrace, IsLawfulText, IsViewed, IsViewOfTrace, IsViewRefusal, fault_of_view, fault_of_trace, Fault, Write, IsDoneWith, IsRefusedWith, Pair, Command, IsOfTrace, IsTraceReport, shows, IsViewText, last_line, on_valid_calls, refusal_text, IsPart, IsShownWithLine, OfPart, Refusal}
 use Rattle.bp_trace.specs.declared.replaying.AcceptedTrace.{AcceptedTrace}
 use Rattle.bp_tasks.specs.declared.options.ViewOptions.{ViewOptions}

@@ -1,4 +1,4 @@
--- The bit by the effects of an instruction is that of the statement which it stands for.
+-- The bit by the effects of an instruction is that of the statement for which it stands.
 use Rattle.bp_confirm.proofs.Common.{◌≡◌, ◌==◌, ℕ, arith, Bool, true, false, cond, not, ◌&&◌, List, [], Option, None, Some, refl, ap, sym, ◌∙◌, subst, slice_get, is_none, MatchBool, rules, slice_get-map, false≢true, nat_tests, Block, Done, Then, Returns, Branches, Loops, Asserts, Assumes, Choose, Decide, Procedure, Program, Expression, store_of, effect_of, chain, Formula, Instruction, If, While, places_of, Remains, Does, IsTestOf, start_of_block, starts_of, bit_towards, bit_of_block, IsClearWay, IsClear, AreBothWays, IsAmbiguous, NextNumbers, bit_towards_number, bit_of_effects, bit_of_instruction, are_both_there, is_fork, is_fork_block, splits}
 use Rattle.bp_flat.specs.declared.effects.Effect.{Effect}
 use Rattle.bp_flat.specs.declared.effects.Effect.TheVariants as instr

@@ -1,4 +1,4 @@
--- What the proofs of this crate name of std, of the crates below and of its own definitions.
+-- The imports of this crate's proofs: from std, the crates below and its own definitions.
 pub use Rattle.bp_code.specs.LawfulTexts.{IsLawfulText}
 pub use Rattle.bp_confirm.specs.ConfirmedTexts.{AreDeclared, AreDeclaredLines, AreKnown, AreRead, HasFitLength, IsConfirmedText, IsDeclared, IsFirstStray, IsFirstUndeclared, IsOfNoThread, IsOfNoVariable, IsSetupFor, IsStepsRefusal, contexts_allowed, thread_of}
 pub use Rattle.bp_confirm.specs.Confirms.{ForStuck, GoesOnAt, IsAnswered, IsDifference, IsLastChange, IsNotFollowed, IsReason, IsStepRefusal, IsStuck, IsUnclear, SeesOther, StandsAtPlace, seen_after, seen_by, stand_at_point, stand_at_start, stand_in, stand_of}

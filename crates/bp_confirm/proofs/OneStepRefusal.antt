@@ -1,4 +1,4 @@
--- Steps have at most one refusal, and none where a history confirms them.
+-- Steps have at most one refusal, and none if a history confirms them.
 use Rattle.bp_confirm.proofs.Common.{◌≡◌, ◌≢◌, ◌∙◌, ℕ, zero, suc, Bool, true, List, [], ◌∷◌, ◌++◌, length, Option, None, Some, refl, ap, sym, subst, ◌+◌, arith, length-append, rules, false≢true, append-nil, map-append, map_push, regrouped, Block, Done, Then, Program, Configuration, chain, Valuation, place, start_of_block, Call, Reply, stack_of, configuration_after, is_finished, SetupOf, IsLawfulText, Difference, StepReason, Elsewhere, Ambiguous, Finished, Refused, Differs, seen_by, seen_after, IsLastChange, GoesOnAt, IsAnswered, IsReason, IsUnclear, SeesOther, StandsAtPlace, ForStuck, IsStepRefusal, stand_of, AreBothAt, AreBothWays, IsAmbiguous, IsAmbiguousOnStack, IsClear, IsClearOnStack, IsClearWay, LastBits, Follows, FollowAfter, IsFollowed, Place, StepOf, value_seen, IsFirstUnseen, StepLineOf, step_of, steps_of, Takes, StepRefusal}
 use Rattle.bp_confirm.proofs.OnePosition.{IsFull, full_place}
 use Rattle.bp_confirm.proofs.StepMoves.{other_values, seen_same}

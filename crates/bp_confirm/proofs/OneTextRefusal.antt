@@ -1,4 +1,4 @@
--- A text of steps has at most one refusal, and none where a history confirms them.
+-- A text of steps has at most one refusal, and none if a history confirms it.
 use Rattle.bp_confirm.proofs.Common.{◌≡◌, ◌∙◌, ◌<◌, ◌+◌, ℕ, Bool, true, false, List, [], ◌∷◌, length, take, drop, get_or, Some, refl, ap, sym, subst, arith, ◌≢◌, slice_get, rules, length-take, false≢true, Program, Valuation, SetupOf, Call, least_opened, IsLawfulText, declares, ContextBound, Kept, AsUsed, StepLineOf, HasLines, IsBadLine, AreDeclared, IsFirstUndeclared, AreDeclaredLines, IsFirstStray, AreRead, HasFitLength, IsConfirmedText, IsStepsRefusal, IsSetupFor, contexts_allowed, IsDeclared, IsOfNoThread, IsOfNoVariable, IsStepRefusal, ConfirmFault, TooLong, NoSteps, NoThread, NoVariable, Step, Memory, StepRefusal, LastChoice, zeros, NoRefusalOfConfirmed, OneRefusal, none_bad, one_bad, one_reading, slice_get_within}
 use Rattle.bp_trace.specs.declared.limits.TheConstants.{MAX_SCHEDULE}
 use Rattle.bp_confirm.specs.declared.confirming.ConfirmFault.TheVariants.{Line}

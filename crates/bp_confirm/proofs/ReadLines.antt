@@ -1,4 +1,4 @@
--- How a line of steps is read, whatever is after it; and the values on it.
+-- A line of steps is read in the same way whatever follows it; and the values on it.
 use Rattle.bp_confirm.proofs.Common.{◌≡◌, ◌≢◌, ◌<◌, ◌≤◌, ◌+◌, ◌^◌, ◌∙◌, inl, inr, ℕ, List, [], ◌∷◌, ◌++◌, flat_map, length, length-append, refl, ap, sym, subst, arith, codes, decimal, append_assoc, suc, Some, drop, ◌-◌, Bool, take, rules, EachFits, EndsNumber, Fits, HasNone, IsAt, text_of, AreAll, Lacks, SpanFits, regrouped, Valuation, Location, End, Line, Column, StepLineOf, after_byte, location, may_end, step_line, value, append-nil, take_at, IsNext, next_value, no_next, after_name, values_from, values_in, SaysValues}
 use Rattle.bp_text.specs.Formats.Format.{Many}
 use Rattle.bp_text.proofs.NumbersInTurn.{ends_at, no_digit_first}

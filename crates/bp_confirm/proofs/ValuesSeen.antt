@@ -1,4 +1,4 @@
--- What the names of a thread's top have as values.
+-- The values of the names of a thread's top.
 use Rattle.bp_confirm.proofs.Common.{◌≡◌, ◌∙◌, ◌+◌, ℕ, zero, suc, List, [], ◌∷◌, Option, None, Some, refl, ap, ◌<◌, length, get_or, ◌++◌, take, sym, arith, option_map, Bor, subst, ◌≢◌, Bool, true, false, cond, slice_get, MatchOption, IfSome, is_some, nat_lt, rules, fun_ext, take_more, slice_get_past, slice_get-get_or, slice_get-map, option_or, bytes_eq-Decides, position_at, Program, Procedure, starts_of, valuation_of, variables, start_of_block, bits_of, Configuration, Valuation, lookup, ends, procedure_of, Top, stack_of, IsTop, qualified, declares, SourcePoint, points_from, source_points_of, is_point_at, is_there, stand_at_point, stand_at_start, stand_in, stand_of, Location, place_of, stands_at, local_seen, own_value, qualified_values, AreKnown}
 use Rattle.std.proofs.Common.{bytes_eq}
 use Rattle.bp_source.proofs.DecidersOfPlaces.{same_qualified}

@@ -1,4 +1,4 @@
--- The nodes of records that lie one after the other.
+-- The nodes of adjacent records.
 use Rattle.bp_explore.proofs.Common.{◌≡◌, ◌+◌, ◌++◌, ◌∷◌, [], ℕ, zero, suc, List, refl, ap, sym, ◌∙◌, append_assoc, arith, ◌*◌, ◌/◌, ◌%◌, ◌^◌, Some, drop, append-nil, ◌≤◌, ◌-◌, All, ◌<◌, length, get_or, take, slice_set, slice_get, rules, take_more, take_more_set, take-append-le, drop-append-le, slice_get_within, StackOf, frames_of, IsPacked, take_times, take_number, node_of, take_key, take_state, last_of, StateOf, NodeOf, nodes_from, start_from, end_of, record_at, HasKey, Holds}
 use Rattle.std.proofs.lemmas.List.{length-drop, take_all}
 use Rattle.std.proofs.Transfers.{drop-appended}

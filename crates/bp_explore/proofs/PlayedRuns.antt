@@ -1,4 +1,4 @@
--- What is answered once a run was played.
+-- The result once a run was played.
 use Rattle.bp_explore.proofs.Common.{◌≡◌, ◌++◌, ◌∷◌, [], true, List, ℕ, Bool, Option, sym, subst, rules, Program, Flat, Call, granted_calls, is_granted, SetupOf, IsFirst, IsExploration, IsPlayed, IsInBound}
 use Rattle.std.proofs.lemmas.List.Elements.{filter-append}
 use Rattle.bp_explore.specs.declared.explorations.Ending.{Ending}

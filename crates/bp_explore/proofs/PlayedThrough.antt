@@ -1,4 +1,4 @@
--- What is answered once a search for listed steps has ended.
+-- The result once a search for listed steps has ended.
 use Rattle.bp_explore.proofs.Common.{◌<◌, ◌+◌, ℕ, List, [], Option, refl, sym, subst, inl, inr, arith, map, Program, Flat, EachHasRoom, IsWithin, configuration_after, SetupOf, start, history_is_run, ListedSteps, CanMake, MakesFrom, ends, IsInBound, NodeOf, HasMade, HaveFewer, IsMostMade}
 use Rattle.bp_explore.specs.declared.explorations.RunThrough.{RunThrough}
 use Rattle.bp_explore.specs.declared.explorations.ThroughEnding.{ThroughEnding}

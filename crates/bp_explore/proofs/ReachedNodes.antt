@@ -1,4 +1,4 @@
--- A node that a step from a reached node leads to is reached.
+-- A node to which a step from a reached node leads is reached.
 use Rattle.bp_explore.proofs.Common.{◌≡◌, length, Option, None, Some, refl, ap, sym, ◌∙◌, subst, ◌<◌, ◌≤◌, ◌+◌, ◌&&◌, nat_le, ℕ, Bool, true, cond, List, [], ◌∷◌, ◌++◌, inl, inr, arith, slice_get, map, option_map, rules, length-map, slice_get-map, cases_lt, Program, ShowsStack, StandsFor, StepsAlike, bits_of, Flat, Configuration, effect, Moves, stack_of, reply_of, reply_on_stack, reply_to_effect, configuration_after_call, IsRun, first_thread, contexts_opened, count_with, IsCountOf, SetupOf, start, Fits, threads, Call, Reply, Stopped, Full, Stepped, ActivationRecord, Transition, EachHasRoom, HasRoom, IsTransitionOn, starts, counts_more, is_step, step_moves, first_step, ended, move_keeps, one_move, on_stack, StateOf, first_stack_of, Shows, ListedSteps, MakesFrom, IsReached, AreReached, StayReached, IsTaken, level_with, IsLed, IsStep, Step, Stays, Fails, Leads}
 use Rattle.bp_flat.specs.Steps.{bits_from}
 use Rattle.bp_machine.specs.declared.calls.Outcome.TheVariants.{Clean}

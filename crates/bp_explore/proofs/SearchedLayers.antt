@@ -1,4 +1,4 @@
--- How a search goes from layer to layer, and what is known after each.
+-- A search from layer to layer, and its invariant after each.
 use Rattle.bp_explore.proofs.Common.{◌≡◌, ◌<◌, ◌≤◌, ℕ, Bool, true, inl, inr, ◌+◌, List, [], ◌∷◌, length, Option, None, Some, refl, sym, ◌∙◌, subst, arith, slice_get, map, unwrap_or, cases_lt, slice_get_within, Program, StepsAlike, Flat, Instruction, SetupOf, threads, start, count_of_none, within_more, stacks_at_start, AreLiveFrom, StateOf, Shows, ListedSteps, CanMake, ends, IsInBound, BeginsAt, HasMade, HasNeither, HasNeitherBelow, IsExhausted, IsReached, AreReached, StayReached, AreAtMost, IsClosed, IsExplored, IsGrown}
 use Rattle.bp_explore.specs.States.{NodeOf as Node}
 use Rattle.bp_explore.proofs.Growth.{at_most_layered, before, opened_small}

@@ -1,4 +1,4 @@
--- Where all was explored, a run ends where a node is that has made as many of the listed steps.
+-- If everything was explored, a run ends at a node that has made as many of the listed steps.
 use Rattle.bp_explore.proofs.Common.{◌≡◌, ◌⊎◌, ℕ, ◌+◌, ◌<◌, ◌≤◌, Bool, true, false, List, [], ◌∷◌, length, Option, None, Some, refl, ap, sym, ◌∙◌, subst, inl, inr, arith, slice_get, map, slice_get_within, Program, StepsAlike, StandsFor, Configuration, Flat, Call, EachHasRoom, IsDeadlocked, contexts_opened, SetupOf, threads, start, opened, opened_more, least, move_keeps, thread_below, stacks_at_start, ListedSteps, MakesFrom, CanMake, IsReachable, AreLiveFrom, Shows, HaveFewer, IsStep, Step, level_with, IsSeen, IsClosed}
 use Rattle.bp_machine.specs.Histories as reports
 use Rattle.bp_explore.specs.States.{NodeOf as Node}

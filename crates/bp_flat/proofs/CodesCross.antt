@@ -1,4 +1,4 @@
--- That codes may be sent to other threads and shared among them, in steps that `search` can take.
+-- Codes may be sent to other threads and shared among them, in steps that `search` can take.
 use denote.Param.Send.{IsSend, IsSync, sendable}
 use Rattle.std.proofs.Crossing.{crosses}
 use Rattle.bp_syntax.proofs.TreesCross.{checked_send, checked_sync}

@@ -1,4 +1,4 @@
--- What the proofs of this crate name of std, of the crates below and of its own definitions.
+-- The imports of this crate's proofs: from std, the crates below and its own definitions.
 pub use Rattle.bp_flat.specs.Flat.{Flat, Instruction, heading_named}
 pub use Rattle.bp_flat.specs.InstrEffects.{bits_of, store_of}
 pub use Rattle.bp_flat.specs.Moves.{Blocks, Fails, Frame, Leaves, StatementEffect, Store, after_assignment, assignment_effect, binding, chain, decision_value, effect, expression_value, expression_values, lookup, procedure_named, statement_effect}

@@ -1,4 +1,4 @@
--- A place lies in the procedure whose number is that of the ends before it.
+-- A place is in the procedure whose number is the number of ends before it.
 use Rattle.bp_flat.proofs.Common.{◌≡◌, refl, sym, ap, ◌∙◌, ℕ, zero, suc, ◌+◌, ◌<◌, ◌≤◌, List, [], ◌∷◌, length, map, take, drop, get_or, arith, add-one, drop-cons, ◌++◌, Option, None, Some, slice_get, take_more, Name, Block, Done, Then, Statement, Skips, GoesTo, Returns, Assigns, Branches, Loops, Asserts, Assumes, Prints, Calls, Procedure, chain, Place, place, places, places_in, places_of, start_of_block}
 
 -- Items of lists: the i-th and those after it, all that were taken, and lists that differ at one place.

@@ -1,4 +1,4 @@
--- Where a code stands for a program, they step alike.
+-- If a code stands for a program, they step alike.
 use Rattle.bp_flat.proofs.Common.{◌≡◌, refl, sym, ap, subst, ◌∙◌, ℕ, Bool, false, cond, List, [], ◌∷◌, ◌++◌, Option, length, arith, length-map, Name, Block, Then, Statement, Skips, GoesTo, Returns, Assigns, Branches, Loops, Asserts, Assumes, Prints, Calls, Procedure, Program, binding, expression_value, expression_values, decision_value, after_assignment, chain, Frame, StatementEffect, effect, statement_effect, assignment_effect, Store, Leaves, Fails, Blocks, Instruction, Flat, Bits, Activation, InstructionEffect, bits_from, step_to, instruction_effect, step, with_slots, formula_values, StandsFor, Remains, Does, CarriesOut, valuation_of, places_of, variables, named_store, ShowsStack, SameEffect, StepsAlike}
 
 -- the bits of a call's arguments show the new frame's locals

@@ -1,4 +1,4 @@
--- What the proofs of this crate name of std, of the crates below and of its own definitions.
+-- The imports of this crate's proofs: from std, the crates below and its own definitions.
 pub use Rattle.bp_language.specs.Ast.{Asserts, Assigns, Assumes, Block, Branches, Calls, Choose, Constant, Decide, Decision, Done, Expression, GoesTo, Loops, Name, Negation, Operation, Prints, Procedure, Program, Returns, Skips, Statement, Then, Variable, procedure_named, variables}
 pub use Rattle.bp_language.specs.Grammar.{Derives, IsAnd, IsAnyExprs, IsAnyNames, IsAtom, IsDecider, IsDecls, IsEq, IsExpr, IsExprs, IsForm, IsNames, IsOr, IsProc, IsProcs, IsStmt, IsStmts, IsUn, IsXor, assertion, assignment, assumption, brackets, branch, call, conjunction, constant_0, constant_1, decl, difference, disjunction, equality, exclusion, first_name, first_word, implication, jump, labelled, loop, more_decls, more_exprs, more_names, more_procs, more_stmts, name_of, negation, no_decl, no_proc, of_and, of_atom, of_eq, of_or, of_un, of_xor, one_expr, one_name, one_stmt, printing, proc, program, returning, skip, unlabelled, variable}
 pub use Rattle.bp_language.specs.NamesIn.{EachName, NamesInBlock, NamesInDecision, NamesInExpression, NamesInExpressions, NamesInLabel, NamesInProcedure, NamesInProcedures, NamesInProgram, NamesInStatement}

@@ -1,4 +1,4 @@
--- What each lawful program keeps.
+-- Properties of each lawful program.
 use Rattle.bp_language.proofs.Common.{◌⊎◌, List, [], ◌∷◌, ◌++◌, inl, inr, ◌≡◌, ℕ, ◌<◌, length, Option, refl, subst, arith, ◌≢◌, ◌≤◌, Bool, true, false, get_or, map, None, Some, rules, ∥∥₁_elim, le_prop, cases_lt, Name, Block, Statement, Assigns, Procedure, Program, Expression, Skips, GoesTo, Returns, Branches, Loops, Asserts, Assumes, Prints, Calls, variables, procedure_named, Token, IsNames, IsForm, skip, jump, returning, assignment, branch, loop, assertion, assumption, printing, call, IsStmt, labelled, unlabelled, IsStmts, one_stmt, more_stmts, proc, IsProcs, no_proc, more_procs, Derives, program, IsTextOf, HasText, MAX_PROCEDURES, MAX_GLOBALS, MAX_OWN_NAMES}
 use Rattle.std.proofs.lemmas.List.{length-map}
 use Rattle.std.proofs.lemmas.Option.{slice_get-get_or}

@@ -1,4 +1,4 @@
--- The names in a program are spelled by its tokens, and no token is longer than its text.
+-- The names in a program are those of its tokens, and no token is longer than its text.
 use Rattle.bp_language.proofs.Common.{◌≡◌, List, [], ◌∷◌, Option, None, Some, refl, ℕ, ◌≤◌, ◌++◌, length, arith, take, drop, subst, length-drop, length-take, rules, ∥∥₁_elim, le_prop, Name, Expression, Constant, Variable, Negation, Operation, Decision, Choose, Decide, Block, Done, Then, Statement, Skips, GoesTo, Returns, Assigns, Branches, Loops, Asserts, Assumes, Prints, Calls, Procedure, Program, EachName, NamesInExpression, NamesInExpressions, NamesInDecision, NamesInLabel, NamesInBlock, NamesInStatement, NamesInProcedure, NamesInProcedures, NamesInProgram, Token, kind_of, Lexeme, IsCut, ends, fit, open_brace, bad_byte, tokens_of, with_token, name_of, IsNames, one_name, more_names, IsAnyNames, IsExpr, of_or, implication, IsOr, of_xor, disjunction, IsXor, of_and, exclusion, IsAnd, of_eq, conjunction, IsEq, of_un, equality, difference, IsUn, negation, of_atom, IsAtom, constant_0, constant_1, variable, brackets, IsExprs, one_expr, more_exprs, IsAnyExprs, IsDecider, IsForm, skip, jump, returning, assignment, branch, loop, assertion, assumption, printing, call, IsStmt, labelled, unlabelled, IsStmts, one_stmt, more_stmts, decl, IsDecls, no_decl, more_decls, IsProc, proc, IsProcs, no_proc, more_procs, Derives, first_word, first_name, TokenKind, IsTextOf, HasText, TEXT_LIMIT}
 use Rattle.bp_language.specs.declared.tokens.TokenKind.TheVariants as kind
 

@@ -1,4 +1,4 @@
--- Each name in a program is spelled as a name, and what is spelled so holds no line feed.
+-- Each name in a program is spelled as a name, and such a text holds no line feed.
 use Rattle.bp_language.proofs.Common.{◌≡◌, Bool, true, false, ◌&&◌, refl, ℕ, List, take, Option, Some, ◌≢◌, not, cond, nat_eq, bytes_eq, [], ◌∷◌, is_some, All, inl, inr, sym, ap, subst, ◌∙◌, arith, rules, false≢true, ∥∥₁_elim, Name, Program, Token, fits, kind_of, AllReal, Lexeme, IsCut, ends, fit, open_brace, bad_byte, tokens_of, with_token, is_word_byte, is_braced_byte, is_braced_rest, constants, symbols, long_symbols, reserved_words, word_kind, IsSpelled, TokenKind, NamesInProgram, IsTextOf, HasText}
 use Rattle.std.proofs.Math.Bool.{Bool-set}
 use Rattle.std.proofs.lemmas.List.Elements.{All-nil, All-cons}

@@ -1,4 +1,4 @@
--- What the proofs of this crate name of std, of the crates below and of its own definitions.
+-- The imports of this crate's proofs: from std, the crates below and its own definitions.
 pub use Rattle.bp_flat.proofs.SlotsOfNames.{SameHeading, formals_of_procedure, heading_of_procedure}
 pub use Rattle.bp_flat.specs.Flat.{Flat, Heading, Instruction, Print, heading_named, instruction_kind}
 pub use Rattle.bp_flat.specs.InstrEffects.{bits_of, effect_of, store_of}

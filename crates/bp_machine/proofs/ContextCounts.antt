@@ -1,4 +1,5 @@
--- How many contexts a list of threads needs: one for each thread that differs from the one before it.
+-- The number of contexts of a list of threads: one for each thread that differs from the one before
+-- it.
 use Rattle.bp_machine.proofs.Common.{◌≡◌, ◌↔◌, IsTrue, ℕ, ◌+◌, ◌≤◌, ◌==◌, Bool, true, false, cond, nat_le, List, [], ◌∷◌, ◌++◌, length, Option, None, Some, refl, ap, sym, ◌∙◌, subst, arith, concat, nat_tests, ContextCount, EachIs, EachOfOne, IsWithin, IsLeastWithin, last_thread, contexts_opened, used_with, count_with, IsCountOf}
 
 -- where these threads follow the thread l

@@ -1,4 +1,4 @@
--- Deadlocks grant nothing, and how the threads are looked through for one.
+-- Deadlocks grant nothing, and how the threads are searched for one.
 use Rattle.bp_machine.proofs.Common.{◌≡◌, ◌&&◌, Bool, true, false, cond, List, [], ◌∷◌, Some, refl, ℕ, ◌+◌, ◌<◌, ◌≤◌, ◌++◌, None, ap, sym, ◌∙◌, subst, arith, inl, inr, zero, suc, drop, length, ◌⊎◌, get_or, unwrap_or, IsTrue, ◌↔◌, slice_get, rules, cases_lt, append-nil, get_or_past, slice_get_cases, Block, Program, regrouped, Valuation, Frame, is_call, effect, Configuration, ShowsFrame, ShowsStack, Full, Stopped, is_full, reply_to_effect, reply_on_stack, is_granted, stack_of, reply_of, configuration_after_step, configuration_after, granted_calls, IsLegalAfter, IsLegal, is_blocked, waits, is_left, has_frames, IsDeadlocked, Call, Reply, SetupOf, threads, State, StandsAfter, GuestThreadOf, top_of, activation_of, activations, ActivationRecord}
 use Rattle.bp_machine.proofs.HistoryWithCall.{configuration_after-append}
 

@@ -1,4 +1,5 @@
--- The verdict of a call is the machine's answer, and the state after it stands after the longer history.
+-- The verdict of a call is the machine's reply, and the state after it stands after the longer
+-- history.
 use Rattle.bp_machine.proofs.Common.{◌≡◌, suc, ◌+◌, ◌≤◌, Bool, true, false, List, [], ◌∷◌, length, refl, ap, arith, Block, Procedure, Program, Valuation, Frame, is_call, StatementEffect, Leaves, Misses, effect, Bits, Activation, valuation_of, ShowsStack, SameEffect}
 
 module _ (t : Program) where

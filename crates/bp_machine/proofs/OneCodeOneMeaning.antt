@@ -1,5 +1,5 @@
--- Programs for which one code stands have the same legal histories and printed rows: each of them
--- does what the code does.
+-- Programs of one code have the same legal histories and printed rows: each of them does what the
+-- code does.
 use Rattle.bp_machine.proofs.Common.{◌≡◌, ◌≢◌, ℕ, zero, suc, ◌+◌, ◌<◌, ◌==◌, ◌&&◌, nat_le, not, Bool, true, false, cond, List, [], ◌∷◌, ◌++◌, length, map, get_or, Option, None, Some, refl, ap, sym, ◌∙◌, subst, arith, inl, inr, slice_get, slice_set, option_map, unwrap_or, rules, option_to_list, get_or-set_same, get_or-set_other, get_or_past, cases_lt, nat_tests, Block, Procedure, Program, Frame, Configuration, is_call, first_stack, procedure_named, StatementEffect, Leaves, Blocks, Misses, effect, after_effect, Flat, Instruction, Bits, Activation, InstructionEffect, bits_from, step, StandsFor, Does, valuation_of, places_of, ShowsStack, SameEffect, Reply, Stopped, Ended, NoContexts, Full, Blocked, Failed, Stepped, MAX_FRAMES, is_granted, stack_of, reply_to_effect, reply_on_stack, reply_of, configuration_after_step, configuration_after_call, configuration_after, IsLegalAfter, IsLegal, first_thread, activations, SetupOf, start, entries_fault, entry_fault, Fits, rows_of_call, rows_after, printed_rows}
 use Rattle.bp_flat.specs.Moves.{Fails}
 use Rattle.bp_flat.specs.Flat.{Call}

@@ -1,4 +1,4 @@
--- What a session that stands after a history answers: a call, a refusal, and its accessors.
+-- The results of a session that stands after a history: a call, a refusal, and its accessors.
 use Rattle.bp_machine.proofs.Common.{◌≡◌, ℕ, ◌+◌, ◌<◌, ◌||◌, nat_le, Bool, true, false, List, [], ◌∷◌, ◌++◌, length, Option, Some, is_some, refl, ap, sym, ◌∙◌, subst, arith, cond, add-one, zero, suc, ◌≤◌, None, get_or, ◌⊎◌, inl, inr, ◌^◌, slice_get, rules, ∥∥₁_map, slice_get_within, slice_get_cases, Name, Program, bits_of, Bits, Flat, StandsFor, valuation_of, StepsAlike, Call, Transition, Judged, ChoicesOf, choice_bit, IsBitOfCall, configuration_after, is_finished, ends_with_last, calls_of_thread, open_below, SetupOf, threads, IsInRange, State, MachineOf, StandsAfter, GuestThreadOf, SessionOf, Stands, IsInOrder, HasOpenLine, IsNextCall, IsAskRefusal, choices_of, state_after, is_over, IsCallTransition, AreDrawn, IsKeptBit, IsJudged, IsKeptRefusal, session_of}
 use Rattle.std.proofs.Common.{length-set}
 use Rattle.std.specs.Option.{option_map}

@@ -1,4 +1,4 @@
--- What the proofs of this crate name of std, of the crates below and of its own definitions.
+-- The imports of this crate's proofs: from std, the crates below and its own definitions.
 pub use Rattle.bp_messages.specs.ReplayLines.{printed_line, row_line}
 pub use Rattle.bp_messages.specs.Summaries.{names_text, unreached_text, wait_objects, waits_after, waits_text}
 pub use Rattle.bp_text.proofs.Givings.{IsLeft, and_then, written_at_end}

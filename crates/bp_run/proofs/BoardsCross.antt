@@ -1,4 +1,4 @@
--- That boards may be shared among threads.
+-- Boards may be shared among threads.
 use denote.Param.Send.{IsSend, sendable, IsSync, recorded_send, struct_send, view_send}
 use Rattle.bp_run.proofs.Common.{crosses}
 use denote.RattleType.{RattleType}

@@ -1,4 +1,4 @@
--- What the proofs of this crate name of std, of the crates below and of its own definitions.
+-- The imports of this crate's proofs: from std, the crates below and its own definitions.
 pub use Rattle.bp_language.specs.Ast.{Program}
 pub use Rattle.bp_machine.proofs.HistoryWithCall.{last_finishes, open_at_start, open_lines-append}
 pub use Rattle.bp_machine.specs.Histories.{HasSeededBits, IsLegal, IsReport, finished_by, is_finished, is_last, open_lines}

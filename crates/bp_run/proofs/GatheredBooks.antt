@@ -1,4 +1,4 @@
--- What a desk's books come to once its seats and its tap are joined with it.
+-- The books of a desk once its seats and its tap are joined with it.
 use Rattle.bp_run.proofs.Common.{◌≡◌, Bool, true, false, sym, ◌∙◌, ap, ℕ, ◌+◌, ◌*◌, ◌<◌, ◌≤◌, ◌^◌, cond, List, [], ◌∷◌, ◌++◌, None, is_some, subst, arith, length-append, ◌↔◌, IsTrue, length, Option, Some, rules, Call, is_finished, finished_by, open_lines, IsLegal, IsReport, HasSeededBits, SessionOf, Stands, IsNextCall, threads, Fits, IsInRange, SetupOf, Report, open_at_start, open_lines-append, IsInBooks, SeatOf, TapOf, calls_of_seats, open_seats, AreOnePerThread, AreSeatsOf, IsGathered, TellsEarly}
 use Rattle.std.proofs.Math.Nat.{mul-le-mul_left, mul-le-mul_right}
 use Rattle.bp_flat.specs.Flat.{Flat}

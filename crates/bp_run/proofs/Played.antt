@@ -1,4 +1,4 @@
--- What playing a setup comes to, from what the stage, the gathering and the rest promise.
+-- The result of playing a setup, from the promises of the stage, the gathering and the rest.
 use Rattle.bp_run.proofs.Common.{◌≡◌, ℕ, Bool, true, List, [], ◌∷◌, ◌++◌, Option, Some, None, is_some, refl, sym, ◌∙◌, ap, subst, ◌<◌, ◌≤◌, ◌==◌, zero, suc, ◌+◌, false, cond, length, map, arith, length-append, rules, false≢true, flat_map-append, count_by, range_with_len, sum_by-cons, length-map-range_with_len, Given, HasTaken, AppendsAll, AppendsPart, Program, Call, SetupOf, Report, open_lines, IsTakenOf, SeatOf, AreNewSeats, new_seat, TapOf, AreOnePerThread, IsGathered, TellsEarly, One, head_text, call_line, end_line, trace_text, lines_of, IsRestScribed, IsPlayedFrom, IsEarly, IsCutTrace}
 use Rattle.std.proofs.lemmas.List.{append-nil, length-map}
 use Rattle.std.proofs.lemmas.Option.{same_Some}

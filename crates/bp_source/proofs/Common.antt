@@ -1,4 +1,4 @@
--- What the proofs of this crate name of std, of the crates below and of its own definitions.
+-- The imports of this crate's proofs: from std, the crates below and its own definitions.
 pub use Rattle.bp_flat.proofs.ProceduresOfPlaces.{drop_item, ends, ends_more, few_ends, procedure_of, starts}
 pub use Rattle.bp_flat.specs.Moves.{chain}
 pub use Rattle.bp_flat.specs.StandsFor.{Place, places, places_in, places_of, start_of_block}

@@ -1,4 +1,4 @@
--- What decides the assertions of a program's places is what its statements are decided by.
+-- The deciders of the assertions of a program's places are those of its statements.
 use Rattle.bp_source.proofs.Common.{◌≡◌, ◌||◌, ℕ, List, [], ◌∷◌, bytes_eq, map, ap, refl, ◌∙◌, ◌+◌, ◌<◌, ◌≤◌, zero, suc, ap₂, ◌++◌, Option, None, length, drop, get_or, arith, ◌≢◌, ◌&&◌, Bool, true, false, codes, ◌==◌, not, cond, take, OnOk, Result, fold, eq-eqb, rules, map-append, onto_first, concat, rest_left, regrouped, all_added, block_of, statement_of, depth, statement_depth, Name, Block, Done, Then, Statement, Skips, GoesTo, Returns, Assigns, Branches, Loops, Asserts, Assumes, Prints, Calls, Decision, Procedure, chain, Place, places, places_in, places_of, drop_item, is_among, is_named, decision_in, next_decision, block_decisions, inner_decisions, reading_of, qualified, is_braced_after, piece_size, pieces}
 use Rattle.std.specs.Borrow.{Bor}
 use Rattle.std.proofs.lemmas.Result.{on_ok_weaker}

@@ -1,4 +1,4 @@
--- Where a brace begins a name, and where it begins none.
+-- When a brace begins a name, and when it does not.
 use Rattle.bp_syntax.proofs.Common.{◌≡◌, ℕ, zero, suc, ◌+◌, ◌-◌, ◌<◌, ◌≤◌, ◌≢◌, Bool, true, false, cond, List, [], ◌∷◌, length, take, drop, Option, Some, refl, subst, arith, drop-drop, slice_get, get_or, nat_eq, nat_lt, Bor, is_some, IfSome, rules, option_copied, option_eq, slice_get_past, slice_get_read, list_all, false≢true, ltb-true, ltb-false, both_right, is_braced_byte, is_braced_rest, fits, run, IsNameless}
 use Rattle.bp_language.specs.declared.tokens.LexemeKind.TheVariants as lexeme
 

@@ -1,4 +1,4 @@
--- What the proofs of this crate name of std, of the crates below and of its own definitions.
+-- The imports of this crate's proofs: from std, the crates below and its own definitions.
 pub use Rattle.bp_language.proofs.GrownLists.{regrouped}
 pub use Rattle.bp_language.proofs.SpelledNames.{all_real, both_left, both_right, on_one_line, spelled_names}
 pub use Rattle.bp_language.specs.Ast.{Asserts, Assigns, Assumes, Block, Branches, Calls, Choose, Constant, Decide, Decision, Done, Expression, GoesTo, Loops, Name, Negation, Operation, Prints, Procedure, Program, Returns, Skips, Statement, Then, Variable, block_size, procedures_size, size}

@@ -1,4 +1,4 @@
--- A text has one answer: its tree, or its first fault.
+-- A text has one result: its tree, or its first fault.
 use Rattle.bp_syntax.proofs.Common.{◌≡◌, ℕ, ◌≤◌, List, [], ◌∷◌, ◌++◌, length, Some, None, Result, Ok, Err, refl, sym, ap, subst, ◌∙◌, ⊎_elim, arith, ◌≢◌, ◌⊎◌, ◌<◌, inl, inr, MatchResult, IsErrAnd, rules, cases_lt, Program, regrouped, TEXT_LIMIT, Token, tokens_of, HasTokens, HasBadByte, HasOpenName, AllReal, Derives, IsShallow, IsSparse, IsTextOf, all_real, IsScanFault, first_too_deep, first_too_many, Opens, BreaksAt, HasSyntaxFault, IsRefusal, read_fault_number, whole_program, parse_result, Got, place_or, IsParseFault, ReadFault}
 use Rattle.bp_syntax.specs.declared.faults.ReadFault.TheVariants as fault
 use Rattle.bp_syntax.proofs.OneCut.{one_cut}

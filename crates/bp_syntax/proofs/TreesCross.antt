@@ -1,4 +1,4 @@
--- That lawful trees may be sent to other threads and shared among them.
+-- Lawful trees may be sent to other threads and shared among them.
 use denote.Param.Send.{IsSend, IsSync, sendable}
 use Rattle.std.proofs.Crossing.{crosses}
 use Rattle.bp_language.proofs.exprs.Sub.TheLaws.TheKnot.{send-Sub, send-Expr, sync-Sub, sync-Expr}

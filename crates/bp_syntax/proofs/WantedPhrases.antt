@@ -1,4 +1,4 @@
--- What the parser wants, as phrases of the grammar.
+-- The phrases of the grammar that the parser expects.
 use Rattle.bp_syntax.proofs.Common.{◌≡◌, ℕ, List, refl, subst, ◌<◌, ◌+◌, false, Option, Some, bytes_eq, drop, get_or, length, map, [], ◌∷◌, ◌++◌, None, arith, rules, lookup, Name, Expression, Operation, Decision, Block, Done, Then, Statement, Procedure, Program, Op, regrouped, Token, IsReal, TokenKind, name_of, IsNames, one_name, more_names, IsAnyNames, IsExpr, of_or, implication, IsOr, of_xor, disjunction, IsXor, of_and, exclusion, IsAnd, of_eq, conjunction, IsEq, of_un, equality, difference, IsUn, IsExprs, one_expr, more_exprs, IsAnyExprs, IsDecider, IsForm, IsStmt, IsStmts, one_stmt, more_stmts, IsDecls, IsProcs, first_word, first_name, spelling, some_token, Wanted, Complete, WordThen, NameThen, MoreNames, AnyNamesThen, UnThen, MoreOperands, MoreImplied, MoreExprs, AnyExprsThen, DeciderThen, FormThen, FormAfter, StmtThen, StmtAfter, MoreStmts, MoreDecls, MoreProcs, NamesThen, ExprThen, ExprsThen, OperandThen, operator, Precedence, Equality, Conjunction, Exclusion, Disjunction}
 use Rattle.std.proofs.lemmas.List.{drop_more}
 use Rattle.bp_language.specs.declared.exprs.Op.TheVariants as op

@@ -1,4 +1,4 @@
--- What the proofs of this crate name of std, of the crates below and of its own definitions.
+-- The imports of this crate's proofs: from std, the crates below and its own definitions.
 pub use Rattle.bp_source.specs.Names.{pieces_left}
 pub use Rattle.bp_tasks.specs.NamedBits.{AreGlobals, NamedBitOf, are_named, are_named_bits, bit_of, bits_by_name, has_global, is_named_in, is_set, named_bit, named_bit_in, named_bits, values_of}
 pub use Rattle.bp_tasks.specs.declared.names.NamedBit.{NamedBit}

@@ -1,4 +1,4 @@
--- What a walk over named bits says of their values.
+-- The values of named bits, by a walk over them.
 use Rattle.bp_tasks.proofs.Common.{◌≡◌, ◌||◌, Bool, List, [], ◌∷◌, ap, map, refl, ◌∙◌, ◌++◌, ℕ, suc, length, sym, Bor, Option, Some, None, NamedBitOf, named_bit_in}
 use Rattle.std.specs.List.{list_any}
 use Rattle.bp_text.proofs.PartsOfTexts.{rest_left}

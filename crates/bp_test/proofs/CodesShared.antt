@@ -1,4 +1,4 @@
--- That setups and plans may be shared among threads, in steps that `search` can take.
+-- Setups and plans may be shared among threads, in steps that `search` can take.
 use denote.Param.Send.{IsSync, sendable}
 use Rattle.bp_test.proofs.Common.{crosses}
 use Rattle.bp_machine.specs.contracts.setups.Setup as Setup

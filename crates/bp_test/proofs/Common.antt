@@ -1,4 +1,4 @@
--- What the proofs of this crate name of std, of the crates below and of its own definitions.
+-- The imports of this crate's proofs: from std, the crates below and its own definitions.
 pub use Rattle.bp_flat.specs.Flat.{Flat}
 pub use Rattle.bp_flat.specs.StandsFor.{Place, places_of}
 pub use Rattle.bp_language.specs.Ast.{Program}

@@ -1,4 +1,4 @@
--- How many runs used few contexts, and the least numbers of them that this many runs did not exceed.
+-- The number of runs that used few contexts, and the least numbers that n runs did not exceed.
 use Rattle.bp_test.proofs.Common.{◌≡◌, ◌<◌, ◌≤◌, ◌+◌, ◌/◌, ◌^◌, ◌-◌, ℕ, min, Bool, true, false, cond, List, [], ◌∷◌, length, refl, ap, sym, ◌∙◌, subst, arith, inl, inr, if◌then◌else◌, ◌==◌, nat_lt, count_by, slice_index_or, rules, cases_lt, nat_tests, get_or_past, sum_by-cons, count_by-le-length, SetupOf, Tally, within_contexts, contexts_with, IsLeastFor, AreContextsUsed, MadeRun, using_contexts, IsCounted}
 use Rattle.std.specs.Int.{div_ceil}
 use Rattle.bp_test.specs.declared.tallies.ContextsUsed.{ContextsUsed}

@@ -1,4 +1,4 @@
--- How many keys of a list differ, and how many are there once, by the same keys in order.
+-- The number of different keys of a list, and of those that occur once, by the same keys in order.
 use Rattle.bp_test.proofs.Common.{◌≡◌, ◌≢◌, ◌⊎◌, ◌<◌, ◌≤◌, ◌+◌, ◌-◌, ℕ, zero, suc, cond, Bool, true, false, not, ◌||◌, ◌&&◌, List, length, take, drop, refl, ap, sym, ◌∙◌, subst, arith, ◌==◌, count_by, slice_index_or, nat_eq, eqb-true, rules, Contains-permutation, IsPermutation-sym, sum_by-IsPermutation, IsDistinct-from_apart, nat_tests, get_or-take, get_or-drop, length-take, length-drop, take_all, drop_all, get_or_default, sum_by-take-drop, sum_by-drop_more, sum_by-le, sum_by_more, get_or-le-sum_by, alone_before, count_of, is_alone}
 use Rattle.std.specs.List.{All, Contains, dedup}
 use Rattle.std.specs.List.Sorted.{IsNonDecreasing, IsPermutation, IsStrictlyIncreasing}

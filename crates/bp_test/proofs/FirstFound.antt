@@ -1,4 +1,4 @@
--- What the first found run of some runs says of more of them, and of a test.
+-- The first found run of some runs, with more of them, and in a test.
 use Rattle.bp_test.proofs.Common.{◌≡◌, ℕ, suc, ◌+◌, ◌<◌, ◌≤◌, ◌^◌, Bool, true, List, [], ◌∷◌, ◌++◌, length, Option, None, Some, refl, ap, sym, ◌∙◌, subst, arith, ◌-◌, false, append-nil, Result, Ok, MatchOption, max, slice_index_or, is_some, IfSome, rules, length_push, Program, Flat, Call, Outcome, Clean, SetupOf, outcome_of, is_failure, FailsAt, setup_of_run, found_by, found_in, IsCleanRun, AreCleanRuns, IsFirstFound, IsFoundRun, IsWrittenRun, IsFound, IsCutRun, HasFailed, start_of_block, IsBlock, AreBlocks, IsTalliedAfter, IsTallied, MadeRun, IsTally, Plan, Tally}
 use Rattle.std.proofs.Common.{length-append}
 use Rattle.std.proofs.Math.Nat.{mul-le-mul_right}

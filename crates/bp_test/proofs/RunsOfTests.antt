@@ -1,4 +1,4 @@
--- What a run adds to a test.
+-- The additions of a run to a test.
 use Rattle.bp_test.proofs.Common.{◌≡◌, ℕ, ◌+◌, ◌%◌, ◌^◌, Bool, true, false, ◌||◌, ◌&&◌, List, Option, Some, IfSome, refl, ap, sym, ◌∙◌, subst, IfNone, IsTrue, MatchOption, ◌↔◌, arith, rules, Program, Flat, Call, Clean, Report, IsDeadlocked, configuration_after, outcome_of, is_failure, IsReport, SetupOf, threads, Fits, SessionOf, Stands, FailsAt, HaveReturned, IsOver, is_sought, setup_of_run, IsSought, IsMadeRun, IsCleanRun, IsSoughtRun, Wait, IsRunKey, place_of, MarksGrow, Reaches, AreWaiting, made, Waiting}
 use Rattle.bp_machine.proofs.RealFailures.{within as within_contexts}
 use Rattle.bp_test.proofs.TallyLemmas.{run_key_without}

@@ -1,4 +1,4 @@
--- What a search for a smaller history ends with.
+-- The result of a search for a smaller history.
 use Rattle.bp_test.proofs.Common.{◌≡◌, ◌≤◌, ◌==◌, ℕ, false, length, refl, arith, Bool, true, cond, List, [], ◌∷◌, ap, sym, ◌∙◌, subst, ◌&&◌, zero, suc, ◌+◌, ◌++◌, None, map, rules, Program, Flat, SetupOf, setup_fault, Fits, IsInRange, Call, Reply, IsBoundedRun, IsHistoryOfSteps, HasBoundedRun, IsWithin, configuration_after, granted_threads, granted_calls, IsLegal, is_granted, outcome_or, outcome_of, IsReport, is_finished, open_below, IsLegalAfter, RunsAreHistories, HistoriesAreRuns, Report, Waiting, Wait, IsEnd, budgeted, DeadlocksAt, unseeded, IsDriven, IsNoMore, IsShrunk, IsShrunkOf, IsSearch, GoesOn}
 use Rattle.std.specs.Bool.{Decides}
 use Rattle.bp_test.specs.declared.shrinking.HistoryEnd.{HistoryEnd}

@@ -1,4 +1,4 @@
--- What the proofs of this crate name of std, of the crates below and of its own definitions.
+-- The imports of this crate's proofs: from std, the crates below and its own definitions.
 pub use Rattle.bp_text.specs.Formats.{AreAll, BreaksAt, EachFits, EitherFits, EndsNumber, FindsAfter, Fits, Format, HasNone, IsAt, IsBad, IsReadInOneWay, Lacks, SpanFits, Stops, lines_of, text_of, text_of_either}
 pub use Rattle.bp_text.specs.Formats.Format.{After, As, Before, Chain, Either, Letter, Line, Many, Number, Span, Then, Word}
 pub use Rattle.bp_text.specs.Lines.{Adds, AddsOneLine, IsInParts, IsOneLine, first_line, on_one_line, position_after}

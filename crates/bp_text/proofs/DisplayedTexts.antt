@@ -1,4 +1,4 @@
--- A text as it is displayed, byte by byte.
+-- A displayed text, byte by byte.
 use Rattle.bp_text.proofs.Common.{if◌then◌else◌, ◌≡◌, ◌==◌, ◌∙◌, ◌⊎◌, inl, inr, refl, sym, ap, ℕ, zero, suc, ◌+◌, ◌-◌, ◌<◌, ◌≤◌, Bool, true, false, List, [], ◌∷◌, ◌++◌, length, take, drop, get_or, add-one, drop-cons, arith, ◌/◌, ◌%◌, take_all, codes, flat_map, slice_index, take-suc, control_bytes, control_size, displayed, displayed_after, displayed_byte, HasNoControl, hex_digit, is_control, is_marked, string_byte, IsReadAs, ends, plain, marked, numbered}
 
 same_length : (left : ℕ) (text : List ℕ) → length (displayed_after left text) ≡ length text

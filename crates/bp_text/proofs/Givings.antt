@@ -1,4 +1,4 @@
--- How the texts that a sink is given add up.
+-- The texts given to a sink, added up.
 use Rattle.bp_text.proofs.Common.{◌≡◌, refl, ℕ, ◌+◌, ◌-◌, ◌<◌, ◌≤◌, List, ◌++◌, Option, length, take, drop, get_or, flat_map, sym, subst, arith, add-one, drop-cons, length-append, length-drop, [], Bool, false, Result, ◌∙◌, suc, rules, take-append-le, take-add, take-length, take-append-add, flat_map-append, Appends, Keeps, AppendsPart, AppendsAll, Writes, HasTaken, Given, IsFresh, result_of, IsBegun, IsCutShort, IsWritten, IsInParts}
 use Rattle.std.proofs.Common.{take-append-drop}
 use Rattle.std.proofs.lemmas.List.{append-nil, append_assoc}

@@ -1,4 +1,4 @@
--- Texts of parts: with one more part, and going on to all of them.
+-- Texts of parts: with one more part, and then all of them.
 use Rattle.bp_text.proofs.Common.{◌≡◌, ◌∙◌, ◌++◌, List, ap, append_assoc, append-nil, ◌+◌, ◌<◌, ℕ, zero, suc, [], ◌∷◌, Some, length, get_or, refl, sym, arith, ◌≢◌, ◌==◌, true, false, take, flat_map, fold, ◌⊎◌, inl, inr, ◌≤◌, subst, rules, get_or-append_seam, get_or_append_left, nil_from_length, flat_map_more, take_more, ext_get_or, slice_get_within, slice_get-get_or, get_or_from_slice_get, false≢true, cases_lt, Decides-eqb, concat, Adds, IsInParts}
 use Rattle.std.proofs.Common.{slice_get}
 use Rattle.std.proofs.lemmas.List.Folds.{concat-append}

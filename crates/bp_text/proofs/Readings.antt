@@ -1,4 +1,4 @@
--- Values of formats that are made of others, at the front of a text, and where there is none.
+-- Values of composed formats at the front of a text, or none.
 use Rattle.bp_text.proofs.Common.{MatchOption, Option, Bor, ◌≡◌, ◌≢◌, inl, inr, ℕ, length, length-append, ◌≤◌, arith, List, [], ◌∷◌, ◌++◌, refl, sym, ap, ◌∙◌, subst, rules, FindsAfter, Fits, Format, HasNone, IsAt, Lacks, text_of, After, As, Before, Chain, Either, Line, Many, Then, Word}
 use Rattle.bp_text.proofs.OneWay.{one_way}
 use Rattle.bp_text.proofs.PartsOfTexts.{regrouped}

@@ -1,4 +1,4 @@
--- What the proofs of this crate name of std, of the crates below and of its own definitions.
+-- The imports of this crate's proofs: from std, the crates below and its own definitions.
 pub use Rattle.bp_flat.specs.Moves.{Configuration}
 pub use Rattle.bp_language.specs.Ast.{Program}
 pub use Rattle.bp_language.specs.declared.limits.TheConstants.{TEXT_LIMIT}

@@ -1,4 +1,5 @@
--- The calls before the first line that is refused, and those before the refused call on it, are the longest beginning that is accepted.
+-- The calls before the first refused line, and those before the refused call on it, are the longest
+-- accepted beginning.
 use Rattle.bp_trace.proofs.Common.{◌≡◌, ℕ, zero, suc, ◌+◌, ◌-◌, ◌<◌, ◌≤◌, List, [], ◌∷◌, ◌++◌, length, take, drop, map, get_or, Some, ap, sym, ◌∙◌, subst, arith, inl, inr, length-append, length-drop, None, refl, ◌⊎◌, slice_get, take_more, take-append-drop, drop-drop, drop_at, AllByRecursion, both_added, regrouped, Program, Configuration, Call, configuration_after_call, configuration_after, configuration_after_calls, last_thread, SessionOf, Stands, PrintedRow, rows_of_call, rows_after, printed_rows, SetupOf, threads, start, setup_fault, MAX_THREADS, few_threads, ReplayFault, Version, IsBodyLineAt, HasNoBodyLine, IsRefusedAfter, IsCallRefusal, IsLineRefused, IsBodyRefusal, calls_text, HasHead, head_text, IsPlayable, IsBodyLine, IsCallFault, line_count, IsAccepted, IsLongestAccepted, HasRefusedCall}
 use Rattle.std.proofs.lemmas.List.{append-nil}
 use Rattle.std.proofs.Math.Seq.{drop-cons}

@@ -1,4 +1,5 @@
--- Two histories that may be played, each with something after it that no line of calls goes on with, have two texts; so a text has at most one refusal.
+-- Two histories that may be played, each followed by text that no line of calls continues, have two
+-- texts; so a text has at most one refusal.
 use Rattle.bp_trace.proofs.Common.{◌≡◌, ℕ, ◌<◌, List, [], ◌∷◌, ◌++◌, map, flat_map, refl, ap, sym, ◌∙◌, subst, ◌≢◌, ◌≤◌, ◌+◌, length, ◌⊎◌, inl, inr, length-append, arith, append-nil, None, Some, rules, AllByRecursion, regrouped, Program, Call, last_thread, MAX_THREADS, IsLegalAfter, open_lines, SetupOf, threads, setup_fault, Version, One, Two, Piece, calls_of_piece, calls_of_pieces, pieces_of, call_line, piece_line, calls_text, end_line, HasHead, head_lines, head_text, IsBodyLine, IsPlayable, counts_of, IsEndLine, HasOtherEnd, HasMoreAfter, IsRefusedAmong, HasNoNextLine, HasRefusedCall, IsRestRefused, IsTrace, line_count, Reaches, HasRefusedSetup, HasRefusedRest, IsReplayRefusal, ReplayFault, TEXT_LIMIT, entries_are_names, fits, few_threads, few_calls, range_of, MAX_TRACE, OneRefusal, RefusedIsNoTrace, BreaksAt, one_break, head}
 use Rattle.bp_trace.proofs.PiecesAreFewest.{piece_thread, last_is_thread, Alternate, pieces_alternate, pieces_threads, thread_of, pieces_whole, some_line}
 use Rattle.bp_trace.proofs.EndLineAt.{one_body_line, one_end_line, not_both}

@@ -1,4 +1,5 @@
--- A history that may be played is played call by call: its fronts may be, and the call after a front is refused by nothing.
+-- A history that may be played is played call by call: its prefixes may be, and the call after a
+-- prefix is not refused.
 use Rattle.bp_trace.proofs.Common.{◌≡◌, ℕ, ◌==◌, zero, suc, Bool, true, false, cond, List, [], ◌∷◌, ◌++◌, length, Option, None, Some, is_some, refl, ap, sym, ◌∙◌, ◌⊎◌, inl, inr, subst, arith, slice_get, append-nil, false≢true, nat_tests, regrouped, Program, Call, Answers, choice_bit, calls_of_thread, is_finished, configuration_after, granted_threads, IsAllowed, IsLegalAfter, IsBitOfCall, IsNextCall, given_bit, SetupOf, ReplayFault, IsPlayable, IsDue, IsCallFault, IsRefusedAmong}
 use Rattle.bp_trace.specs.declared.faults.Due.{Due}
 use Rattle.bp_trace.specs.declared.faults.ReplayFault.TheVariants as fault

@@ -1,4 +1,5 @@
--- Lines of schedules: what begins them, how long they are, which call they are of, and what a session that stands after them says.
+-- Lines of schedules: their beginnings, their lengths, their calls, and a session that stands after
+-- them.
 use Rattle.bp_trace.proofs.Common.{◌≡◌, ℕ, ◌+◌, ◌/◌, ◌%◌, ◌<◌, ◌≤◌, ◌^◌, List, [], ◌∷◌, ◌++◌, length, refl, ap, sym, ◌∙◌, arith, decimal, append_assoc, ◌*◌, length-append, ◌≢◌, ◌↔◌, IsTrue, Bool, true, Some, subst, Option, None, rules, decimal_digit, decimal_step, HasNone, IsAt, ends_at, regrouped, one_at, ScheduleLine, schedule_line, thread_field, line_text, bit_digit, IsLineAt, HasNoLine, schedule_text, line_of_call, lines_of_history, mul-le-mul_left, mul-le-mul_right, cases_lt, Program, Configuration, MAX_THREADS, Call, SetupOf, threads, IsInRange, IsLegal, Answers, reply_of, configuration_after, granted_threads, is_finished, IsAllowed, Reply, SessionOf, Stands, IsAskRefusal, AllBelow, all_below, legal_length, MAX_SCHEDULE, IsAfterFinish, IsRefusal, drive_fault_of, IsLineRefusal, DriveFault}
 use Rattle.bp_machine.specs.declared.calls.AskFault.{AskFault}
 use Rattle.bp_machine.specs.declared.calls.AskFault.TheVariants.{Memory}

@@ -1,4 +1,5 @@
--- Walks of a step relation that has at most one next state: of two that begin alike one goes on from the end of the other.
+-- Walks of a step relation that has at most one next state: of two that begin alike one continues
+-- from the end of the other.
 use Rattle.bp_trace.proofs.Common.{◌≡◌, ◌⊎◌, inl, inr, sym, subst, arith}
 
 pub data Walk {S : Type 0} (Next : S → S → Type 0) : S → S → Type 0 where

@@ -1,4 +1,4 @@
--- What the proofs of this crate name of std, of the crates below and of its own definitions.
+-- The imports of this crate's proofs: from std, the crates below and its own definitions.
 pub use Rattle.bp_flat.proofs.SlotsOfNames.{SameHeading, heading_of_procedure, value_of_slot}
 pub use Rattle.bp_flat.specs.Flat.{Flat, Heading, Instruction, heading_named}
 pub use Rattle.bp_flat.specs.InstrEffects.{bits_of, store_of}

@@ -1,4 +1,4 @@
--- A thread whose assertion failed still stands at it, and what is shown of it there is what was so.
+-- A thread whose assertion failed is still at it, and its facts there are those of the failure.
 use Rattle.bp_view.proofs.Common.{◌≡◌, ◌∙◌, ℕ, Bool, true, false, cond, List, [], ◌∷◌, ◌++◌, ap, refl, Some, drop, subst, sym, ◌&&◌, Option, unwrap_or, option_map, arith, rules, position_at, Program, Decision, Procedure, Name, Block, Done, Then, Statement, Skips, GoesTo, Returns, Assigns, Branches, Loops, Asserts, Assumes, Prints, Calls, Configuration, Fails, Leaves, effect, with_left, Frame, Store, frame_store, Valuation, is_call, procedure_named, from_label, StatementEffect, call_effect, jump_effect, statement_effect, decision_value, expression_values, place, start_of_block, Call, configuration_after_call, configuration_after_step, stack_of, configuration_after, configuration_after_calls, granted_threads, is_granted, IsAtFalseAssertion, IsRealFailure, is_full, reply_on_stack, reply_to_effect, SetupOf, Top, IsTop, finds_zero, is_blocked, waits, next_decision, variables_read, SourceStatement, IsSourceStatement, IsStatementAt, IsStatement, one_statement, Entry, named_entries, AreConditionFacts, AreStandingFacts, IsAtCondition, ShownCondition, AreAssertionFacts}
 use Rattle.bp_text.specs.declared.lines.Position.{Position}
 use Rattle.bp_machine.specs.declared.calls.Reply.TheVariants.{Failed, Full}

@@ -1,4 +1,4 @@
--- How the texts that a buffer is given add up.
+-- The texts given to a buffer, added up.
 use Rattle.bp_view.proofs.Common.{◌≡◌, ◌∙◌, ◌++◌, ℕ, List, [], ◌∷◌, false, length, append-nil, append_assoc, flat_map, refl, subst, sym, ap, arith, rules, both_added, list_text, piece_text, Buffer, Gains, Grown, HasTaken, IsEmpty, IsListed, IsLed, then, led}
 use Rattle.bp_text.specs.declared.pieces.Piece.{Piece}
 

@@ -1,4 +1,4 @@
--- What a call leaves of a thread's stack, and of the globals.
+-- A thread's stack and the globals after a call.
 use Rattle.bp_view.proofs.Common.{◌≡◌, ◌<◌, ℕ, true, false, nat_lt, [], refl, arith, if◌then◌else◌, ◌≤◌, ◌⊎◌, inl, inr, Bool, List, ◌∷◌, Option, length, unwrap_or, rules, nat_tests, cases_lt, get_or_past, get_or-set_same, Block, Procedure, Program, Frame, Configuration, StatementEffect, Leaves, effect, after_effect, call_effect, Valuation, Reply, configuration_after_call, configuration_after_step, stack_of, is_granted, arguments_of, changed, frame_changed, IsNext, IsSameCall}
 
 -- What a call changed at the top of a stack, by the depth of the stack after it.

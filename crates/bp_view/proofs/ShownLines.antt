@@ -1,4 +1,4 @@
--- The line of a call, where it has one, and nothing where it has none.
+-- The line of a call, if it has one, or nothing.
 use Rattle.bp_view.proofs.Common.{if◌then◌else◌, ◌≡◌, ◌∙◌, ◌+◌, ◌-◌, ◌<◌, ◌++◌, ℕ, suc, true, List, [], ◌∷◌, codes, nat_lt, take, length, ap, ap₂, refl, sym, arith, ◌≤◌, length-append, append-nil, ◌/◌, ◌%◌, ◌^◌, ◌==◌, ◌⊎◌, inl, inr, false, decimal, append_assoc, max, Bool, Option, None, ◌&&◌, subst, slice_set, rules, nat_tests, concat, cases_lt, replicate-append-replicate, spaces, at_right, at_left, regrouped, Program, Configuration, Call, is_granted, configuration_after, SetupOf, ViewFormat, ViewOptions, ShownCall, changes_by, AreCallFacts, IsReplayedCall, CallFilter, calls_at, calls_of, is_asked, is_seen, watched_names, shortened, front_text, tens_digits, tens_text, field_texts, mark_text, Widths, line_in, next_print_in, printed_in, filter_of, has_line, IsShownLine, IsViewLineIf, Gains, Grown, Buffer, ViewContext}
 use Rattle.std.proofs.lemmas.Fmt.{decimal_digit, decimal_step}
 use Rattle.std.proofs.Math.ListN.{length-replicate}

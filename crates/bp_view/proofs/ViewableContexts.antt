@@ -1,4 +1,5 @@
--- The context of a replayed trace is one of which a view can be made, and its view is one of the trace.
+-- The context of a replayed trace is one in which a view can be made, and its view is one of the
+-- trace.
 use Rattle.bp_view.proofs.Common.{◌≡◌, ℕ, List, Option, refl, subst, sym, suc, None, length, arith, rules, IsWritten, Adds, IsInParts, begun_as, cut_as, written_as, Program, Flat, StandsFor, Call, SetupOf, threads, SourceStatement, AreSourceStatements, texts_are, shown_texts, ViewOptions, watched_names, AreDeclared, IsUndeclared, Memory, NoThread, NoVariable, Replay, Write, Span, AreSpans, contexts_head, AreContextLines, IsContextLine, ViewContext, IsViewContextOf, IsShownTrace, IsMissing, IsStopped, IsThere, IsView, IsViewOfTrace, IsViewRefusal, IsViewable, IsViewed, extent_of, AreWidths}
 use Rattle.bp_flat.specs.StandsFor.{IsOfProgram}
 use Rattle.bp_machine.proofs.SetupInRange.{stands_for_own}

@@ -1,4 +1,4 @@
--- Seats that are put back after a turn.
+-- Seats that are returned after a turn.
 use Rattle.std.proofs.Common.{◌≡◌, ◌∙◌, ◌++◌, ◌∷◌, ℕ, List, [], map, ap, sym}
 use Rattle.std.proofs.lemmas.List.{map-append}
 use Rattle.bp_run.specs.Desks.{SeatOf}
