@@ -61,7 +61,7 @@ complete -c btrun -n __fish_use_subcommand -f -a help -d 'Print help'
 set -l all check code drive confirm run test explore replay show migrate shrink
 complete -c btrun -n '__fish_seen_subcommand_from help' -f -a "$all"
 complete -c btrun -n "__fish_seen_subcommand_from $all" -l explain -d 'Explain a fault on further lines'
-complete -c btrun -n "__fish_seen_subcommand_from $all" -l no-explain -d 'Explain no fault'
+complete -c btrun -n "__fish_seen_subcommand_from $all" -l no-explain -d 'Do not explain faults'
 complete -c btrun -n "__fish_seen_subcommand_from $all" -l help -d 'Print help'
 
 set -l starting drive confirm run test

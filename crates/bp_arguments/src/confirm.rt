@@ -15,10 +15,10 @@ pub static CONFIRM: Subcommand<'static> = Subcommand {
     name: "confirm",
     about: "Confirm the steps that a model checker reports and print the trace of the run",
     notes: "\
-    A line of the steps is 'THREAD PLACE', and then any number of ' NAME=BIT'. The place is where\n\
-    the thread stands before the step: 'LINE', 'LINE:COLUMN', or '-' for a procedure's end. The\n\
-    values are those that the thread sees after the step; NAME may be that of a variable, or of a\n\
-    procedure, a dot and its local. Choice bits are left out.\n\
+    A line of the steps is 'THREAD PLACE', and then any number of ' NAME=BIT'. The place is that\n\
+    of the thread before the step: 'LINE', 'LINE:COLUMN', or '-' for a procedure's end. The values\n\
+    are those that the thread sees after the step; NAME is the name of a variable, or that of a\n\
+    procedure, a dot and the name of its local. Choice bits are left out.\n\
     The first fault is one line on standard error.\n\n\
     Example:\n  btrun confirm race.bp steps.txt writer reader --init 00\n\n\
     Exit status:\n  0  the steps are a run, and no assertion failed; or it ends as expected\n  \
@@ -37,7 +37,7 @@ pub static CONFIRM: Subcommand<'static> = Subcommand {
         Text(
             "expect",
             "END",
-            "End with status 0 if the run ends so: failure, deadlock or run; else with 4",
+            "Exit with 0 if the run ends in END (failure, deadlock or run), else with 4",
         ),
         Flag(
             "json",

@@ -27,7 +27,7 @@ pub static FILE_ROWS: [Row<'static>; 3] = [
     ),
     Flag(
         "no-explain",
-        "Explain no fault [default: explain faults only on a terminal]",
+        "Do not explain faults [default: explain faults only on a terminal]",
     ),
 ];
 

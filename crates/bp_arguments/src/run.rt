@@ -16,9 +16,9 @@ pub static RUN: Subcommand<'static> = Subcommand {
     name: "run",
     about: "Run a program by one worker for each thread and print the trace of the run",
     notes: "\
-    The machine's scheduler decides who takes the next turn, so two runs may differ. Each\n\
-    trace is one of a run of the program, and 'btrun replay' takes it. It is printed while the\n\
-    run goes on. The first fault is one line on standard error.\n\n\
+    The operating system's scheduler decides which thread takes the next turn, so two runs may\n\
+    differ. Each trace is that of a run of the program, and 'btrun replay' accepts it. It is\n\
+    printed during the run. The first fault is one line on standard error.\n\n\
     Example:\n  btrun run race.bp writer reader --contexts 4 --seed 7\n\n\
     Exit status:\n  0  done, and no assertion failed\n  1  an assertion failed\n  \
     2  the program was refused, or the arguments were\n  \
@@ -41,7 +41,7 @@ pub static RUN: Subcommand<'static> = Subcommand {
         ),
         Flag(
             "spread",
-            "Start the workers together, and draw who takes each turn",
+            "Start the workers together, and draw the thread of each turn",
         ),
     ],
 };

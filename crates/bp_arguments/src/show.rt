@@ -14,10 +14,10 @@ pub static SHOW: Subcommand<'static> = Subcommand {
     about: "Replay a trace and show what happened, call by call",
     notes: "\
     The setup comes first. Then each call has a line: its number, the thread, the context that\n\
-    its step is in, the line and column of the statement, the statement, the choice bit where\n\
-    one was read, the reply where it is no step, and the variables that the step changed. A\n\
-    line where the context switches begins with '>'. Last comes the outcome. On a terminal a\n\
-    failure is red and a switch is yellow, where NO_COLOR is not set. With --json each line is\n\
+    its step is in, the line and column of the statement, the statement, the choice bit if\n\
+    one was read, the reply if it is not a step, and the variables that the step changed. A\n\
+    line at which the context switches begins with '>'. Last comes the outcome. On a terminal a\n\
+    failure is red and a switch is yellow, unless NO_COLOR is set. With --json each line is\n\
     an object: the setup, the calls, and the outcome. The first fault is one line on standard\n\
     error.\n\n\
     Example:\n  btrun show race.bp race.trace --last 20\n\n\

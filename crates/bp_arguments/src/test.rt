@@ -19,13 +19,13 @@ pub static TEST: Subcommand<'static> = Subcommand {
     about: "Test a program by runs with drawn schedules and print the first that fails",
     notes: "\
     Each run switches between the threads at places that are drawn by its seed, within the\n\
-    contexts that are allowed. The seed of run r, from 0, is r more than that of the first. A run\n\
-    ends where an assertion failed, or where no thread can go on. The trace of the first run in\n\
-    which an assertion failed is printed, and 'btrun replay' takes it. A summary on standard\n\
+    contexts that are allowed. The seed of run r, from 0, is that of the first run plus r. A run\n\
+    ends if an assertion fails, or if no thread can continue. The trace of the first run in which\n\
+    an assertion failed is printed, and 'btrun replay' accepts it. A summary on standard\n\
     error says what was found, and what the runs reached. The first fault is one line there.\n\
     With --json each line on standard error is a JSON object.\n\
-    What is found and printed does not depend on the number of jobs. With --time as many runs are\n\
-    made as there is time for, the same ones whenever they are made.\n\n\
+    What is found and printed does not depend on the number of jobs. With --time the first runs\n\
+    are made, as many as there is time for, and are always the same.\n\n\
     Example:\n  btrun test race.bp writer reader --contexts 4 --runs 100000\n\n\
     Exit status:\n  0  nothing was found in any run\n  \
     1  an assertion failed, or a run ended in a deadlock\n  \

@@ -42,7 +42,7 @@ pub static SHRINK: Subcommand<'static> = Subcommand {
     about: "Print a smaller trace with the same failure or deadlock",
     notes: "\
     The trace is one that ends in a failed assertion or a deadlock. Contexts, loops and other\n\
-    calls are left out, and what is left is driven again: the same assertion of the same thread\n\
+    calls are left out, and the rest is driven again: the same assertion of the same thread\n\
     fails in it, or the same threads wait at the same assumptions, by no more calls and no more\n\
     contexts. The first fault is one line on standard error.\n\n\
     Example:\n  btrun shrink race.bp race.trace\n\n\
