@@ -144,7 +144,7 @@ fn put_unfinished<W: Write>(x: &Exploration<'_>, reason: Reason, sink: &mut Sink
     sink.put_pieces(&[Bytes(b"\n"), Bytes(reason_text(reason))])
 }
 
-/// Writes that no run of any number of contexts has the end that is searched.
+/// Writes that no run of any number of contexts has the end that is searched for.
 fn put_anywhere<W: Write>(x: &Exploration<'_>, sink: &mut Sink<'_, W>)
     ensures { Given W.contents sink.old sink.new (anywhere_by x.now.steps x.now) }
 {
@@ -187,7 +187,7 @@ fn put_program<W: Write>(steps: Option<ListedSteps>, file: &str, sink: &mut Sink
     }
 }
 
-/// Writes that no run within the bound has the end that is searched.
+/// Writes that no run within the bound has the end that is searched for.
 fn put_within<W: Write>(x: &Exploration<'_>, sink: &mut Sink<'_, W>)
     ensures { Given W.contents sink.old sink.new (within_text x.now) }
 {

@@ -167,8 +167,8 @@ NoRefusalOfConfirmed =
 -- deadlock at its end.
 
 -- The text of the steps of a legal history is refused only for memory, if it is neither empty nor
--- too long. The setup keeps the limit of threads, and also that of contexts if the trace allows the
--- number that the steps use.
+-- too long. The setup is within the limit of threads, and within that of contexts if the trace
+-- allows the number that the steps use.
 abbrev pub OwnTextIsConfirmed : Type 0
 OwnTextIsConfirmed =
     (text : List ℕ) (t : Program) (s : SetupOf) (h : List Call) (bound : ContextBound)

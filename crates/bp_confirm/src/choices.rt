@@ -56,7 +56,7 @@ fn bit_of_effects(
     }
 }
 
-/// Returns that bit of an instruction, if its thread has this last bit.
+/// Returns an instruction's inferred bit, if its thread has this last bit.
 fn bit_of_instruction(
     instr: &Instr,
     points: &[SourcePoint],

@@ -29,7 +29,7 @@ pub(crate) enum Stray {
 }
 
 /// Returns whether a text says which variable is meant. Such texts are kept in ascending order, so
-/// that each is searched in the program once.
+/// that each is looked up in the program once.
 fn is_declared<'a>(checked: &Checked, known: &mut Vec<&'a [u8]>, text: &'a [u8]) -> bool
     requires { AreKnown checked.now known.old.items }
     ensures is { result ≡ declares checked.now text.now }

@@ -144,7 +144,7 @@ impl RefusedStep<'_> {
     }
 
     /// Gives the ways to the location of the refused step: another thread, or steps that are left
-    /// out. They are searched after a list that is not too long.
+    /// out. They are searched for after a list that is not too long.
     pub(crate) fn ways_there(&self) -> Result<String, AllocError> {
         let alloc = self.alloc;
         if self.before().len() > MOST_TRIED {

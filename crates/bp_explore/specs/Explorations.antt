@@ -134,13 +134,13 @@ IsInBound (Some n) k = k ≤ n
 -- The result of an exploration.
 
 -- Within k contexts there is no finding: no false assertion, and no deadlock if deadlocks are
--- searched as well.
+-- searched for as well.
 pub record HasNone (t : Program) (s : SetupOf) (with_deadlock : Bool) (k : ℕ) : Type 0 where
   pub safe : IsSafe t s k
   pub live : with_deadlock ≡ true → HasNoDeadlock t s k
 
 -- the fewest contexts with a finding: fewer have none, and a deadlock is found only if deadlocks
--- are searched and no assertion fails within as many
+-- are searched for and no assertion fails within as many
 module _ (t : Program) (s : SetupOf) (with_deadlock : Bool) where
   abbrev pub HasNoneBelow : ℕ → Type 0
   HasNoneBelow k = (m : ℕ) → m < k → HasNone t s with_deadlock m

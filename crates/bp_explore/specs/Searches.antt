@@ -267,7 +267,7 @@ HasMade t s o nodes k =
 
 module _ (t : Program) (s : SetupOf) (o : ListedSteps) (with_deadlock : Bool) where
   -- within k contexts no run makes all listed steps, and no run whose last step is not a false
-  -- assertion leads to a deadlock, if deadlocks are searched
+  -- assertion leads to a deadlock, if deadlocks are searched for
   pub record HasNeither (k : ℕ) : Type 0 where
     pub none : CanMake t s o k o.count → ⊥
     pub live : with_deadlock ≡ true

@@ -509,7 +509,8 @@ impl Space {
         Ok(next)
     }
 
-    /// Returns the first node from this number on that is deadlocked, if deadlocks are searched.
+    /// Returns the first node from this number on that is deadlocked, if deadlocks are searched
+    /// for.
     pub(crate) fn first_dead(
         &mut self,
         code: &Code,

@@ -32,7 +32,7 @@ pub record IsEffectOf (i : Instruction) (s : Store) (bit : Bool) (d : Effect) : 
   pub each : (below : List Activation)
       → effect_of s d below ≡ instruction_effect i (store_of s) below bit
 
--- the transition for an effect, if the stack may be full
+-- the transition for an effect on a stack that is full or not
 abbrev pub transition_of : Effect → Bool → Transition
 transition_of (Enters c m locals) full = if full then Stays Full else Steps (Enters c m locals)
 transition_of instr.Fails full = Fails
@@ -46,7 +46,7 @@ module _ (code : List Instruction) (g : ℕ) (bit : Bool) where
   IsTransitionAt (Some i) f full v =
       (d : Effect) × IsEffectOf i (store_at g f) bit d × (v ≡ transition_of d full)
 
-  -- the transition on a stack, if one more step fits within the contexts or not
+  -- the transition on a stack, whether one more step fits within the contexts or not
   abbrev pub IsTransitionOn : Bool → List ActivationRecord → Transition → Type 0
   IsTransitionOn fits [] v = v ≡ Stays Ended
   IsTransitionOn true (f ∷ fs) v =

@@ -43,7 +43,7 @@ impl Model for Machine {
     } };
 }
 
-/// Returns the transition for an effect, if the stack may be full.
+/// Returns the transition for an effect on a stack that is full or not.
 #[inline(always)]
 fn transition_of(effect: Effect, is_full: bool) -> Transition
     ensures { result ≡ transition_of effect is_full }

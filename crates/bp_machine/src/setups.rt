@@ -158,14 +158,14 @@ impl Setup {
         self.init.get(n as usize).copied()
     }
 
-    /// Returns the number of contexts allowed: at most 1,000.
+    /// Returns the allowed number of contexts: at most 1,000.
     pub fn contexts(&self) -> u32
         ensures { result ≡ self.now.contexts }
     {
         self.contexts
     }
 
-    /// Returns the number of calls of each thread allowed: 1 to 100,000.
+    /// Returns the allowed number of calls of each thread: 1 to 100,000.
     pub fn calls(&self) -> u32
         ensures { result ≡ self.now.calls }
     {

@@ -21,9 +21,9 @@ pub struct Start {
     pub entries: Vec<String>,
     /// The initial bit of each global in order of declaration. If `None`, all are 0.
     pub init: Option<Vec<bool>>,
-    /// The number of contexts allowed: at most 1,000.
+    /// The allowed number of contexts: at most 1,000.
     pub contexts: u32,
-    /// The number of calls of each guest thread allowed: 1 to 100,000.
+    /// The allowed number of calls of each guest thread: 1 to 100,000.
     pub calls: u32,
 }
 

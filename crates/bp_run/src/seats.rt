@@ -36,7 +36,7 @@ impl<C: Calls, O: Ledger> Model for Seat<C, O> {
         × HasShares s.made.parts s.made.amount s.line.parts s.line.amount seat };
 }
 
-/// Makes an open seat for each thread, in order: it has a part of the calls, and an own line.
+/// Makes an open seat for each thread, in order, with a part of the calls and a line of its own.
 pub(crate) fn new_seats<C: Calls, O: Ledger>(
     alloc: Global,
     threads: u32,

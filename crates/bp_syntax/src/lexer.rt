@@ -136,9 +136,9 @@ pub(crate) fn first_too_deep(tokens: &[Token]) -> Option<u32>
     None
 }
 
-/// Reads a program text. It is refused for the first fault that applies, each searched in the whole
-/// text before the next: `TooLong`, `BadByte`, `OpenName`, `TooNested`, `TooManyTokens`, `Syntax`.
-/// `Memory` may come only once the text is known to be not too long.
+/// Reads a program text. It is refused for the first fault that applies, each searched for in the
+/// whole text before the next: `TooLong`, `BadByte`, `OpenName`, `TooNested`, `TooManyTokens`,
+/// `Syntax`. `Memory` may come only once the text is known to be not too long.
 pub fn read(alloc: Global, text: &[u8]) -> Result<Tree, ReadFault>
     ensures answer { MatchResult result (IsTextOf text.now) (IsRefusal text.now) }
     ensures whole { (p : Program) → IsTextOf text.now p

@@ -80,7 +80,7 @@ pub record IsDeadlock (t : Program) (s : SetupOf) (h : List Call) : Type 0 where
   pub deadlocked : IsDeadlocked t (configuration_after t s h)
 
 -- a finding of a test: an assertion failed, or the history is a deadlock if deadlocks are searched
--- too
+-- for too
 abbrev pub IsSought : Program → SetupOf → Bool → List Call → Type 0
 IsSought t s with_deadlock h =
     (is_failure (outcome_of h) ≡ true) ⊎ ((with_deadlock ≡ true) × IsDeadlock t s h)

@@ -61,8 +61,8 @@ fn found_in(run: u64, report: Report) -> Found
 }
 
 /// Makes runs, each with the seed after that of the one before, until an assertion fails, or a run
-/// ends in a deadlock if deadlocks are searched, and then writes the trace of that run. If none is
-/// found nothing is written. No run begins after the seconds of the options. The runs that were
+/// ends in a deadlock if deadlocks are searched for, and then writes the trace of that run. If none
+/// is found nothing is written. No run begins after the seconds of the options. The runs that were
 /// made are then the first of those that would have been made without a limit. At a refusal nothing
 /// is written, unless the writer refuses: it then has a proper prefix of the trace. `progress` has
 /// no effect on any of that.

@@ -213,7 +213,7 @@ pub struct Block {
 }
 
 /// Returns whether a test searches for a run with this report: one in which an assertion failed, or
-/// one that ended in a deadlock, if deadlocks are searched.
+/// one that ended in a deadlock, if deadlocks are searched for.
 fn is_sought(report: &Report, is_deadlocked: bool, with_deadlock: bool) -> bool
     ensures { result ≡ is_sought with_deadlock report.now is_deadlocked }
 {
