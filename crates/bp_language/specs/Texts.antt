@@ -56,7 +56,7 @@ IsSparse ts =
     → NoSeparator run
     → length run ≤ SUCCESSION_LIMIT
 
--- the text keeps the limits, and the grammar derives the tree from it
+-- the text is within the limits, and the grammar derives the tree from it
 pub record IsTextOf (text : List ℕ) (p : Program) : Type 0 where
   pub short : length text ≤ TEXT_LIMIT
   pub tokens : List Token

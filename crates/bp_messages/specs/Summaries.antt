@@ -132,7 +132,7 @@ abbrev pub waits_text : (file : List ℕ) → List (Option Position) → List Wa
 waits_text file positions xs =
     waits_after file (codes ": thread ") (codes " waits at ") positions xs
 
--- the object of a thread that waits, after this
+-- the object of a thread that waits, after this text
 abbrev pub wait_object : (before : List ℕ) → (thread : ℕ) → Option Position → List ℕ
 wait_object before i position =
     concat (

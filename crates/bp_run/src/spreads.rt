@@ -30,7 +30,7 @@ pub struct Spread {
     come: AtomicU64,
     /// A bit for each thread that may be drawn.
     active: AtomicU64,
-    /// A bit for each thread that was let through, and has not come back since.
+    /// A bit for each thread that was admitted, and has not come back since.
     inside: AtomicU64,
     /// A bit for each thread inside whose turn was answered.
     answered: AtomicU64,

@@ -140,7 +140,7 @@ pub struct ShowTask<'a> {
 /// The task that the user wants done.
 #[derive(Drop)]
 pub enum Task<'a> {
-    /// Drive the bundle that standard input has.
+    /// The bundle on standard input.
     Bundle,
     /// `check FILE`
     Check(CheckTask<'a>),

@@ -63,7 +63,7 @@ pub data IsReadAs : (inside text : List ℕ) → Type 0 where
       → IsReadAs inside text
       → IsReadAs (codes "\\u00" ++ hex_digit (b / 16) ∷ hex_digit (b % 16) ∷ inside) (b ∷ text)
 
--- each string is read as the bytes that it was made of
+-- each string is read as the bytes from which it was made
 abbrev pub StringsAreReadBack : Type 0
 StringsAreReadBack = (text : List ℕ) → IsReadAs (flat_map string_byte text) text
 
