@@ -175,7 +175,7 @@ all_judged front kinds n p all k =
     let within = q.within in
     judged front kinds k p.only (subst (IsTried front kinds) q.is (p.tried q.place (omega (arith, within, all))))
 
--- What a refusal says of a text that may be the front of a program.
+-- The meaning of a refusal for a text that may be the front of a program.
 
 -- a fault of the text that is not of memory
 module _ (text : List ℕ) (e : ReadFault) (refused : IsRefusal text e) (is_memory : Bool)

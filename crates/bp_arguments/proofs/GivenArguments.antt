@@ -18,7 +18,7 @@ module _ (given : Option (Bor (List (Bor Text)))) (all : Option (List Text)) (sa
 
 -- Which options the arguments gave.
 
--- where the value of an argument came from, by the rows
+-- the source of an argument's value, by the rows
 pub source-rows : (f : Found) (id : Text) → option_and_then (λ (a : MatchedArg). a.source) (matched_of f id)
     ≡ option_and_then (λ (r : Row). r.source) (find (λ r. bytes_eq r.id id) (rows_of f))
 source-rows f id = go (find (λ e. bytes_eq e.0.now id) f.entries.items) ∙ ap (option_and_then (λ (r : Row). r.source)) (sym (find_row f.entries.items id))
@@ -32,7 +32,7 @@ pub given_is : (f : Found) (o : OptionName) (name : Text) (source : Option Value
     → source ≡ option_and_then (λ (a : MatchedArg). a.source) (matched_of f name) → is_from_line source ≡ is_on_line (rows_of f) o
 given_is f o name source given1 given2 = search (rules, source-rows, option_and_then, find)
 
--- The number of an option, from what a parse reads of it.
+-- The number of an option, from the text that a parse reads of it.
 
 abbrev IsNumberText : ℕ → Text → Type 0
 IsNumberText bits text = IsNumeral 10 (without_leading_plus text) × (number_of text < 2 ^ bits)

@@ -10,7 +10,7 @@ use Rattle.bp_arguments.specs.declared.table.Named.TheVariants as name
 use Rattle.bp_arguments.specs.declared.no_tasks.NoTask.{NoTask}
 use Rattle.bp_arguments.specs.declared.no_tasks.NoTask.TheVariants.{Memory}
 
--- What a command is after one more argument, or one more subcommand.
+-- A command after one more argument, or one more subcommand.
 
 -- the command has this shape, and no argument for all subcommands
 abbrev pub HasShape : App → Command → Type 0
@@ -118,7 +118,7 @@ named_ours arguments clean =
     entered_ours (stop_after (built btrun_app).top.rules (names_of (built btrun_app)) (argument_words btrun_app arguments))
     (all_fine (built btrun_app).top enabled (names_of (built btrun_app)) (argument_words btrun_app arguments) (walk_from nothing_held) tt (or_left _ _ clean))
 
--- What is said in place of a task is of one of the kinds of errors that come.
+-- The answer in place of a task is for one of the kinds of errors that come.
 
 of_one : (kinds : Kinds) (k : ErrorKind) (none : NoTask) → IsAmong k kinds → IsOfKind k none → IsOfOne kinds none
 of_one [] k none is of = is

@@ -20,7 +20,7 @@ item_depth items i s h e =
     drop_depth [] (suc i) = omega arith
     drop_depth (x ∷ items) (suc i) = omega (arith, drop_depth items i)
 
--- where control goes after the j-th statement
+-- the number at which control continues after the j-th statement
 pub first_within : (items : List Stmt) (j after next : ℕ) → j < length items → after ≡ block_entry (block_of (drop j items)) after next
 first_within [] j after next h = absurd (omega arith)
 first_within (x ∷ items) zero after next h = refl
@@ -35,7 +35,7 @@ pub code_more : (environment : Environment) (items : List Stmt) (i : ℕ) (s : S
     → new ++ block_code environment (block_of (drop (i + 1) items)) m next ≡ all
 code_more environment items i s old new all n m follows next given1 given2 given3 given4 given5 given6 = search (rules, block_item, regrouped)
 
--- One more statement whose size and label are noted: what is noted of all statements stays the same.
+-- One more statement whose size and label are recorded: the records of all statements are the same.
 
 or_choice : {X : Type 0} (old : Option X) (b : Bool) (x : X) (inside rest : Option X)
     → option_or (option_or old (if b then Some x else inside)) rest ≡ option_or old (if b then Some x else option_or inside rest)
@@ -118,8 +118,8 @@ pub procs_more : (ps : List Procedure) (i : ℕ) (p : Procedure) → i < length 
     → new ++ starts (places_of (drop (i + 1) ps)) ≡ all
 procs_more ps i p given1 given2 old mid new all given3 given4 given5 = search (rules, noted, drop_item, starts_of_first, regrouped)
 
--- Where the sizes of statements are in the table of a layout: from a statement to those inside it
--- and to the next one.
+-- The places of the sizes of statements in the table of a layout: from a statement to those inside
+-- it and to the next one.
 
 mutual
   pub sizes_length : (l : Block) → length (block_sizes l) ≡ block_size l

@@ -3,7 +3,7 @@ use Rattle.bp_code.proofs.Common.{◌≡◌, refl, sym, ap, subst, ◌∙◌, �
 use Rattle.bp_flat.specs.Moves.{procedure_named}
 use Rattle.bp_code.proofs.SlotsAreVariables.{are_values, tests, targets}
 
--- ---- where a piece of the table stands
+-- ---- the place of a piece of the table
 
 -- the table has these places from the number n on
 abbrev pub StandsAt : List Place → ℕ → List Place → Type 0
@@ -90,7 +90,7 @@ module _ (table : List Place) (p : Procedure) where
 
   -- ---- labels
 
-  -- no number and nothing left, or a number where this is left
+  -- no number and nothing left, or a number at which this is left
   abbrev SameLabel : Option ℕ → Option Block → Type 0
   SameLabel None None = Unit {0}
   SameLabel (Some m) (Some left) = Remains table m p left
@@ -128,7 +128,7 @@ module _ (table : List Place) (p : Procedure) where
     inner_labels (Prints es) label at r n x h = tt
     inner_labels (Calls y es) label at r n x h = tt
 
-  -- a label that stands in the block has a number
+  -- a label of the block has a number
   pub label_found : (o : Option ℕ) (left : Option Block) → SameLabel o left → IsSome left → (r : Block) × (left ≡ Some r) × Remains table (unwrap_or o 0) p r
   label_found o left given1 given2 = grind (arith)
 
@@ -139,7 +139,7 @@ chain_done Done = refl
 chain_done (Then label at s t) = ap (Then label at s) (chain_done t)
 
 module _ (table : List Place) where
-  -- a procedure's end, where its block stands and its end after it
+  -- a procedure's end, if its block is in the table and its end after it
   end_remains : (p : Procedure) (n : ℕ) (ps : List Place)
       → StandsAt table n (places p p.body Done ++ (place p Done ∷ ps)) → Remains table (n + block_size p.body) p Done
   end_remains p n ps given1 = search (rules, stands_right, places_length)
@@ -181,7 +181,7 @@ module _ (table : List Place) where
         | false ↦ λ e. callee_found ps (n + block_size p.body + 1) x q (more_stand p n (places_of ps) h) e
       ]) e
 
--- ---- each instruction does what its place asks
+-- ---- each instruction meets its place
 
 abbrev EachDoes : Program → List Place → List Place → List Instruction → Type 0
 EachDoes t table [] [] = Unit {0}

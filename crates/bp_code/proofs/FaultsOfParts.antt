@@ -178,7 +178,7 @@ module _ (qs : List Procedure) (ls : List Name) where
       from : (g : CheckFault) (at : ℕ) → IsStatementFault declared qs ls s g at → IsMisuse qs ls s g at ⊎ Only UnknownVariable (IsUndeclared declared s) g at
       from g at given1 = grind (arith)
 
--- what follows of the fault in an `Ok`
+-- a consequence of the fault in an `Ok`
 pub ok_then : {E : Type 0} {P Q : Option Found → Type 0} (r : Result (Option Found) E) → ((o : Option Found) → P o → Q o) → IfOk r P → IfOk r Q
 ok_then given1 given2 = grind (arith)
 

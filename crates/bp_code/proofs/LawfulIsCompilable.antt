@@ -12,7 +12,7 @@ use Rattle.bp_code.specs.Compiled.{HasSlot}
 same_or : {A B : Type 0} (a b : Option A) (c d : Option B) → is_some a ≡ is_some c → is_some b ≡ is_some d → is_some (option_or a b) ≡ is_some (option_or c d)
 same_or given1 given2 = grind (arith)
 
--- a label has a number exactly where it is found
+-- a label has a number if and only if it is found
 mutual
   pub label_there : (l r : Block) (n : ℕ) (x : List ℕ) → is_some (label_number l n x) ≡ is_some (from_label l r x)
   label_there Done r n x = refl
@@ -144,7 +144,7 @@ module _ (t : Program) (p : Procedure) where
   in_decision : (d : Decision) → ((n : Name) → DecisionUses d n → has (variables p ++ t.globals) n.text ≡ true) → NamesInDecision (HasSlot t.globals p) d
   in_decision d given1 = search (rules, in_expression)
 
-  -- a label that stands in a block is found there
+  -- a label of a block is found there
   labels_append : (xs ys : List Labelled) (x : List ℕ) → has (labels_of (xs ++ ys)) x ≡ true → (has (labels_of xs) x ≡ true) ⊎ (has (labels_of ys) x ≡ true)
   labels_append [] ys x e = inr e
   labels_append (l ∷ xs) ys x e =

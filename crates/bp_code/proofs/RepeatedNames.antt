@@ -3,10 +3,10 @@ use Rattle.bp_code.proofs.Common.{◌≡◌, ℕ, zero, suc, ◌+◌, ◌<◌, �
 use Rattle.bp_language.specs.declared.exprs.Expr.{Expr}
 use Rattle.bp_code.proofs.FaultsOfParts.{finds_both, finds_same}
 
--- Where a text stands first in a list of names.
+-- The first index of a text in a list of names.
 
 module _ (text : List ℕ) where
-  -- a name is there where it stands first somewhere
+  -- a name is in the list if it has a first index
   some_first : (b c : Bool) (i : ℕ) (o : Option ℕ) → is_some o ≡ c → is_some (cond b (Some i) o) ≡ (b || c)
   some_first b c i o given1 = grind (arith)
 
@@ -32,7 +32,7 @@ module _ (text : List ℕ) where
   one_below : (b d : Bool) (i c : ℕ) (o : Option ℕ) → below o (i + 1 + c) ≡ d → below (cond b (Some i) o) (i + suc c) ≡ (b || d)
   one_below b d i c o given1 = grind (arith)
 
-  -- a name is one of the first this many where its first index is below
+  -- a name is among the first c if its first index is below c
   pub first_below : (i c : ℕ) (ns : List Name) → below (first_index_from i ns text) (i + c) ≡ has (take c ns) text
   first_below i zero [] = refl
   first_below i (suc c) [] = refl
@@ -75,7 +75,7 @@ first_put ns i n here old new key spelled before put text =
     ∙ ap (λ o. cond (bytes_eq n.text text) (Some i) o) (before text)
     ∙ ap (λ xs. first_index_from i xs text) (sym parts)
 
--- what a look-up by an index gives
+-- the result of a look-up by an index
 pub got_at : (o : Option (Bor Procedure)) (qs : List Procedure) (k : ℕ) → is_some o ≡ nat_lt k (length qs)
     → IfSome o (λ x. x.now ≡ get_or qs k x.now) → option_copied o ≡ slice_get qs k
 got_at o qs k given1 given2 = search (rules, slice_get_past, slice_get-get_or)
@@ -89,7 +89,7 @@ pub finds_one : (fault : CheckFault) (at : ℕ) → Finds (Only fault (λ b. at 
 finds_one fault at = grind (arith)
 
 module _ (ns : List Name) (fault : CheckFault) where
-  -- names stays_below an index that stand twice
+  -- names below an index that occur twice
   abbrev pub Below : ℕ → ℕ → Type 0
   Below i at = (k : ℕ) × (n : Name) × (k < i) × IsNameAt ns k n at × (has (take k ns) n.text ≡ true)
 
@@ -125,7 +125,7 @@ module _ (ns : List Name) (fault : CheckFault) where
       → Finds (Only fault (Below length_is)) best → Finds (Only fault (IsTwice ns)) best
   all_below length_is best given1 given2 = search (rules, finds_same, slice_get_within)
 
--- The same over a list of references, as a loop meets them.
+-- Also over a list of references, as a loop meets them.
 module _ (names : List (Bor Name)) (ns : List Name) (fault : CheckFault) (i : ℕ) (n : Bor Name) (best : Option Found)
     (same : names_of names ≡ ns) (within : i < length names) (is : n ≡ get_or names i n) where
   here : slice_get ns i ≡ Some n.now

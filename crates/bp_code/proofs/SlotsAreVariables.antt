@@ -83,7 +83,7 @@ lookup_in_valuation (y ∷ ys) bits x =
 before : (o : Option ℕ) (k : ℕ) → option_map suc o ≡ Some k → (j : ℕ) × (o ≡ Some j) × (k ≡ suc j)
 before o k given1 = grind (arith)
 
--- one name, where the law holds of the names after it
+-- one name, if the law holds of the names after it
 update_first : (y : Name) (ys : List Name) (bits : Bits) (x : List ℕ) (c : Bool) (k : ℕ) (b : Bool)
     → ((j : ℕ) → first_index_from 0 ys x ≡ Some j → update (valuation_of ys (λ i. bits (suc i))) x b ≡ valuation_of ys (with_bit (λ i. bits (suc i)) j b))
     → cond c (Some 0) (first_index_from 1 ys x) ≡ Some k

@@ -23,7 +23,7 @@ module _ {X R : Type 0} (inputs : Inputs X) (given : X) where
       → IsConcluded rule kind (IsObjectRead inputs IsObject) (IsSaidOfRead inputs Explains) final e old new
   concluded_read IsObject Explains rule kind done final held now e old new given1 given2 given3 = grind (arith)
 
-  -- so a run is finished as it is of what was read
+  -- so a run is finished as one of the inputs that were read
   pub finished_read : (IsObject : X → Explained → Fault → List ℕ → Type 0) (Explains : X → Fault → Explanation → Type 0)
       (rule : AnswerRule R) (kind : FaultFormat) (done : Result R Fault) (before after : Held) (e : RunEnd) → AreReadOr inputs given done
       → IsFinished rule kind (IsObject given) (λ f. IsSaid (Explains given f)) done before after e
@@ -34,16 +34,16 @@ module _ {X R : Type 0} (inputs : Inputs X) (given : X) where
     concluded = concluded_read IsObject Explains rule kind done end.final _ _ e _ _ read end.flushed end.concluded;
   }
 
--- What is told of a fault explains it.
+-- The report of a fault explains it.
 
--- what is said of a fault, where its lines were made or memory for them was refused
+-- the text on a fault, if its lines were made or memory for them was refused
 pub says : (Explains : Explanation → Type 0) (e : Explained) (r : Result (Option (Vec ℕ Global)) AllocError) (said : List ℕ)
     → IfOk r (IsTextOf true Explains) → IsSaidFor r e said → IsSaid Explains e said
 says Explains e (Ok (Some lines)) said (x, is, lines_are) (made, same) = inl (made, inl (x, is, same ∙ lines_are))
 says Explains e (Ok None) said none (made, sentence) = inl (made, inr (none, sentence))
 says Explains e (Err x) said made (refused, sentence) = inr (refused, sentence)
 
--- a run whose refusal is explained by lines is concluded by how it ends and by what is said then
+-- a run whose refusal is explained by lines is concluded by its end and by the text then
 module _ {R : Type 0} (rule : AnswerRule R) (IsObject : Explained → Fault → List ℕ → Type 0) (Explains : Fault → Explanation → Type 0)
     (e : RunEnd) (old between new : Option (List ℕ)) where
   pub by_lines : (x : Explained) (f : Fault) (kind : FaultFormat) (done : Result R Fault) → is_explained kind ≡ true → done ≡ Err f

@@ -53,7 +53,7 @@ module _ (start : StartOf) (named : List NamedBitOf) (given : Pair) (t : Program
     },
   ))
 
--- What migrating a trace says of the command `migrate`.
+-- The answer of the command `migrate`, from the result of migrating a trace.
 
 module _ (given : Pair) (t : Program) (of : IsLawfulText given.text t) (old new : Option (List ℕ)) where
   pub migrated : (r : Report) → IsMigrated t given.input old new r → IsDoneWith migrates old new given r
@@ -82,7 +82,7 @@ ends_line-append [] b = refl
 ends_line-append (c ∷ []) b = refl
 ends_line-append (c ∷ d ∷ bs) b = ends_line-append (d ∷ bs) b
 
--- the first bytes end a line where the last of them is a line feed
+-- the first bytes end a line if the last of them is a line feed
 pub line_next : (input : List ℕ) (at : ℕ) → at < length input → ends_line (take (at + 1) input) ≡ (get_or input at 0 == 10)
 line_next input at within =
     ap (λ n. ends_line (take n input)) (add-one at) ∙ ap ends_line (take-suc input at 0 within) ∙ ends_line-append (take at input) (get_or input at 0)
@@ -99,7 +99,7 @@ none_next input at before here front bytes rest line separated whole =
       | inr more ↦ absurd (here front bytes rest line separated whole (omega arith))
     ]
 
--- a front of this length is what stands before the place
+-- a front of this length is the text before the place
 front_is : (input front bytes : List ℕ) (at : ℕ) → input ≡ front ++ bytes → length front ≡ at → take at input ≡ front
 front_is input front bytes at whole here = ap (λ n. take n input) (sym here) ∙ (ap (take (length front)) whole ∙ take-append_seam front bytes)
 
@@ -115,7 +115,7 @@ pub none_other : (input : List ℕ) (at : ℕ) → HasNoSeparator (take (length 
 none_other input at other front bytes rest line separated whole here =
     other rest (subst (λ bs. IsSeparated bs rest) (sym (all_from input at ∙ bytes_are input front bytes at whole here)) separated)
 
--- a separator begins here, where a line does
+-- a separator begins here, at the start of a line
 pub split_at : (input rest : List ℕ) (at : ℕ) → at ≤ length input → ends_line (take at input) ≡ true
     → IsSeparated (take (length input - at) (drop at input)) rest → HasNoneBefore input at → IsSplit input (take at input) rest
 split_at input rest at given1 given2 given3 given4 = search (rules, take-append-drop, all_from, length-take-le)

@@ -24,7 +24,7 @@ module _ (task : TestTask) (text : List ℕ) (t : Program) (taken : SetupOf) (op
     abbrev testable : IsTestable task text
     testable = record { program = t; setup = taken; opened = opened; few = few }
 
-    -- what an empty output has after the test, where this one has more
+    -- the text of an empty output after the test, if this one has more
     record IsAlone (f : Found) (at : Option ℕ) (ws : List Waiting) (runs : List MadeRun) : Type 0 where
       text_is : List ℕ
       found : IsFound t taken x (Some []) (Some text_is) f at ws runs
@@ -106,6 +106,6 @@ module _ (task : TestTask) (text : List ℕ) (t : Program) (taken : SetupOf) (op
     pub lacks_memory : (out : Option (List ℕ)) → IsRefusedWith (tests task) out out text Memory
     lacks_memory out = inl (Keeps-refl out, inr (inr (refl, testable)))
 
-  -- there may not be so many jobs
+  -- the number of jobs is over the maximum
   pub many_jobs : (out : Option (List ℕ)) → MAX_JOBS < x.jobs → IsRefusedWith (tests task) out out text (fault_of_setup OutOfRange)
   many_jobs out given1 = grind (arith)

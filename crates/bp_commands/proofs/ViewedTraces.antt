@@ -7,7 +7,7 @@ use Rattle.bp_view.specs.declared.faults.ViewFault.{ViewFault}
 use Rattle.bp_view.specs.declared.faults.ViewFault.TheVariants as view
 
 module _ (o : ViewOptions) (file : List ℕ) (given : Pair) (t : Program) (of : IsLawfulText given.text t) where
-  -- a view of a trace is what the command writes and reports
+  -- a view of a trace is the text and the report of the command
   module _ (written : List ℕ) (r : Report) (is : IsViewOfTrace t given.text given.input o file written r) where
     reported_of : IsReport is.replayed.setup is.replayed.history.items r
     reported_of = subst (IsReport is.replayed.setup is.replayed.history.items) (sym is.report_is) is.is.report
@@ -43,7 +43,7 @@ module _ (o : ViewOptions) (file : List ℕ) (given : Pair) (t : Program) (of : 
     }))
     not_viewed view.Write found = grind (arith)
 
--- What a command on a part of a trace says of it on the accepted calls of the trace.
+-- The answer of a command on the accepted calls of a trace, from the command on a part of it.
 
 module _ (format : ViewFormat) (command : Command Pair Report) (given : Pair) where
   abbrev whole : Command Pair Report

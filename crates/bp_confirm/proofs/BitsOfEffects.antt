@@ -21,7 +21,7 @@ module _ (next : NextNumbers) where
   no_split : (s : Store) (d e : Effect) → effect_of s d [] ≡ effect_of s e [] → splits next d e ≡ false
   no_split s d e given1 = grind (arith)
 
--- what the test of two ways tells
+-- the information of a test with two ways
 pub record SplitTells (b : Bool) (clear : Type 0) (ambiguous : Type 0) : Type 0 where
   pub no : b ≡ false → clear
   pub split : b ≡ true → ambiguous
@@ -39,7 +39,7 @@ if_unclear b given1 clear ambiguous given2 = grind (arith)
 never_split : (b : Bool) (P : Type 0) → b ≡ false → SplitTells b (Unit {0}) P
 never_split b P is = record { no = λ e. tt; split = λ e. absurd (false≢true (sym is ∙ e)) }
 
--- whether what begins there is at the place
+-- whether the statement that begins there is at the place
 abbrev pub start_is_at : point.Place → Option (Option ℕ) → Bool
 start_is_at p None = false
 start_is_at p (Some start) = p start
@@ -84,13 +84,13 @@ module _ (t : Program) (p : Procedure) where
       taken_is : Remains table one p taken
       other_is : Remains table two p other
 
-    -- with the bit 0 the instruction ends here, and with 1 it goes on
+    -- with the bit 0 the instruction ends here, and with 1 it continues
     record OnlyGoesOn (stopped : Effect) : Type 0 where
       number : ℕ
       zero_is : d ≡ stopped
       one_is : GoesOnAt e number
 
-    -- what the two effects are of an instruction that does the next of these statements
+    -- the two effects of an instruction that does the next of these statements
     abbrev Ends : Block → Type 0
     Ends (Then label at (Branches Choose a b) r) = HasWays (chain a r) (chain b r)
     Ends (Then label at (Loops Choose a) r) = HasWays (chain a (Then label at (Loops Choose a) r)) r

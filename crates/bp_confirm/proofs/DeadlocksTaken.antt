@@ -196,7 +196,7 @@ module _ (t : Program) (s : SetupOf) (given : LastBits) where
       by_step ys nz nw gz gw rest more = absurd (assumption (gz, gw))
   all_alike hz ho hw hg xs mz mo mw mg alike fz fo fw take going = absurd (assumption (fz, fo, fw, take))
 
--- a thread waits where it has the same stack and the globals are the same
+-- a thread waits in both configurations if its stack and the globals are the same
 waits_same : (t : Program) (c d : Configuration) (i : ℕ) → c.globals ≡ d.globals → stack_of c i ≡ stack_of d i → waits t c i ≡ waits t d i
 waits_same t c d i globals stack = λ j. waits_on (globals j) (stack j)
   where
@@ -210,7 +210,7 @@ module _ (t : Program) (z o w g : Configuration) (alike : Alike (waiting_bits (�
   has_same : (c d : Configuration) (i : ℕ) → stack_of c i ≡ stack_of d i → has_frames c i ≡ has_frames d i
   has_same c d i same = ap is_left same
 
-  -- the third has frames where the fourth has
+  -- the third has frames if the fourth has
   left_same : (i : ℕ) → has_frames w i ≡ has_frames g i
   left_same i = by_bit (waits t z i) refl (alike.stacks i).3
     where

@@ -3,14 +3,14 @@ use Rattle.bp_confirm.proofs.Common.{◌≡◌, ◌∙◌, ◌+◌, ◌<◌, ℕ
 use Rattle.std.proofs.Common.{take-append-drop}
 
 module _ {X : Type 0} where
-  -- what follows the first n
+  -- the elements after the first n
   pub rest_at : (xs : List X) (n : ℕ) (d : X) → n < length xs → drop n xs ≡ get_or xs n d ∷ drop (n + 1) xs
   rest_at xs n d within = let one : suc n ≡ n + 1 = omega arith in drop-cons xs n d within ∙ ap (λ k. get_or xs n d ∷ drop k xs) one
 
   pub parts_at : (xs : List X) (n : ℕ) (d : X) → n < length xs → xs ≡ take n xs ++ get_or xs n d ∷ drop (n + 1) xs
   parts_at xs n d within = sym (take-append-drop n xs) ∙ ap (λ ys. take n xs ++ ys) (rest_at xs n d within)
 
-  -- where x is the n-th
+  -- if x is the n-th
   module _ (xs : List X) (n : ℕ) (x : X) (at : slice_get xs n ≡ Some x) where
     pub parts_got : xs ≡ take n xs ++ x ∷ drop (n + 1) xs
     parts_got = parts_at xs n x (slice_get_within xs n x at) ∙ ap (λ y. take n xs ++ y ∷ drop (n + 1) xs) (get_or_from_slice_get xs n x x at)
@@ -21,14 +21,14 @@ module _ {X : Type 0} where
     pub take_and : (old new : List X) → old ≡ take n xs → new ≡ old ++ x ∷ [] → new ≡ take (n + 1) xs
     take_and old new done is = is ∙ ap (λ ys. ys ++ x ∷ []) done ∙ sym take_got
 
-  -- where there is none, the first n are all
+  -- if there is none, the first n are all
   pub past_none : (xs : List X) (n : ℕ) → slice_get xs n ≡ None → take n xs ≡ xs
   past_none [] zero at = refl
   past_none [] (suc n) at = refl
   past_none (y ∷ xs) zero at = absurd cc
   past_none (y ∷ xs) (suc n) at = ap (λ ys. y ∷ ys) (past_none xs n at)
 
-  -- what holds of each
+  -- a property of each
   module _ (P : X → Type 0) where
     pub all_at_place : (xs : List X) (n : ℕ) (d : X) → AllByRecursion P xs → n < length xs → P (get_or xs n d)
     all_at_place [] n d all within = absurd (omega (arith, within))

@@ -1,9 +1,9 @@
--- At most one step changes last what is seen, and a call does not change what is seen before it.
+-- At most one step changes a view last, and a call does not change a view before it.
 use Rattle.bp_confirm.proofs.Common.{◌≡◌, ◌∙◌, ◌<◌, ◌≤◌, ◌⊎◌, inl, inr, ℕ, Bool, List, [], ◌∷◌, ◌++◌, length, take, Option, None, Some, refl, ap, sym, subst, arith, length-append, ◌+◌, drop, get_or, map, option_map, slice_get, rules, take_all, take-append-le, drop_of_length-le, Program, Valuation, Call, configuration_after, IsLeastWithin, SetupOf, contexts_opened, opened, opened_none, opened_more, opened_least, IsLastChange, seen_by, seen_after, IsDifference, IsFirstUnseen, StepLineOf, thread_of}
 use Rattle.std.proofs.Math.Nat.{eq-or-lt_of_le}
 use Rattle.bp_confirm.proofs.Elements.{rest_at}
 
--- where two see the same after each of the first n steps
+-- if two see the same after each of the first n steps
 module _ (f g : ℕ → Option Bool) (n : ℕ) (same : (k : ℕ) → k ≤ n → f k ≡ g k) where
   pub same_change : (o : Option ℕ) → IsLastChange f n o → IsLastChange g n o
   same_change o given1 = grind (arith)
@@ -12,9 +12,9 @@ module _ (f g : ℕ → Option Bool) (n : ℕ) (same : (k : ℕ) → k ≤ n →
   pub one_last_change : (a b : Option ℕ) → IsLastChange f n a → IsLastChange g n b → a ≡ b
   one_last_change a b given1 given2 = grind (arith)
 
--- what is seen after the front of a history
+-- the view after the front of a history
 module _ {X : Type 0} (look : List X → Option Bool) (h : List X) where
-  -- a further call does not change what is seen before it
+  -- a further call does not change a view before it
   pub seen_in_front : (a : X) (k : ℕ) → k ≤ length h → look (take k (h ++ a ∷ [])) ≡ look (take k h)
   seen_in_front a k within = ap look (take-append-le k h (a ∷ []) within)
 
@@ -51,11 +51,11 @@ module _ {X : Type 0} (look : List X → Option Bool) (h : List X) where
   pub change_in_front : (a : X) (o : Option ℕ) → IsLastChange (λ k. look (take k h)) (length h) o → IsLastChange (λ k. look (take k (h ++ a ∷ []))) (length h) o
   change_in_front a o given1 = search (rules, same_change, seen_in_front)
 
--- The first value that a thread does not see after a call, and the last call that changed what it sees.
+-- The first value that a thread does not see after a call, and the last call that changed its view.
 
 module _ (t : Program) (s : SetupOf) (h : List Call) (a : Call) (i : ℕ) (vs : Valuation) (name : List ℕ) (place : ℕ) (seen : Option Bool)
     (named : option_map (λ v. v.0) (slice_get vs place) ≡ Some name) (unseen : IsFirstUnseen (configuration_after t s (h ++ a ∷ [])) i vs place seen) where
-  -- what is seen of the name of the value, after the first calls of the history with the call
+  -- the view of the value's name, after the first calls of the history with the call
   abbrev sees : ℕ → Option Bool
   sees = seen_after t s (h ++ a ∷ []) i name
 

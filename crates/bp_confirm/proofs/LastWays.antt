@@ -2,14 +2,14 @@
 use Rattle.bp_confirm.proofs.Common.{◌≡◌, Bool, false, List, Option, None, Some, refl, option_map, true, inl, ◌⊎◌, arith, Block, Program, Procedure, Frame, StatementEffect, Leaves, Fails, effect, Valuation, Call, stack_of, configuration_after, SetupOf, is_left, is_fork_on, LastBits, bit_of_block, Follows, IsClear, Place, StepOf, next_place}
 use Rattle.bp_confirm.proofs.StepMoves.{AgreeStacks}
 
--- Where no last bit decides, a step is followed with any last bits.
+-- If no last bit decides, a step is followed with any last bits.
 
 pub unasked : (t : Program) (s : SetupOf) (last other : LastBits) (h : List Call) (x : StepOf) (later : List StepOf) (call : Call)
     → (next_place x.thread later ≡ None → is_fork_on (stack_of (configuration_after t s h) x.thread) ≡ false)
     → Follows t s last h x later call → Follows t s other h x later call
 unasked t s last other h x later call given1 given2 = grind (arith)
 
--- where no location is next, no place is
+-- if no location is next, no place is
 pub no_place : {A B : Type 0} (f : A → B) (o : Option A) → option_map f o ≡ None → o ≡ None
 no_place given1 = grind (arith)
 

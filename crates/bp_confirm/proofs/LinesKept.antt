@@ -5,7 +5,7 @@ use Rattle.bp_confirm.proofs.ReadLines.{line_before}
 use Rattle.std.proofs.Math.Bool.{and-false}
 use Rattle.bp_confirm.specs.OwnSteps.{is_step}
 
--- where more lines are kept, those at the same places are the same
+-- if more lines are kept, those at the same places are the same
 lines_same : (xs more : List StepLineOf) (ks : List ℕ) → AreWithin xs ks → lines_at (xs ++ more) ks ≡ lines_at xs ks
 lines_same xs more [] within = refl
 lines_same xs more (k ∷ ks) within =
@@ -65,7 +65,7 @@ pub each_kept : (kept : List KeptLine) (x : KeptLine) → AllByRecursion IsKeptL
 each_kept [] x each here = (here, tt)
 each_kept (y ∷ kept) x each here = (each.0, each_kept kept x each.1 here)
 
--- where each line that is kept is such a one, so is each line
+-- if each kept line is such a one, so is each line
 pub all_at : (P : StepLineOf → Type 0) (xs : List StepLineOf) (ks : List ℕ) → AllByRecursion P xs → AreWithin xs ks → AllByRecursion P (lines_at xs ks)
 all_at P xs [] all within = tt
 all_at P xs (k ∷ ks) all within = (all_at_place P xs k no_line all within.0, all_at P xs ks all within.1)

@@ -43,7 +43,7 @@ mapped_at f (k ∷ nexts) (suc n) d e within = mapped_at f nexts n d e (omega (a
 pub as_many_nexts : (xs : List StepLineOf) (nexts : List ℕ) → map (location_in xs) nexts ≡ next_locations xs → length nexts ≡ length xs
 as_many_nexts xs nexts are = sym (length-map nexts (location_in xs)) ∙ ap length are ∙ as_many xs
 
--- what the later lines tell of line n
+-- the information of the later lines on line n
 pub tells_next : (text : List ℕ) (last : LastBits) (xs : List StepLineOf) (nexts : List ℕ) (n : ℕ) (d x : StepLineOf) (k : ℕ)
     (next count : ℕ) (bit : Bool) → last x.thread ≡ bit → next ≡ get_or nexts n k → count ≡ length xs → map (location_in xs) nexts ≡ next_locations xs
     → n < length xs → x ≡ get_or xs n d

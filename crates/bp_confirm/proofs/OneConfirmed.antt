@@ -49,7 +49,7 @@ one_confirmed t s steps h g choices others p q = by_ends p.ends q.ends
 
 module _ (text : List ℕ) (t : Program) (s : SetupOf) (last : LastBits) (lines : List StepLineOf) (r : StepRefusal)
     (refused : IsStepRefusal text t s last lines r) where
-  -- what takes all lines takes those up to the refused one
+  -- a history that takes all lines takes those up to the refused one
   none_whole : ((g : List Call) → Takes t s (steps_of text (refused.before ++ refused.step ∷ [])) g → ⊥)
       → (g : List Call) → Takes t s (steps_of text lines) g → ⊥
   none_whole none g taking =
@@ -103,7 +103,7 @@ decided t x h stands = by_seen (seen_up_to t (configuration_after t x.setup h) (
     by_seen (inl (any, seen)) = by_any any seen
     by_seen (inr none) = inr none
 
--- where both bits do the same, none decides
+-- if both bits do the same, none decides
 differ_same : (b : Bool) → differ b b ≡ false
 differ_same b = grind (arith)
 
@@ -133,7 +133,7 @@ plain_confirmed t s steps h any dead choices none = record {
   ];
 }
 
--- what a table says of each thread
+-- the entry of a table for each thread
 pub table_is : (t : Program) {r s : SetupOf} (z : List Call) (xs : List Bool) → r ≡ s → ((i : ℕ) → get_or xs i false ≡ waits_after t r z i)
     → (λ i. get_or xs i false) ≡ waits_after t s z
 table_is t z xs same each = fun_ext each ∙ ap (λ k. waits_after t k z) same

@@ -11,7 +11,7 @@ use Rattle.bp_confirm.proofs.Agreeing.{same_stack_there}
 
 -- A step has at most one reason against it.
 
--- where the later steps tell which way a `?` went, it may not have gone either way
+-- if the later steps tell which way a `?` went, it may not have gone either way
 module _ (text : List ℕ) (t : Program) (is : IsLawfulText text t) where
   apart_starts : (p : Place) (a k other : Block) → a ≢ Done → AreBothAt t p (chain a k) other → chain a k ≡ other → ⊥
   apart_starts p Done k other some both same = some refl
@@ -30,7 +30,7 @@ module _ (text : List ℕ) (t : Program) (is : IsLawfulText text t) where
       → IsClearOnStack i later (stack_of c i) → IsAmbiguousOnStack t i later (stack_of c i) → ⊥
   not_clear c i later number given1 given2 given3 = search (rules, by_block, full_place)
 
--- two configurations in which a thread sees the same have the same first value that is not seen
+-- two configurations in which a thread sees the same have the same first unseen value
 module _ (c d : Configuration) (i : ℕ) (same : (x : List ℕ) → value_seen c.globals (stack_of c i) x ≡ value_seen d.globals (stack_of d i) x) where
   one_unseen : (vs : Valuation) (m n : ℕ) (a b : Option Bool) → IsFirstUnseen c i vs m a → IsFirstUnseen d i vs n b → (m ≡ n) × (a ≡ b)
   one_unseen [] m n a b p q = absurd (let none = p.at in cc)
@@ -112,7 +112,7 @@ module _ (t : Program) (s : SetupOf) (h : List Call) (x : StepOf) (later : List 
   one_reason (Refused r) (Differs e) p q = refused_or_seen r p.1 e q.1
   one_reason (Differs d) (Refused r) p q = refused_or_seen r q.1 d p.1
 
--- what follows some steps follows those before one of them, and then that one
+-- the calls that follow some steps follow those before one of them, and then that one
 module _ (t : Program) (s : SetupOf) (last : LastBits) where
   pub record FollowsTo (h : List Call) (xs : List StepOf) (x : StepOf) (later : List StepOf) : Type 0 where
     pub front : List Call

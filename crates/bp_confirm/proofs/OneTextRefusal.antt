@@ -6,7 +6,7 @@ use Rattle.bp_trace.proofs.HeadsRead.{all_of_both}
 use Rattle.bp_confirm.proofs.Elements.{all_here, first_once, parts_at, parts_got, take_got}
 use Rattle.bp_confirm.proofs.OneStepRefusal.{not_followed_too, one_step_refusal}
 
--- The first value, and the first line, of what is not declared.
+-- The first undeclared value, and the first line with one.
 
 module _ (t : Program) (v : List ℕ × Bool) where
   pub first_undeclared : (vs : Valuation) (n : ℕ) → slice_get vs n ≡ Some v → AreDeclared t (take n vs) → declares t v.0 ≡ false → IsFirstUndeclared t vs n
@@ -37,7 +37,7 @@ module _ (t : Program) (s : SetupOf) (xs : List StepLineOf) (n : ℕ) (d x : Ste
     is = subst Is is here;
   }
 
--- lines of what is not declared
+-- lines with undeclared names
 module _ (t : Program) (s : SetupOf) where
   not_both : (vs : Valuation) (n : ℕ) → IsFirstUndeclared t vs n → AreDeclared t vs → ⊥
   not_both vs n given1 given2 = search (rules, false≢true, all_here)
@@ -69,7 +69,7 @@ one_setup s lines AsUsed a b p q =
     p.is ∙ ap (λ k. record s { contexts = contexts_allowed k }) used ∙ sym q.is
 
 module _ (text : List ℕ) (t : Program) (is : IsLawfulText text t) (s : SetupOf) (steps : List ℕ) (bound : ContextBound) where
-  -- what the lines of the text are refused for
+  -- the faults for which the lines of the text are refused
   data OnLines (lines : List StepLineOf) : ConfirmFault → Type 0 where
     of_no_thread : (n i : ℕ) → IsFirstStray t s lines n (IsOfNoThread s i) → OnLines lines (NoThread n i)
     of_no_variable : (n k : ℕ) → IsFirstStray t s lines n (IsOfNoVariable t s k) → OnLines lines (NoVariable n k)

@@ -249,7 +249,7 @@ module _ (each : RunsAreHistories) (text : List ℕ) (t : Program) (s : SetupOf)
       let there = own_for bound setup few allows in
       own_lines_confirmed each text t setup zeros calls last lines r is there.bounded there.are refused
 
-  -- so what confirms them ends in a deadlock if the run does
+  -- so the history that confirms them ends in a deadlock if the run does
   deadlocked : (bound : ContextBound) (setup : SetupOf) (g : List Call) (choices : List LastChoice) → (bound ≡ AsUsed → s.contexts ≤ MAX_CONTEXTS)
       → IsSetupFor s lines bound setup → IsConfirmed t setup (steps_of text lines) g choices → last.failed ≡ false → IsDeadlocked t last
       → (configuration_after t setup g).failed ≡ false → IsDeadlocked t (configuration_after t setup g)
@@ -260,7 +260,7 @@ module _ (each : RunsAreHistories) (text : List ℕ) (t : Program) (s : SetupOf)
       deadlock_is_taken t setup (steps_of text lines) g (history_of_run calls last.failed) choices confirmed taken
       (subst (IsDeadlocked t) (sym leads) dead) going_g (ap (λ d. d.failed) leads ∙ going)
 
--- a text of these lines, which are declared and have no refused step, is refused for memory alone
+-- a text of these lines, which are declared and have no refused step, is refused only for memory
 module _ (text : List ℕ) (t : Program) (s : SetupOf) (steps : List ℕ) (bound : ContextBound) (lines : List StepLineOf) (fit : HasFitLength t s steps)
     (has : HasLines steps lines) (declared : AreDeclaredLines t s lines)
     (taken : (setup : SetupOf) (r : StepRefusal) → IsSetupFor s lines bound setup → IsStepRefusal text t setup zeros lines r → ⊥) where

@@ -26,7 +26,7 @@ values_fit : (vs : Valuation) (rest other : List ℕ) → EachFits (text_of valu
 values_fit [] rest other fits = λ v more fits e. omega (arith, same_head 10 32 _ _ e)
 values_fit (v ∷ vs) rest other fits = ((same_stop after_byte may_end 61 _ _ Start v.0 fits.0.0, tt), values_fit vs rest other fits.1)
 
--- what comes after a location: a space or a line feed
+-- the text after a location: a space or a line feed
 record Ends (rest : List ℕ) : Type 0 where
   byte : ℕ
   more : List ℕ
@@ -85,7 +85,7 @@ fits_before x rest other fits = line_fits x _ other fits.0.0 (short_location x.l
 pub line_before : {x : StepLineOf} {own rest text other : List ℕ} → IsAt step_line own x rest → text ≡ text_of step_line x ++ other → IsAt step_line text x other
 line_before {x} {rest = rest} {other = other} at parts = record { fits = fits_before x rest other at.fits; parts = parts }
 
--- The values on a line, and the part of a text that says them.
+-- The values on a line, and the part of a text with them.
 
 name_read : (front name : List ℕ) (s : NameState) (rest : List ℕ) → SpanFits after_byte may_end s name (61 ∷ rest)
     → values_from (Name front s) (name ++ 61 ∷ rest) ≡ values_from (Bit (front ++ name)) rest

@@ -47,7 +47,7 @@ module _ (size : ℕ) where
     order : Increasing low high xs
     after : Sorted high rest
 
-  -- what follows names begins after the first of them
+  -- the tokens after names begin after the first of them
   record Follow (low : ℕ) (ts rest : List Token) : Type 0 where
     from : low ≤ first_at ts
     to : first_at ts < size
@@ -298,6 +298,6 @@ module _ (text : List ℕ) (t : Program) (is : IsLawfulText text t) where
         | inr rest ↦ elim rest [ inl less ↦ absurd (end_before m n p less first second) | inr more ↦ absurd (end_before n m p more second first) ]
       ]
 
-  -- a thread goes on at one instruction
+  -- a thread continues at one instruction
   pub one_goes_on : (c : Configuration) (i : ℕ) (a b : Option ℕ) → GoesOnAt t c i a → GoesOnAt t c i b → a ≡ b
   one_goes_on c i a b given1 given2 = search (rules, next, one_number)

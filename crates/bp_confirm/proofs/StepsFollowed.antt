@@ -12,7 +12,7 @@ use Rattle.bp_confirm.proofs.ValuesSeen.{stands_as}
 use Rattle.bp_confirm.proofs.StepMoves.{same_reply, refused_for_all, other_values}
 use Rattle.bp_confirm.proofs.Agreeing.{transfer}
 
--- The bit that is inferred at an instruction is that of the stack which goes on there.
+-- The bit that is inferred at an instruction is that of the stack which continues there.
 
 pub inferred_here : (t : Program) (last : LastBits) (code : Flat) (c : Configuration) (i : ℕ) (x : Top) (later : List StepOf) → StandsFor code t → IsTop t c i x
     → (got : Option (Bor Instruction)) (instr : Bor Instruction) → got ≡ Some instr → option_copied got ≡ slice_get code.instructions x.number
@@ -40,7 +40,7 @@ module _ (t : Program) (s : SetupOf) (h : List Call) (playable : IsPlayable t s 
   front_again own next = ap (λ c. take n h ++ c ∷ []) (own_is t s (take n h) (get_or h n d) [] playable_here own next) ∙ sym (take_more h n d within)
 
 module _ (t : Program) (s : SetupOf) (last : LastBits) where
-  -- what is followed is taken
+  -- calls that follow steps take them
   pub taken : (h : List Call) (xs later : List StepOf) (calls : List Call) → FollowAfter t s last h xs later calls → TakeAfter t s h xs calls
   taken h [] later [] follow = tt
   taken h (x ∷ xs) later (a ∷ calls) (here, rest) = (here.takes, taken (h ++ a ∷ []) xs later calls rest)
@@ -54,7 +54,7 @@ module _ (t : Program) (s : SetupOf) (last : LastBits) where
       (grown, follow_more (h ++ m ∷ []) zs x later ms a rest (simp regrouped next))
   follow_more h xs x later calls a follow next = absurd (assumption (follow))
 
--- the lines of steps, and what they say
+-- the lines of steps, and their meaning
 module _ (text : List ℕ) (t : Program) (s : SetupOf) (last : LastBits) (lines : List StepLineOf) (n : ℕ) where
   -- the first n of the lines are followed, and then one more
   pub follow_next : {x : StepLineOf} {r : SetupOf} {g h new : List Call} {a : Call} → n < length lines → x ≡ get_or lines n x → r ≡ s → g ≡ h → new ≡ h ++ a ∷ []
@@ -118,12 +118,13 @@ module _ (c : Configuration) (i : ℕ) (v : List ℕ × Bool) where
       → value_seen c.globals (stack_of c i) v.0 ≡ Some v.1 → SeesValues c i (take (n + 1) vs)
   sees_more vs n at sees here = subst (SeesValues c i) (sym (take_got vs n v at)) (seen_too (take n vs) sees here)
 
--- what is told of a line as it is read is told of the line
+-- the information on a line as it is read is that on the line
 pub tells_same : {text : List ℕ} {last : LastBits} {x z : StepLineOf} {later : List StepOf} {lines : List StepLineOf} {next : Next} → x ≡ z
     → TellsNext text last (step_of text z) later lines next → TellsNext text last (step_of text x) later lines next
 tells_same {text} {last} {later = later} {lines = lines} {next = next} is tells = subst (λ w. TellsNext text last (step_of text w) later lines next) (sym is) tells
 
--- the refusals of the step of one line, which is x as it is read, and whose thread goes on at this instruction
+-- the refusals of the step of one line, which is x as it is read, and whose thread continues at
+-- this instruction
 module _ (text : List ℕ) (t : Program) (s : SetupOf) (h : List Call) {x z : StepLineOf} (is : x ≡ z) (later : List StepOf) (n : ℕ) (number : Option ℕ)
     (goes_on : GoesOnAt t (configuration_after t s h) x.thread number) {points : List SourcePoint} (are : points ≡ source_points_of text t) where
   refused_for : (reason : StepReason) → IsReason t s h (step_of text x) later reason → ForStuck reason (IsStuck t s h (step_of text x))

@@ -5,7 +5,7 @@ use Rattle.bp_source.proofs.DecidersOfPlaces.{same_qualified}
 use Rattle.bp_confirm.proofs.Elements.{all_got}
 use Rattle.bp_confirm.proofs.BitsOfEffects.{start_is_at, numbers_at}
 
--- The point of an instruction tells where its statement begins in the text.
+-- The point of an instruction has the start of its statement in the text.
 
 module _ (text : List ℕ) where
   stand_there : (k : ℕ) (starts : List (Option ℕ)) (n : ℕ) → stand_at_point (slice_get (points_from text k starts) n) ≡ stand_at_start text (slice_get starts n)
@@ -19,7 +19,7 @@ module _ (text : List ℕ) where
       → stand_in points number ≡ stand_of text t number
   stands_as t points number given1 = search (rules, stand_there)
 
--- The point of an instruction tells where its statement begins, and in which procedure.
+-- The point of an instruction has the start of its statement, and its procedure.
 
 module _ (text : List ℕ) where
   -- one more instruction
@@ -36,7 +36,7 @@ module _ (text : List ℕ) where
       ∙ ap (λ p. points_from text (k + 1) starts ++ record { position = option_map (position_at text) start; procedure = p } ∷ []) number)
   points_more k (Some at ∷ starts) start = ap (λ xs. record { position = Some (position_at text at); procedure = k } ∷ xs) (points_more k starts start)
 
-  -- an instruction is at the location where its statement's beginning is at the place
+  -- an instruction is at the location if its statement's start is at the place
   point_there : (k : ℕ) (starts : List (Option ℕ)) (x : Location) (n : ℕ)
       → is_point_at x (slice_get (points_from text k starts) n) ≡ start_is_at (place_of text x) (slice_get starts n)
   point_there k [] x n = refl
@@ -81,12 +81,12 @@ module _ (text : List ℕ) where
       is ∙ (λ j. done j ++ point_is j ∷ []) ∙ sym (points_more 0 (take n starts) start)
       ∙ ap (points_from text 0) (sym (take_more starts n d within ∙ ap (λ x. take n starts ++ x ∷ []) at))
 
--- where a thread's top begins
+-- the start of a thread's top
 pub top_start : (t : Program) (c : Configuration) (i : ℕ) (x : Top) → (is : IsTop t c i x)
     → slice_get (starts_of t) x.number ≡ Some (start_of_block is.frame.left)
 top_start t c i x is = search (rules, slice_get-map)
 
--- it stands at a location where its instruction is there
+-- it is at a location if its instruction is
 pub stands_where : (text : List ℕ) (t : Program) (points : List SourcePoint) (c : Configuration) (i : ℕ) (x : Top) (here : Location)
     → points ≡ source_points_of text t → IsTop t c i x
     → stands_at (place_of text here) (stack_of c i) ≡ is_there points here x.number
@@ -99,7 +99,7 @@ pub top_locals : (t : Program) (c : Configuration) (i : ℕ) (x : Top) (p : Proc
     → own_value p.name.text (valuation_of (variables p) (bits_of x.store.locals)) name ≡ local_seen (stack_of c i) name
 top_locals t c i x p name is given1 = grind (arith)
 
--- what is got is the n-th
+-- the result is the n-th
 pub got_item : {X : Type 0} (o : Option (Bor X)) (xs : List X) (n : ℕ) → is_some o ≡ nat_lt n (length xs)
     → IfSome o (λ x. x.now ≡ get_or xs n x.now) → option_map (λ x. x.now) o ≡ slice_get xs n
 got_item given1 given2 = search (rules, slice_get_past, slice_get-get_or)
@@ -163,7 +163,7 @@ module _ (p : List ℕ) where
     pub by_no_name : lookup locals x ≡ None → ((own : List ℕ) → x ≢ qualified p own) → None ≡ own_value p locals x
     by_no_name none other = sym (ap (λ o. option_or o (lookup (qualified_values p locals) x)) none ∙ none_qualified x other locals)
 
--- A text that is known to say which variable is meant.
+-- A text that is known to name a variable.
 
 pub known_there : (t : Program) (names : List (Bor (List ℕ))) (n : ℕ) (name : Bor (List ℕ)) → AreKnown t names → slice_get names n ≡ Some name
     → declares t name.now ≡ true

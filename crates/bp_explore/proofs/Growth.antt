@@ -1,4 +1,4 @@
--- Nodes that are added, and what stays closed then.
+-- Nodes that are added, and the closure that is kept then.
 use Rattle.bp_explore.proofs.Common.{◌≡◌, ◌≢◌, ◌⊎◌, ℕ, zero, suc, ◌+◌, ◌<◌, ◌≤◌, true, false, List, [], ◌∷◌, ◌++◌, length, Option, Some, refl, ap, sym, ◌∙◌, subst, arith, inl, inr, slice_get, rules, cases_lt, slice_get_within, Instruction, contexts_opened, ListedSteps, StateOf, MayAdd, IsStep, Step, level_with, Holds, Has, IsSeen, IsExpanded, IsClosed, AreLayered, AreAtMost, IsGrown, IsExplored}
 use Rattle.bp_explore.specs.States.{NodeOf as Node}
 
@@ -117,7 +117,7 @@ opened_own l i is = elim (opened_cases l i) [ inl a ↦ a.1 | inr a ↦ absurd (
 pub opened_small : (l : Option ℕ) (i : ℕ) → contexts_opened l i ≤ 1
 opened_small l i = elim (opened_cases l i) [ inl a ↦ let e = a.1 in omega (arith, e) | inr a ↦ let e = a.1 in omega (arith, e) ]
 
--- what holds of the nodes below p, and of that at p
+-- the properties of the nodes below p, and of that at p
 module _ (o : ListedSteps) (code : List Instruction) (threads : ℕ) (xs : List Node) (p k : ℕ) (closed : IsClosed o code threads xs p k) where
   pub closed_next : ((node : Node) (i : ℕ) → slice_get xs p ≡ Some node → i < threads → level_with node i ≤ k → IsExpanded o code xs node i (level_with node i))
       → IsClosed o code threads xs (p + 1) k
@@ -151,7 +151,7 @@ other_closed o code xs node i k is own other = elim (opened_cases node.last i) [
       subst (λ m. IsExpanded o code xs node i m) level (other a.0)
 ]
 
--- nodes that use fewer than k contexts are closed within k + 1 where they are within k
+-- nodes that use fewer than k contexts are closed within k + 1 if they are within k
 pub closed_below : (o : ListedSteps) (code : List Instruction) (threads : ℕ) (xs : List Node) (p k : ℕ) → AreLayered xs p k → p ≤ length xs
     → IsClosed o code threads xs (length xs) k → IsClosed o code threads xs p (k + 1)
 closed_below o code threads xs p k layered few closed n node i below e within fits =

@@ -29,7 +29,7 @@ pub record IsCounted (o : ListedSteps) (m : ℕ) (c : Configuration) (i : ℕ) (
   pub told : IsTrue is_made ↔ IsMade o m c i d
   pub count : n ≡ cond is_made (m + 1) m
 
--- what a step of a state says of the move of thread i from c to d
+-- the move of thread i from c to d, by a step of a state
 abbrev pub Matches : Program → ListedSteps → ℕ → Configuration → ℕ → Configuration → Step → Type 0
 Matches t o m c i d Stays = ⊥
 Matches t o m c i d (Fails n) = IsCounted o m c i d n × (d.failed ≡ true)
@@ -177,7 +177,7 @@ failing_makes t c (x ∷ xs) e run going failed =
     by_next d move rest later false is = passes 0 c x d xs 1 e move (later is)
     by_next d move rest later true is = makes 0 c x d xs 1 e move (record { is = is; last = λ _. refl }) (run_passes t failures 1 d xs e rest)
 
--- Counting the listed steps by what is seen of a step.
+-- Counting the listed steps by the seen part of a step.
 
 pub counted_to : (o : ListedSteps) (m i n : ℕ) (x y : StateOf) (failed : Bool) (step : SeenStep) → step.thread ≡ i
     → ((t : Program) (c d : Configuration) → Shows t x c → Shows t y d → d.failed ≡ failed → ShowsStep t step c d)

@@ -128,7 +128,7 @@ module _ (c : Flat) (t : Program) (s : SetupOf) (o : ListedSteps) (own : o.is_of
             → MakesFrom t o 0 (start t s) (r.steps ++ x ∷ []) n d
         by_count d given1 counted b given2 = search (rules, makes_one, told, passes_one)
 
--- so the nodes stay reached, if what the step leads to is taken
+-- so the nodes are still reached, if the result of the step is added
 pub taken_reached : (c : Flat) (o : ListedSteps) (old new : List Node) (at : ℕ) (node : Node) (i level : ℕ) (bit : Bool) (y : Step) → slice_get old at ≡ Some node
     → level_with node i ≤ level → IsStep o node.made node.state i c.instructions bit y → IsTaken o old i level y new → StayReached c o (i + 1) old new
 taken_reached c o old new at node i level bit Stays is low step taken t s alike own many reached = subst (AreReached t s o) (sym taken) reached

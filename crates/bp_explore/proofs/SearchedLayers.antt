@@ -41,7 +41,7 @@ live_more t old new level next g next_is live more n node h e = elim (cases_lt n
 pub begins_kept : (t : Program) (s : SetupOf) (old new : List Node) (level : ℕ) → IsGrown old new level → Begins t s old → Begins t s new
 begins_kept t s old new level g b = record { first = b.first; is = g.kept 0 b.first b.is; last = b.last; level = b.level; made = b.made; shows = b.shows }
 
--- what is known once all within k contexts was searched
+-- the result once everything within k contexts was searched
 module _ (c : Flat) (s : SetupOf) (o : ListedSteps) (some : 0 < o.count) (b : Bool) (nodes : List Node) (from k : ℕ) (x : IsSearched c s o b nodes from k) where
   module _ (own : o.is_of c.tree) (alike : StepsAlike c c.tree) where
     closed_exhausted : (m : ℕ) → IsClosed o c.instructions (threads s) nodes (length nodes) m → IsExhausted c.tree s o b nodes m
@@ -77,7 +77,7 @@ module _ (c : Flat) (s : SetupOf) (o : ListedSteps) (some : 0 < o.count) (b : Bo
     pub made_so_far : HasMade c.tree s o nodes k
     made_so_far = made_in k (at_most_layered nodes from k x.explored.layered)
 
-    -- where the last layer brought no node
+    -- if the last layer brought no node
     pub made_before : (last : ℕ) → k ≡ last + 1 → from ≡ length nodes → HasMade c.tree s o nodes last
     made_before last next all = made_in last (λ n node is.
         let near = slice_get_within nodes n node is in
@@ -87,7 +87,7 @@ module _ (c : Flat) (s : SetupOf) (o : ListedSteps) (some : 0 < o.count) (b : Bo
     pub neither_in_next : HasNeitherBelow c.tree s o b (k + 1)
     neither_in_next = neither_below c.tree s o b k exhausted_so_far.neither
 
-    -- where the last layer brought no node, the nodes are closed within any number of contexts
+    -- if the last layer brought no node, the nodes are closed within any number of contexts
     pub exhausted_at_all : from ≡ length nodes → (m : ℕ) → IsExhausted c.tree s o b nodes m
     exhausted_at_all all m = closed_exhausted m (λ n node i below is within fits.
         let low = (x.explored.layered n node is).0 (omega (arith, below, all)) in

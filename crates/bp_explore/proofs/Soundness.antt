@@ -7,7 +7,8 @@ use Rattle.bp_explore.proofs.MadeSteps.{FirstMade, no_more, first_made, run_pass
 abbrev thread_of : Call → ℕ
 thread_of x = x.thread
 
--- a node shows the configuration, to which a step of the last thread led within this many contexts, and has made as many listed steps, but not all
+-- a node shows the configuration, to which a step of the last thread led within this number of
+-- contexts, and has made as many listed steps, but not all
 record IsShown (t : Program) (o : ListedSteps) (nodes : List Node) (last : Option ℕ) (level made : ℕ) (d : Configuration) : Type 0 where
   at : ℕ
   node : Node
@@ -19,7 +20,7 @@ record IsShown (t : Program) (o : ListedSteps) (nodes : List Node) (last : Optio
   shows : Shows t node.state d
   going : d.failed ≡ false
 
--- where a run ends that makes so many listed steps
+-- the end of a run that makes this number of listed steps
 record IsEnd (t : Program) (o : ListedSteps) (nodes : List Node) (made : ℕ) (d : Configuration) : Type 0 where
   at : ℕ
   node : Node
@@ -31,14 +32,14 @@ record IsEnd (t : Program) (o : ListedSteps) (nodes : List Node) (made : ℕ) (d
 module _ (c : Flat) (t : Program) (o : ListedSteps) (own : o.is_of t) (alike : StepsAlike c t) (nodes : List Node) (count k : ℕ)
     (closed : (n : ℕ) (node : Node) (i : ℕ) → slice_get nodes n ≡ Some node → i < count → level_with node i ≤ k
     → (bit : Bool) → (y : Step) × IsStep o node.made node.state i c.instructions bit y × IsSeen o nodes i (level_with node i) y) where
-  -- a run that goes on after its first step, or ends with it at a false assertion
+  -- a run that continues after its first step, or ends with it at a false assertion
   goes_on : (x : Call) (xs : List Call) (l : Option ℕ) (level m n : ℕ) (d e : Configuration) (s : IsShown t o nodes l level m d) (first : FirstMade t o m d x xs n e)
       → level_with s.node x.thread ≤ level + contexts_opened l x.thread
       → (IsShown t o nodes (Some x.thread) (level + contexts_opened l x.thread) first.made first.next → IsEnd t o nodes n e)
       → (y : Step) → Matches t o s.node.made d x.thread first.next y → IsSeen o nodes x.thread (level_with s.node x.thread) y → IsEnd t o nodes n e
   goes_on x xs l level m n d e s first given1 given2 y given3 given4 = grind (arith)
 
-  -- what is reached from a configuration that a node shows, a node shows
+  -- a configuration reached from one that a node shows is shown by a node
   stays_shown : (xs : List Call) (l : Option ℕ) (level m n : ℕ) (d e : Configuration) → IsShown t o nodes l level m d → length d.stacks ≡ count
       → MakesFrom t o m d xs n e → EachHasRoom t d xs → level + opened l (map thread_of xs) ≤ k → IsEnd t o nodes n e
   stays_shown [] l level m n d e s stacks run room fits =
@@ -63,7 +64,7 @@ module _ (c : Flat) (t : Program) (o : ListedSteps) (own : o.is_of t) (alike : S
       (reports.moves d x first.next before f first.move run_to))
       (omega (arith, fits, more))) y matches seen
 
--- where all that is within k contexts was seen, from a node that shows the start
+-- if everything within k contexts was seen, from a node that shows the start
 module _ (c : Flat) (t : Program) (s : SetupOf) (o : ListedSteps) (own : o.is_of t) (some : 0 < o.count) (alike : StepsAlike c t) (nodes : List Node) (k : ℕ) (first : Node)
     (closed : IsClosed o c.instructions (threads s) nodes (length nodes) k) (is : slice_get nodes 0 ≡ Some first)
     (last : first.last ≡ None) (level : first.level ≡ 0) (made : first.made ≡ 0) (shows : Shows t first.state (start t s)) where

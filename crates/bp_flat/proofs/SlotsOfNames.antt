@@ -71,8 +71,8 @@ pub value_at : (w : Store Bits) (items : List SlotExpr) (i : ℕ) (x : SlotExpr)
     → slice_get (formula_values w (map formula_of items)) i ≡ Some b
 value_at w items i x b given1 given2 = grind (arith, slice_get-map)
 
--- The headings of a code that stands for a program are those of its procedures, in order; so a name finds the
--- heading of the procedure that it finds in the program.
+-- The headings of a code that stands for a program are those of its procedures, in order; so a name
+-- finds the heading of the procedure that it finds in the program.
 
 -- no heading and no procedure, or the heading of the procedure
 abbrev pub SameHeading : List Place → Option Heading → Option Procedure → Type 0

@@ -71,7 +71,7 @@ module _ (t : Program) (p : Procedure) (w : Store Bits) (below : List Activation
       rw (c.is, c.procedure_is, c.arguments_are.equal w)
       (refl, (record { left = c.callee_is; locals = locals }, (record { left = c.next_is; locals = refl }, stack)))
 
--- the same at what remains, be it nothing
+-- also for the statements that remain, if any
 doing : (t : Program) (p : Procedure) (w : Store Bits) (below : List Activation) (fs : List Frame) (stack : ShowsStack t below fs)
     → (left : Block) (bit : Bool) (i : Instruction) → Does t (places_of t.procedures) p left i
     → SameEffect t (instruction_effect i w below bit) (effect t.procedures left (valuation_of t.globals w.globals) (framed p w left) fs bit)

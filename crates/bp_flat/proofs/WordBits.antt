@@ -54,7 +54,7 @@ low_bit n k below = sym (bit_at_cat_low (n / 2 ^ 64) 64 (n % 2 ^ 64) k below) �
 pub high_bit : (n k : ℕ) → 64 ≤ k → bit_at (n / 2 ^ 64) (k - 64) ≡ bit_at n k
 high_bit n k above = sym (bit_at_cat_high (n / 2 ^ 64) 64 (n % 2 ^ 64) k (omega arith) above) ∙ joined n k
 
--- The bits of a list stand in the slots from 0 on: with one more of them, the next slot has it.
+-- The bits of a list are in the slots from 0 on: with one more of them, the next slot has it.
 
 more_at : (bs : List Bool) (i : ℕ) (b : Bool) (j : ℕ) → slice_get bs i ≡ Some b → with_bit (bits_from (take i bs)) i b j ≡ bits_from (take (suc i) bs) j
 more_at [] i b j e = cc

@@ -2,7 +2,7 @@
 use Rattle.bp_language.proofs.Common.{◌≡◌, List, [], ◌∷◌, Option, None, Some, refl, ℕ, ◌≤◌, ◌++◌, length, arith, take, drop, subst, length-drop, length-take, rules, ∥∥₁_elim, le_prop, Name, Expression, Constant, Variable, Negation, Operation, Decision, Choose, Decide, Block, Done, Then, Statement, Skips, GoesTo, Returns, Assigns, Branches, Loops, Asserts, Assumes, Prints, Calls, Procedure, Program, EachName, NamesInExpression, NamesInExpressions, NamesInDecision, NamesInLabel, NamesInBlock, NamesInStatement, NamesInProcedure, NamesInProcedures, NamesInProgram, Token, kind_of, Lexeme, IsCut, ends, fit, open_brace, bad_byte, tokens_of, with_token, name_of, IsNames, one_name, more_names, IsAnyNames, IsExpr, of_or, implication, IsOr, of_xor, disjunction, IsXor, of_and, exclusion, IsAnd, of_eq, conjunction, IsEq, of_un, equality, difference, IsUn, negation, of_atom, IsAtom, constant_0, constant_1, variable, brackets, IsExprs, one_expr, more_exprs, IsAnyExprs, IsDecider, IsForm, skip, jump, returning, assignment, branch, loop, assertion, assumption, printing, call, IsStmt, labelled, unlabelled, IsStmts, one_stmt, more_stmts, decl, IsDecls, no_decl, more_decls, IsProc, proc, IsProcs, no_proc, more_procs, Derives, first_word, first_name, TokenKind, IsTextOf, HasText, TEXT_LIMIT}
 use Rattle.bp_language.specs.declared.tokens.TokenKind.TheVariants as kind
 
--- Where a fact of each name has one proof, so has that of all names of a program.
+-- If a fact of each name has one proof, so has that of all names of a program.
 
 module _ (P : Name → Type 0) (one : (n : Name) (x y : P n) → x ≡ y) where
   one_each : (ns : List Name) (x y : EachName P ns) → x ≡ y
@@ -56,7 +56,7 @@ module _ (P : Name → Type 0) (one : (n : Name) (x y : P n) → x ≡ y) where
   one_program p x y = λ i. (one_each p.globals x.0 y.0 i, one_procedures p.procedures x.1 y.1 i)
 
 module _ (P : Name → Type 0) where
-  -- what holds of the name that each token is, if it is one
+  -- a property of the name of each token, if it is one
   abbrev pub EachNamed : List Token → Type 0
   EachNamed [] = Unit {0}
   EachNamed (x ∷ ts) = (x.kind ≡ kind.Name → P (name_of x)) × EachNamed ts
@@ -167,7 +167,7 @@ module _ (P : Name → Type 0) where
   pub in_program : {ts : List Token} {p : Program} → Derives ts p → EachNamed ts → NamesInProgram P p
   in_program given1 given2 = search (rules, in_decls, in_procs)
 
--- a name of at most this many bytes
+-- a name of at most n bytes
 abbrev pub IsShort : ℕ → Name → Type 0
 IsShort n x = length x.text ≤ n
 

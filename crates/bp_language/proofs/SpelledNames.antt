@@ -111,6 +111,6 @@ rest_on_one_line (b ∷ c ∷ bs) h =
     All-cons (λ x. x ≢ 10) b (c ∷ bs) (no_feed is_braced_byte b refl (both_left _ _ h))
     (rest_on_one_line (c ∷ bs) (both_right _ _ h))
 
--- what is spelled as a name holds no line feed
+-- a text that is spelled as a name holds no line feed
 pub on_one_line : (s : List ℕ) → IsSpelled s → All (λ b. b ≢ 10) s
 on_one_line s given1 = search (rules, no_feed, both_left, word_on_one_line, both_right, rest_on_one_line)

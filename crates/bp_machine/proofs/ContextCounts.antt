@@ -2,7 +2,7 @@
 -- it.
 use Rattle.bp_machine.proofs.Common.{◌≡◌, ◌↔◌, IsTrue, ℕ, ◌+◌, ◌≤◌, ◌==◌, Bool, true, false, cond, nat_le, List, [], ◌∷◌, ◌++◌, length, Option, None, Some, refl, ap, sym, ◌∙◌, subst, arith, concat, nat_tests, ContextCount, EachIs, EachOfOne, IsWithin, IsLeastWithin, last_thread, contexts_opened, used_with, count_with, IsCountOf}
 
--- where these threads follow the thread l
+-- if these threads follow the thread l
 pub opened : Option ℕ → List ℕ → ℕ
 opened l [] = 0
 opened l (t ∷ ts) = contexts_opened l t + opened (Some t) ts

@@ -2,10 +2,11 @@
 use Rattle.bp_machine.proofs.Common.{◌≡◌, ◌&&◌, Bool, true, false, cond, List, [], ◌∷◌, Some, refl, ℕ, ◌+◌, ◌<◌, ◌≤◌, ◌++◌, None, ap, sym, ◌∙◌, subst, arith, inl, inr, zero, suc, drop, length, ◌⊎◌, get_or, unwrap_or, IsTrue, ◌↔◌, slice_get, rules, cases_lt, append-nil, get_or_past, slice_get_cases, Block, Program, regrouped, Valuation, Frame, is_call, effect, Configuration, ShowsFrame, ShowsStack, Full, Stopped, is_full, reply_to_effect, reply_on_stack, is_granted, stack_of, reply_of, configuration_after_step, configuration_after, granted_calls, IsLegalAfter, IsLegal, is_blocked, waits, is_left, has_frames, IsDeadlocked, Call, Reply, SetupOf, threads, State, StandsAfter, GuestThreadOf, top_of, activation_of, activations, ActivationRecord}
 use Rattle.bp_machine.proofs.HistoryWithCall.{configuration_after-append}
 
--- Where a thread is blocked with bit 1 it is blocked with bit 0 as well, so one look tells whether it waits.
+-- If a thread is blocked with bit 1 it is blocked with bit 0 as well, so one look tells whether it
+-- waits.
 
 module _ (t : Program) (g : Valuation) (f : Frame) (fs : List Frame) where
-  -- whether the frame is blocked where these statements are left to it
+  -- whether the frame is blocked if these statements are left to it
   abbrev blocked : Block → Bool → Bool
   blocked left bit =
       is_blocked (cond (is_call left && is_full (f ∷ fs)) (Some Full) (reply_to_effect (effect t.procedures left g f fs bit)))
@@ -61,7 +62,7 @@ module _ (t : Program) (c : Configuration) where
   pub not_waiting : (n : ℕ) → has_frames c n ≡ true → waits t c n ≡ false → IsDeadlocked t c → ⊥
   not_waiting n frames going dead = let a = dead.each_waits n frames in let b = going in cc
 
--- what is seen of all threads
+-- the result of a look at all threads
 module _ (t : Program) (s : SetupOf) (x : State) (h : List Call) (stands : StandsAfter t s x h) where
   abbrev now : Configuration
   now = configuration_after t s h
@@ -100,7 +101,7 @@ as_long t [] (f ∷ fs) shown = absurd shown
 as_long t (a ∷ acts) [] shown = absurd shown
 as_long t (a ∷ acts) (f ∷ fs) shown = ap suc (as_long t acts fs shown.1)
 
--- what is left of a stack after this many calls have returned is shown, too
+-- the rest of a stack after n calls have returned is shown, too
 pub shown_below : (t : Program) (n : ℕ) (acts : List ActivationRecord) (frames : List Frame)
     → ShowsStack t (activations acts) frames → ShowsStack t (activations (drop n acts)) (drop n frames)
 shown_below t zero acts frames shown = shown
@@ -109,7 +110,7 @@ shown_below t (suc n) [] (f ∷ fs) shown = absurd shown
 shown_below t (suc n) (a ∷ acts) [] shown = absurd shown
 shown_below t (suc n) (a ∷ acts) (f ∷ fs) shown = shown_below t n acts fs shown.1
 
--- what the top of a stack shows
+-- the statement that the top of a stack shows
 pub record TopShown (t : Program) (acts : List ActivationRecord) (frames : List Frame) (top : ActivationRecord) : Type 0 where
   pub frame : Frame
   pub below : List Frame

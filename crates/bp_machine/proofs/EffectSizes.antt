@@ -9,7 +9,7 @@ module _ (t : Program) where
   shown_length [] (f ∷ fs) e = absurd e
   shown_length (a ∷ below) [] e = absurd e
 
-  -- what an effect is, by the outcome that it is the same as
+  -- the effect, by the outcome that it is the same as
   pub same_leaves : (b : Bits) (stack : List Activation) (e : StatementEffect) → SameEffect t (Leaves b stack) e
       → (g : Valuation) × (s : List Frame) × (e ≡ Leaves g s) × (g ≡ valuation_of t.globals b) × ShowsStack t stack s
   same_leaves b stack e given1 = grind (arith)

@@ -118,7 +118,7 @@ clean_of o given1 = grind (arith)
 pub failed_outcome : (h : List Call) (x : Call) → x.reply ≡ replies.Failed → is_failure (outcome_of h) ≡ false → Failed x.thread ≡ outcome_of (h ++ x ∷ [])
 failed_outcome h x given1 given2 = search (rules, outcome-append, clean_of)
 
--- A state that stands after a history stands after it with one more call, where that call is allowed.
+-- A state that stands after a history stands after it with one more call, if that call is allowed.
 
 pub same_or_not : (j i : ℕ) → (j ≡ i) ⊎ (j ≢ i)
 same_or_not j i = go (j == i) refl
@@ -141,7 +141,7 @@ set_other (z ∷ zs) (suc i) (suc j) y n = set_other zs i j y (λ e. n (ap suc e
 
 module _ (t : Program) (s : SetupOf) (x : State) (h : List Call) (stands : StandsAfter t s x h) (i : ℕ)
     (guest : GuestThreadOf) (has : slice_get x.threads i ≡ Some guest) where
-  -- what one more call with this reply leaves
+  -- the state after one more call with this reply
   pub record Leaves (call : Call) (guest_after : GuestThreadOf) (y : State) (d : Configuration) : Type 0 where
     pub thread : call.thread ≡ i
     pub allowed : IsAllowed t s h call

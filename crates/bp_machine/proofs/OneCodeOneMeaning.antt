@@ -10,7 +10,7 @@ use Rattle.bp_machine.proofs.HistoryWithCall.{configuration_after-append}
 use Rattle.bp_machine.proofs.PrintsAlike.{printed_here, printed_alike}
 use Rattle.bp_machine.proofs.SessionsInOrder.{bound_is, entry_fine, others_fine, shown}
 
--- ---- what the code does
+-- ---- the steps of the code
 
 pub record CodeState : Type 0 where
   pub globals : Bits

@@ -3,7 +3,7 @@ use Rattle.bp_machine.proofs.Common.{◌≡◌, ◌≢◌, ℕ, Bool, true, fals
 use Rattle.bp_language.specs.Ast.{Returns}
 use Rattle.bp_flat.specs.declared.instrs.Kind.TheVariants as kind
 
--- what the instruction of a number prints
+-- the values that the instruction of a number prints
 abbrev pub printed_at : Option Instruction → Store Bits → Option (List Bool)
 printed_at (Some i) store = printed_values store i
 printed_at None store = None
@@ -15,7 +15,7 @@ print_prints i w given1 = grind (arith)
 pub other_prints_nothing : (i : Instruction) (w : Store Bits) → instruction_kind i ≢ kind.Print → false ≡ is_some (printed_values w i)
 other_prints_nothing i w given1 = grind (arith)
 
--- what the next instruction of a stack prints
+-- the values that the next instruction of a stack prints
 abbrev pub printed_here : List Instruction → Bits → List Activation → Option (List Bool)
 printed_here code g [] = None
 printed_here code g (a ∷ below) = printed_at (slice_get code a.number) (record { globals = g; locals = a.locals })

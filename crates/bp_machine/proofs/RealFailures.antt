@@ -175,7 +175,7 @@ module _ (t : Program) (s : SetupOf) where
       ap (λ b. cond b (x.thread ∷ granted_threads xs) (granted_threads xs)) none
       ∙ none_after (h ++ x ∷ []) xs rest (ap (λ (d : Configuration). d.failed) same ∙ failed)
 
-  -- the same from a history on
+  -- also from a history on
   record RealFrom (h xs : List Call) (i : ℕ) : Type 0 where
     before : List Call
     call : Call

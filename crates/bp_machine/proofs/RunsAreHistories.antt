@@ -28,13 +28,13 @@ module _ (t : Program) (c : Configuration) (i : ℕ) (bit : Bool) (d : Configura
       ∙ ap (λ b. cond b (Some Full) (reply_to_effect e)) free
       ∙ effect_told e m.is
 
-  -- the machine goes where the move does
+  -- the machine leads to the same configuration as the move
   pub goes_there : (r : Reply) → is_granted r ≡ true → Moves t c i bit d → configuration_after_call t c i bit r ≡ d
   goes_there r granted m =
       ap (λ b. cond b (unwrap_or (configuration_after_step t c i bit (stack_of c i)) c) c) granted
       ∙ ap (λ o. unwrap_or o c) (step_is t c i bit d m)
 
--- the reply of a step is told where the rest of the run ends
+-- the reply of a step is told by the end of the rest of the run
 pub reply_before : (t : Program) (d : Configuration) (xs : List Call) (e : Configuration) → IsRun t d xs e
     → reply_of_step [] d.failed ≡ reply_of_step xs e.failed
 reply_before t d xs e given1 = grind (arith)

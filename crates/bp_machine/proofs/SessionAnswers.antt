@@ -9,7 +9,7 @@ use Rattle.bp_machine.proofs.SessionsInOrder.{still_stands, stays_in_order, stil
 
 module _ (t : Program) (s : SetupOf) (x : State) (h : List Call) (stands : StandsAfter t s x h) (i : ℕ)
     (guest : GuestThreadOf) (has : slice_get x.threads i ≡ Some guest) where
-  -- whether the line is finished is what the session keeps of it
+  -- the session's thread tells whether the line is finished
   pub over_is : is_over s guest ≡ is_finished s h i
   over_is =
       let shown = stands.thread i guest has in
@@ -21,7 +21,7 @@ module _ (t : Program) (s : SetupOf) (x : State) (h : List Call) (stands : Stand
   unfinished : is_over s guest ≡ false → is_finished s h i ≡ false
   unfinished goes_on = sym over_is ∙ goes_on
 
--- a session has choices of a thread exactly where its setup has a seed
+-- a session has choices of a thread if and only if its setup has a seed
 module _ (s : SetupOf) (choices : List ChoicesOf) (count : length choices ≡ choices_of s) (i : ℕ) where
   count_at : (seed : Option ℕ) → s.seed ≡ seed → length choices ≡ cond (is_some seed) (threads s) 0
   count_at seed e = count ∙ ap (λ o. cond (is_some o) (threads s) 0) e
@@ -85,7 +85,7 @@ module _ (t : Program) (x : SessionOf) (h : List Call) (stands : Stands t x h)
     pub judged_next : IsNextCall t s h i given p.call
     judged_next = search (rules, allowed, line_of, bit_of)
 
-    -- memory may be refused only where its step is a call
+    -- memory may be refused only if its step is a call
     pub refused_for_memory : IsCallTransition p.transition → IsAskRefusal t s h i given Memory
     refused_for_memory call =
         let next = judged.transition in
@@ -149,7 +149,7 @@ pub count_more : (t : Program) (s : SetupOf) (x : State) (h : List Call) (stands
     → (over : Bool) → over ≡ is_over s guest → (count : ℕ) → count ≡ open_below i s h → cond over count (count + 1) ≡ open_below (i + 1) s h
 count_more t s x h stands i guest given1 over given2 count given3 = search (rules, over_is, add-one)
 
--- the bit of a global, where its names stand for the bits of a word
+-- the bit of a global, if its names stand for the bits of a word
 named_at : (gs : List Name) (bits : Bits) (n : ℕ) → n < length gs → option_map (λ (e : List ℕ × Bool). e.1) (slice_get (valuation_of gs bits) n) ≡ Some (bits n)
 named_at [] bits n h = absurd (omega arith)
 named_at (g ∷ gs) bits zero h = refl

@@ -31,7 +31,7 @@ of_map : {X Y : Type 0} (f : X → Y) (o : Option X) (y : Y) → option_map f o 
 of_map given1 = grind (arith)
 
 module _ (c : Flat) (t : Program) (s : SetupOf) (is : StandsFor c t) where
-  -- the entry of a thread, where the setup fits
+  -- the entry of a thread, if the setup fits
   entry_here : (es : List (List ℕ)) (k i : ℕ) (e : List ℕ) → entries_fault t k es ≡ None → slice_get es i ≡ Some e
       → (p : Procedure) × (procedure_named t.procedures e ≡ Some p)
   entry_here [] k i e none found = absurd cc
@@ -111,7 +111,7 @@ fits_anew t s z seed e fits = subst (Fits t) (sym e) (record { entries = fits.en
 pub in_range_anew : (s z : SetupOf) (seed : Option ℕ) → z ≡ record s { seed = seed } → IsInRange s → IsInRange z
 in_range_anew s z seed given1 given2 = grind (arith)
 
--- where room was made
+-- after room was made
 module _ (c : Flat) (s : SetupOf) (machine later : MachineOf) (same : later.state ≡ machine.state) (choices : List ChoicesOf) where
   abbrev before : SessionOf
   before = session_of c s machine choices

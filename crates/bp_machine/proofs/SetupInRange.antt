@@ -70,7 +70,8 @@ module _ (t : Program) (s : SetupOf) (none : setup_fault t s ≡ None) where
   pub range_of : IsLawful t → IsInRange s
   range_of is_lawful = range_by s threads_fine numbers_fine (omega (arith, (few_names t is_lawful).globals, fits.init))
 
--- The entries of a setup without a fault are names of the program, and have what each of its names has.
+-- The entries of a setup without a fault are names of the program, and have the property of each of
+-- its names.
 
 module _ (P : List ℕ → Type 0) where
   -- the name of the procedure that was found
@@ -130,7 +131,7 @@ pub names_found : (c : Flat) (es : List (List ℕ)) → IsOfProgram c → entrie
     → (i : ℕ) (name : List ℕ) → slice_get es i ≡ Some name → is_some (heading_named c.headings name) ≡ true
 names_found c es of_some none i name at = each_found c c.tree of_some.stands es 0 i name none at
 
--- what a search answers
+-- the result of a search
 pub found_somewhere : (o : Option (Bor kept.Heading)) (h : Option Heading) → option_copied o ≡ h → is_some h ≡ true → ((x : Bor Heading) → o ≡ Some x → ⊥) → ⊥
 found_somewhere o h given1 given2 given3 = grind (arith)
 
@@ -190,7 +191,7 @@ first_is o r given1 = grind (arith)
 second_is : (o r : Option SetupFault) → is_some o ≡ false → option_or o r ≡ r
 second_is o r given1 = grind (arith)
 
--- the entries from thread i on, where x is the entry of that thread
+-- the entries from thread i on, if x is the entry of that thread
 module _ (t : Program) {X : Type 0} (name : X → List ℕ) (xs : List X) (i : ℕ) (x d : X) (within : i < length xs) (is : x ≡ get_or xs i d) where
   abbrev own : Option SetupFault
   own = entry_fault i (procedure_named t.procedures (name x))

@@ -152,7 +152,7 @@ module _ (c : Flat) (t : Program) (alike : StepsAlike c t) (s : SetupOf) (x : St
   stands_after Fails is = fails is
   stands_after (Steps d) is = takes d is
 
--- Drawing a word of choices goes on to the next 32 bits.
+-- Drawing a word of choices advances to the next 32 bits.
 
 word_after : (seed thread k : ℕ) → generator_after seed thread (suc k) ≡ (pcg32 (generator_after seed thread k)).1
 unfolding generator_after
@@ -180,7 +180,8 @@ pub at_first_word : (seed thread word : ℕ) (g : Lcg) → (word, g) ≡ pcg32 (
     → IsAt (record { word = word; place = 0; generator = g }) seed thread 0
 at_first_word seed thread word g given1 = search (rules, start_is, word_after)
 
--- A seeded history is seeded with one more call that has the seed's bit, and so are the choices that stand after it.
+-- A seeded history is seeded with one more call that has the seed's bit, and so are the choices
+-- after it.
 
 -- an item of a list with one more is an item of the list, or the last
 pub at_end : {X : Type 0} (xs : List X) (x y : X) (n : ℕ) → slice_get (xs ++ x ∷ []) n ≡ Some y → (slice_get xs n ≡ Some y) ⊎ ((n ≡ length xs) × (x ≡ y))

@@ -7,7 +7,7 @@ use Rattle.bp_machine.specs.declared.calls.Outcome.TheVariants.{Failed}
 use Rattle.bp_machine.proofs.EffectSizes.{shown_length, same_leaves, same_lost, not_call, is_a_call}
 use Rattle.bp_machine.proofs.HistoryWithCall.{set_same}
 
--- what a verdict says of an effect
+-- the effect of a verdict
 abbrev pub Tells : Program → StatementEffect → ℕ → List ActivationRecord → Transition → Type 0
 Tells t e gw stack (Stays r) = is_granted r ≡ false
 Tells t e gw stack Fails = e ≡ moves.Fails
@@ -54,9 +54,9 @@ module _ (t : Program) (g : Valuation) (f : Frame) (fs : List Frame) (bit : Bool
   by_effect instr.Fails full same = grind (arith)
   by_effect instr.Blocks full same = grind (arith)
 
--- A whole stack: what the verdict says of the reply, and of the next configuration.
+-- A whole stack: the reply and the next configuration of the verdict.
 
--- what a verdict says of the step of a thread with these frames
+-- the step of a thread with these frames, by its verdict
 abbrev pub Comes : Program → Valuation → Bool → List Frame → Bool → ℕ → List ActivationRecord → Transition → Type 0
 Comes t g failed S bit gw stack (Stays r) = is_granted r ≡ false
 Comes t g failed S bit gw stack v =
@@ -115,7 +115,7 @@ module _ (c : Flat) (t : Program) (alike : StepsAlike c t) (bit : Bool) (gw : �
 
 -- The thread of a call, found in the list of threads, and the state after the call.
 
--- a kept thread of a list, where the lists of what is kept have it
+-- a kept thread of a list, if the lists of its parts have it
 pub guest_here : (ks : List KeptThread) (i : ℕ) (k : KeptThread) → i < length ks → k ≡ get_or ks i k → slice_get (guests ks) i ≡ Some k.guest
 guest_here ks i k within is = slice_get-map (λ z. z.guest) ks i ∙ ap (option_map (λ z. z.guest)) (slice_get_read ks (length ks) i k refl within is)
 
@@ -133,7 +133,7 @@ module _ (ks : List KeptThread) (i : ℕ) (at new : KeptThread) (within : i < le
   pub has_room : (v : Transition) → TransitionFitsIn new.room v → HasRoom (rooms (slice_set ks i new)) i v
   has_room v given1 = search (rules, set_same, slice_get_read, slice_get-map)
 
--- What a machine keeps, put together from its fields.
+-- The parts of a machine, put together from its fields.
 abbrev pub state : ℕ → List GuestThreadOf → ContextCount → Outcome → State
 state g ls k f = record { globals = g; threads = ls; contexts = k; outcome = f }
 

@@ -28,7 +28,7 @@ module _ (x new : SessionOf) (h : List Call) (made lines i : ℕ) (call : Call) 
     books_when_finished more less one_more closed finished =
         books_with more less one_more (ap (λ b. less + cond b 1 0) finished ∙ closed)
 
-    -- a line that goes on
+    -- a line that continues
     pub books_when_open : (more : ℕ) → more ≡ made + 1 → is_finished x.setup (h ++ call ∷ []) call.thread ≡ false → IsInBooks new (h ++ call ∷ []) more lines
     books_when_open more one_more unfinished =
         books_with more lines one_more (ap (λ b. lines + cond b 1 0) unfinished ∙ omega arith)
@@ -68,7 +68,7 @@ module _ (x : SessionOf) (h : List Call) (made lines : ℕ) (books : IsInBooks x
     open_are = open_are ∙ books.lines_are ∙ sym reported.left_open;
   }
 
--- what was gathered, by other names of the code and the setup
+-- the result of gathering, by other names of the code and the setup
 pub gathered_as : {code own : Flat} {s its : SetupOf} {taken : List Call} {seats : List SeatOf} {tap : TapOf} {r : Report} {early : Option ℕ} {agree : Bool}
     → code ≡ own → s ≡ its → IsGathered own.tree its taken seats tap r early agree → IsGathered code.tree s taken seats tap r early agree
 gathered_as given1 given2 given3 = grind (arith)

@@ -109,7 +109,7 @@ module _ {W : Type 0} (contents : W → Option (List ℕ)) (t : Program) (s : Se
   abbrev now : Option (List ℕ)
   now = contents d.out.now
 
-  -- what was left is what was gathered to be left
+  -- the calls that were left are those gathered as left
   same : rest.more ≡ g.left
   same = search (rules, same_Some, append-nil)
 

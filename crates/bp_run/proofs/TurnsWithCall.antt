@@ -8,12 +8,12 @@ use Rattle.bp_machine.specs.declared.calls.AskFault.{AskFault}
 use Rattle.bp_machine.specs.declared.calls.AskFault.TheVariants.{Finished, NoThread, Seeded, Unseeded, Memory, Busy}
 use Rattle.bp_machine.specs.declared.calls.AskFault.TheVariants as fault
 
--- What the seat says of a turn, from what the turn did at the desk.
+-- The seat after a turn, from the turn at the desk.
 
 desk_fault : (d : DeskOf) (seat : SeatOf) (f : AskFault) → IsDeskRefusal d seat f → IsDeskFault f
 desk_fault d seat f given1 = grind (arith)
 
--- a seat is still open where its line is not refused as finished
+-- a seat is still open if its line is not refused as finished
 open_before : (d : DeskOf) (seat : SeatOf) (f : AskFault) → IsDeskRefusal d seat f → f ≢ fault.Finished → seat.is_open ≡ true
 open_before d seat f given1 given2 = grind (arith)
 
@@ -33,9 +33,10 @@ module _ (old new : DeskOf) (seat after : SeatOf) (n : ℕ) where
       → MatchResult r (IsSeatTurn seat after n) (IsCutSeatTurn seat after n)
   seat_turn r given1 = search (rules, line_of_last, all_made, open_before, desk_fault)
 
--- A call is refused as one of a finished line exactly where the line is finished, or the seat says so.
+-- A call is refused as one of a finished line if and only if the line is finished, or the seat is
+-- shut.
 
--- the seat says that it is not open, or the line is finished
+-- the seat is not open, or the line is finished
 abbrev Shut : SetupOf → List Call → ℕ → Bool → Type 0
 Shut s h i is_open = (is_open ≡ false) ⊎ (is_finished s h i ≡ true)
 
@@ -128,7 +129,7 @@ module _ (old now new : DeskOf) (seat at after : SeatOf) (n made : ℕ) (steps :
         counted = omega (arith, calls, counted, more, many);
       }
 
--- What a refused turn says of the machine at that moment.
+-- The machine at the moment of a refused turn.
 
 module _ (old new : DeskOf) (seat after : SeatOf) (n : ℕ) (legal : IsLegalDesk new)
     (is_open : seat.is_open ≡ true) where

@@ -121,7 +121,7 @@ first_piece braced (b ∷ bs) some = by_comma (not braced && b == 44) (first_pie
         let one_more : suc (n + 1) ≡ suc n + 1 = omega arith in
         ap (onto_first b) (of_others (omega (arith, some))) ∙ ap (λ m. (b ∷ take n bs) ∷ pieces false (drop m (b ∷ bs))) one_more
 
--- it is the whole text where there are none
+-- it is the whole text if there are none
 pub one_piece : (braced : Bool) (text : List ℕ) → length text ≤ piece_size braced text → pieces braced text ≡ text ∷ []
 one_piece braced [] all = refl
 one_piece braced (b ∷ bs) all = by_comma (not braced && b == 44) (one_piece (is_braced_after braced b) bs) all
@@ -143,6 +143,6 @@ one_piece braced (b ∷ bs) all = by_comma (not braced && b == 44) (one_piece (i
 pub first_joined : (old : List ℕ) (ts us : List (List ℕ)) → fold (λ a u. a ++ u) (fold (λ a u. a ++ u) old ts) us ≡ old ++ concat (concat ts ∷ us)
 first_joined old ts us = ap (λ x. fold (λ a u. a ++ u) x us) (all_added old ts) ∙ all_added old (concat ts ∷ us)
 
--- what follows from a fact of a call that succeeded
+-- a consequence of a fact of a call that succeeded
 pub when_ok : {T E P Q : Type 0} (r : Result T E) → OnOk r P → (P → Q) → OnOk r Q
 when_ok r is more = on_ok_weaker r more is

@@ -16,7 +16,7 @@ pub record Reads (text shown : List ℕ) (reads : Bool) : Type 0 where
   pub shown_is : shown ≡ lexemes_text false lexemes
   pub reads_is : reads ≡ list_any (λ l. is_choice l.bytes) lexemes
 
--- whatever lexemes are left, the statement has what was read of it, and then their shown
+-- whatever lexemes are left, the statement has those read of it, and then their shown
 pub record ReadsTo (text shown : List ℕ) (gap reads : Bool) (rest : List ℕ) : Type 0 where
   pub with_left : (left : List Lexeme) → HasLexemes rest left → Reads text (shown ++ lexemes_text gap left) (reads || list_any (λ l. is_choice l.bytes) left)
 
@@ -54,7 +54,7 @@ module _ (text shown : List ℕ) (gap reads : Bool) (rest : List ℕ) (read : Re
         reads_is = sym (or_false reads) ∙ all.reads_is;
       }
 
--- where a lexeme of a cut is, and whether it is a byte that begins none
+-- the place of a lexeme of a cut, and whether it is a byte that begins none
 abbrev place : cut.Lexeme → ℕ
 place (Fit kind at bytes) = at
 place (Brace at) = at
@@ -76,7 +76,7 @@ one_place a b s r [] first second = inl (none_left_of b r second)
     none_left_of _ _ cut.ends = refl
 one_place a b s r (x ∷ xs) first second = inr (sym (place_of_first a s x xs first) ∙ place_of_first b r x xs second)
 
--- what comes after such a byte
+-- the text after such a byte
 record AfterByte (at : ℕ) (text : List ℕ) (xs : List cut.Lexeme) : Type 0 where
   rest : List ℕ
   cut : IsCut (at + 1) rest xs

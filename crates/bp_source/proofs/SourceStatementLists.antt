@@ -3,9 +3,9 @@ use Rattle.bp_source.proofs.Common.{◌≡◌, ◌∙◌, ◌<◌, ◌≤◌, �
 use Rattle.std.proofs.Common.{Bor}
 use Rattle.bp_flat.specs.Flat.{Instruction}
 
--- What is got from a list by a place.
+-- The element of a list at a place.
 
--- what is got is the n-th
+-- the result is the n-th
 pub got_item : {X : Type 0} (o : Option (Bor X)) (xs : List X) (n : ℕ) → is_some o ≡ nat_lt n (length xs) → IfSome o (λ x. x.now ≡ get_or xs n x.now)
     → option_map (λ x. x.now) o ≡ slice_get xs n
 got_item given1 given2 = search (rules, slice_get_past, slice_get-get_or)
@@ -105,12 +105,12 @@ no_statements : (ps : List Procedure) (n : ℕ) (is : List Instruction) → inst
 no_statements ps n [] = refl
 no_statements ps n (i ∷ is) = refl
 
--- what was added is all where no instruction is left
+-- the added text is all if no instruction is left
 pub without_instruction : (ps : List Procedure) (n : ℕ) (is : List Instruction) (statements : List SourceStatement) (added whole : List ℕ)
     → slice_get is n ≡ None → added ++ instruction_objects ps n (drop n is) (drop n statements) ≡ whole → added ≡ whole
 without_instruction ps n is statements added whole given1 given2 = search (rules, is, append-nil, none_left)
 
--- what was added is all where no source statement is left
+-- the added text is all if no source statement is left
 pub without_statement : (ps : List Procedure) (n : ℕ) (is : List Instruction) (statements : List SourceStatement) (added whole : List ℕ)
     → length statements ≤ n → added ++ instruction_objects ps n (drop n is) (drop n statements) ≡ whole → added ≡ whole
 without_statement ps n is statements added whole given1 given2 = search (rules, is, append-nil, no_statements, no_statement_left)

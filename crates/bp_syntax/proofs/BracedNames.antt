@@ -29,7 +29,7 @@ pub run_within : (test : ℕ → Bool) (bs : List ℕ) → run test bs ≤ lengt
 run_within test [] = omega arith
 run_within test (b ∷ bs) = within_by test b bs (test b) (run_within test bs)
 
--- how many bytes of a braced name may stand at the front
+-- the number of bytes of a braced name at the front
 abbrev pub inside : List ℕ → ℕ
 inside bs = run is_braced_byte bs
 
@@ -55,7 +55,7 @@ module _ (b : ℕ) (bs : List ℕ) where
       → slice_get (drop k bs) (inside (drop k bs)) ≢ Some 125
   later_by y k given1 given2 given3 given4 = grind (arith)
 
--- a } behind the bytes that may stand in a name closes it
+-- a } after the bytes that a name may have closes it
 pub closes_at : (bs : List ℕ) → slice_get bs (inside bs) ≡ Some 125 → is_braced_rest (take (suc (inside bs)) bs) ≡ true
 closes_at [] e = let z : ⊥ = cc in absurd z
 closes_at (b ∷ bs) e = at_by b bs (is_braced_byte b) refl (closes_at bs) e
@@ -74,7 +74,7 @@ closes_no_longer (b ∷ bs) (suc m) lt le e =
     let le' : m ≤ length bs = omega arith in
     longer_by b bs (is_braced_byte b) m refl lt le' (λ more. closes_no_longer bs m more le') e
 
--- where the run is not closed, none is that begins within it
+-- if the run is not closed, none is that begins within it
 later : (bs : List ℕ) (k : ℕ) → k ≤ inside bs → slice_get bs (inside bs) ≢ Some 125 → slice_get (drop k bs) (inside (drop k bs)) ≢ Some 125
 later bs zero le never = never
 later [] (suc k) le never = absurd (omega arith)
@@ -94,7 +94,7 @@ unclosed b bs never (suc k) m lt e =
     let f = name_closes (drop k bs) m e in
     later bs (k + 1) (omega arith) never (closed_there (drop (k + 1) bs) f.0 (subst (λ l. is_braced_rest (take f.0 l) ≡ true) (drop-drop 1 k bs) f.1))
 
--- what is known of the braces stays known when a lexeme is taken
+-- the facts of the braces still hold when a lexeme is taken
 pub nameless_rest : (n m : ℕ) (s : List ℕ) → IsNameless n s → IsNameless (n - m) (drop m s)
 nameless_rest n m s h k j lt e = h (m + k) j (omega arith) (subst (λ l. fits lexeme.Braced (take j l) ≡ true) (drop-drop k m s) e)
 

@@ -18,14 +18,14 @@ names_read (more_names {rest = r} {more = ns} (first_name {token = x} h) (first_
 pub names_begin : {ts : List Token} {ns : List Name} {r : List Token} → IsNames ts ns r → is_at kind.Name ts ≡ true
 names_begin given1 = grind (arith)
 
--- no list of names goes on here: neither a comma comes nor a name
+-- no list of names continues here: neither a comma comes nor a name
 pub any_names_read : {ts : List Token} {ns : List Name} {r : List Token} → IsAnyNames ts ns r
     → (next : List Name → Wanted) → is_at kind.Comma r ≡ false → is_at kind.Name r ≡ false
     → parse_result (AnyNamesThen next) ts ≡ parse_result (next ns) r
 any_names_read (no_names {rest = r}) next nc nn = no_name next r nn
 any_names_read (some_names {ts = ts} d) next nc nn = some_name next ts (names_begin d) ∙ names_read d [] next nc
 
--- no expression goes on with a token of the kind
+-- no expression continues with a token of the kind
 pub record Closes (k : TokenKind) : Type 0 where
   equality : operator Equality k ≡ None
   conjunction : operator Conjunction k ≡ None
@@ -33,7 +33,7 @@ pub record Closes (k : TokenKind) : Type 0 where
   disjunction : operator Disjunction k ≡ None
   implication : is_same_kind k kind.Implies ≡ false
 
--- no expression goes on with these tokens
+-- no expression continues with these tokens
 pub ExprEnds : List Token → Type 0
 ExprEnds [] = Unit {0}
 ExprEnds (x ∷ r) = Closes x.kind

@@ -4,7 +4,7 @@ use Rattle.bp_syntax.proofs.Common.{◌≡◌, ℕ, ◌+◌, ◌<◌, ◌≤◌,
 pub cond_none : (b : Bool) (o : Option ℕ) (n : ℕ) → cond b o (Some n) ≡ None → (b ≡ true) × (o ≡ None)
 cond_none b o n given1 = grind (arith)
 
--- where no token is too many, each run is short, and shorter by the tokens that stand before it
+-- if no token is too many, each run is short, and shorter by the tokens before it
 Short : ℕ → List Token → Type 0
 Short n ts =
     (before run after : List Token) → ts ≡ before ++ (run ++ after) → NoSeparator run
@@ -169,7 +169,7 @@ some_is_crowded ts at e =
 
 -- The count of the depth finds the first token that nests too deep, if there is one.
 
--- the same, where the depth is n before the tokens
+-- also if the depth is n before the tokens
 abbrev ShallowFrom : ℕ → List Token → Type 0
 ShallowFrom n ts = (front rest : List Token) → ts ≡ front ++ rest → depth_from n front ≤ NESTING_LIMIT
 

@@ -15,7 +15,7 @@ module _ {K X : Type 0} (test : K → Bool) (P : K → Type 0) where
       → is_some (cond y (Some x) (lookup test es)) ≡ true → (j : K) × (test j ≡ true) × P j
   found_by k x es y given1 given2 given3 given4 = grind (arith)
 
-  -- what is found in a table is one of its keys
+  -- an element found in a table is one of its keys
   pub found : (t : List (K × X)) → Keys P t → is_some (lookup test t) ≡ true → (j : K) × (test j ≡ true) × P j
   found [] ks e = absurd (false≢true e)
   found (a ∷ es) ks e = found_by a.0 a.1 es (test a.0) refl ks.0 (found es ks.1) e
@@ -79,7 +79,7 @@ kind_by_first lexeme.Symbol b [] e = symbol_first b e
 kind_by_first lexeme.Symbol b (c ∷ []) e = long_symbol_first b c e
 kind_by_first lexeme.Symbol b (c ∷ d ∷ ds) e = absurd (false≢true e)
 
--- a lexeme is the longest where its kind fits nothing longer
+-- a lexeme is the longest if its kind fits nothing longer
 longest_of : (k : LexemeKind) (b : ℕ) (bs : List ℕ) (n : ℕ) → n ≤ length bs → fits k (b ∷ take n bs) ≡ true
     → ((m : ℕ) → n < m → m ≤ length bs → fits k (b ∷ take m bs) ≢ true) → IsLongest (b ∷ bs) k (suc n)
 longest_of k b bs n within is none = record {
@@ -100,7 +100,7 @@ longest_of k b bs n within is none = record {
     longer other (suc m) lt le e =
         none m (omega arith) (omega arith) (subst (λ j. fits j (b ∷ take m bs) ≡ true) (same other (take m bs) e) e)
 
--- nothing fits where the kind of the first byte doesn't
+-- nothing fits if the kind of the first byte does not
 none_of : (k : LexemeKind) (b : ℕ) (bs : List ℕ) → first_kind b ≡ Some k → ((m : ℕ) → fits k (b ∷ take m bs) ≢ true) → NoneFits (b ∷ bs)
 none_of k b bs first none j zero lt le e = absurd (omega arith)
 none_of k b bs first none j (suc m) lt le e =
@@ -136,7 +136,7 @@ two_bytes b c cs f = longest_of lexeme.Symbol b (c ∷ cs) 1 (omega arith) f (mo
     more [] (suc (suc m)) lt le e = absurd (omega arith)
     more (d ∷ ds) (suc (suc m)) lt le e = false≢true e
 
--- the lexeme that is answered is the longest, and none is where none fits
+-- the resulting lexeme is the longest, and there is none if none fits
 abbrev IsLongestAnswer : List ℕ → Option (LexemeKind × ℕ) → Type 0
 IsLongestAnswer s r = MatchOption r (NoneFits s) (λ p. IsLongest s p.0 p.1)
 
@@ -174,7 +174,7 @@ slash_by b c cs y given1 given2 = search (rules, slashes, lone_slash)
 comment_is : (b : ℕ) (bs : List ℕ) → (b == 47) ≡ true → IsLongestAnswer (b ∷ bs) (comment bs)
 comment_is b bs given1 = search (rules, last_slash, slash_by)
 
--- no symbol of two bytes stands here
+-- no symbol of two bytes is here
 abbrev NoLong : ℕ → List ℕ → Type 0
 NoLong b [] = Unit {0}
 NoLong b (c ∷ cs) = is_some (long_symbol b c) ≡ false

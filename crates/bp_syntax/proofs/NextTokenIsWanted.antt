@@ -327,7 +327,7 @@ sound (MoreProcs acc next) x v e ts q n =
     one_more f us is (procs {r = r} fs more k) =
         procs (f ∷ fs) (more_procs is more) (simp regrouped at k)
 
--- where the tokens may end, nothing more is wanted
+-- if the tokens may end, nothing more is expected
 pub sound_end : (w : Wanted) (q : Program) → program_at_end w ≡ Some q → Needs w [] q
 sound_end (Complete p) q e = subst (λ r. Needs (Complete p) [] r) (given e) complete
 sound_end (MoreNames acc next) q e = names [] (no_more_names []) (subst (λ l. Needs (next l) [] q) (sym (append-nil acc)) (sound_end (next acc) q e))

@@ -136,7 +136,7 @@ real_front : (front rest : List Token) → AllReal (front ++ rest) → AllReal f
 real_front [] rest r = tt
 real_front (x ∷ front) rest r = (r.0, real_front front rest r.1)
 
--- what each front of real tokens with it has breaks at one place
+-- a property of each front of real tokens with it breaks at one place
 one_break : (P : List Token → Type 0) (ts : List Token) (at place : ℕ)
     → ((front rest : List Token) → AllReal (front ++ rest) → P (front ++ rest) → P front)
     → AllReal ts
@@ -183,7 +183,7 @@ real_tokens : (text : List ℕ) (ts : List Token) → HasTokens text ts → AllR
 real_tokens text ts h = subst AllReal h.tokens (all_real h.cut)
 
 module _ (text : List ℕ) where
-  -- where an earlier fault applies, no later one does
+  -- if an earlier fault applies, no later one does
   apart : (e f : ReadFault) → read_fault_number e < read_fault_number f → f ≢ fault.Memory → IsRefusal text e → IsRefusal text f → ⊥
   apart fault.TooLong (fault.BadByte n) less other a b = let short = b.0 in omega arith
   apart fault.TooLong (fault.OpenName n) less other a b = let short = b.0 in omega arith

@@ -93,7 +93,7 @@ closes_ascii [] h = absurd (false≢true h)
 closes_ascii (b ∷ []) h = ascii_cons b [] (byte_ascii b 125 h (omega arith)) nil_ascii
 closes_ascii (b ∷ c ∷ bs) h = ascii_cons b (c ∷ bs) (braced_byte_ascii b (both_left _ _ h)) (closes_ascii (c ∷ bs) (both_right _ _ h))
 
--- what is a token has ASCII bytes alone
+-- a token has only ASCII bytes
 lexeme_ascii : (k : LexemeKind) (s : List ℕ) (kd : TokenKind) → fits k s ≡ true → kind_of k s ≡ Some kd → IsAscii s
 lexeme_ascii lexeme.White s kd h e = let z : ⊥ = cc in absurd z
 lexeme_ascii lexeme.Comment s kd h e = let z : ⊥ = cc in absurd z
@@ -154,7 +154,7 @@ lexeme_is_taken text kind size bytes rest given1 given2 given3 given4 = search (
 
 -- The cut of the rest continues the scan so far, also behind one more lexeme.
 
--- whatever the cut of the rest is, it goes on the tokens so far, and the first open brace
+-- whatever the cut of the rest is, it continues the tokens so far, and the first open brace
 pub record Continues (text : List ℕ) (at : ℕ) (rest : List ℕ) (ts : List Token) (brace : Option ℕ) : Type 0 where
   pub place : at + length rest ≡ length text
   pub goes_on : (ps : List Lexeme) → IsCut at rest ps
@@ -170,7 +170,7 @@ or_none o = grind (arith)
 or_or : (o p : Option ℕ) (x : ℕ) → option_or (option_or o (Some x)) p ≡ option_or o (Some x)
 or_or o p x = grind (arith)
 
--- what is known between two lexemes
+-- the facts between two lexemes
 abbrev pub Known : List ℕ → ℕ → List ℕ → List Token → Option ℕ → ℕ → Type 0
 Known text at rest ts brace nameless = Continues text at rest ts brace × IsNameless nameless rest
 
@@ -201,7 +201,7 @@ one_more text at rest after ts us brace k len n m known l left is fewer = (
   nameless_after rest after n m len known.1 fewer left,
 )
 
--- the same where the values after the lexeme have names of their own
+-- also if the values after the lexeme have names of their own
 pub lexeme_taken : (text : List ℕ) (at : ℕ) (rest after : List ℕ) (ts us : List Token) (brace next : Option ℕ)
     (k : LexemeKind) (size len n held m : ℕ) → Known text at rest ts brace n → IsLongest rest k size → len ≡ size
     → next ≡ brace → held ≡ n → after ≡ drop len rest

@@ -30,7 +30,7 @@ pub no_comma : (acc : List Name) (next : List Name → Wanted) (r : List Token) 
     → parse_result (MoreNames acc next) r ≡ parse_result (next acc) r
 no_comma acc next r given1 = grind (arith)
 
--- a list of names that may be empty, where there is one, or none
+-- a list of names that may be empty, if there is one, or none
 pub some_name : (next : List Name → Wanted) (ts : List Token) → is_at kind.Name ts ≡ true
     → parse_result (AnyNamesThen next) ts ≡ parse_result (NamesThen [] next) ts
 some_name next ts given1 = grind (arith)
@@ -132,7 +132,7 @@ pub no_label : (next : Option Name → ℕ → Statement → Wanted) (ts : List 
     → parse_result (StmtThen next) ts ≡ parse_result (FormThen (next None)) ts
 no_label next ts given1 = grind (arith)
 
--- What the next tokens say of the parser's result.
+-- The parser's result, by the next tokens.
 
 -- a function that passes another's refusal on stops there too
 pub at_exit : {U : Type 0} (r : Result U Stop) (e : Stop) (before : Wanted) (old new : List Token) (after : U → Wanted)

@@ -137,11 +137,11 @@ completed (MoreProcs acc next) =
     let c = completed (next acc) in
     record { more = c.more; real = c.real; tree = c.tree; needs = procs [] no_proc (subst (λ l. Needs (next l) c.more c.tree) (sym (append-nil acc)) c.needs) }
 
--- what is wanted at the start is a program
+-- the expected phrase at the start is a program
 whole : (ts : List Token) (q : Program) → Needs whole_program ts q → Derives ts q
 whole ts q (decls gs d (procs ps f complete)) = program d f
 
--- what is read to the end is of the grammar
+-- tokens that are read to the end are of the grammar
 read_is_needed : (ts : List Token) (w : Wanted) (q : Program) → parse_result w ts ≡ Got q → Needs w ts q
 read_is_needed [] w q e = end_by (program_at_end w) refl e
   where
@@ -159,7 +159,8 @@ read_is_needed (x ∷ ts) w q e = step_by (wanted_after w x) refl e (read_is_nee
 pub read_is_derived : (ts : List Token) (p : Program) → parse_result whole_program ts ≡ Got p → Derives ts p
 read_is_derived ts p e = whole ts p (read_is_needed ts whole_program p e)
 
--- where the parser stops: it read the tokens before, and the next may not come, or the tokens may not end
+-- the parser stops here: it read the tokens before, and the next may not come, or the tokens may
+-- not end
 record Stopped (w : Wanted) (ts left : List Token) : Type 0 where
   front : List Token
   parts : ts ≡ front ++ left
@@ -219,7 +220,7 @@ needed_opens front w needs =
 got_or_stops : {p : Program} {l : List Token} → Got p ≡ Stops l → ⊥
 got_or_stops e = cc
 
--- where the parser stops is the syntax fault
+-- the parser stops at the syntax fault
 pub stops_at_fault : (text : List ℕ) (ts left : List Token) (at : ℕ) → parse_result whole_program ts ≡ Stops left
     → ((x : Token) (r : List Token) → left ≡ x ∷ r → x.at ≡ at) → (left ≡ [] → at ≡ length text)
     → HasSyntaxFault text ts at

@@ -61,7 +61,7 @@ pub data IsMoreImplied : Expression → List Token → Expression → List Token
   implied_after : (a : Expression) (x : Token) (us : List Token) (b : Expression) (r : List Token)
       → x.kind ≡ kind.Implies → IsExpr us b r → IsMoreImplied a (x ∷ us) (Operation op.Implies a b) r
 
--- these tokens are what is wanted, and complete this program
+-- these tokens are the expected ones, and complete this program
 pub data Needs : Wanted → List Token → Program → Type 0 where
   complete : {p : Program} → Needs (Complete p) [] p
   word : {k : TokenKind} {next : Wanted} {r : List Token} {q : Program} (x : Token) → x.kind ≡ k → Needs next r q → Needs (WordThen k next) (x ∷ r) q

@@ -9,7 +9,7 @@ list_any-map p h (y ∷ ys) = ap (λ b. p (h y) || b) (list_any-map p h ys)
 
 -- A walk over the pieces of a text.
 
--- how many bytes are left, and one more where something is
+-- the number of bytes that are left, and one more if there is a rest
 abbrev pub size_left : Option (Bor (List ℕ)) → ℕ
 size_left None = 0
 size_left (Some text) = suc (length text.now)

@@ -83,7 +83,7 @@ below_all i (x ∷ xs) none =
     let a = cons (λ r. nat_lt r.report.contexts i) x xs in
     omega (arith, rest, here, a)
 
--- what the loop over the counts below i has found
+-- the result of the loop over the counts below i
 pub record AreSoFar (runs : List MadeRun) (i before : ℕ) (x : ContextsUsed) : Type 0 where
   pub count : before ≡ below_contexts i runs
   pub least : min 1 (length runs) ≤ before → IsLeastFor runs (min 1 (length runs)) x.least
@@ -108,7 +108,7 @@ module _ (runs : List MadeRun) (i before x : ℕ) (count : before ≡ below_cont
   pub next_fits : before + x ≤ length runs
   next_fits = let few = count_by-le-length (λ r. nat_lt r.report.contexts (i + 1)) runs in let next = next_count in omega (arith, few, next)
 
-  -- the least number that n runs did not exceed is i, where fewer than n used less
+  -- the least number that n runs did not exceed is i, if fewer than n used less
   found_now : (n : ℕ) → before < n → n ≤ before + x → IsLeastFor runs n i
   found_now n few enough = record {
     enough = let next = next_count in let same = within_is_below i runs in omega (arith, enough, next, same);

@@ -76,7 +76,7 @@ module _ (xs : List ℕ) (up : IsNonDecreasing xs) where
         ap (one_if (at n)) value ∙ (let it : one_if (at n) (at n) ≡ 1 = grind (arith, nat_tests) in it) in
         omega (arith, most, one)
 
-    -- a test that is 1 where there are none, and 0 where there are some
+    -- a test that is 1 if there are none, and 0 if there are some
     abbrev Tells : Bool → ℕ → Type 0
     Tells b count = ((b ≡ true) × (count ≡ 0)) ⊎ ((b ≡ false) × (1 ≤ count))
 
@@ -139,7 +139,7 @@ module _ (xs ys : List ℕ) (moved : IsPermutation xs ys) where
       (Contains-from_dedup nat_eq ys q (subst (λ l. Contains l q) is (member_is ks q has)))))
       (λ has. contains_is ks q (subst (λ l. Contains l q) (sym is) (Contains-dedup_nat ys q (Contains-permutation xs ys q moved (member_is xs q has)))))
 
-  -- what is left without repetitions is as long as there are different keys
+  -- the keys without repetitions are as many as the different keys
   pub runs_in_order : (ks : List ℕ) → ks ≡ dedup nat_eq ys → IsStrictlyIncreasing (dedup nat_eq ys) → length ks ≡ distinct_count nat_eq xs
   runs_in_order ks is up =
       let rises = subst IsStrictlyIncreasing (sym is) up in

@@ -24,7 +24,7 @@ module _ (t : Program) (s : SetupOf) (with_deadlock : Bool) (seed : ℕ) where
       → AreCleanRuns t s with_deadlock seed n (xs ++ x ∷ [])
   clean_one n xs x first last = clean_both n xs (x ∷ []) first (last, tt)
 
-  -- what is found after runs that are not looked for is the first of all
+  -- the finding after runs that are not searched for is the first of all
   module _ (a b c : ℕ) (before : List MadeRun) (count : a + length before ≡ b) (clean : AreCleanRuns t s with_deadlock seed a before) where
     then_clean : (ys : List MadeRun) → AreCleanRuns t s with_deadlock seed b ys → AreCleanRuns t s with_deadlock seed a (before ++ ys)
     then_clean ys later = clean_both a before ys clean (subst (λ k. AreCleanRuns t s with_deadlock seed k ys) (sym count) later)
@@ -50,7 +50,7 @@ module _ (t : Program) (s : SetupOf) (with_deadlock : Bool) (seed : ℕ) where
       → IsFoundRun t s with_deadlock seed a b f runs → IsFoundRun t s with_deadlock seed a c f runs
   found_among_more a b c given1 f runs given2 = grind (arith)
 
--- what was found by a plan of a test is what the test asks for
+-- the finding of a plan of a test is that of the test
 pub as_asked : (t : Program) (s : SetupOf) (x : TestOptions) (end seed : ℕ) → seed ≡ x.seed → (with_deadlock : Bool)
     → with_deadlock ≡ x.with_deadlock → (o found : Option FoundRun) → o ≡ found → (runs : List MadeRun)
     → IsFirstFound t s with_deadlock seed 0 end o runs → IsFirstFound t s x.with_deadlock x.seed 0 end found runs
@@ -61,7 +61,7 @@ pub few_with : (t : Program) (s : SetupOf) (with_deadlock : Bool) (seed count : 
     → (f : FoundRun) (runs : List MadeRun) → IsFoundRun t s with_deadlock seed 0 count f runs → length runs < 2 ^ 64
 few_with t s with_deadlock seed count given1 f runs given2 = search (rules, length_push)
 
--- what the first found run of all says of a test
+-- the test's result, from the first found run of all
 module _ (t : Program) (s : SetupOf) (x : TestOptions) (f : FoundRun) (runs : List MadeRun)
     (first : IsFoundRun t s x.with_deadlock x.seed 0 x.runs f runs) (z : SetupOf)
     (setup : z ≡ setup_of_run s x.seed f.run) (old new : Option (List ℕ)) where
@@ -120,7 +120,7 @@ module _ (t : Program) (s : SetupOf) (x : TestOptions) (f : FoundRun) (runs : Li
     written = subst (λ y. AppendsPart old new (trace_text y f.history.items)) setup written;
   }
 
--- What the blocks of a wave say one after the other.
+-- The results of the blocks of a wave, one after the other.
 
 starts_rise : (from size a b runs : ℕ) → a ≤ b → start_of_block from size a runs ≤ start_of_block from size b runs
 starts_rise from size a b runs le = let more = mul-le-mul_right size le in omega (arith, more)
@@ -131,7 +131,7 @@ none_of o given1 = grind (arith)
 pub some_of : (o : Option FoundRun) → is_some o ≡ true → o ≡ None → ⊥
 some_of o given1 given2 = grind (arith)
 
--- what the tallies say after another one was added
+-- the tallies after another one was added
 abbrev pub Adds : Tally → Tally → Tally → Type 0
 Adds old other new = (t : Program) (s : SetupOf) (runs more : List MadeRun) → IsTally t s runs old → IsTally t s more other → IsTally t s (runs ++ more) new
 
@@ -218,7 +218,7 @@ module _ {E : Type 0} (c : Flat) (t : Program) (program : t ≡ c.tree) (s : Set
           found_later t s p.with_deadlock p.seed (start_of_block from size 0 runs) end block.end was.made was.number was.clean
           below block.found tallied.runs tallied.first
 
-      -- where the wave ends, if this block is the last of it
+      -- the end of the wave, if this block is the last of it
       ends_here : (n : ℕ) → start_of_block from size (was.before + 1) runs ≤ start_of_block from size n runs
           → (o : Option FoundRun)
           → (p.deadline ≡ None → o ≡ None → block.end ≡ max (start_of_block from size 0 runs) (start_of_block from size n runs))

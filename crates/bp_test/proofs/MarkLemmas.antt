@@ -25,7 +25,7 @@ set_marked marks i n given1 = search (rules, same_or_not, get_or-set_other)
 pub no_marks : {X : Type 0} (at : ℕ → Option X) (P : X → Type 0) (old : List Bool) → ((x : X) → P x → ⊥) → MarksGrow at P old old
 no_marks given1 = grind (arith)
 
--- no mark can be set where all are
+-- no mark can be set if all are
 pub all_marked : (P : ℕ → Type 0) (marks : List Bool) → ((n : ℕ) → n < length marks → is_marked marks n ≡ true) → MarksGrow (λ i. Some i) P marks marks
 all_marked P marks all = record {
   size = refl;
@@ -35,7 +35,7 @@ all_marked P marks all = record {
 }
 
 module _ {X : Type 0} (at : ℕ → Option X) (P Q : X → Type 0) (old cur : List Bool) (was : MarksGrow at P old cur) where
-  -- the same marks stand for what is the same
+  -- equal things have the same marks
   pub same_marks : ((x : X) → P x → Q x) → ((x : X) → Q x → P x) → MarksGrow at Q old cur
   same_marks given1 given2 = grind (arith)
 
@@ -48,7 +48,7 @@ module _ {X : Type 0} (at : ℕ → Option X) (P Q : X → Type 0) (old cur : Li
   pub more_marks : (new : List Bool) → MarksGrow at Q cur new → MarksGrow at (λ x. P x ⊎ Q x) old new
   more_marks new given1 = grind (arith)
 
--- marks of what is the same
+-- marks of equal things
 pub other_marks : {X : Type 0} (at : ℕ → Option X) (P Q : X → Type 0) (count : ℕ) (marks : List Bool)
     → ((x : X) → P x → Q x) → ((x : X) → Q x → P x) → AreMarks at P count marks → AreMarks at Q count marks
 other_marks given1 given2 given3 = grind (arith)
@@ -58,7 +58,7 @@ pub grown_marks : {X : Type 0} (at : ℕ → Option X) (P Q : X → Type 0) (cou
     → AreMarks at P count old → MarksGrow at Q old new → AreMarks at (λ x. P x ⊎ Q x) count new
 grown_marks given1 given2 = grind (arith)
 
--- marks of both, where those of the other marks were set too
+-- marks of both, if those of the other marks were set too
 pub both_marks : {X : Type 0} (at : ℕ → Option X) (P Q : X → Type 0) (count : ℕ) (old others new : List Bool)
     → AreMarks at P count old → AreMarks at Q count others
     → MarksGrow (λ i. Some i) (λ n. is_marked others n ≡ true) old new → AreMarks at (λ x. P x ⊎ Q x) count new
@@ -82,7 +82,7 @@ both_marks at P Q count old others new are more grow = record {
         let same : n ≡ one.0 = cc (one.1) in
         rw same (one.2 (subst (λ k. one.0 < k) (sym (grow.size ∙ are.size)) (rw (← same) within)))
 
--- something of some run, where there are more runs
+-- an element of some run, if there are more runs
 module _ {X : Type 0} (P : X → Type 0) (xs ys : List X) where
   pub any_first : Any P xs → Any P (xs ++ ys)
   any_first (k, x, within, is, p) = (k, x, rw length-append (omega (arith, within)), get_or_append_left xs ys x k within ∙ is, p)

@@ -31,7 +31,7 @@ any_with n m b given1 = grind (arith)
 refusal_with : (h : List Call) (x : Call) → has_refusal (h ++ x ∷ []) ≡ (has_refusal h || refuses_context x.reply)
 refusal_with h x = search (rules, any_with, count_by, sum_by-append)
 
--- what the answers of a call say of it
+-- a call, by its results
 pub refusal_of_call : (h new : List Call) (thread : ℕ) (r : Reply) (was now : Bool)
     → ((x : Call) × (new ≡ h ++ x ∷ []) × (x.thread ≡ thread) × (x.reply ≡ r))
     → now ≡ (was || refuses_context r)

@@ -108,7 +108,7 @@ module _ (t : Program) (s : SetupOf) (h : List Call) (c : Call) where
 pub none_by_call : (t : Program) (s : SetupOf) (old : List Bool) → MarksGrow (place_of t) (IsReachedByCall t s []) old old
 none_by_call t s old = grind (arith)
 
--- where thread i waits, and where a thread below n does
+-- the place at which thread i waits, and at which a thread below n does
 module _ (t : Program) (s : SetupOf) (h : List Call) where
   abbrev pub WaitsBelow : ℕ → Place → Type 0
   WaitsBelow n x = (i : ℕ) × (i < n) × IsWaiting t s h i x
@@ -151,7 +151,7 @@ whole_marks t s h old first cur new start calls end =
       | inr (i, inr waits_last) ↦ inr (i, waits_last)
     ])
 
--- what a history reaches does not depend on the seed
+-- the places that a history reaches do not depend on the seed
 module _ (t : Program) (s : SetupOf) (o : Option ℕ) (x : Place) where
   pub reaches_with : (h : List Call) → Reaches t (record s { seed = o }) h x → Reaches t s h x
   reaches_with h given1 = grind (arith)
@@ -159,7 +159,7 @@ module _ (t : Program) (s : SetupOf) (o : Option ℕ) (x : Place) where
   pub reaches_without : (h : List Call) → Reaches t s h x → Reaches t (record s { seed = o }) h x
   reaches_without h given1 = grind (arith)
 
--- what the answers of a call of a run say of the marks
+-- the marks, by the results of a call of a run
 pub marks_of_call : (t : Program) (s z : SetupOf) (h new : List Call) (thread : ℕ) (number : Option ℕ) (r : Reply) (old cur tried now : List Bool) → z ≡ s
     → ((x : Call) × (new ≡ h ++ x ∷ []) × (x.thread ≡ thread) × (x.reply ≡ r))
     → IsNumberOf t (next_place (configuration_after t s h) thread) number

@@ -20,7 +20,7 @@ reseeded s old x own setup_was setup n =
     ap {A = SetupOf} (λ y. record y { seed = Some n }) setup in
     again ∙ setup_was n
 
--- what a report, and whether there is a deadlock, say of a history that is over
+-- a history that is over, by its report and whether there is a deadlock
 module _ (t : Program) (s : SetupOf) (with_deadlock : Bool) (h : List Call) (r : Report) (d ended : Bool) (run : IsMadeRun t s (made h r d ended)) where
   looked_for : (w f e : Bool) → f ≡ is_failure r.outcome → w ≡ with_deadlock → e ≡ d → (f || (w && e)) ≡ true → IsSought t s with_deadlock h
   looked_for w f e given1 given2 given3 given4 = grind (arith)
@@ -56,7 +56,7 @@ module _ (s : SetupOf) (with_deadlock : Bool) (seed run : ℕ) (old x : SessionO
     pub sought_run : is_sought with_deadlock r d ≡ true → IsSoughtRun t (setup_of_run s seed run) with_deadlock (made h r d ended)
     sought_run e = sought_by_report t (setup_of_run s seed run) with_deadlock h r d ended made_run e
 
-  -- what it reaches
+  -- the places that it reaches
   pub reaches_is : (marks new : List Bool) → MarksGrow (place_of t) (Reaches t x.setup h) marks new → MarksGrow (place_of t) (Reaches t s h) marks new
   reaches_is marks new grow =
       let own = subst (λ z. MarksGrow (place_of t) (Reaches t z h) marks new) setup_is grow in
@@ -78,7 +78,7 @@ module _ (s : SetupOf) (with_deadlock : Bool) (seed run : ℕ) (old x : SessionO
       → Wait t (setup_of_run s seed run) h xs
   waits_there stands xs waiting = subst (λ z. Wait t z h xs) setup_is (waiting h stands)
 
-  -- and where that is
+  -- and the place of that
   pub fails_there : Stands t x h → (number : Option ℕ) → ((g : List Call) → Stands t x g → IfSome number (FailsAt t x.setup g))
       → ((g : List Call) → Stands t x g → IfNone number (outcome_of g ≡ Clean))
       → MatchOption number (outcome_of h ≡ Clean) (FailsAt t (setup_of_run s seed run) h)

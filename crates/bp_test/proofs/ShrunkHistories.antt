@@ -81,7 +81,7 @@ waits_Decides a b = grind (arith)
 pub same_waits : (t : Program) (s : SetupOf) (h : List Call) (xs ys : List Waiting) → xs ≡ ys → DeadlocksAt t s h xs → DeadlocksAt t s h ys
 same_waits t s h xs ys same (dead, waits) = (dead, subst (Wait t s h) same waits)
 
--- the best history of a search that goes on from one that had this report and this end
+-- the best history of a search that continues from one that had this report and this end
 module _ (t : Program) (s : SetupOf) (h : List Call) (r : Report) (end : HistoryEnd) (given : IsReport s h r)
     (x : Search) (same : x.end ≡ end) (no_more : IsNoMore x.best r)
     (driven : IsDriven t (unseeded s) x.end x.best) where
@@ -102,7 +102,7 @@ module _ (t : Program) (s : SetupOf) (h : List Call) (r : Report) (end : History
         omega (arith, own, below, above);
   }
 
--- What is said of a setup but for its seed holds without one.
+-- A fact of a setup except for its seed holds without one.
 
 pub fits_unseeded : (t : Program) (s : SetupOf) → Fits t s → Fits t (unseeded s)
 fits_unseeded t s fits = record { entries = fits.entries; init = fits.init }
@@ -124,7 +124,7 @@ report_unseeded s h r given1 = search (rules, same_open)
 pub end_unseeded : (t : Program) (s : SetupOf) (h : List Call) (end : HistoryEnd) → IsEnd t s h end → IsEnd t (unseeded s) h end
 end_unseeded t s h end given1 = grind (arith)
 
--- Where the search for a smaller history starts, and where it leads.
+-- The start of the search for a smaller history, and its result.
 
 module _ (c : Flat) (s : SetupOf) (x : Search) (code : x.session.code ≡ c) (setup : x.session.setup ≡ unseeded s) where
   module _ (h : List Call) (items : x.best.history.items ≡ h) (fits : Fits c.tree s) (legal : IsLegal c.tree s h)

@@ -5,7 +5,7 @@ use Rattle.bp_test.proofs.MarkLemmas.{other_marks, grown_marks, both_marks, any_
 
 -- The key of a run with one more call, the keys of more runs, and that no seed changes them.
 
--- what the answers of a call of a run say of the key
+-- the key, by the results of a call of a run
 pub key_of_call : (t : Program) (s z : SetupOf) (h new : List Call) (thread : ℕ) (number : Option ℕ) (r : Reply) (key now : ℕ) → z ≡ s
     → ((x : Call) × (new ≡ h ++ x ∷ []) × (x.thread ≡ thread) × (x.reply ≡ r))
     → IsNumberOf t (next_place (configuration_after t s h) thread) number
@@ -60,7 +60,7 @@ module _ (t : Program) (s : SetupOf) where
       → AreKeys t s (take MAX_KEYS (runs ++ r ∷ [])) new
   keys_with runs r keys new key same are is = keys_both runs (r ∷ []) keys (key ∷ []) new same are (is, tt)
 
--- a count of both is kept as the sum of what is kept of each
+-- the stored count of both is the sum of the stored counts of each
 pub capped_both : (a b n : ℕ) → n ≡ a + b → capped n ≡ capped (capped a + capped b)
 capped_both a b n e = omega (arith, e)
 
@@ -77,7 +77,7 @@ most_from a (x ∷ xs) = search (rules, (most_from (max a (calls_of x)) xs), (mo
 pub longest_both : (xs ys : List MadeRun) → longest_of (xs ++ ys) ≡ max (longest_of xs) (longest_of ys)
 longest_both xs ys = fold-append (λ most r. max most (calls_of r)) 0 xs ys ∙ most_from (longest_of xs) ys
 
--- the steps of some run, where there are more runs
+-- the steps of some run, if there are more runs
 abbrev pub SomeSteps : List MadeRun → ℕ → Type 0
 SomeSteps runs i = Any (λ r. HasStep r.history i) runs
 
@@ -170,7 +170,7 @@ tally_run t s runs r old new cur key was keyed keys grow same counted = record {
       (grown_marks (place_of t) (SomeReaches t s runs) (Reaches t s r.history) (length (places_of t.procedures)) old.reached.items cur was.reached grow)));
 }
 
--- a tally that differs in its marks alone has the same counts
+-- a tally that differs only in its marks has the same counts
 pub same_counts : (s : SetupOf) (runs : List MadeRun) (old new : Tally) → new.runs ≡ old.runs → new.calls ≡ old.calls
     → new.longest ≡ old.longest → new.ends ≡ old.ends → new.contexts ≡ old.contexts → new.stepped ≡ old.stepped
     → IsCounted s runs old → IsCounted s runs new

@@ -15,7 +15,7 @@ use Rattle.bp_text.proofs.PartsOfTexts.{regrouped, no_parts, parts_go_on, parts_
 pub all_from : (bs : List ℕ) (d : ℕ) → take (length bs - d) (drop d bs) ≡ drop d bs
 all_from bs d = subst (λ n. take n (drop d bs) ≡ drop d bs) (length-drop d bs) (take-length (drop d bs))
 
--- d bytes stand, and n more of the rest were taken
+-- d bytes are there, and n more of the rest were taken
 pub Appends_next : (a b c : Option (List ℕ)) (bs : List ℕ) (d n : ℕ) → Appends a b (take d bs)
     → Appends b c (take n (take (length bs - d) (drop d bs))) → Appends a c (take (d + n) bs)
 Appends_next a b c bs d n p q =
@@ -94,14 +94,14 @@ left_after contents a b c text t u h p =
 taken_all : (first now : Option (List ℕ)) (refused : Bool) (text : List ℕ) → HasTaken first now refused text → Writes first now text (result_of refused)
 taken_all first now refused text given1 = grind (arith)
 
--- what a sink that had refused nothing was given is what its writer took
+-- the text given to a sink that had refused nothing is that which its writer took
 pub taken_since : {W : Type 0} (contents : W → Option (List ℕ)) (a b : Sink W) (text : List ℕ)
     → a.refused ≡ false → Given contents a b text → HasTaken (contents a.out.now) (contents b.out.now) b.refused text
 taken_since contents a b text fine p =
     let old = contents a.out.now in
     p.takes old [] (subst (λ x. HasTaken old old x []) (sym fine) (record { grown = Appends-nil old }))
 
--- what a new sink was given is what was written, as its writer is seen after it
+-- the text given to a new sink is that which was written, as its writer is seen after it
 pub written_at_end : {W : Type 0} (contents : W → Option (List ℕ)) (out : MutBor W) (a b : Sink W) (text : List ℕ) (r : Result (Unit {0}) WriteFault)
     (last : (v : W) × (out.ghost_name ≡ b.out.ghost_name → v ≡ b.out.now))
     → IsFresh a out → Given contents a b text → r ≡ result_of b.refused → Writes (contents out.now) (contents last.0) text r

@@ -58,7 +58,7 @@ pub all_added : (old : List ℕ) (ts : List (List ℕ)) → fold (λ a t. a ++ t
 all_added old [] = sym (append-nil old)
 all_added old (t ∷ ts) = all_added (old ++ t) ts ∙ append_assoc old t (concat ts)
 
--- each item of a list has a part, where each that is found there has one
+-- each item of a list has a part, if each that is found there has one
 pub part_of_each
     : {X : Type 0} (IsOf : ℕ → X → List ℕ → Type 0) (xs : List X) → ((k : ℕ) (x : X) → slice_get xs k ≡ Some x → (part : List ℕ) × IsOf k x part)
     → (k : ℕ) → k < length xs → (part : List ℕ) × ((x : X) → slice_get xs k ≡ Some x → IsOf k x part)
@@ -98,7 +98,7 @@ module _ {IsPart : ℕ → List ℕ → Type 0} where
     more_are = parts_then all.more_are one.more one.more_are;
   }
 
-  -- where each of `all` parts has a text, the first n go on to all
+  -- if each of `all` parts has a text, the first n can be extended to all
   pub parts_go_on
       : (all : ℕ) → ((k : ℕ) → k < all → (part : List ℕ) × IsPart k part) → (more n : ℕ) → n + more ≡ all
       → (text : List ℕ) → IsInParts IsPart n text → (rest : List ℕ) × IsInParts IsPart all (text ++ rest)
@@ -110,7 +110,7 @@ module _ {IsPart : ℕ → List ℕ → Type 0} where
       let (rest, whole) = parts_go_on all each more (suc n) (omega (arith, count)) (text ++ part) (parts_then are part is) in
       (part ++ rest, simp regrouped at whole)
 
-  -- where each part has one text, so have n parts
+  -- if each part has one text, so have n parts
   pub one_of_parts : (n : ℕ) → ((k : ℕ) (p q : List ℕ) → k < n → IsPart k p → IsPart k q → p ≡ q) → (a b : List ℕ) → IsInParts IsPart n a
       → IsInParts IsPart n b → a ≡ b
   one_of_parts n one a b x y = x.is ∙ ap concat (ext_get_or [] x.parts y.parts (x.count ∙ sym y.count) same) ∙ sym y.is

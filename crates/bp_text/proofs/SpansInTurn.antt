@@ -3,8 +3,8 @@ use Rattle.bp_text.proofs.Common.{◌-◌, length, length-append, take, ◌≡�
 use Rattle.std.proofs.lemmas.List.{append-nil}
 use Rattle.bp_text.proofs.PartsOfTexts.{regrouped}
 
--- The machine has come to this state, and this is the rest: what it takes from there on comes after
--- these first bytes; and where nothing is, nothing was.
+-- The machine has reached this state, and this is the rest: the bytes that it takes from there on
+-- follow these first bytes; and if there are none, there were none.
 pub record HasCome {S : Type 0} (next : S → ℕ → Option S) (may_end : S → Bool) (first : S) (text : List ℕ) (s : S) (rest : List ℕ) : Type 0 where
   pub front : List ℕ
   pub parts : text ≡ front ++ rest

@@ -139,7 +139,7 @@ one_end_line line other x y p q e =
 
 -- ---- the symbols
 
--- what was read of the symbols at the front of a text, up to this place
+-- the symbols that were read at the front of a text, up to this place
 pub record HasRead (i : ℕ) (text : List ℕ) (old new : List Call) (size : ℕ) : Type 0 where
   pub symbols : List Symbol
   pub within : size ≤ length text
@@ -187,7 +187,7 @@ module _ (n : ℕ) (last : Option ℕ) (text : List ℕ) where
       lacks.none b.piece.thread _ at.fits at.parts
 
   module _ (few : n ≤ MAX_THREADS) (t : ℕ) (rest : List ℕ) (at : IsAt (thread_field n) text t rest) where
-    -- the thread of a piece that begins the text, and what is after it
+    -- the thread of a piece that begins the text, and the text after it
     same_thread : (p : Piece) (more : List ℕ) → p.thread < n → text ≡ piece_line p ++ more
         → (t ≡ p.thread) × (rest ≡ flat_map symbol_text (p.first ∷ p.others) ++ 10 ∷ more)
     same_thread p more below begins =

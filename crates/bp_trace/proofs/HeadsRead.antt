@@ -6,7 +6,7 @@ use Rattle.bp_text.specs.Pieces.{bit_text}
 use Rattle.bp_trace.specs.declared.heads.EntryState.{EntryState}
 use Rattle.bp_trace.specs.declared.heads.EntryState.TheVariants.{Start, Within}
 
--- What holds of each element of two lists holds of each of both, and what of both of each.
+-- A property of each element of two lists holds of each of both, and one of both of each.
 
 module _ {X : Type 0} (P : X → Type 0) where
   pub all_of_both : (a b : List X) → AllByRecursion P a → AllByRecursion P b → AllByRecursion P (a ++ b)
@@ -47,11 +47,12 @@ digits_joined [] = refl
 digits_joined (false ∷ bs) = ap (λ ds. 48 ∷ ds) (digits_joined bs)
 digits_joined (true ∷ bs) = ap (λ ds. 49 ∷ ds) (digits_joined bs)
 
--- where there is a global, its digit and those of the others
+-- if there is a global, its digit and those of the others
 pub some_digits : (bs : List Bool) → 0 < length bs → flat_map bit_text bs ≡ init_digits bs
 some_digits bs given1 = search (rules, digits_joined)
 
--- The format's texts are those of the heads. Names have a byte, or may be empty where they begin within one.
+-- The format's texts are those of the heads. Names have a byte, or may be empty if they begin
+-- within one.
 
 abbrev entry_from : EntryState → Format (List ℕ)
 entry_from state = Line (After (codes "entry ") (Span after_byte may_end state))
@@ -88,7 +89,7 @@ module _ (s : SetupOf) where
 same_head : (state : EntryState) (v : Version) (s : SetupOf) → text_of (head_from state) (v, s) ≡ head_text v s
 same_head state v s = (λ i. same_version v i ++ (same_entries state s.entries i ++ same_settings s i)) ∙ sym (head_parts v s)
 
--- A setup that can be said in a head fits.
+-- A setup that a head can hold fits.
 
 version_fits : (v : Version) (rest : List ℕ) → Fits (Line version_word) v rest
 version_fits v rest = grind (arith)
@@ -104,7 +105,7 @@ name_fits : (name rest : List ℕ) → IsEntryName name → SpanFits after_byte 
 name_fits [] rest is = absurd (is.some refl)
 name_fits (b ∷ bs) rest is = (Within, goes_on Start b (is.line).0, span_fits bs rest (is.line).1)
 
--- where what holds of the names makes them fit
+-- if the property of the names makes them fit
 entries_fit : (state : EntryState) (P : List ℕ → Type 0) → ((name rest : List ℕ) → P name → SpanFits after_byte may_end state name (10 ∷ rest))
     → (es : List (List ℕ)) (rest more : List ℕ) → rest ≡ 105 ∷ more → AllByRecursion P es
     → EachFits (text_of (entry_from state)) (Fits (entry_from state)) es rest
@@ -173,7 +174,7 @@ no_break v s text rest k has parts breaks =
     let at = head_at v s text rest has parts in
     (has_none head text k breaks).none (v, s) rest at.fits at.parts
 
--- And what fits can be said in a head.
+-- And a setup that fits can be held by a head.
 
 span_without : (s : EntryState) (bs rest : List ℕ) → SpanFits after_byte may_end s bs rest → Without 10 bs
 span_without s [] rest fits = tt
@@ -207,7 +208,7 @@ module _ (text rest : List ℕ) (read : Head) (at : IsAt head text (read.version
     lines = lines ∙ sym (line_total read.version (setup_of_head read));
   }
 
--- Where a text stops being a head.
+-- The line at which a text is no longer a head.
 
 entry_has_byte : (name : List ℕ) → 0 < length (text_of entry name)
 entry_has_byte name = omega arith

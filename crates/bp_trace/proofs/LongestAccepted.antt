@@ -10,7 +10,7 @@ use Rattle.bp_trace.proofs.Walks.{Walk, Stays, Goes, compared, stays}
 use Rattle.bp_trace.proofs.OneText.{front_cut}
 use Rattle.bp_trace.proofs.PlayableFronts.{not_refused, one_place}
 
--- What a session that stands after the calls of some lines of a trace says of them.
+-- The calls of some lines of a trace, by a session that stands after them.
 
 last_at : (h : List Call) (n : ℕ) (x : Call) → length h ≡ suc n → slice_get h n ≡ Some x → Some x.thread ≡ last_thread (map (λ (y : Call). y.thread) h)
 last_at [] n x long e = absurd cc
@@ -37,7 +37,7 @@ pub played_more : (t : Program) (s : SetupOf) (h new : List Call) (x : Call) (ol
 played_more t s h new x old_rows new_rows is before after =
     after ∙ ap (λ rs. rs ++ rows_of_call (configuration_after t s h) x) before ∙ sym (rows_more t (start t s) h x) ∙ ap (printed_rows t s) (sym is)
 
--- a session stands after playable histories alone
+-- a session stands only after playable histories
 pub playable_of : (t : Program) (x : SessionOf) (s : SetupOf) (h : List Call) → x.setup ≡ s → Stands t x h → IsPlayable t s h
 playable_of t x s h same stands = subst (λ z. IsPlayable t z h) same (record { legal = stands.state.legal; seeded = stands.seeded })
 
@@ -121,7 +121,7 @@ module _ (t : Program) (text : List ℕ) (v : Version) (s : SetupOf) (has : HasH
   abbrev few : threads s ≤ MAX_THREADS
   few = few_threads t s fine
 
-  -- the lines of what is accepted in this setup go on to those of h, or from there
+  -- the accepted lines of this setup continue to those of h, or from there
   abbrev Compared : State (threads s) v → Type 0
   Compared b = Walk (IsNextLine (threads s) v) b (h, rest) ⊎ Walk (IsNextLine (threads s) v) (h, rest) b
 
@@ -172,7 +172,7 @@ module _ (t : Program) (text : List ℕ) (v : Version) (s : SetupOf) (has : HasH
     refused_line : IsNextLine (threads s) v (h, rest) (h ++ r.calls, r.more)
     refused_line = record { line = r.line; calls = r.calls; is_line = r.is_line; history = refl; begins = r.begins }
 
-    -- what goes on from h goes on with that line
+    -- lines that continue h continue that line
     with_line : (a b c : State (threads s) v) → IsNextLine (threads s) v a c → Walk (IsNextLine (threads s) v) a b → (a.0 ≡ b.0) ⊎ ((m : List Call) × (b.0 ≡ c.0 ++ m))
     with_line a b c next Stays = inl refl
     with_line a b c next (Goes {u = u} other w) =

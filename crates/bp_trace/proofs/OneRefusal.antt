@@ -17,11 +17,11 @@ use Rattle.bp_trace.specs.declared.faults.ReplayFault.TheVariants as fault
 -- The text of a history is that of its lines, each of which may follow the calls before it.
 
 module _ (n : ℕ) (v : Version) where
-  -- the calls so far, and what is left of the text
+  -- the calls so far, and the rest of the text
   abbrev pub State : Type 0
   State = List Call × List ℕ
 
-  -- a line of calls that may follow begins what is left
+  -- a line of calls that may follow begins the rest
   pub record IsNextLine (a b : State) : Type 0 where
     pub line : List ℕ
     pub calls : List Call
@@ -92,7 +92,8 @@ module _ (t : Program) (v : Version) (s : SetupOf) (few : threads s ≤ MAX_THRE
   below p [] legal = tt
   below p (x ∷ xs) (allowed, rest) = (allowed.thread, below (p ++ x ∷ []) xs rest)
 
-  -- two histories that may be played, each with something after it that no line goes on, that have one text
+  -- two histories that may be played, each followed by text that no line continues, that have one
+  -- text
   pub one_history : (h g : List Call) (x y : List ℕ) → IsPlayable t s h → IsPlayable t s g → Stops h x → Stops g y
       → calls_text v h ++ x ≡ calls_text v g ++ y → (h ≡ g) × (x ≡ y)
   one_history h g x y ph pg sx sy e =
@@ -103,7 +104,7 @@ module _ (t : Program) (v : Version) (s : SetupOf) (few : threads s ≤ MAX_THRE
         | inr back ↦ let same = not_gone (g, y) (h, x) back ph sy in (sym same.0, sym same.1)
       ]
 
--- What is after the calls of a history is refused once, or is its end.
+-- The text after the calls of a history is refused once, or is its end.
 
 module _ (t : Program) (v : Version) (s : SetupOf) (few : threads s ≤ MAX_THREADS) (h : List Call)
     (own_is : IsEndLine (end_line (length h) (open_lines s h))) (n : ℕ) (x : List ℕ) where
@@ -186,7 +187,7 @@ module _ (t : Program) (v : Version) (s : SetupOf) (few : threads s ≤ MAX_THRE
       q.calls p.more q.more p.is_line q.is_line (sym p.begins ∙ q.begins) in
       one_among t s h n q.calls f g (subst (λ cs. IsRefusedAmong t s h n cs f) held p.among) q.among
 
-  -- its own end, alone, is not refused
+  -- only its own end is not refused
   pub end_stops : x ≡ own → Stops t v s few h x
   end_stops e line calls more next playable f = end_or_line line own calls more [] next own_is f (e ∙ sym (append-nil own))
 
@@ -202,7 +203,7 @@ module _ (t : Program) (v : Version) (s : SetupOf) (few : threads s ≤ MAX_THRE
 -- A text has at most one refusal, and one that is refused is no trace.
 
 module _ (t : Program) (text : List ℕ) where
-  -- a text that reaches what is after two histories, and what refuses it there
+  -- a text with a rest after two histories, and the refusal there
   module _ (v : Version) (s : SetupOf) (h g : List Call) (n m : ℕ) (x y : List ℕ) (p : Reaches t text v s h n x) (q : Reaches t text v s g m y) where
     abbrev few : threads s ≤ MAX_THREADS
     few = few_threads t s p.fine
@@ -227,7 +228,7 @@ module _ (t : Program) (text : List ℕ) where
         (subst (λ z. IsRestRefused t v s h z y k) number (subst (λ z. IsRestRefused t v s z m y k) (sym calls) b)) in
         one_rest t v s few h own_h n x f k here (refused t v s few h own_h n x k moved)
 
-    -- where what is after the first is its end
+    -- if the rest after the first is its end
     ended_not_refused : (k : ReplayFault) → x ≡ end_line (length h) (open_lines s h) → IsRestRefused t v s g m y k → ⊥
     ended_not_refused k end b =
         let there = refused t v s few g own_g m y k b in

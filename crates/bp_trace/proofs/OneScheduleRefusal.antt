@@ -9,11 +9,11 @@ module _ (t : Program) (s : SetupOf) (few : threads s ≤ MAX_THREADS) where
   abbrev lines : List Call → List ℕ
   lines h = schedule_text (lines_of_history h)
 
-  -- a history, and what is left of the schedule
+  -- a history, and the rest of the schedule
   abbrev State : Type 0
   State = List Call × List ℕ
 
-  -- one more call, whose line begins what is left
+  -- one more call, whose line begins the rest
   record IsNext (a b : State) : Type 0 where
     call : Call
     allowed : IsAllowed t s a.0 call
@@ -87,7 +87,7 @@ module _ (t : Program) (s : SetupOf) (few : threads s ≤ MAX_THREADS) where
     reached : (n : ℕ) (rest : List ℕ) (r : DrivesUpTo t s schedule n rest) → Walk IsNext ([], schedule) (r.history, rest)
     reached n rest r = subst (λ z. Walk IsNext ([], z) (r.history, rest)) (sym r.whole) (walk [] r.history rest r.legal)
 
-    -- too long, or refused where it ends
+    -- too long, or refused at its end
     abbrev Refused : DriveFault → Type 0
     Refused f = ((f ≡ drive.TooLong) × (MAX_SCHEDULE < length schedule)) ⊎ ((length schedule ≤ MAX_SCHEDULE) × EndsAs (Some f))
 
@@ -128,7 +128,7 @@ lines_drive_again t s h range legal = record {
     own : IsDriven t s (lines t s range.few h) h
     own = record { short = schedule_short t s h range legal; legal = legal; lines = refl }
 
--- a line says nothing of a reply
+-- a line has no reply
 same_lines : (steps : List Call) (failed : Bool) → lines_of_history (history_of_run steps failed) ≡ lines_of_history steps
 same_lines [] failed = refl
 same_lines (x ∷ xs) failed = ap (λ ls. line_of_call x ∷ ls) (same_lines xs failed)

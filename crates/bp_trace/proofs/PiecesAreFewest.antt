@@ -52,7 +52,7 @@ cut x (y ∷ ys) = go (cut y ys) (x.thread == (cut y ys).piece.thread) refl
     is_cut b t e = ap (with_call x) b.is ∙ ap (λ k. cond k (piece_of x (b.piece.first ∷ b.piece.others) ∷ b.rest) (piece_of x [] ∷ b.piece ∷ b.rest)) e
 
     go : (b : Cut y ys) (t : Bool) → (x.thread == b.piece.thread) ≡ t → Cut x (y ∷ ys)
-    -- the same thread goes on
+    -- the same thread continues
     go b true e =
         let equal : x.thread ≡ b.piece.thread = grind (arith, nat_tests) in
         let goes : (x.thread == y.thread) ≡ true = ap (λ n. x.thread == n) (sym b.thread) ∙ e in
@@ -202,7 +202,7 @@ last_is_thread i h (x ∷ xs) are =
 
 -- The text of a history grows by one line, with the calls of that line.
 
--- the calls of one piece are cut into it alone
+-- the calls of one piece are cut into only it
 one_piece : (i : ℕ) (t : Symbol) (ts : List Symbol) → pieces_of (map (call_of i) (t ∷ ts)) ≡ record { thread = i; first = t; others = ts } ∷ []
 one_piece i t [] = refl
 one_piece i t (u ∷ us) =

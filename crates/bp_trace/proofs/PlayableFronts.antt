@@ -164,4 +164,4 @@ module _ (t : Program) (s : SetupOf) (h : List Call) (n : ℕ) (calls : List Cal
     ]
   ]
 
--- A call that differs from the machine's own is refused, and so is one where the machine makes none.
+-- A call that differs from the machine's own is refused, and so is one if the machine makes none.

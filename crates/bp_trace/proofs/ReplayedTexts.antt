@@ -81,7 +81,7 @@ module _ (t : Program) (text : List ℕ) (short : length text ≤ MAX_TRACE) (v 
       abbrev after : List ℕ
       after = drop b.size rest
 
-      -- what is after the calls is refused
+      -- the text after the calls is refused
       pub end_refuses : (f : ReplayFault) → IsEndRefusal after r.calls r.left_open b.line f → IsReplayRefusal t text f
       end_refuses f given1 = grind (arith)
 

@@ -37,7 +37,8 @@ module _ (n : ℕ) (few : n < 2 ^ 64) (text : List ℕ) where
 pub one_line : (x y : ScheduleLine) (a b : List ℕ) → x.thread < 100 → y.thread < 100 → line_text x ++ a ≡ line_text y ++ b → (x ≡ y) × (a ≡ b)
 one_line x y a b few_x few_y e = one_at (line_there 100 (omega arith) _ x a few_x refl) (line_there 100 (omega arith) _ y b few_y e)
 
--- Lines of schedules: how long they are, which call they are of, and what a session that stands after them says of the next one.
+-- Lines of schedules: their lengths, their calls, and the next call of a session that stands after
+-- them.
 
 -- The schedule of a legal history is short enough to be driven.
 
@@ -79,13 +80,13 @@ module _ (t : Program) (s : SetupOf) where
       let reply = same_answer t s.contexts (configuration_after t s h) (granted_threads h) y.thread y.bit x.reply y.reply other q.answers in
       λ i. record { thread = thread i; bit = bit i; reply = reply i }
 
--- a call that is refused to a thread that is there, where the setup has no seed
+-- a refused call of an existing thread, if the setup has no seed
 pub ask_refused : (t : Program) (s : SetupOf) (h : List Call) (i : ℕ) (bit : Bool) (f : AskFault) → i < threads s
     → s.seed ≡ None → IsAskRefusal t s h i (Some bit) f
     → (f ≡ Memory → ⊥) → is_finished s h i ≡ true
 ask_refused t s h i bit f given1 given2 given3 given4 = grind (arith)
 
--- What a session that stands after the calls of all lines says of them.
+-- The calls of all lines, by a session that stands after them.
 
 module _ (x : SessionOf) (h : List Call) (stands : Stands x.code.tree x h) where
   -- the refusal of a call of a thread that is there

@@ -22,6 +22,6 @@ module _ {S : Type 0} (Next : S → S → Type 0) where
   pub stays : (a b : S) → Walk Next a b → Stops a → a ≡ b
   stays a b given1 given2 = grind (arith)
 
-  -- where both stop they are one
+  -- if both stop they are one
   pub one_end : IsSingle → (s a b : S) → Walk Next s a → Walk Next s b → Stops a → Stops b → a ≡ b
   one_end single s a b w z p q = elim (compared single s a b w z) [ inl on ↦ stays a b on p | inr back ↦ sym (stays b a back q) ]

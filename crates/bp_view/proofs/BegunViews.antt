@@ -20,7 +20,7 @@ longest_more (suc n) (y ∷ statements) x h =
     let here = longest_more n statements x within in
     omega (arith, here)
 
--- a statement has at most this many bytes in its column
+-- a statement has at most `room` bytes in its column
 pub shortened_length : (room : ℕ) (statement : List ℕ) → 2 ≤ room → length (shortened room statement) ≡ min (length statement) room
 shortened_length room statement least = by_size (nat_lt room (length statement)) refl
   where
@@ -51,7 +51,7 @@ places_are text ps [] (x ∷ statements) are = elim are [ ]
 places_are text ps (s ∷ xs) [] are = elim are [ ]
 places_are text ps (s ∷ xs) (x ∷ statements) are = search (rules, (places_are text ps xs statements are.1))
 
--- Each history of a program has a view, and what was written of one goes on to a whole one.
+-- Each history of a program has a view, and the text written of one can be extended to a whole one.
 
 module _ (c : Flat) (t : Program) (code : StandsFor c t) (text : List ℕ) (statements : List SourceStatement)
     (are : AreSourceStatements text t statements) (s : SetupOf) where
@@ -220,13 +220,13 @@ module _ (t : Program) (text : List ℕ) (s : SetupOf) (x : ViewContext) where
   no_line k given1 given2 = search (rules, length-take-le, early, not_asked)
 
   module _ {head : List ℕ} {a b : Option (List ℕ)} (has : HasParts (IsLine t text s x) head 0 a b) where
-    -- so the head alone is a text with the lines of these calls
+    -- so the head is a text with the lines of these calls
     pub none_before : (m : ℕ) → m ≤ length calls → m ≤ skipped (filter_of x.options) (length calls) → HasParts (IsLine t text s x) head m a b
     none_before zero few before = has
     none_before (suc m) few before =
         part_written (none_before m (omega (arith, few)) (omega (arith, before))) (no_line m (omega (arith, few)) before) (record { grown = Appends-nil b })
 
--- One thread more, and the line of globals where there are some.
+-- One thread more, and the line of globals if there are some.
 
 pub thread_more : (i n : ℕ) (es : List (List ℕ)) → n < length es
     → thread_lines i (take (suc n) es) ≡ thread_lines i (take n es) ++ thread_line (i + n) (unwrap_or (slice_get es n) [])
@@ -240,14 +240,14 @@ thread_more i (suc n) (x ∷ es) h =
     let more = thread_more (suc i) n es within ∙ ap (λ k. others ++ thread_line k entry) place in
     sym (both_added (thread_line i x) _ _ others (thread_line (i + suc n) entry) _ refl refl (sym more))
 
--- there is a line where there is a global
+-- there is a line if there is a global
 pub line_of_some : (xs : List Name) (bits : List Bool) → 0 < length xs
     → globals_line (binding xs bits) ≡ (codes "globals" ++ variables_text Columns None (binding xs bits)) ++ codes "\n"
 line_of_some [] bits h = absurd (omega arith)
 line_of_some (x ∷ xs) [] h = refl
 line_of_some (x ∷ xs) (b ∷ bits) h = refl
 
--- Mapping over an option of references is mapping over the option of what they refer to.
+-- Mapping over an option of references is mapping over the option of their values.
 
 pub copied : {A B : Type 0} (f : A → B) (x : Option (Bor A))
     → option_map (λ r. f r.now) x ≡ option_map f (option_copied x)

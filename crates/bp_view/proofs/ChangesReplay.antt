@@ -65,7 +65,7 @@ first_stays v m (w ∷ vs) none = by_name (bytes_eq v.0 w.0) (list_any (λ u. by
     by_name true others is e rest = absurd cc
     by_name false others is e rest = rest (is ∙ e)
 
--- what is not among the names is not among the changes
+-- a name that is not among the names is not among the changes
 not_changed : (x : List ℕ) (m n : Valuation) → Alike m n → list_any (λ w. bytes_eq x w.0) m ≡ false → list_any (λ w. bytes_eq x w.0) (changed m n) ≡ false
 not_changed x [] n alike none = refl
 not_changed x (v ∷ vs) [] alike none = refl
@@ -84,7 +84,7 @@ not_changed x (v ∷ vs) (w ∷ ws) alike none = by_name (bytes_eq x v.0) refl n
 same_true : (p q : Bool) → same_bit p q ≡ true → p ≡ q
 same_true p q given1 = grind (arith)
 
--- the values with what changed are the new ones
+-- the values with the changes are the new ones
 all_changed : (m n : Valuation) → Alike m n → IsEachOnce m → with_values m (changed m n) ≡ n
 all_changed [] [] alike once = refl
 all_changed [] (w ∷ ws) alike once = elim alike [ ]
@@ -133,7 +133,8 @@ module _ (p : Procedure) where
 globals_of_stack : (g : Valuation) (a b : List Frame) → globals_with g (stack_entries a b) ≡ g
 globals_of_stack g a b = search (rules, globals_stay)
 
--- what a step makes of a stack: the frame at its top stays, with the same variables, or one is entered above it, or it is left
+-- the stack after a step: the frame at its top stays, with the same variables, or one is entered
+-- above it, or it is left
 data Turn (ps : List Procedure) (f : Frame) (fs : List Frame) : List Frame → Type 0 where
   keeps : (l : Frame) → l.procedure ≡ f.procedure → Alike f.locals l.locals → Turn ps f fs (l ∷ fs)
   enters : (x : List ℕ) (p : Procedure) (arguments : List Bool) (r : Block) → procedure_named ps x ≡ Some p
@@ -340,7 +341,7 @@ module _ (t : Program) (c : Configuration) (i : ℕ) (bit : Bool) (once : IsOnce
       by_reply true = of_step (stack_of c i) refl
       by_reply false = unmoved c.failed
 
--- the values of a history's configurations are once, where the names are
+-- the values of a history's configurations occur once, if the names do
 module _ (t : Program) (names : HasDistinctNames t) where
   effect_once : (c : Configuration) (i : ℕ) → IsOnce c → (f : Frame) (fs : List Frame) → AreOnce (f ∷ fs) → (e : StatementEffect)
       → Turns t.procedures c.globals f fs e

@@ -3,9 +3,9 @@ use Rattle.bp_view.proofs.Common.{◌≡◌, ◌∙◌, ℕ, Bool, true, false, 
 use Rattle.bp_text.specs.declared.lines.Position.{Position}
 use Rattle.bp_machine.specs.declared.calls.Reply.TheVariants.{Failed, Full}
 
--- A thread whose assertion failed stands at it until the end of the history.
+-- A thread whose assertion failed is at it until the end of the history.
 
--- the configuration, where an assertion failed in it
+-- the configuration, if an assertion failed in it
 abbrev failed_in : Configuration → Configuration
 failed_in c = record c { failed = true }
 
@@ -41,7 +41,7 @@ module _ (t : Program) where
     pub globals_stay : (configuration_after t s h).globals ≡ (configuration_after t s failure.before).globals
     globals_stay = ap (λ (c : Configuration). c.globals) (stays s h i failure)
 
--- What is shown of the condition at which a thread stands is what the source statement of its top shows.
+-- The facts of the condition at which a thread is are those of the source statement of its top.
 
 -- a condition has one set of facts
 pub one_condition : (text : List ℕ) (at : ℕ) (d : Decision) (p : Procedure) (s : Store Valuation) (x y : ShownCondition) → x.thread ≡ y.thread
@@ -60,7 +60,7 @@ pub same_condition : (text : List ℕ) (at at' : ℕ) (d d' : Decision) (f f' : 
     → AreConditionFacts text at d f.procedure (frame_store g f) x → AreConditionFacts text at' d' f'.procedure (frame_store g' f') x
 same_condition text at at' d d' f f' g g' x given1 given2 given3 given4 given5 = grind (arith)
 
--- a thread stands at one condition
+-- a thread is at one condition
 module _ (c : Configuration) (i j : ℕ) (same : i ≡ j) (a : IsAtCondition c i) (b : IsAtCondition c j) where
   pub one_frame : a.frame ≡ b.frame
   one_frame = let one = sym a.stack ∙ ap (stack_of c) same ∙ b.stack in cc
@@ -149,7 +149,7 @@ module _ (t : Program) (s : SetupOf) (h : List Call) where
       let globals = sym (globals_stay t s h i a.failure) ∙ globals_stay t s h j b.failure in
       one_condition text _ _ _ _ x y same (same_condition text _ _ _ _ _ _ _ _ x place decision frame globals a.are) b.are
 
--- A thread that waits stands at an assumption.
+-- A thread that waits is at an assumption.
 
 abbrev blocks : StatementEffect → Bool
 blocks e = is_blocked (reply_to_effect e)

@@ -15,7 +15,7 @@ pub listed : {start : ℕ} {a b c : Buffer} {items : List ℕ} → start ≡ len
     → Grown a c (list_text items)
 listed given1 given2 given3 = grind (arith)
 
--- a lead, a note, and the lead goes where there is no note
+-- a lead, a note, and the lead is removed if there is no note
 pub led_note : {start middle : ℕ} {a b c d : Buffer} {lead note : List ℕ} → start ≡ length a.bytes.items → Grown a b lead
     → middle ≡ length b.bytes.items → Grown b c note → IsLed start middle c d → Grown a d (led lead note)
 led_note given1 given2 given3 given4 given5 = grind (arith)
@@ -32,7 +32,7 @@ gains {t = t} p are fine = let (was, is) = p.grown fine in (was, record { more =
 pub gained : {a : Buffer} (b : Buffer) {Are : List ℕ → Type 0} → IsEmpty a → Gains Are a b → b.refused ≡ false → Are b.bytes.items
 gained b {Are = Are} none p fine = let (was, more) = p fine in subst Are (sym (more.is ∙ ap (λ x. x ++ more.more) none.none)) more.more_are
 
--- the pieces, and what follows
+-- the pieces, and the text after them
 pub pieces_then : (pieces : List Piece) {a b c : Buffer} {rest : List ℕ} → Grown a b (flat_map piece_text pieces) → Grown b c rest
     → Grown a c (then pieces rest)
 pieces_then pieces {a = a} {b = b} {c = c} {rest = rest} p q = subst (Grown a c) (in_turn pieces) (and_then p q)
@@ -41,6 +41,6 @@ pieces_then pieces {a = a} {b = b} {c = c} {rest = rest} p q = subst (Grown a c)
     in_turn [] = refl
     in_turn (x ∷ xs) = append_assoc (piece_text x) (flat_map piece_text xs) rest ∙ ap (λ y. piece_text x ++ y) (in_turn xs)
 
--- two texts and what follows, in other groups
+-- two texts and the text after them, in other groups
 pub regroup_pair : {a b : Buffer} (t u rest : List ℕ) → Grown a b ((t ++ u) ++ rest) → Grown a b (t ++ (u ++ rest))
 regroup_pair {a = a} {b = b} t u rest p = subst (Grown a b) (append_assoc t u rest) p

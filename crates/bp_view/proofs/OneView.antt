@@ -38,7 +38,8 @@ module _ (t : Program) (text : List ℕ) (s : SetupOf) (h : List Call) (n : ℕ)
       changed_alike : OneContext f.thread g.thread a.first a.last b.first b.last → changes_within t s h a.first a.last ≡ changes_within t s h b.first b.last
       changed_alike same = ap₂ (changes_within t s h) same.first_is same.last_is
 
--- The facts of an end are single: a thread stands at one condition, and whether the threads are deadlocked is decided.
+-- The facts of an end are single: a thread is at one condition, and whether the threads are
+-- deadlocked is decided.
 
 one_answer : (P : Type 0) (a b : Bool) → IsTrue a ↔ P → IsTrue b ↔ P → a ≡ b
 one_answer P a b given1 given2 = grind (arith)

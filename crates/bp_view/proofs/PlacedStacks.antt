@@ -10,11 +10,11 @@ abbrev pub ArePlaced : Program → List Frame → Type 0
 ArePlaced t [] = Unit {0}
 ArePlaced t (f ∷ fs) = IsPlaced t f × ArePlaced t fs
 
--- so it is with each stack
+-- each stack is placed
 abbrev AllPlaced : Program → Configuration → Type 0
 AllPlaced t c = (i : ℕ) → ArePlaced t (stack_of c i)
 
--- so it is with the stack that an effect leaves
+-- the stack that an effect leaves is placed
 abbrev LeavesPlaced : Program → StatementEffect → Type 0
 LeavesPlaced t (Leaves g stack) = ArePlaced t stack
 LeavesPlaced t e = Unit {0}
@@ -74,13 +74,13 @@ module _ (c : Flat) (t : Program) (is : StandsFor c t) where
   pub stack_placed : (s : SetupOf) (h : List Call) (i : ℕ) → ArePlaced t (stack_of (configuration_after t s h) i)
   stack_placed s h i = calls_placed (start t s) (λ k. start_placed s.entries k) h i
 
--- What is shown of a frame of a stack is what the source statement of its instruction shows.
+-- The facts of a frame of a stack are those of the source statement of its instruction.
 
--- what is left of a stack begins with the frame that is there
+-- the rest of a stack begins with the frame at that place
 pub from_here : (stack : List Frame) (n : ℕ) (f : Frame) → slice_get stack n ≡ Some f → drop n stack ≡ f ∷ drop (suc n) stack
 from_here stack n f has = drop-cons stack n f (slice_get_within stack n f has) ∙ ap (λ y. y ∷ drop (suc n) stack) (get_or_from_slice_get stack n f f has)
 
--- what a source statement shows of what comes next at this top
+-- the next statement at this top, from a source statement
 abbrev pub next_at : List Procedure → SourceStatement → Top → Next
 next_at ps statement x =
     record {
@@ -92,7 +92,7 @@ next_at ps statement x =
       reads = statement.excerpt.reads_choice;
     }
 
--- what it shows of a frame of this procedure, with these values
+-- the facts of a frame of this procedure, with these values
 abbrev pub frame_with : (above : ℕ) → Procedure → Valuation → SourceStatement → ShownFrame
 frame_with n p values statement =
     record {

@@ -6,7 +6,7 @@ use Rattle.bp_machine.specs.declared.calls.AskFault.TheVariants as fault
 use Rattle.bp_machine.proofs.HistoriesAreRuns.{legal_length}
 use Rattle.bp_view.specs.declared.checkpoints.Checkpoint.{Checkpoint}
 
--- a recorded bit is handed in exactly where there is no seed
+-- a recorded bit is given if and only if there is no seed
 not_both : (seed : Option ℕ) (bit : Bool) → is_some (if is_some seed then None else Some bit) ≡ true → is_some seed ≡ true → ⊥
 not_both seed bit given1 given2 = grind (arith)
 
@@ -34,7 +34,7 @@ module _ (t : Program) (s : SetupOf) (h : List Call) (playable : IsPlayable t s 
   pub playable_here : (i : ℕ) (d : Call) → i < length h → IsPlayable t s (take i h ++ get_or h i d ∷ [])
   playable_here i d inside = subst (IsPlayable t s) (take_more h i d inside) (front_playable (i + 1))
 
--- a recorded call is refused for memory alone
+-- a recorded call is refused only for memory
 pub asked_refused : (t : Program) (s : SetupOf) (h : List Call) (x : Call) → IsPlayable t s (h ++ x ∷ [])
     → (f : AskFault) → IsAskRefusal t s h x.thread (given_bit s x.bit) f → f ≡ fault.Memory
 asked_refused t s h x playable fault.Memory is = refl
@@ -62,7 +62,7 @@ module _ (t : Program) (s : SetupOf) (h : List Call) where
     goes_on : (x : Checkpoint) → IsCheckpoint t s h x → IsCheckpoint t s longer x
     goes_on x given1 = search (rules, front, take-append-le, one_more)
 
-    -- what was kept is kept after one more call, after which no checkpoint is wanted
+    -- a kept checkpoint is kept after one more call, after which none is wanted
     pub still_kept : (n : ℕ) (kept : Option Checkpoint) → IsKept t s h n kept → length h + 1 ≢ n → IsKept t s longer n kept
     still_kept n kept given1 given2 = search (rules, goes_on, one_more)
 

@@ -79,7 +79,7 @@ statement_is place shown end whole padding indent gap gap_is cut =
 pub place_length : (width : ℕ) (place : List ℕ) → length (at_left width place) ≡ max width (length place)
 place_length width place = omega (arith, length-append place (spaces (width - length place)), length-replicate {A = ℕ} (width - length place) 32)
 
--- The values that a call prints are those that were next, where it made a step.
+-- The values that a call prints are the next ones, if it made a step.
 
 pub printed_of : (format : ViewFormat) (c : Configuration) (x : Call) (values next : Option (List Bool)) → next ≡ next_print_in format c x.thread
     → values ≡ (if is_granted x.reply then next else None) → values ≡ printed_in format c x
@@ -98,7 +98,7 @@ module _ (t : Program) (text : List ℕ) (s : SetupOf) (context : ViewContext) (
   abbrev has : Bool
   has = has_line t text s o w whole h x
 
-  -- what is asked of the call is asked of its replayed call
+  -- a filter of the call is one of its replayed call
   module _ (m : ReplayedCall) (of : IsReplayedCall t s h x m) (f : CallFilter) (filter : f ≡ filter_of o) where
     pub asked_of : (b : Bool) → is_asked f (length whole) m.number m.call.thread ≡ b
         → is_asked (filter_of o) (length whole) (suc (length h)) x.thread ≡ b

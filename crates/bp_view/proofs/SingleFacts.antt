@@ -2,7 +2,7 @@
 use Rattle.bp_view.proofs.Common.{◌≡◌, ◌≤◌, ◌∙◌, ℕ, List, ap, flat_map, length, map, sym, take, [], ◌∷◌, ◌++◌, Option, None, Some, refl, suc, ap₂, arith, rules, flat_map-map, false≢true, Program, Frame, Call, granted_threads, SetupOf, least_opened, one_statement_at, AreCallFacts, IsNextOf, Next, ShownCall, IsContext, AreFrameFacts, AreStackFacts, AreStateFacts, AreThreadFacts, AreThreadsFacts, ShownFrame, ShownState, ShownThread}
 use Rattle.std.proofs.Common.{take_all}
 
--- What follows from all values is what follows from what they say.
+-- A consequence of all values is one of their meanings.
 
 pub all_mapped : {X Y Z : Type 0} (f : Y → List Z) (said : X → Y) (xs : List X) (n : ℕ) → length xs ≤ n
     → flat_map (λ x. f (said x)) (take n xs) ≡ flat_map f (map said xs)

@@ -97,7 +97,7 @@ module _ (h : List Call) (x : Call) where
       each = λ k y step. each_joined thread k y (step_of n k y step);
     }
 
-  -- a context in which no call made a step before is that of the last step alone
+  -- a context in which no call made a step before has only the last step
   each_new : (n : ℕ) → ((k : ℕ) (y : Call) → IsStepIn n h k y → ⊥) → (k : ℕ) (y : Call)
       → (IsStepIn n h k y × (k < length h)) ⊎ ((k ≡ length h) × (x ≡ y) × IsContext h x (Some n))
       → (y.thread ≡ x.thread) × (length h ≤ k) × (k ≤ length h)

@@ -29,7 +29,7 @@ module _ {t : Program} {text trace : List ℕ} {shown : ShownTrace} (is : IsShow
     pub unnamed : IsThere o.thread (threads r.setup) → (n : ℕ) → IsUndeclared t (watched_names o.watch) n → IsViewRefusal t text trace o file a a (NoVariable n)
     unnamed there n undeclared = (refl, record { replayed = r; is = is.is; there = there; undeclared = undeclared })
 
-  -- what a view is made of is the history of the trace
+  -- the history of a view is that of the trace
   module _
       {o : ViewOptions} {file : List ℕ} (there : IsThere o.thread (threads r.setup)) (declared : AreDeclared t (watched_names o.watch))
       {s : SetupOf} {h : List Call} {p : ViewOptions} (setup : s ≡ r.setup) (history : h ≡ r.history.items) (same : p ≡ o)

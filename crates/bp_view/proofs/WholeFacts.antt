@@ -7,7 +7,7 @@ use Rattle.bp_view.proofs.PlacedStacks.{stack_placed, ArePlaced, IsPlaced, frame
 -- It is decided whether a configuration is a deadlock: its stacks are looked through.
 
 module _ (t : Program) (c : Configuration) where
-  -- what is seen of the threads below n, or one that could step
+  -- the result of a look at the threads below n, or one that could step
   abbrev Seen : ℕ → Type 0
   Seen n = ((any : Bool) × AreSeen t c n any) ⊎ ((i : ℕ) × (has_frames c i ≡ true) × (waits t c i ≡ false))
 

@@ -1,17 +1,17 @@
 use Rattle.bp_commands.proofs.Common.{arith, ◌≡◌, length, length-append, length-take, take, ◌++◌, ℕ, ◌+◌, ◌-◌, ◌<◌, ◌≤◌, List, rules, err_from_is_err_and, Consumes-trans}
 use Rattle.bp_commands.proofs.inputs.read_whole.Goals as goal
 
--- a read into what room is left goes at most one byte past the limit
+-- a read into the room that is left goes at most one byte past the limit
 within_room : (limit : ℕ) (bytes buf chunk : List ℕ) (count room : ℕ) → length bytes ≤ limit → room ≤ limit + 1 - length bytes
     → length buf ≡ length (take room chunk) → length (bytes ++ take count buf) ≤ limit + 1
 within_room limit bytes buf chunk count room given1 given2 given3 = search (rules, length-take, length-append)
 
--- where it gave more bytes than the limit leaves, it went one byte past it
+-- if it gave more bytes than the limit leaves, it went one byte past it
 past_limit : (limit : ℕ) (bytes buf : List ℕ) (count : ℕ) → length bytes ≤ limit → limit - length bytes < count → count ≤ length buf
     → length (bytes ++ take count buf) ≤ limit + 1 → length (bytes ++ take count buf) ≡ limit + 1
 past_limit limit bytes buf count given1 given2 given3 given4 = search (rules, length-append, length-take)
 
--- where it gave no more than that, it stays within the limit
+-- if it gave no more than that, it is within the limit
 within_limit : (limit : ℕ) (bytes buf : List ℕ) (count : ℕ) → length bytes ≤ limit → count ≤ limit - length bytes → length (bytes ++ take count buf) ≤ limit
 within_limit limit bytes buf count given1 given2 = search (rules, length-append, length-take)
 

@@ -1,7 +1,7 @@
 use Rattle.bp_commands.proofs.Common.{◌≡◌, ◌≢◌, ◌∙◌, [], ◌∷◌, inl, inr, List, None, refl, subst, err_from_is_err_and, Program, IsSetupRefusal, StartOf, setup_from, NamedBitOf, start_by_names, start_asked}
 use Rattle.bp_commands.proofs.programs.open.Goals as goal
 
--- where globals are named, the start is that with their bits
+-- if globals are named, the start is that with their bits
 asked : (start : StartOf) (named : List NamedBitOf) (t : Program) → named ≢ [] → start_by_names start named t ≡ start_asked start named t
 asked start [] t some = absurd (some refl)
 asked start (n ∷ ns) t some = refl

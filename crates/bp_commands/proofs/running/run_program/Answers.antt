@@ -5,7 +5,7 @@ use Rattle.bp_commands.proofs.Answered.{answered, refused_with}
 use Rattle.bp_commands.proofs.RunAnswers.{bad_numbers, done, refused}
 use Rattle.bp_commands.proofs.running.run_program.Goals as goal
 
--- what is opened from the parts of the options is opened from the options
+-- a program opened from the parts of the options is opened from the options
 opened_from : (x o : OptionsOf) (named : List NamedBitOf) (text given : List ℕ) (t : Program) (s : SetupOf)
     → x ≡ o → text ≡ given → IsOpened x.start named text t s → IsOpened o.start named given t s
 opened_from x o named text given t s same read is = subst (λ (y : OptionsOf). IsOpened y.start named given t s) same (rw read at is)

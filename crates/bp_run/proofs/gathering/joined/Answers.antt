@@ -8,7 +8,7 @@ use Rattle.bp_run.proofs.gathering.joined.Goals as goal
 own : (g : Over) (c : After-pop g) → AreOnePerThread (threads c.desk.inside.session.setup) c.args.seats.items
 own g c = subst (λ s. AreOnePerThread (threads s) c.args.seats.items) (sym c.desk.invariant.5) c.requires
 
--- the sum of all, where that of the others and the amount of the last are known
+-- the sum of all, if that of the others and the amount of the last are known
 with_last : {k n : ℕ} (f : SeatOf → ℕ) (all others : List SeatOf) (last : SeatOf) → all ≡ others ++ last ∷ []
     → k ≡ f last → k + sum_by f others ≡ n → sum_by f all ≡ n
 with_last f all others last are own sum = ap (sum_by f) are ∙ (let more = sum_by-append f others (last ∷ []) in omega (arith, more, own, sum))

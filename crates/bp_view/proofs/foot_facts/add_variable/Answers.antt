@@ -1,7 +1,7 @@
 use Rattle.bp_view.proofs.Common.{◌≡◌, ◌∙◌, ◌++◌, ◌∷◌, [], ℕ, List, Bool, Option, Some, None, map, ap, append-nil, refl, sym, rules, option_map, map-append, Name, Procedure, bits_of, named_store, variables, Bits, first_index, value_of_slot, entry_of, Entry, named_entry, resolved}
 use Rattle.bp_view.proofs.foot_facts.add_variable.Goals as goal
 
--- what a name means, by the slots of the local and of the global of that name
+-- the variable that a name means, by the slots of the local and of the global of that name
 by_slots : (globals : List Name) (p : Procedure) (a b : Bits) (name : List ℕ) (l g : Option ℕ)
     → l ≡ first_index (variables p) name → g ≡ first_index globals name
     → resolved p name (option_map b l) (option_map a g) ≡ named_entry p (named_store globals p (record { globals = a; locals = b })) name

@@ -1,7 +1,7 @@
 use Rattle.bp_view.proofs.Common.{◌≡◌, Bor, Option, None, Some, subst, ◌∙◌, option_map, IsSomeAnd, place, places_of, SourceStatement, IsSourceStatement, got_item, source_statement_at}
 use Rattle.bp_view.proofs.program_facts.source_statement_of.Goals as goal
 
--- what is got is the source statement that is there
+-- the result is the source statement at that place
 is_got : (P : SourceStatement → Type 0) (o : Option (Bor SourceStatement)) (x : SourceStatement)
     → option_map (λ s. s.now) o ≡ Some x → P x → IsSomeAnd o (λ s. P s.now)
 is_got P None x got p = absurd cc

@@ -1,7 +1,7 @@
 use Rattle.bp_flat.proofs.Common.{◌≡◌, map, drop, with_slots, formula_values, store_of, formula_of}
 use Rattle.bp_flat.proofs.actions.Assignment.store_after.Given as goal
 
--- what the targets that are left make of the store now is what all of them make of the first store
+-- the targets that are left make the same of the store now as all of them make of the first store
 abbrev pub invariant-loop-i : goal.invariant-loop-i
 invariant-loop-i l =
     let bits = formula_values (store_of l.store) (map formula_of l.values) in
