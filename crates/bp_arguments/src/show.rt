@@ -44,14 +44,14 @@ pub static SHOW: Subcommand<'static> = Subcommand {
             "valid",
             "Show the accepted calls of a trace that is refused",
         ),
-        LongNumber("at", "Show the state after call N in place of the calls"),
+        LongNumber("at", "Show the state after call N instead of the calls"),
         Flag(
             "contexts",
-            "Show one line for each context in place of the calls",
+            "Show one line for each context instead of the calls",
         ),
         Flag(
             "steps",
-            "Show only the steps, as 'confirm' takes them, in place of the calls",
+            "Show only the steps, as 'confirm' takes them, instead of the calls",
         ),
         Flag("json", "Print one JSON object a line, for programs"),
     ],
