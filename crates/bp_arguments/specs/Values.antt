@@ -42,16 +42,16 @@ value_of id rows = unwrap_or (first_of id rows) []
 abbrev pub number_of : Text → ℕ
 number_of text = digits_value 10 (without_leading_plus text)
 
--- the text is a number of this many bits
+-- the text is a number of `bits` bits
 abbrev pub is_number_text : ℕ → Text → Bool
 is_number_text bits text =
     is_numeral (without_leading_plus text) && nat_lt (number_of text) (2 ^ bits)
 
--- the number of a text, if it is one of this many bits
+-- the number of a text, if it is one of `bits` bits
 abbrev pub number_in : ℕ → Text → Option ℕ
 number_in bits text = if is_number_text bits text then Some (number_of text) else None
 
--- the number of an option, if its value is one of this many bits
+-- the number of an option, if its value is one of `bits` bits
 abbrev pub given_number : ℕ → Text → List Row → Option ℕ
 given_number bits name rows = option_and_then (number_in bits) (one_of name rows)
 

@@ -63,7 +63,7 @@ fn plain(alloc: Global, code: &Code) -> Result<Vec<u8>, AllocError>
     ensures { IfOk result (λ v. v.items ≡ listing_text code.now) }
 {
     let mut listing = Vec::new(alloc);
-    // A vector takes all that is written, unless memory is refused.
+    // A vector takes all bytes, unless memory is refused.
     match list(code, &mut listing) {
         Ok(()) => Ok(listing),
         Err(_) => Err(AllocError),

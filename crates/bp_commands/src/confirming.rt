@@ -178,7 +178,7 @@ impl CommandAnswer for Confirmation {
                 errors,
             );
         }
-        // A failure needs no line: its trace and the status say it.
+        // A failure needs no line: its trace and the status show it.
         if self.expected.is_none() && matches!(self.verdict, Verdict::Failure) {
             return Ok(());
         }

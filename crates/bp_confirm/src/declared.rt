@@ -43,7 +43,7 @@ fn is_declared<'a>(checked: &Checked, known: &mut Vec<&'a [u8]>, text: &'a [u8])
     if !declares(checked, text) {
         return false;
     }
-    // If memory is refused the text is looked for again.
+    // If memory is refused the text is looked up again.
     let _ = known.insert(place, text);
     true
 }

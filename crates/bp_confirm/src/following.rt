@@ -131,7 +131,7 @@ fn call_of(session: &mut Session, thread: u32, bit: bool) -> Result<Call, NotCal
     match session.ask_with(thread, bit) {
         Ok(call) => Ok(call),
         Err(AskFault::Memory) => Err(NotCalled::Memory),
-        // The thread is there, and the setup has no seed.
+        // The thread exists, and the setup has no seed.
         Err(_) => Err(NotCalled::Finished),
     }
 }
@@ -179,7 +179,7 @@ fn first_difference(
         (SeesValues (configuration_after checked.now session.now.setup after) i line.now.values)
         (IsDifference checked.now session.now.setup after i line.now.values)) }
 {
-    // Most lines say no values, and then no top is looked up.
+    // Most lines have no values, and then no top is looked up.
     if line.values.is_empty() {
         return Ok(None);
     }

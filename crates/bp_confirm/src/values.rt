@@ -212,7 +212,7 @@ pub(crate) fn sight_of(
         changed: None,
     };
     for (n, call) in history.iter().enumerate() {
-        // The history is legal, so a call is refused for memory alone.
+        // The history is legal, so a call is refused only for memory.
         let Ok(_made) = again.ask_as_recorded(call.thread, call.bit) else {
             return Err(AllocError);
         };

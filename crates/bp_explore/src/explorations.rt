@@ -114,7 +114,7 @@ fn through_ending_of<O: Observer>(
         SearchEnd::Short { contexts, reason } => {
             Ok(ThroughEnding::Unfinished { contexts, reason })
         }
-        // Deadlocks are not looked for.
+        // Deadlocks are not searched for.
         SearchEnd::Deadlocked { contexts, .. } => {
             let reason = Reason::Stopped;
             Ok(ThroughEnding::Unfinished { contexts, reason })

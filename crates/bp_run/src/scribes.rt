@@ -155,7 +155,7 @@ impl<'a, W: Write> Pen<'a, W> {
         if !self.is_wet {
             return;
         }
-        // A flush that fails takes no byte back, but what was written may be lost.
+        // A flush that fails takes no byte back, but the bytes written may be lost.
         self.is_stuck = self.sink.flush();
         self.is_wet = false;
     }

@@ -69,7 +69,7 @@ fn push_token<'a>(
 {
     if let Some(kind) = kind_of(lexeme, text) {
         let Ok(text) = str::from_utf8(text) else {
-            // A lexeme that is a token has ASCII bytes alone.
+            // A lexeme that is a token has only ASCII bytes.
             unreachable!()
         };
         tokens.push(Token { kind, at, text })?;

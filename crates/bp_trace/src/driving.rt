@@ -26,7 +26,7 @@ fn drive_fault_of(fault: AskFault, n: u32) -> DriveFault
 {
     match fault {
         AskFault::Memory => DriveFault::Memory,
-        // The setup has no seed, so that the thread makes no further call.
+        // The setup has no seed, so the thread makes no more calls.
         _ => DriveFault::AfterFinish(n),
     }
 }

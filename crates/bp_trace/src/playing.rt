@@ -146,7 +146,7 @@ impl Watcher for Unwatched {
         Ok(())
     }
 
-    // Inlined, so that what a call does stays in registers.
+    // Inlined, so that the effects of a call stay in registers.
     #[inline(always)]
     fn make(&mut self, session: &mut Session, recorded: &Call) -> Result<Call, AskFault> {
         session.ask_as_recorded(recorded.thread, recorded.bit)

@@ -70,7 +70,7 @@ fn write_parts<W: Write>(
     let history = writer.context.history;
     put(out, head)?;
     for n in writer.made as usize..history.len() {
-        // A call of a history that may be played is refused for memory alone.
+        // A call of a history that may be played is refused only for memory.
         let Ok(()) = writer.make_line(&history[n]) else {
             return Err(ViewFault::Memory);
         };

@@ -36,7 +36,7 @@ impl Progress for ProgressLine<'_> {
         let (true, Some(millis)) = (self.is_shown, self.passed()) else {
             return;
         };
-        // If standard error fails, the test goes on.
+        // If standard error fails, the test continues.
         let _ = put_progress(done, runs, millis, self.seconds, &mut self.rt.stderr());
     }
 

@@ -90,7 +90,7 @@ const WAITS: &[u8] =
 /// Says that a bundle is expected, if a terminal has to give it.
 fn say_that_it_waits(rt: &HostRuntime, task: &Task<'_>) {
     if matches!(task, Task::Bundle) && rt.stdin().is_terminal() {
-        // Where standard error fails, the bundle is read all the same.
+        // If standard error fails, the bundle is still read.
         let _ = put(&mut rt.stderr(), WAITS);
     }
 }
@@ -121,7 +121,7 @@ fn do_on_host<T: Threads + Wait + Clock + Sync>(
     };
     let streams = Streams { output, errors };
     let (end, _) = carry_out(host, rt.stdin(), task, streams);
-    // What standard error refused can be told nowhere else.
+    // Text that standard error refused can be reported nowhere else.
     end.status
 }
 
