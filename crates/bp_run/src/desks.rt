@@ -102,8 +102,8 @@ impl<C: Calls, O: Ledger> Desk<C, O> {
     }
 
     /// Makes one call of the seat's thread, and sends it. At a refusal nothing is changed, and no
-    /// choice bit is used: the thread's line is finished, the ring is full, which it is not while a
-    /// place is known to be free, or memory is refused.
+    /// choice bit is used. It is refused if the thread's line is finished, if the ring is full,
+    /// which it is not while a place is known to be free, or if memory is refused.
     pub fn ask(&mut self, seat: &mut Seat<C, O>) -> Result<Reply, AskFault>
         ensures answer { MatchResult result
             (IsAsked self.old self.new seat.old seat.new)
