@@ -95,50 +95,39 @@ fn say_that_it_waits(rt: &HostRuntime, task: &Task<'_>) {
     }
 }
 
-/// Does the task of the arguments on the files and streams of the machine, and returns the exit
-/// status.
-fn do_on_host<T: Threads + Wait + Clock + Sync>(
-    rt: &HostRuntime,
-    threads: &T,
-    arguments: &[String],
-    task: &Task<'_>,
-) -> u8 {
-    let (alloc, files) = (rt.alloc(), HostFiles::new(rt, arguments));
-    let mut errors = rt.stderr();
-    let Ok(output) = BufWriter::new(alloc, rt.stdout()) else {
-        return refuse_memory(&mut errors).status;
-    };
-    say_that_it_waits(rt, task);
-    let progress = progress_line(rt, task);
-    let host = Host {
-        alloc,
-        files: &files,
-        threads,
-        clock: rt,
-        progress: &progress,
-        screen: screen(rt),
-        on_terminal: explains_faults(rt),
-    };
-    let streams = Streams { output, errors };
-    let (end, _) = carry_out(host, rt.stdin(), task, streams);
-    // Text that standard error refused can be reported nowhere else.
-    end.status
-}
-
 /// Ends a run whose arguments ask for no task, and returns the exit status.
 fn end_on_host(rt: &HostRuntime, none: &NoTask, json: bool) -> u8 {
     end_without_task(none, json, &mut rt.stdout(), &mut rt.stderr()).status
 }
 
-/// Does the task of the arguments, and returns the exit status. Workers are started by `threads`.
+/// Does what the arguments ask for on the files and streams of the machine, and returns the exit
+/// status. Workers are started by `threads`.
 pub fn run<T: Threads + Wait + Clock + Sync>(rt: &HostRuntime, threads: &T) -> u8 {
+    let (alloc, mut errors) = (rt.alloc(), rt.stderr());
     let arguments = match arguments(rt) {
         Ok(arguments) => arguments,
         // No word is known then, so none asks for JSON.
-        Err(error) => return end_on_host(rt, &unread(rt.alloc(), &error), false),
+        Err(error) => return end_on_host(rt, &unread(alloc, &error), false),
     };
-    match read_arguments(rt.alloc(), &arguments) {
-        Ok(task) => do_on_host(rt, threads, &arguments, &task),
-        Err(none) => end_on_host(rt, &none, asks_for_json(&arguments)),
-    }
+    let task = match read_arguments(alloc, &arguments) {
+        Ok(task) => task,
+        Err(none) => return end_on_host(rt, &none, asks_for_json(&arguments)),
+    };
+    let Ok(output) = BufWriter::new(alloc, rt.stdout()) else {
+        return refuse_memory(&mut errors).status;
+    };
+    say_that_it_waits(rt, &task);
+    let host = Host {
+        alloc,
+        files: &HostFiles::new(rt, &arguments),
+        threads,
+        clock: rt,
+        progress: &progress_line(rt, &task),
+        screen: screen(rt),
+        on_terminal: explains_faults(rt),
+    };
+    let streams = Streams { output, errors };
+    let (end, _) = carry_out(host, rt.stdin(), &task, streams);
+    // What standard error refused can be told nowhere else.
+    end.status
 }
