@@ -4,7 +4,7 @@
 The terminal is a pseudoterminal. A failure is red and a switch is yellow there, unless NO_COLOR is set to a text;
 elsewhere nothing has a colour. Lines of calls have at most as many columns there as COLUMNS says, from 40 on; elsewhere
 they have as many as they need. A line of progress is shown and cleared there, unless NO_PROGRESS is set to a text;
-elsewhere there is none. A fault is explained there, unless --no-explain is
+elsewhere there is none. An error is explained there, unless --no-explain is
 given; elsewhere it is only with --explain, or if BTRUN_EXPLAIN is set to a text.
 """
 import os
@@ -103,7 +103,7 @@ def test_progress(report, words, bare):
 
 
 def test_explanations(report, words):
-    """Looks at what is said of a fault."""
+    """Looks at what is said of an error."""
     line = "btrun: 6 Syntax at 13\n"
     explained = harness.run([*words, "--explain"]).stderr.decode()
     asked, unset = {**os.environ, "BTRUN_EXPLAIN": "1"}, {**os.environ, "BTRUN_EXPLAIN": ""}

@@ -3,7 +3,7 @@
 
 Usage: bench/compiling.py [PROGRAM [RUNS]]
 
-PROGRAM is the built program, crates/btrun/out/btrun if left out. Each text is lawful. It is read and checked by
+PROGRAM is the built program, crates/btrun/out/btrun if left out. Each text is well-formed. It is read and checked by
 'btrun check', and read, checked and compiled as a bundle with no line of a schedule; the difference is what the
 code costs. Each time is the processor time of a run less that of the same run on a text of one statement, the
 least of RUNS runs.

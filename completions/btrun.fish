@@ -60,8 +60,8 @@ complete -c btrun -n __fish_use_subcommand -f -a help -d 'Print help'
 
 set -l all check code drive confirm run test explore replay show migrate shrink
 complete -c btrun -n '__fish_seen_subcommand_from help' -f -a "$all"
-complete -c btrun -n "__fish_seen_subcommand_from $all" -l explain -d 'Explain a fault on further lines'
-complete -c btrun -n "__fish_seen_subcommand_from $all" -l no-explain -d 'Do not explain faults'
+complete -c btrun -n "__fish_seen_subcommand_from $all" -l explain -d 'Explain an error on further lines'
+complete -c btrun -n "__fish_seen_subcommand_from $all" -l no-explain -d 'Do not explain errors'
 complete -c btrun -n "__fish_seen_subcommand_from $all" -l help -d 'Print help'
 
 set -l starting drive confirm run test
@@ -77,7 +77,7 @@ complete -c btrun -n '__fish_seen_subcommand_from code' -l source -d 'Print the 
 complete -c btrun -n '__fish_seen_subcommand_from code' -l json -d 'Print one JSON object a line'
 
 complete -c btrun -n '__fish_seen_subcommand_from confirm' -x -l expect -a 'failure deadlock run' -d 'How the run is to end'
-complete -c btrun -n '__fish_seen_subcommand_from confirm' -l json -d 'Print the verdict or a fault as JSON objects'
+complete -c btrun -n '__fish_seen_subcommand_from confirm' -l json -d 'Print the verdict or an error as JSON objects'
 
 complete -c btrun -n '__fish_seen_subcommand_from run' -x -l turn -d 'How many calls a worker makes in a turn'
 complete -c btrun -n '__fish_seen_subcommand_from run' -x -l ring -d 'How many calls wait to be printed'

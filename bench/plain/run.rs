@@ -117,7 +117,7 @@ impl Desk {
         }
     }
 
-    /// Up to so many calls of a thread: whether its line is open behind them, or the channel is full.
+    /// Up to so many calls of a thread: whether its thread is live behind them, or the channel is full.
     fn turn(&mut self, thread: u32, n: u32) -> Result<bool, ()> {
         for _ in 0..n {
             let (reply, next) = self.reply(thread);

@@ -1,7 +1,7 @@
 //! Ways to draw schedules, for bench/placing.py: it makes runs of a program by each way, and prints the share of those
 //! in which an assertion failed, in percent. The way `btrun` draws as `btrun test` does, draw for draw, so the first run
 //! that fails is the same. The others are a random walk (`walk`), and priorities with D - 1 changes (`pctD`). They have a
-//! `-visible` form too, in which a thread is left only before a visible step. No fault of a text is told.
+//! `-visible` form too, in which a thread is left only before a visible step. No error of a text is told.
 //!
 //! Usage: ways FILE ENTRY,.. INIT CONTEXTS CALLS SEED RUNS WAY..
 use std::collections::HashMap;
@@ -120,7 +120,7 @@ impl Instr {
     }
 }
 
-/// Reads a program that has no fault.
+/// Reads a program that has no error.
 struct Reader {
     words: Vec<String>,
     at: usize,

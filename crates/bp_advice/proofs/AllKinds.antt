@@ -13,9 +13,9 @@ use Rattle.bp_language.specs.declared.tokens.TokenKind.TheVariants.{Name}
 use Rattle.bp_language.specs.declared.tokens.TokenKind.TheVariants as kind
 use Rattle.bp_syntax.specs.Spellings.{spelling}
 use Rattle.bp_syntax.specs.declared.tokens.TheConstants.{TOKEN_KINDS}
-use Rattle.bp_syntax.specs.Refusals.{read_fault_number, OneRefusal, NoRefusalOfPrograms, IsRefusal}
-use Rattle.bp_syntax.specs.declared.faults.ReadFault.{ReadFault}
-use Rattle.bp_syntax.specs.declared.faults.ReadFault.TheVariants.{Syntax, Memory}
+use Rattle.bp_syntax.specs.Refusals.{read_error_number, OneRefusal, NoRefusalOfPrograms, IsRefusal}
+use Rattle.bp_syntax.specs.declared.errors.ReadError.{ReadError}
+use Rattle.bp_syntax.specs.declared.errors.ReadError.TheVariants.{Syntax, Memory}
 use Rattle.bp_syntax.specs.Lexer.{TakesLexeme, lexeme_of}
 
 -- A kind of token has one spelling, unless it is that of names.
@@ -177,14 +177,14 @@ all_judged front kinds n p all k =
 
 -- The meaning of a refusal for a text that may be the front of a program.
 
--- a fault of the text that is not of memory
-module _ (text : List ℕ) (e : ReadFault) (refused : IsRefusal text e) (is_memory : Bool)
+-- an error of the text that is not of memory
+module _ (text : List ℕ) (e : ReadError) (refused : IsRefusal text e) (is_memory : Bool)
     (means : IsTrue is_memory ↔ (e ≡ Memory)) (other : is_memory ≡ false) where
   differs : e ≢ Memory
   differs m = false≢true (sym other ∙ means.1 m)
 
   syntax_differs : (n : ℕ) → Syntax n ≢ Memory
-  syntax_differs n m = let six : 6 ≡ 7 = ap read_fault_number m in omega (arith, six)
+  syntax_differs n m = let six : 6 ≡ 7 = ap read_error_number m in omega (arith, six)
 
   pub no_program : NoRefusalOfPrograms → IsTrue false ↔ IsProgram text
   no_program none = ((λ t. absurd (false≢true t)), λ p. absurd (differs (none text p.program e p.derived refused)))

@@ -1,4 +1,4 @@
--- Explanations: their parts, and how a fault of a program is explained.
+-- Explanations: their parts, and how an error of a program is explained.
 use Rattle.std.specs.Prelude.{if◌then◌else◌, ◌≡◌, ◌==◌, ◌||◌, ◌&&◌, nat_le, ℕ, Bool, true, List, [], ◌∷◌, ◌++◌, Option, None, Some, All, map, decimal, ◌≢◌, ◌⊎◌, length, ◌≤◌, take, drop}
 use Rattle.bp_text.specs.Pieces.{displayed}
 use Rattle.bp_text.specs.Lines.{IsOneLine, position_at}
@@ -7,13 +7,13 @@ use Rattle.bp_language.specs.Texts.{IsTextOf}
 use Rattle.bp_language.specs.Tokens.{IsReal, HasTokens}
 use Rattle.bp_language.specs.declared.tokens.TokenKind.{TokenKind}
 use Rattle.bp_language.specs.declared.tokens.TokenKind.TheVariants.{Name}
-use Rattle.bp_language.specs.declared.faults.CheckFault.TheVariants as check
+use Rattle.bp_language.specs.declared.errors.CheckError.TheVariants as check
 use Rattle.bp_syntax.specs.Refusals.{IsRefusal}
-use Rattle.bp_syntax.specs.declared.faults.ReadFault.TheVariants.{Syntax}
-use Rattle.bp_syntax.specs.declared.faults.ReadFault.TheVariants as read
-use Rattle.bp_code.specs.LawfulTexts.{program_fault_place}
-use Rattle.bp_code.specs.declared.texts.ProgramFault.{ProgramFault}
-use Rattle.bp_code.specs.declared.texts.ProgramFault.TheVariants.{Read, Check}
+use Rattle.bp_syntax.specs.declared.errors.ReadError.TheVariants.{Syntax}
+use Rattle.bp_syntax.specs.declared.errors.ReadError.TheVariants as read
+use Rattle.bp_code.specs.WellFormedTexts.{program_error_place}
+use Rattle.bp_code.specs.declared.texts.ProgramError.{ProgramError}
+use Rattle.bp_code.specs.declared.texts.ProgramError.TheVariants.{Read, Check}
 use Rattle.bp_advice.specs.declared.explanations.Explanation.{Explanation}
 use Rattle.bp_advice.specs.declared.explanations.Place.{Place}
 use Rattle.bp_advice.specs.declared.explanations.Place.TheVariants.{Whole, Line, At}
@@ -39,11 +39,11 @@ ExplainsPlace file text at e = IsAt file (place_of text at) e
 abbrev pub ExplainsLine : List ℕ → ℕ → Explanation → Type 0
 ExplainsLine file n e = IsAt file (Line n) e
 
--- no explanation fits a fault
+-- no explanation fits an error
 abbrev pub IsUnexplained : (Explanation → Type 0) → Type 0
 IsUnexplained Explains = (e : Explanation) → Explains e → ⊥
 
--- this explains a fault; it is None if nothing does
+-- this explains an error; it is None if nothing does
 abbrev pub IsExplanationOf : (Explanation → Type 0) → Option Explanation → Type 0
 IsExplanationOf Explains (Some e) = Explains e
 IsExplanationOf Explains None = IsUnexplained Explains
@@ -117,7 +117,7 @@ pub record IsJudged (front : List ℕ) (kind : TokenKind) (offered : Type 0) : T
   pub real : IsReal (record { kind = kind; at = 0; text = name })
   pub tried : MayFollow front name → offered
 
--- How a fault of a program is explained.
+-- How an error of a program is explained.
 
 -- a semicolon is missing at this place, before the token that cannot come at `at`: a program may
 -- continue with one there, and only white and comments are from there to the token
@@ -133,11 +133,11 @@ ExplainsSyntax file text at e =
     (place : ℕ) × ((place ≡ at) ⊎ MissesSemicolon text at place)
     × ExplainsPlace file text (Some place) e
 
--- the explanation of a fault of a program's text: none for refused memory, or for a text that is
+-- the explanation of an error of a program's text: none for refused memory, or for a text that is
 -- too long and so was not read whole
-abbrev pub ExplainsProgram : List ℕ → List ℕ → ProgramFault → Explanation → Type 0
+abbrev pub ExplainsProgram : List ℕ → List ℕ → ProgramError → Explanation → Type 0
 ExplainsProgram file text (Read read.Memory) e = ⊥
 ExplainsProgram file text (Read read.TooLong) e = ⊥
 ExplainsProgram file text (Read (read.Syntax at)) e = ExplainsSyntax file text at e
 ExplainsProgram file text (Check check.Memory at) e = ⊥
-ExplainsProgram file text fault e = ExplainsPlace file text (program_fault_place fault) e
+ExplainsProgram file text error e = ExplainsPlace file text (program_error_place error) e

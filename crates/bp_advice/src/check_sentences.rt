@@ -1,10 +1,10 @@
-//! Sentences on faults of a program whose text is in order.
+//! Sentences on errors of a program whose text is in order.
 
-use crate::around::token_at;
-use crate::declared::{first_named, first_procedure, procedure_around, tree_of};
+use crate::contexts::token_at;
+use crate::declarations::{first_named, first_procedure, procedure_around, tree_of};
 use crate::sentences::{Count, Quoted};
 use bp_language::limits::{MAX_GLOBALS, MAX_OWN_NAMES, MAX_PROCEDURES};
-use bp_language::{CheckFault, Name};
+use bp_language::{CheckError, Name};
 use bp_syntax::Tree;
 use bp_text::position_of;
 use std::alloc::{AllocError, Global};
@@ -97,49 +97,49 @@ impl<'a> RefusedName<'a> {
     }
 
     /// Explains the mistake in the name.
-    fn sentence(&self, fault: CheckFault) -> Result<String, AllocError> {
+    fn sentence(&self, error: CheckError) -> Result<String, AllocError> {
         let (alloc, name, tree) = (self.alloc, self.quoted(), self.tree);
-        match fault {
-            CheckFault::TwiceGlobal => {
+        match error {
+            CheckError::TwiceGlobal => {
                 let sentence = format!(in alloc; "the global {name} is declared twice")?;
                 self.twice(first_named(tree.globals(), self.name), sentence)
             }
-            CheckFault::TwiceProcedure => {
+            CheckError::TwiceProcedure => {
                 let sentence = format!(in alloc; "there are two procedures {name}")?;
                 self.twice(
                     first_procedure(tree, self.name).map(|proc| proc.name()),
                     sentence,
                 )
             }
-            CheckFault::TwiceLocal => self.twice_local(),
-            CheckFault::TwiceLabel => {
+            CheckError::TwiceLocal => self.twice_local(),
+            CheckError::TwiceLabel => {
                 let own = self.own()?;
                 format!(in alloc; "the label {name} appears twice in {own}")
             }
-            CheckFault::UnknownVariable => self.unknown_variable(),
-            CheckFault::UnknownProcedure => {
+            CheckError::UnknownVariable => self.unknown_variable(),
+            CheckError::UnknownProcedure => {
                 let near = self.near_procedure()?;
                 format!(in alloc; "there is no procedure {name}{near}")
             }
-            CheckFault::UnknownLabel => {
+            CheckError::UnknownLabel => {
                 let near = self.near_label()?;
                 let own = self.own()?;
                 format!(in alloc; "there is no label {name} in {own}{near}")
             }
-            CheckFault::Arity => self.arity(),
-            CheckFault::Lengths => self.lengths(),
-            CheckFault::TwiceTarget => format!(in alloc; "{name} appears twice on this left side"),
-            CheckFault::Limit => self.limit(),
-            CheckFault::Memory => Ok(String::new(alloc)),
+            CheckError::Arity => self.arity(),
+            CheckError::Lengths => self.lengths(),
+            CheckError::TwiceTarget => format!(in alloc; "{name} appears twice on this left side"),
+            CheckError::Limit => self.limit(),
+            CheckError::Memory => Ok(String::new(alloc)),
         }
     }
 }
 
-/// Explains why the program of a text is not lawful.
+/// Explains why the program of a text is not well-formed.
 pub(crate) fn check_sentence(
     alloc: Global,
     text: &[u8],
-    fault: CheckFault,
+    error: CheckError,
     at: u32,
 ) -> Result<String, AllocError> {
     let at = at as usize;
@@ -152,7 +152,7 @@ pub(crate) fn check_sentence(
             name,
             at,
         }
-        .sentence(fault),
+        .sentence(error),
         None => Ok(String::new(alloc)),
     }
 }

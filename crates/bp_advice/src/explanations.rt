@@ -1,16 +1,16 @@
-//! Explanations of faults: the place in a file, the mistake there, and the lines that show the
+//! Explanations of errors: the place in a file, the mistake there, and the lines that show the
 //! place. Explanations as printed: a line that names the place and has the sentence, and then the
 //! excerpt. They have only characters that a terminal shows, and line ends. Explanations of the
-//! faults of programs.
+//! errors of programs.
 ghost use Rattle.std.specs.Prelude.{◌≡◌, IfOk, ◌++◌, map, OnOk};
-ghost use Rattle.bp_code.specs.LawfulTexts.{program_fault_place};
+ghost use Rattle.bp_code.specs.WellFormedTexts.{program_error_place};
 ghost use Rattle.bp_advice.specs.Explanations.{ExplainsLine, ExplainsPlace, IsAt, place_of, after_colon, head_of, is_plain, lines_of, numbers_of, sentence_of, shown, IsPlain, IsExplanationOf, ExplainsProgram};
 
 use crate::check_sentences::check_sentence;
 use crate::read_sentences::{explain_syntax, read_sentence};
-use bp_code::ProgramFault;
-use bp_language::CheckFault;
-use bp_syntax::ReadFault;
+use bp_code::ProgramError;
+use bp_language::CheckError;
+use bp_syntax::ReadError;
 use bp_text::{Position, excerpt_of, first_line, position_of, push_displayed, push_line};
 use itoa::Buffer;
 use std::alloc::{AllocError, Global};
@@ -26,12 +26,12 @@ pub enum Place {
     At(Position),
 }
 
-/// An explanation of a fault of a file.
+/// An explanation of an error of a file.
 #[derive(Drop)]
 pub struct Explanation<'a> {
     /// The name of the file.
     pub file: &'a str,
-    /// The place of the fault in the file.
+    /// The place of the error in the file.
     pub place: Place,
     /// The mistake there, on one line.
     pub sentence: Vec<u8>,
@@ -186,38 +186,38 @@ pub fn lines_of(alloc: Global, explanation: &Explanation<'_>) -> Result<Vec<u8>,
     shown_bytes(alloc, lines.as_slice())
 }
 
-/// Returns the byte that the fault names, if any.
-fn place_in(fault: &ProgramFault) -> Option<u32>
-    ensures { result ≡ program_fault_place fault.now }
+/// Returns the byte that the error names, if any.
+fn place_in(error: &ProgramError) -> Option<u32>
+    ensures { result ≡ program_error_place error.now }
 {
-    match fault {
-        ProgramFault::Read(fault) => fault.place(),
-        ProgramFault::Check(CheckFault::Memory, _) => None,
-        ProgramFault::Check(_, at) => Some(*at),
+    match error {
+        ProgramError::Read(error) => error.place(),
+        ProgramError::Check(CheckError::Memory, _) => None,
+        ProgramError::Check(_, at) => Some(*at),
     }
 }
 
-/// Explains this fault of a program's text, at its line and column. A missing semicolon is placed
+/// Explains this error of a program's text, at its line and column. A missing semicolon is placed
 /// at the end of the statement before. Nothing explains a text that is too long, or refused memory.
 /// Fails only on allocation.
 pub fn explain_program<'a>(
     alloc: Global,
     file: &'a str,
     text: &[u8],
-    fault: &ProgramFault,
+    error: &ProgramError,
 ) -> Result<Option<Explanation<'a>>, AllocError>
-    ensures { let Explains = ExplainsProgram file.now text.now fault.now in
+    ensures { let Explains = ExplainsProgram file.now text.now error.now in
         IfOk result (IsExplanationOf Explains) }
 {
-    let sentence = match fault {
-        ProgramFault::Read(ReadFault::Memory | ReadFault::TooLong) => return Ok(None),
-        ProgramFault::Check(CheckFault::Memory, _) => return Ok(None),
-        ProgramFault::Read(ReadFault::Syntax(at)) => {
+    let sentence = match error {
+        ProgramError::Read(ReadError::Memory | ReadError::TooLong) => return Ok(None),
+        ProgramError::Check(CheckError::Memory, _) => return Ok(None),
+        ProgramError::Read(ReadError::Syntax(at)) => {
             return Ok(Some(explain_syntax(alloc, file, text, *at)?));
         }
-        ProgramFault::Read(fault) => read_sentence(alloc, text, fault)?,
-        ProgramFault::Check(fault, at) => check_sentence(alloc, text, *fault, *at)?,
+        ProgramError::Read(error) => read_sentence(alloc, text, error)?,
+        ProgramError::Check(error, at) => check_sentence(alloc, text, *error, *at)?,
     };
-    let place = place_in(fault);
+    let place = place_in(error);
     Ok(Some(about_place(alloc, file, text, place, sentence.as_str())?))
 }

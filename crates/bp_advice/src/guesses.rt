@@ -1,8 +1,8 @@
 //! The declared name that a misspelled one may stand for.
 
-use crate::around::tokens_of;
 use crate::check_sentences::RefusedName;
-use crate::declared::procedure_around;
+use crate::contexts::tokens_of;
+use crate::declarations::procedure_around;
 use crate::sentences::Quoted;
 use bp_language::{Name, Proc};
 use bp_syntax::Tree;

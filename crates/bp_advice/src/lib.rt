@@ -1,10 +1,10 @@
-//! Explanations of faults of programs, for people: the place of a fault in a text, the line, and
-//! the expected tokens there or the mistake. Explanations of other faults share its parts.
+//! Explanations of errors of programs, for people: the place of an error in a text, the line, and
+//! the expected tokens there or the mistake. Explanations of other errors share its parts.
 #![tactic(auto)]
 
-mod around;
 mod check_sentences;
-mod declared;
+mod contexts;
+mod declarations;
 mod explanations;
 mod guesses;
 mod mistakes;
@@ -12,7 +12,7 @@ mod offers;
 mod read_sentences;
 mod sentences;
 
-pub use declared::{first_procedure, tree_of};
+pub use declarations::{first_procedure, tree_of};
 pub use explanations::{
     Explanation, Place, about_line, explain_program, explained, lines_of, sentence_of,
 };

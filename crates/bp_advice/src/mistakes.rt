@@ -1,5 +1,5 @@
 //! Mistakes of writers who know other languages, and the corrections.
-use crate::around::{Around, is_name};
+use crate::contexts::{Context, is_name};
 use crate::offers::Offer;
 use crate::sentences::Named;
 use bp_language::TokenKind::{self, Becomes, Close, Else, End, Fi, Od, Semicolon};
@@ -71,16 +71,16 @@ const BEGINNINGS: &[&[u8]] = &[
 ];
 
 /// Returns the mistake in a declaration.
-fn declaration_mistake(offers: &[Offer], around: &Around<'_>) -> Option<Mistake> {
-    if around.found == b"decl".as_slice() && offers.contains(&Offer::End) {
+fn declaration_mistake(offers: &[Offer], context: &Context<'_>) -> Option<Mistake> {
+    if context.found == b"decl".as_slice() && offers.contains(&Offer::End) {
         Some(Mistake::Other("globals are declared before the first procedure"))
-    } else if around.found == b"decl".as_slice() && offers.contains(&Offer::Statement) {
+    } else if context.found == b"decl".as_slice() && offers.contains(&Offer::Statement) {
         Some(Mistake::Other("locals are declared after 'begin', before the first statement"))
-    } else if !TYPES.contains(&around.before) || !is_name(around.found) {
+    } else if !TYPES.contains(&context.before) || !is_name(context.found) {
         None
     } else if has_token(offers, Close) {
         Some(Mistake::TypedFormal)
-    } else if around.next == b"(".as_slice() {
+    } else if context.next == b"(".as_slice() {
         Some(Mistake::TypedProcedure)
     } else {
         Some(Mistake::TypedVariable)
@@ -88,17 +88,17 @@ fn declaration_mistake(offers: &[Offer], around: &Around<'_>) -> Option<Mistake>
 }
 
 /// Returns the mistake in the order of statements.
-fn statement_mistake(offers: &[Offer], around: &Around<'_>) -> Option<Mistake> {
-    let is_else_if = matches!(around.called, b"elsif" | b"elif" | b"elseif" | b"elsf");
-    if around.found == b"then".as_slice() && is_else_if {
+fn statement_mistake(offers: &[Offer], context: &Context<'_>) -> Option<Mistake> {
+    let is_else_if = matches!(context.called, b"elsif" | b"elif" | b"elseif" | b"elsf");
+    if context.found == b"then".as_slice() && is_else_if {
         Some(Mistake::Other("there is no 'elsif': nest an 'if' in 'else'"))
-    } else if ends_body(around.found) && has_token(offers, Else) {
+    } else if ends_body(context.found) && has_token(offers, Else) {
         Some(Mistake::Other("each 'if' has an 'else': write 'else skip; fi'"))
-    } else if ends_body(around.found) && is_statement_due(offers) {
+    } else if ends_body(context.found) && is_statement_due(offers) {
         Some(Mistake::Other("write 'skip;' where there is nothing to do"))
-    } else if around.before == b"return".as_slice() && has_token(offers, Semicolon) {
+    } else if context.before == b"return".as_slice() && has_token(offers, Semicolon) {
         Some(Mistake::Other("'return' has no value: assign it to a global, then 'return;'"))
-    } else if around.found == b";".as_slice() && offers.contains(&Offer::Statement) {
+    } else if context.found == b";".as_slice() && offers.contains(&Offer::Statement) {
         Some(Mistake::Other("leave out this ';'"))
     } else {
         None
@@ -118,16 +118,16 @@ fn operator_mistake(found: &[u8]) -> Option<Mistake> {
 }
 
 /// Returns the mistake in a value.
-fn value_mistake(offers: &[Offer], around: &Around<'_>) -> Option<Mistake> {
-    if around.found == b"=".as_slice() && has_token(offers, Becomes) {
+fn value_mistake(offers: &[Offer], context: &Context<'_>) -> Option<Mistake> {
+    if context.found == b"=".as_slice() && has_token(offers, Becomes) {
         Some(Mistake::Other("an assignment is written ':='"))
-    } else if is_name_due(offers) && is_reserved(around.found) {
+    } else if is_name_due(offers) && is_reserved(context.found) {
         Some(Mistake::Other("that is a reserved word"))
     } else if offers.contains(&Offer::Expression) {
-        operator_mistake(around.found)
-    } else if around.found == b"(".as_slice()
+        operator_mistake(context.found)
+    } else if context.found == b"(".as_slice()
         && offers.contains(&Offer::Operator)
-        && is_name(around.before)
+        && is_name(context.before)
     {
         Some(Mistake::CallAsValue)
     } else {
@@ -136,17 +136,17 @@ fn value_mistake(offers: &[Offer], around: &Around<'_>) -> Option<Mistake> {
 }
 
 /// Returns the mistake in a statement of another dialect.
-fn dialect_mistake(around: &Around<'_>) -> Option<Mistake> {
-    let is_atomic = matches!(around.before, b"atomic_begin" | b"atomic_end");
-    if around.found == b",".as_slice() && around.second == b"goto".as_slice() {
+fn dialect_mistake(context: &Context<'_>) -> Option<Mistake> {
+    let is_atomic = matches!(context.before, b"atomic_begin" | b"atomic_end");
+    if context.found == b",".as_slice() && context.second == b"goto".as_slice() {
         Some(Mistake::ManyLabels)
-    } else if around.found == b";".as_slice() && is_atomic {
+    } else if context.found == b";".as_slice() && is_atomic {
         Some(Mistake::Other(
             "there are no atomic blocks: a parallel assignment is one step, a lock guards more",
         ))
-    } else if around.before == b"dead".as_slice() && is_name(around.found) {
+    } else if context.before == b"dead".as_slice() && is_name(context.found) {
         Some(Mistake::Other("leave this out: a value that nobody reads does no harm"))
-    } else if around.found == b"constrain".as_slice() {
+    } else if context.found == b"constrain".as_slice() {
         Some(Mistake::Other("write 'assume (..);' after the assignment"))
     } else {
         None
@@ -154,38 +154,38 @@ fn dialect_mistake(around: &Around<'_>) -> Option<Mistake> {
 }
 
 /// Returns the mistake at a place with these offers and tokens.
-pub(crate) fn mistake_at(offers: &[Offer], around: &Around<'_>) -> Option<Mistake> {
-    dialect_mistake(around)
-        .or(declaration_mistake(offers, around))
-        .or(statement_mistake(offers, around))
-        .or(value_mistake(offers, around))
+pub(crate) fn mistake_at(offers: &[Offer], context: &Context<'_>) -> Option<Mistake> {
+    dialect_mistake(context)
+        .or(declaration_mistake(offers, context))
+        .or(statement_mistake(offers, context))
+        .or(value_mistake(offers, context))
 }
 
 /// Returns whether the token at the place begins the text after a statement or a declaration. A
 /// name may continue an expression instead: on the same line the token after it decides.
-fn begins_next(around: &Around<'_>) -> bool {
-    if BEGINNINGS.contains(&around.found) {
+fn begins_next(context: &Context<'_>) -> bool {
+    if BEGINNINGS.contains(&context.found) {
         return true;
     }
-    let is_returned = around.before == b"return".as_slice() && !around.is_on_new_line;
-    if !is_name(around.found) || is_returned {
+    let is_returned = context.before == b"return".as_slice() && !context.is_on_new_line;
+    if !is_name(context.found) || is_returned {
         return false;
     }
-    around.is_on_new_line || matches!(around.next, b":=" | b"(" | b":" | b",")
+    context.is_on_new_line || matches!(context.next, b":=" | b"(" | b":" | b",")
 }
 
 /// Returns whether a semicolon is missing before the token at a place with these offers.
-pub(crate) fn misses_semicolon(offers: &[Offer], around: &Around<'_>) -> bool {
-    has_token(offers, Semicolon) && begins_next(around) && around.found != b"constrain".as_slice()
+pub(crate) fn misses_semicolon(offers: &[Offer], context: &Context<'_>) -> bool {
+    has_token(offers, Semicolon) && begins_next(context) && context.found != b"constrain".as_slice()
 }
 
 /// Explains how a choice becomes a value: that of a variable, if it is the first value of it.
-fn choice(alloc: Global, around: &Around<'_>) -> Result<String, AllocError> {
-    let is_alone = around.third != b",".as_slice();
-    if around.before != b":=".as_slice() || !is_alone || !is_name(around.second) {
+fn choice(alloc: Global, context: &Context<'_>) -> Result<String, AllocError> {
+    let is_alone = context.third != b",".as_slice();
+    if context.before != b":=".as_slice() || !is_alone || !is_name(context.second) {
         return format!(in alloc; "; a choice stands alone in a condition, as in 'if (?)'");
     }
-    let name = Named(around.second);
+    let name = Named(context.second);
     format!(in alloc;
         "; a choice stands alone in a condition: \
         write 'if (?) then {name} := 1; else {name} := 0; fi'"
@@ -196,17 +196,17 @@ fn choice(alloc: Global, around: &Around<'_>) -> Result<String, AllocError> {
 pub(crate) fn advice(
     alloc: Global,
     mistake: Mistake,
-    around: &Around<'_>,
+    context: &Context<'_>,
 ) -> Result<String, AllocError> {
-    let (before, found) = (Named(around.before), Named(around.found));
+    let (before, found) = (Named(context.before), Named(context.found));
     match mistake {
-        Mistake::ChoiceAsValue => choice(alloc, around),
+        Mistake::ChoiceAsValue => choice(alloc, context),
         Mistake::CallAsValue => format!(in alloc;
             "; a call has no value: let '{before}' assign a global, \
             and write '{before}(..);' before this statement"
         ),
         Mistake::ManyLabels => {
-            let next = Named(around.next);
+            let next = Named(context.next);
             format!(in alloc;
                 "; 'goto' has one label: write 'if (?) then goto {before}; else goto {next}; fi'"
             )

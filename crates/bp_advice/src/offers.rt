@@ -2,7 +2,7 @@
 //! are named by the group's name. The tokens that may come next in a text.
 ghost use Rattle.std.specs.Prelude.{◌≡◌, ◌↔◌, ◌++◌, ◌∷◌, IsTrue, IfOk, Contains};
 ghost use Rattle.bp_language.specs.declared.tokens.TokenKind.{TokenKind};
-ghost use Rattle.bp_syntax.specs.declared.faults.ReadFault.TheVariants.{Syntax, Memory};
+ghost use Rattle.bp_syntax.specs.declared.errors.ReadError.TheVariants.{Syntax, Memory};
 ghost use Rattle.bp_advice.specs.Explanations.{IsProgram, BeginsProgram, MayFollow, IsJudged};
 
 use crate::sentences::between;
@@ -10,7 +10,7 @@ use bp_language::TokenKind::{
     self, Ampersand, Assert, Assume, Bang, Bar, Caret, Differ, Equal, Goto, If, Implies, Name, One,
     Open, Print, Return, Skip, While, Zero,
 };
-use bp_syntax::{ReadFault, TOKEN_KINDS, has_one_refusal, read, spelling_of};
+use bp_syntax::{ReadError, TOKEN_KINDS, has_one_refusal, read, spelling_of};
 use std::alloc::{AllocError, Global};
 use std::fmt;
 use std::fmt::Write;
@@ -99,19 +99,19 @@ pub(crate) fn list_of(alloc: Global, offers: &[Offer]) -> Result<String, AllocEr
     Ok(list)
 }
 
-/// Returns whether the fault is that of refused memory.
-fn is_memory(fault: &ReadFault) -> bool
-    ensures { IsTrue result ↔ (fault.now ≡ Memory) }
+/// Returns whether the error is that of refused memory.
+fn is_memory(error: &ReadError) -> bool
+    ensures { IsTrue result ↔ (error.now ≡ Memory) }
 {
-    matches!(fault, ReadFault::Memory)
+    matches!(error, ReadError::Memory)
 }
 
-/// Returns whether the fault is that a text of this size ends too early.
-fn is_early_end(fault: &ReadFault, size: usize) -> bool
-    ensures { IsTrue result ↔ (fault.now ≡ Syntax size) }
+/// Returns whether the error is that a text of this size ends too early.
+fn is_early_end(error: &ReadError, size: usize) -> bool
+    ensures { IsTrue result ↔ (error.now ≡ Syntax size) }
 {
-    match fault {
-        ReadFault::Syntax(at) => *at as usize == size,
+    match error {
+        ReadError::Syntax(at) => *at as usize == size,
         _ => false,
     }
 }
@@ -120,14 +120,14 @@ fn begins_program(alloc: Global, text: &[u8]) -> Result<bool, AllocError>
     ensures { IfOk result (λ b. IsTrue b ↔ BeginsProgram text.now) }
 {
     has_one_refusal();
-    let fault = match read(alloc, text) {
+    let error = match read(alloc, text) {
         Ok(_) => return Ok(true),
-        Err(fault) => fault,
+        Err(error) => error,
     };
-    if is_memory(&fault) {
+    if is_memory(&error) {
         return Err(AllocError);
     }
-    Ok(is_early_end(&fault, text.len()))
+    Ok(is_early_end(&error, text.len()))
 }
 
 /// Returns the front and then the token on a line of its own: the front may end with a comment.
@@ -169,11 +169,11 @@ pub(crate) fn may_end(alloc: Global, front: &[u8]) -> Result<bool, AllocError>
     ensures { IfOk result (λ b. IsTrue b ↔ IsProgram front.now) }
 {
     has_one_refusal();
-    let fault = match read(alloc, front) {
+    let error = match read(alloc, front) {
         Ok(_) => return Ok(true),
-        Err(fault) => fault,
+        Err(error) => error,
     };
-    if is_memory(&fault) {
+    if is_memory(&error) {
         return Err(AllocError);
     }
     Ok(false)

@@ -1,15 +1,15 @@
-//! Sentences on faults of a text that has no tree. The explanation of a token that cannot come
+//! Sentences on errors of a text that has no tree. The explanation of a token that cannot come
 //! there in a program. Texts of another kind than expected, or saved in another way.
 ghost use Rattle.std.specs.Prelude.{IfOk, IfSome};
 ghost use Rattle.bp_advice.specs.Explanations.{ExplainsSyntax, MissesSemicolon};
 
-use crate::around::{Around, is_gap, is_name, size_to_last_token, tokens_around};
+use crate::contexts::{Context, is_gap, is_name, size_to_last_token, tokens_around};
 use crate::explanations::{Explanation, about_place};
 use crate::mistakes::{advice, misses_semicolon, mistake_at};
 use crate::offers::{Offer, list_of, may_follow, offers_after};
 use crate::sentences::Quoted;
 use bp_language::limits::{NESTING_LIMIT, SUCCESSION_LIMIT};
-use bp_syntax::ReadFault;
+use bp_syntax::ReadError;
 use bp_text::{Line, last_line, part_before, part_from};
 use std::alloc::{AllocError, Global};
 
@@ -67,25 +67,25 @@ fn bad_byte(alloc: Global, text: &[u8], at: usize) -> Result<String, AllocError>
 pub(crate) fn read_sentence(
     alloc: Global,
     text: &[u8],
-    fault: &ReadFault,
+    error: &ReadError,
 ) -> Result<String, AllocError> {
-    match fault {
-        ReadFault::BadByte(at) => match other_than_program(text) {
+    match error {
+        ReadError::BadByte(at) => match other_than_program(text) {
             Some(words) => String::from_str(alloc, words),
             None => bad_byte(alloc, text, *at as usize),
         },
-        ReadFault::OpenName(_) => format!(in alloc;
+        ReadError::OpenName(_) => format!(in alloc;
             "this name is not closed: a name in braces has only printable ASCII characters, \
             and ends with '}}'"
         ),
-        ReadFault::TooNested(_) => format!(in alloc;
+        ReadError::TooNested(_) => format!(in alloc;
             "'if' and 'while' nest at most {NESTING_LIMIT} deep"
         ),
-        ReadFault::TooManyTokens(_) => format!(in alloc;
+        ReadError::TooManyTokens(_) => format!(in alloc;
             "at most {SUCCESSION_LIMIT} tokens follow one another without one of \
             ';', 'then', 'do', 'else', 'fi', 'od', 'begin' or 'end'"
         ),
-        ReadFault::TooLong | ReadFault::Syntax(_) | ReadFault::Memory => Ok(String::new(alloc)),
+        ReadError::TooLong | ReadError::Syntax(_) | ReadError::Memory => Ok(String::new(alloc)),
     }
 }
 
@@ -95,7 +95,7 @@ fn misplaced(
     alloc: Global,
     text: &[u8],
     offers: &[Offer],
-    around: &Around<'_>,
+    context: &Context<'_>,
 ) -> Result<String, AllocError> {
     if let Some(words) = other_than_program(text) {
         return String::from_str(alloc, words);
@@ -105,14 +105,14 @@ fn misplaced(
     } else {
         list_of(alloc, offers)?
     };
-    if around.found.is_empty() {
+    if context.found.is_empty() {
         return format!(in alloc; "the text ends here; expected {list}");
     }
-    let instead = match mistake_at(offers, around) {
-        Some(mistake) => advice(alloc, mistake, around)?,
+    let instead = match mistake_at(offers, context) {
+        Some(mistake) => advice(alloc, mistake, context)?,
         None => String::new(alloc),
     };
-    format!(in alloc; "expected {list}, not {}{instead}", Quoted(around.found))
+    format!(in alloc; "expected {list}, not {}{instead}", Quoted(context.found))
 }
 
 /// Returns the end of the token before this place, if a semicolon is missing there.
@@ -121,11 +121,11 @@ fn semicolon_place(
     text: &[u8],
     at: u32,
     offers: &[Offer],
-    around: &Around<'_>,
+    context: &Context<'_>,
 ) -> Result<Option<u32>, AllocError>
     ensures { IfOk result (λ o. IfSome o (λ place. MissesSemicolon text.now at place)) }
 {
-    if other_than_program(text).is_some() || !misses_semicolon(offers, around) {
+    if other_than_program(text).is_some() || !misses_semicolon(offers, context) {
         return Ok(None);
     }
     let front = part_before(text, at as usize);
@@ -147,12 +147,12 @@ pub(crate) fn explain_syntax<'a>(
     ensures { IfOk result (λ e. ExplainsSyntax file.now text.now at e) }
 {
     let offers = offers_after(alloc, part_before(text, at as usize))?;
-    let around = tokens_around(alloc, text, at as usize)?;
-    if let Some(place) = semicolon_place(alloc, text, at, offers.as_slice(), &around)? {
-        let sentence = format!(in alloc; "expected ';' here, before {}", Quoted(around.found))?;
+    let context = tokens_around(alloc, text, at as usize)?;
+    if let Some(place) = semicolon_place(alloc, text, at, offers.as_slice(), &context)? {
+        let sentence = format!(in alloc; "expected ';' here, before {}", Quoted(context.found))?;
         return about_place(alloc, file, text, Some(place), sentence.as_str());
     }
-    let sentence = misplaced(alloc, text, offers.as_slice(), &around)?;
+    let sentence = misplaced(alloc, text, offers.as_slice(), &context)?;
     about_place(alloc, file, text, Some(at), sentence.as_str())
 }
 

@@ -1,6 +1,6 @@
 -- The imports of this crate's proofs: from std, the crates below and its own definitions.
-pub use Rattle.bp_arguments.specs.Commands.{IsOurs, arguments_fault, btrun_app, command_app, row_rule, with_commands, with_rules}
-pub use Rattle.bp_arguments.specs.Misuses.{is_from_line, is_on_line, misuse_fault, misuse_kind, misuse_of, option_name}
+pub use Rattle.bp_arguments.specs.Commands.{IsOurs, arguments_error, btrun_app, command_app, row_rule, with_commands, with_rules}
+pub use Rattle.bp_arguments.specs.Misuses.{is_from_line, is_on_line, misuse_kinds, misuse_kind, misuse_of, option_name}
 pub use Rattle.bp_arguments.specs.NoTasks.{IsOfKind, IsOfOne, asks_for_json}
 pub use Rattle.bp_arguments.specs.Values.{IsNamed, bits_in, command_name, is_number_text, number_in, number_of}
 pub use Rattle.bp_arguments.specs.declared.table.Named.TheVariants.{Check, Code, Confirm, Drive, Explore, Migrate, Replay, Run, Show, Shrink, Test}

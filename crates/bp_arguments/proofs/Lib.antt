@@ -1,4 +1,4 @@
 pub mod Common
 mod NoHelpEntered
 mod GivenArguments
-mod ArgumentFaults
+mod ArgumentErrors

@@ -1,4 +1,4 @@
--- If arguments have no fault, the command that they name is one of ours: at `help` a parse ends.
+-- If arguments have no error, the command that they name is one of ours: at `help` a parse ends.
 use Rattle.bp_arguments.proofs.Common.{◌≡◌, refl, false, Result, IfOk, codes, ◌||◌, cond, option_map, inl, inr, ◌⊎◌, ℕ, Bool, List, Option, Some, None, is_some, [], ◌∷◌, arith, subst, find, rules, Rule, Held, Names, Row, Step, next, trailing, subcommand, value, Text, Waiting, Walk, arg_by_index, answers_to, word_met, to_positional, after_step, walked_from, walk_from, nothing_held, stop_after, App, app_of, with_subcommand, Shape, built, entered, names_of, label_of, rows_at, subcommand_of, argument_words, Command, out-Command, fold, bytes_eq, bytes_eq-Decides, Kinds, or_else, IsAmong, word_fault, step_fault, turn_fault, fault_of, btrun_app, IsOurs, IsNamed, IsOfKind, IsOfOne}
 use Rattle.clap.specs.Built.{AddsSubcommand}
 use Rattle.clap.specs.Walk.{walked}
@@ -112,7 +112,7 @@ enabled : (built btrun_app).top.disable_help_subcommand ≡ false
 unfolding clap_on_literals
 enabled = refl
 
--- arguments without a fault name a command of ours, or nothing
+-- arguments without an error name a command of ours, or nothing
 pub named_ours : (arguments : List Text) → fault_of btrun_app arguments ≡ [] → IsOurs (subcommand_of btrun_app arguments)
 named_ours arguments clean =
     entered_ours (stop_after (built btrun_app).top.rules (names_of (built btrun_app)) (argument_words btrun_app arguments))

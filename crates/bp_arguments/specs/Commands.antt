@@ -14,7 +14,7 @@ use Rattle.bp_arguments.specs.declared.table.Named.{Named}
 use Rattle.bp_arguments.specs.declared.table.Named.TheVariants as name
 use Rattle.bp_arguments.specs.declared.table.TheConstants.{NAMED}
 use Rattle.bp_arguments.specs.Values.{command_name, IsNamed}
-use Rattle.bp_arguments.specs.Misuses.{misuse_fault}
+use Rattle.bp_arguments.specs.Misuses.{misuse_kinds}
 use Rattle.bp_arguments.specs.CommandArguments.{IsCheckArgumentsOf, IsCodeArgumentsOf, IsConfirmOf, IsDriveOf, IsExploreOf, IsRunOf, IsShowOf, IsTestOf, IsTraceArgumentsOf}
 use Rattle.bp_tasks.specs.declared.tasks.CheckTask.{CheckTask}
 use Rattle.bp_tasks.specs.declared.tasks.CodeTask.{CodeTask}
@@ -229,6 +229,6 @@ IsTaskOf (Some (name, rows)) task =
 
 -- why arguments are refused: the error of `clap`, or else options that are wrong together or by
 -- value
-abbrev pub arguments_fault : List Text → Kinds
-arguments_fault arguments =
-    or_else (fault_of btrun_app arguments) (misuse_fault (subcommand_of btrun_app arguments))
+abbrev pub arguments_error : List Text → Kinds
+arguments_error arguments =
+    or_else (fault_of btrun_app arguments) (misuse_kinds (subcommand_of btrun_app arguments))

@@ -106,11 +106,11 @@ misuse_in rows =
 abbrev pub misuse_of : Option (Text × List Row) → Option Misuse
 misuse_of command = option_and_then (λ c. misuse_in c.1) command
 
--- two options that clash are a conflict; else a value is at fault
+-- two options that clash are a conflict; else a value is wrong
 abbrev pub misuse_kind : Misuse → ErrorKind
 misuse_kind (Together first second) = ArgumentConflict
 misuse_kind _ = InvalidValue
 
 -- the kind of error of options that `clap` accepts one by one
-abbrev pub misuse_fault : Option (Text × List Row) → Kinds
-misuse_fault command = option_map_or (λ m. misuse_kind m ∷ []) (misuse_of command) []
+abbrev pub misuse_kinds : Option (Text × List Row) → Kinds
+misuse_kinds command = option_map_or (λ m. misuse_kind m ∷ []) (misuse_of command) []

@@ -124,7 +124,7 @@ abbrev pub has_bad_verdict : List Row → Bool
 has_bad_verdict rows =
     option_map_or (λ t. not (is_some (verdict_named t))) (first_of (codes "expect") rows) false
 
--- When a fault is explained.
+-- When an error is explained.
 
 -- the options on explanations are those of the arguments
 pub record IsExplainingOf (rows : List Row) (x : Explaining) : Type 0 where

@@ -13,9 +13,9 @@ pub static CHECK: Subcommand<'static> = Subcommand {
     name: "check",
     about: "Check a program and print 'ok' and its numbers of procedures and globals",
     notes: "\
-    The first fault is one line on standard error, with the offset of its byte. With --json the\n\
-    names of procedures and variables are printed, and a fault is an object too.\n\n\
-    Example:\n  btrun check lock.bp\n\nExit status:\n  0  the program is lawful\n  \
+    The first error is one line on standard error, with the offset of its byte. With --json the\n\
+    names of procedures and variables are printed, and an error is an object too.\n\n\
+    Example:\n  btrun check lock.bp\n\nExit status:\n  0  the program is well-formed\n  \
     2  it is refused, or the arguments were\n  3  memory, a device or the output failed",
     rows: &[Flag("json", "Print one JSON object, for programs")],
     advanced: &[],

@@ -15,7 +15,7 @@ pub static CODE: Subcommand<'static> = Subcommand {
     notes: "\
     A procedure has a line 'proc NAME FORMALS LOCALS', and after it a line for each instruction,\n\
     with its number and those of its successors. With --json each line is a JSON object, and\n\
-    so is a fault. The first fault is one line on standard error, with the offset of its byte.\n\n\
+    so is an error. The first error is one line on standard error, with the offset of its byte.\n\n\
     Example:\n  btrun code lock.bp\n\n\
     Exit status:\n  0  the listing is printed\n  \
     2  the program is refused, or the arguments were\n  3  memory, a device or the output failed",

@@ -1,7 +1,7 @@
 //! The arguments of the command line.
 ghost use Rattle.std.specs.Prelude.{◌≡◌, ◌∷◌, map, string_bytes, IfOk};
 ghost use Rattle.clap.specs.Words.{FailsBy, app_of, found_of, kind_of, rows_of, subcommand_of, subcommand_rows_of};
-ghost use Rattle.bp_arguments.specs.Commands.{btrun_app, program_app, arguments_fault, IsOurs, IsTaskOf, IsTaskOfCommand};
+ghost use Rattle.bp_arguments.specs.Commands.{btrun_app, program_app, arguments_error, IsOurs, IsTaskOf, IsTaskOfCommand};
 ghost use Rattle.bp_arguments.specs.Misuses.{misuse_kind};
 
 use crate::check::check_arguments;
@@ -104,7 +104,7 @@ pub(crate) fn task_of_arguments<'a>(
 ) -> Result<Task<'a>, Error>
     ensures task { IfOk result
         (λ t. IsTaskOf (subcommand_of btrun_app (map string_bytes arguments.now)) t) }
-    ensures refusal { FailsBy (arguments_fault (map string_bytes arguments.now)) result }
+    ensures refusal { FailsBy (arguments_error (map string_bytes arguments.now)) result }
 {
     let command = command(alloc)?;
     let matches = command.try_get_matches_from(arguments)?;

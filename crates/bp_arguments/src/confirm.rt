@@ -19,7 +19,7 @@ pub static CONFIRM: Subcommand<'static> = Subcommand {
     of the thread before the step: 'LINE', 'LINE:COLUMN', or '-' for a procedure's end. The values\n\
     are those that the thread sees after the step; NAME is the name of a variable, or that of a\n\
     procedure, a dot and the name of its local. Choice bits are left out.\n\
-    The first fault is one line on standard error.\n\n\
+    The first error is one line on standard error.\n\n\
     Example:\n  btrun confirm race.bp steps.txt writer reader --init 00\n\n\
     Exit status:\n  0  the steps are a run, and no assertion failed; or it ends as expected\n  \
     1  an assertion failed at the last step, and nothing was expected\n  \
@@ -41,7 +41,7 @@ pub static CONFIRM: Subcommand<'static> = Subcommand {
         ),
         Flag(
             "json",
-            "Print the verdict or a fault as JSON objects, for programs",
+            "Print the verdict or an error as JSON objects, for programs",
         ),
     ],
     advanced: &[],

@@ -17,7 +17,7 @@ pub static DRIVE: Subcommand<'static> = Subcommand {
     notes: "\
     A line of the schedule is 'THREAD BIT': the number of a thread, and the choice bit \
     of its call.\n\
-    The first fault is one line on standard error.\n\n\
+    The first error is one line on standard error.\n\n\
     Example:\n  btrun drive race.bp race.txt writer reader --init 00\n\n\
     Exit status:\n  0  done, and no assertion failed\n  1  an assertion failed\n  \
     2  an input was refused, or the arguments were\n  3  memory, a device or the output failed",

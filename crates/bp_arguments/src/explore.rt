@@ -26,7 +26,7 @@ pub static EXPLORE: Subcommand<'static> = Subcommand {
     number if the last one brought no new state. Else the trace of a failing run with the fewest\n\
     contexts is printed, and 'btrun replay' accepts it. A summary on standard error says what was\n\
     found, and how many states there are. The number of calls has no bound; a stack has at most\n\
-    1,024 frames. With --json the summary is a JSON object. A fault is one line there.\n\n\
+    1,024 frames. With --json the summary is a JSON object. An error is one line there.\n\n\
     With --through it looks for a run that makes the steps of a file in their order, with any\n\
     other steps between them. If there is none, the summary says how many of them are made.\n\n\
     Example:\n  btrun explore race.bp writer reader --contexts 4\n\n\

@@ -1,4 +1,4 @@
-//! Arguments of all commands on files. When a fault is explained. Arguments that several commands
+//! Arguments of all commands on files. When an error is explained. Arguments that several commands
 //! take.
 ghost use Rattle.clap.specs.Words.{found_of, rows_of};
 ghost use Rattle.bp_arguments.specs.Values.{IsExplainingOf};
@@ -23,11 +23,11 @@ pub static FILE_ROWS: [Row<'static>; 3] = [
     Required("FILE", "The file of the program"),
     Flag(
         "explain",
-        "Explain a fault on further lines: its place, and what was expected",
+        "Explain an error on further lines: its place, and what was expected",
     ),
     Flag(
         "no-explain",
-        "Do not explain faults [default: explain faults only on a terminal]",
+        "Do not explain errors [default: explain errors only on a terminal]",
     ),
 ];
 

@@ -2,7 +2,7 @@
 //! characters of the arguments escaped.
 ghost use Rattle.std.specs.Prelude.{◌≡◌, ◌⊎◌, ◌∷◌, map, string_bytes, IfOk, MatchResult};
 ghost use Rattle.clap.specs.Words.{kind_of, subcommand_of};
-ghost use Rattle.bp_arguments.specs.Commands.{btrun_app, arguments_fault, IsTaskOf};
+ghost use Rattle.bp_arguments.specs.Commands.{btrun_app, arguments_error, IsTaskOf};
 ghost use Rattle.bp_arguments.specs.NoTasks.{EndsBy, IsOfKind, IsPrinted, IsRefused};
 
 use crate::commands::{error_of, task_of_arguments};
@@ -92,7 +92,7 @@ fn no_task(alloc: Global, arguments: &[String], error: Error) -> NoTask
 pub fn read_arguments<'a>(alloc: Global, arguments: &'a [String]) -> Result<Task<'a>, NoTask>
     ensures task { IfOk result
         (λ t. IsTaskOf (subcommand_of btrun_app (map string_bytes arguments.now)) t) }
-    ensures refusal { EndsBy (arguments_fault (map string_bytes arguments.now)) result }
+    ensures refusal { EndsBy (arguments_error (map string_bytes arguments.now)) result }
 {
     match task_of_arguments(alloc, arguments) {
         Ok(task) => Ok(task),

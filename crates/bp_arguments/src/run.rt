@@ -18,7 +18,7 @@ pub static RUN: Subcommand<'static> = Subcommand {
     notes: "\
     The operating system's scheduler decides which thread takes the next turn, so two runs may\n\
     differ. Each trace is that of a run of the program, and 'btrun replay' accepts it. It is\n\
-    printed during the run. The first fault is one line on standard error.\n\n\
+    printed during the run. The first error is one line on standard error.\n\n\
     Example:\n  btrun run race.bp writer reader --contexts 4 --seed 7\n\n\
     Exit status:\n  0  done, and no assertion failed\n  1  an assertion failed\n  \
     2  the program was refused, or the arguments were\n  \

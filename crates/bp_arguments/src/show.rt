@@ -18,7 +18,7 @@ pub static SHOW: Subcommand<'static> = Subcommand {
     one was read, the reply if it is not a step, and the variables that the step changed. A\n\
     line at which the context switches begins with '>'. Last comes the outcome. On a terminal a\n\
     failure is red and a switch is yellow, unless NO_COLOR is set. With --json each line is\n\
-    an object: the setup, the calls, and the outcome. The first fault is one line on standard\n\
+    an object: the setup, the calls, and the outcome. The first error is one line on standard\n\
     error.\n\n\
     Example:\n  btrun show race.bp race.trace --last 20\n\n\
     Exit status:\n  0  done, and no assertion failed\n  1  an assertion failed\n  \

@@ -13,7 +13,7 @@ pub static REPLAY: Subcommand<'static> = Subcommand {
     about: "Replay a trace and print what its steps printed, and the outcome",
     notes: "\
     A step at a 'print' has a line 'print THREAD BITS'. The last line is 'outcome clean', or\n\
-    'outcome failed THREAD' with the thread whose assertion failed. The first fault is one \
+    'outcome failed THREAD' with the thread whose assertion failed. The first error is one \
     line on\n\
     standard error.\n\n\
     Example:\n  btrun replay race.bp race.trace\n\n\
@@ -29,7 +29,7 @@ pub static MIGRATE: Subcommand<'static> = Subcommand {
     notes: "\
     Version 2 has a line for each piece: the calls that a thread makes one after the other. \
     The trace\n\
-    is replayed first. The first fault is one line on standard error.\n\n\
+    is replayed first. The first error is one line on standard error.\n\n\
     Example:\n  btrun migrate race.bp race.trace\n\n\
     Exit status:\n  0  done, and no assertion failed\n  1  an assertion failed\n  \
     2  an input was refused, or the arguments were\n  3  memory, a device or the output failed",
@@ -44,7 +44,7 @@ pub static SHRINK: Subcommand<'static> = Subcommand {
     The trace is one that ends in a failed assertion or a deadlock. Contexts, loops and other\n\
     calls are left out, and the rest is driven again: the same assertion of the same thread\n\
     fails in it, or the same threads wait at the same assumptions, by no more calls and no more\n\
-    contexts. The first fault is one line on standard error.\n\n\
+    contexts. The first error is one line on standard error.\n\n\
     Example:\n  btrun shrink race.bp race.trace\n\n\
     Exit status:\n  0  the trace of a deadlock is printed\n  \
     1  an assertion failed, and the trace is printed\n  \

@@ -1,9 +1,9 @@
 pub mod Common
 mod BlockItems
 mod CompiledStandsFor
-pub mod LawfulIsCompilable
+pub mod WellFormedIsCompilable
 mod SlotsAreVariables
 mod ListingLines
-pub mod FaultsOfParts
+pub mod ErrorsOfParts
 pub mod RepeatedNames
 pub mod OneRefusal

@@ -1,7 +1,7 @@
 -- Names that occur twice in a list, or past a limit.
-use Rattle.bp_code.proofs.Common.{◌≡◌, ℕ, zero, suc, ◌+◌, ◌<◌, ◌≤◌, nat_lt, ◌||◌, Bool, true, false, List, [], ◌∷◌, length, get_or, take, drop, map, cond, Option, None, Some, is_some, refl, ap, sym, ◌∙◌, arith, slice_get, drop-cons, bytes_eq, ◌⊎◌, inl, inr, subst, ◌++◌, rules, slice_get_within, slice_get_past, slice_get-get_or, slice_get-map, option_copied, IfSome, Bor, length-map, take_more, map-append, Name, Procedure, procedure_named, expression_of, has, first_index_from, first_index, IsNameAt, IsTwice, Among, Uses, SomeUses, CheckFault, Among-front, Among-back, Among-split, Found, names_of, Only, Finds, least_of, IsStray}
+use Rattle.bp_code.proofs.Common.{◌≡◌, ℕ, zero, suc, ◌+◌, ◌<◌, ◌≤◌, nat_lt, ◌||◌, Bool, true, false, List, [], ◌∷◌, length, get_or, take, drop, map, cond, Option, None, Some, is_some, refl, ap, sym, ◌∙◌, arith, slice_get, drop-cons, bytes_eq, ◌⊎◌, inl, inr, subst, ◌++◌, rules, slice_get_within, slice_get_past, slice_get-get_or, slice_get-map, option_copied, IfSome, Bor, length-map, take_more, map-append, Name, Procedure, procedure_named, expression_of, has, first_index_from, first_index, IsNameAt, IsTwice, Among, Uses, SomeUses, CheckError, Among-front, Among-back, Among-split, Found, names_of, Only, Finds, least_of, IsStray}
 use Rattle.bp_language.specs.declared.exprs.Expr.{Expr}
-use Rattle.bp_code.proofs.FaultsOfParts.{finds_both, finds_same}
+use Rattle.bp_code.proofs.ErrorsOfParts.{finds_both, finds_same}
 
 -- The first index of a text in a list of names.
 
@@ -84,11 +84,11 @@ got_at o qs k given1 given2 = search (rules, slice_get_past, slice_get-get_or)
 pub name_at : (names : List (Bor Name)) (i : ℕ) (n : Bor Name) → i < length names → n ≡ get_or names i n → slice_get (names_of names) i ≡ Some n.now
 name_at names i n given1 given2 = search (rules, slice_get-map, slice_get-get_or)
 
--- one fault at one place
-pub finds_one : (fault : CheckFault) (at : ℕ) → Finds (Only fault (λ b. at ≡ b)) (Some (record { fault = fault; at = at }))
-finds_one fault at = grind (arith)
+-- one error at one place
+pub finds_one : (error : CheckError) (at : ℕ) → Finds (Only error (λ b. at ≡ b)) (Some (record { error = error; at = at }))
+finds_one error at = grind (arith)
 
-module _ (ns : List Name) (fault : CheckFault) where
+module _ (ns : List Name) (error : CheckError) where
   -- names below an index that occur twice
   abbrev pub Below : ℕ → ℕ → Type 0
   Below i at = (k : ℕ) × (n : Name) × (k < i) × IsNameAt ns k n at × (has (take k ns) n.text ≡ true)
@@ -100,7 +100,7 @@ module _ (ns : List Name) (fault : CheckFault) where
   below_or_at k i h = grind arith
 
   pub none_more : (i : ℕ) (n : Name) (best : Option Found) → slice_get ns i ≡ Some n → has (take i ns) n.text ≡ false
-      → Finds (Only fault (Below i)) best → Finds (Only fault (Below (i + 1))) best
+      → Finds (Only error (Below i)) best → Finds (Only error (Below (i + 1))) best
   none_more i n best is none = finds_same _ _ best (λ g at x. (x.0, stays_below i at x.1)) (λ g at x. (x.0, earlier at x.1))
     where
       earlier : (at : ℕ) → Below (i + 1) at → Below i at
@@ -109,42 +109,42 @@ module _ (ns : List Name) (fault : CheckFault) where
           elim (below_or_at k i h) [ inl below_i ↦ (k, m, below_i, stands, e) | inr at_i ↦ absurd cc ]
 
   pub one_more : (i : ℕ) (n : Name) (best : Option Found) → slice_get ns i ≡ Some n → has (take i ns) n.text ≡ true
-      → Finds (Only fault (Below i)) best → Finds (Only fault (Below (i + 1))) (least_of best (Some (record { fault = fault; at = n.at })))
+      → Finds (Only error (Below i)) best → Finds (Only error (Below (i + 1))) (least_of best (Some (record { error = error; at = n.at })))
   one_more i n best is twice h =
-      finds_same _ _ _ to from (finds_both (Only fault (Below i)) (Only fault (λ b. n.at ≡ b)) best _ h (finds_one fault n.at))
+      finds_same _ _ _ to from (finds_both (Only error (Below i)) (Only error (λ b. n.at ≡ b)) best _ h (finds_one error n.at))
     where
-      to : (g : CheckFault) (at : ℕ) → Only fault (Below i) g at ⊎ Only fault (λ b. n.at ≡ b) g at → Only fault (Below (i + 1)) g at
+      to : (g : CheckError) (at : ℕ) → Only error (Below i) g at ⊎ Only error (λ b. n.at ≡ b) g at → Only error (Below (i + 1)) g at
       to g at (inl x) = (x.0, stays_below i at x.1)
       to g at (inr x) = (x.0, (i, n, omega arith, record { stands = is; place = x.1 }, twice))
 
-      from : (g : CheckFault) (at : ℕ) → Only fault (Below (i + 1)) g at → Only fault (Below i) g at ⊎ Only fault (λ b. n.at ≡ b) g at
+      from : (g : CheckError) (at : ℕ) → Only error (Below (i + 1)) g at → Only error (Below i) g at ⊎ Only error (λ b. n.at ≡ b) g at
       from g at given1 = grind (arith)
 
   -- all of them
   pub all_below : (length_is : ℕ) (best : Option Found) → length_is ≡ length ns
-      → Finds (Only fault (Below length_is)) best → Finds (Only fault (IsTwice ns)) best
+      → Finds (Only error (Below length_is)) best → Finds (Only error (IsTwice ns)) best
   all_below length_is best given1 given2 = search (rules, finds_same, slice_get_within)
 
 -- Also over a list of references, as a loop meets them.
-module _ (names : List (Bor Name)) (ns : List Name) (fault : CheckFault) (i : ℕ) (n : Bor Name) (best : Option Found)
+module _ (names : List (Bor Name)) (ns : List Name) (error : CheckError) (i : ℕ) (n : Bor Name) (best : Option Found)
     (same : names_of names ≡ ns) (within : i < length names) (is : n ≡ get_or names i n) where
   here : slice_get ns i ≡ Some n.now
   here = ap (λ xs. slice_get xs i) (sym same) ∙ name_at names i n within is
 
   pub none_here : (text : List ℕ) → text ≡ n.now.text → false ≡ has (take i ns) text
-      → Finds (Only fault (Below ns fault i)) best → Finds (Only fault (Below ns fault (i + 1))) best
-  none_here text e none = none_more ns fault i n.now best here cc
+      → Finds (Only error (Below ns error i)) best → Finds (Only error (Below ns error (i + 1))) best
+  none_here text e none = none_more ns error i n.now best here cc
 
   pub one_here : (text : List ℕ) (at : ℕ) → text ≡ n.now.text → at ≡ n.now.at → true ≡ has (take i ns) text
-      → Finds (Only fault (Below ns fault i)) best
-      → Finds (Only fault (Below ns fault (i + 1))) (least_of best (Some (record { fault = fault; at = at })))
-  one_here text at e place twice h = rw place (one_more ns fault i n.now best here (cc) h)
+      → Finds (Only error (Below ns error i)) best
+      → Finds (Only error (Below ns error (i + 1))) (least_of best (Some (record { error = error; at = at })))
+  one_here text at e place twice h = rw place (one_more ns error i n.now best here (cc) h)
 
-pub all_here : (names : List (Bor Name)) (ns : List Name) (fault : CheckFault) (i : ℕ) (best : Option Found)
+pub all_here : (names : List (Bor Name)) (ns : List Name) (error : CheckError) (i : ℕ) (best : Option Found)
     → names_of names ≡ ns → i ≤ length names → length names ≤ i
-    → Finds (Only fault (Below ns fault i)) best → Finds (Only fault (IsTwice ns)) best
-all_here names ns fault i best same low high =
-    all_below ns fault i best (omega (arith, length-map names (λ (r : Bor Name). r.now), ap (λ (xs : List Name). length xs) same))
+    → Finds (Only error (Below ns error i)) best → Finds (Only error (IsTwice ns)) best
+all_here names ns error i best same low high =
+    all_below ns error i best (omega (arith, length-map names (λ (r : Bor Name). r.now), ap (λ (xs : List Name). length xs) same))
 
 -- Uses of names that are not declared.
 
@@ -163,11 +163,11 @@ module _ (declared : List Name) where
       (IsStray declared (λ n. Used n ⊎ Uses n)) (least_of a b) to from
       (finds_both (IsStray declared Used) (IsStray declared Uses) a b h k)
     where
-      to : (g : CheckFault) (at : ℕ) → IsStray declared Used g at ⊎ IsStray declared Uses g at → IsStray declared (λ n. Used n ⊎ Uses n) g at
+      to : (g : CheckError) (at : ℕ) → IsStray declared Used g at ⊎ IsStray declared Uses g at → IsStray declared (λ n. Used n ⊎ Uses n) g at
       to g at (inl x) = (x.0, (x.1.0, inl x.1.1, x.1.2, x.1.3))
       to g at (inr x) = (x.0, (x.1.0, inr x.1.1, x.1.2, x.1.3))
 
-      from : (g : CheckFault) (at : ℕ) → IsStray declared (λ n. Used n ⊎ Uses n) g at → IsStray declared Used g at ⊎ IsStray declared Uses g at
+      from : (g : CheckError) (at : ℕ) → IsStray declared (λ n. Used n ⊎ Uses n) g at → IsStray declared Used g at ⊎ IsStray declared Uses g at
       from g at given1 = grind (arith)
 
 -- One more of a list of things that use names.

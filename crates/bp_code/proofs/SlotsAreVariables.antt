@@ -4,7 +4,7 @@ use Rattle.bp_flat.specs.declared.slots.Slot.{Slot}
 use Rattle.bp_flat.specs.declared.slots.Slot.TheVariants.{Global, Local}
 use Rattle.bp_flat.specs.Steps.{Bits, with_bit, slot_bit, with_slot, with_slots, formula_value, formula_values}
 use Rattle.bp_flat.specs.StandsFor.{variables}
-use Rattle.bp_code.specs.Compiled.{HasSlot}
+use Rattle.bp_code.specs.CompiledCode.{HasSlot}
 
 -- The first index of a name in a table is within the table, and finds the heading of that name.
 

@@ -1,8 +1,8 @@
-pub mod Compilable
-pub mod Compiled
+pub mod CompilablePrograms
+pub mod CompiledCode
 pub mod Environments
-pub mod Known
-pub mod LawfulTexts
+pub mod KnownNames
+pub mod WellFormedTexts
 pub mod Listing
 pub mod Refusals
 pub mod Sets

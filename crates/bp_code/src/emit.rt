@@ -4,9 +4,9 @@ ghost use Rattle.bp_language.specs.Ast.{Branches, Loops};
 ghost use Rattle.bp_language.specs.Views.{decision_of};
 ghost use Rattle.bp_language.specs.Blocks.{block_of, statement_of};
 ghost use Rattle.bp_code.specs.Environments.{environment_of};
-ghost use Rattle.bp_code.specs.Known.{IsKnown, IsKnownIn};
-ghost use Rattle.bp_code.specs.Compilable.{block_sizes, inner_sizes, AreSizesOf};
-ghost use Rattle.bp_code.specs.Compiled.{block_entry, block_size, size, with_block, with_statement};
+ghost use Rattle.bp_code.specs.KnownNames.{IsKnown, IsKnownIn};
+ghost use Rattle.bp_code.specs.CompilablePrograms.{block_sizes, inner_sizes, AreSizesOf};
+ghost use Rattle.bp_code.specs.CompiledCode.{block_entry, block_size, size, with_block, with_statement};
 
 use crate::environments::Environment;
 use crate::translate::{exprs, slots, test};

@@ -3,7 +3,7 @@ ghost use Rattle.std.specs.Prelude.{◌≡◌, ◌+◌, ◌^◌, ◌<◌, ◌≤
 ghost use Rattle.bp_language.specs.Ast.{variables};
 ghost use Rattle.bp_code.specs.Sets.{index_in};
 ghost use Rattle.bp_flat.specs.declared.limits.TheConstants.{SLOTS};
-ghost use Rattle.bp_code.specs.Compiled.{block_size, label_number};
+ghost use Rattle.bp_code.specs.CompiledCode.{block_size, label_number};
 
 use crate::layout::Layout;
 use crate::tables::NameTable;

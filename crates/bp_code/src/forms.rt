@@ -1,16 +1,16 @@
-//! The faults of one statement, apart from the blocks inside it.
+//! The errors of one statement, apart from the blocks inside it.
 ghost use Rattle.std.specs.Prelude.{◌≡◌, [], map, IfOk};
 ghost use Rattle.bp_language.specs.Ast.{GoesTo, Assigns, Calls};
 ghost use Rattle.bp_language.specs.Views.{expression_of};
 ghost use Rattle.bp_language.specs.Blocks.{statement_of};
-ghost use Rattle.bp_language.specs.Faults.{Mentions, IsUneven};
-ghost use Rattle.bp_code.specs.Sets.{Only, IsStray, IsMisuse, IsStatementFault, Finds};
+ghost use Rattle.bp_language.specs.Errors.{Mentions, IsUneven};
+ghost use Rattle.bp_code.specs.Sets.{Only, IsStray, IsMisuse, IsStatementError, Finds};
 
 use crate::checks::{Found, least};
 use crate::procedures::Scope;
 use crate::tables::{NameTable, least_repeat};
 use crate::uses::{Callees, stray_in_all, stray_in_decider, stray_names};
-use bp_language::{CheckFault, Expr, Form, Name};
+use bp_language::{CheckError, Expr, Form, Name};
 use std::alloc::{AllocError, Global};
 
 /// Returns the least undeclared variable that the statement mentions.
@@ -40,7 +40,7 @@ fn wrong_call(callees: &Callees<'_>, callee: &Name, arguments: &[Expr]) -> Optio
 {
     match callees.find(callee.text()) {
         None => Some(Found {
-            fault: CheckFault::UnknownProcedure,
+            error: CheckError::UnknownProcedure,
             at: callee.at(),
         }),
         Some(proc) => {
@@ -48,7 +48,7 @@ fn wrong_call(callees: &Callees<'_>, callee: &Name, arguments: &[Expr]) -> Optio
                 None
             } else {
                 Some(Found {
-                    fault: CheckFault::Arity,
+                    error: CheckError::Arity,
                     at: callee.at(),
                 })
             }
@@ -64,7 +64,7 @@ fn lost_jump(labels: &NameTable<'_>, to: &Name) -> Option<Found>
         return None;
     }
     Some(Found {
-        fault: CheckFault::UnknownLabel,
+        error: CheckError::UnknownLabel,
         at: to.at(),
     })
 }
@@ -72,7 +72,7 @@ fn lost_jump(labels: &NameTable<'_>, to: &Name) -> Option<Found>
 /// Returns the first target of an assignment whose two sides differ in number.
 fn uneven_sides(targets: &[Name], values: &[Expr]) -> Option<Found>
     ensures { Finds
-        (Only CheckFault.Lengths (IsUneven (Assigns targets.now (map expression_of values.now))))
+        (Only CheckError.Lengths (IsUneven (Assigns targets.now (map expression_of values.now))))
         result }
 {
     if targets.len() == values.len() {
@@ -80,12 +80,12 @@ fn uneven_sides(targets: &[Name], values: &[Expr]) -> Option<Found>
     }
     let first = targets.first()?;
     Some(Found {
-        fault: CheckFault::Lengths,
+        error: CheckError::Lengths,
         at: first.at(),
     })
 }
 
-/// Returns the least fault of an assignment's two sides, apart from undeclared names.
+/// Returns the least error of an assignment's two sides, apart from undeclared names.
 fn wrong_sides(
     alloc: Global,
     targets: &[Name],
@@ -96,10 +96,10 @@ fn wrong_sides(
 {
     let found = uneven_sides(targets, values);
     let names = NameTable::of(alloc, targets)?;
-    Ok(least(found, least_repeat(&names, CheckFault::TwiceTarget)))
+    Ok(least(found, least_repeat(&names, CheckError::TwiceTarget)))
 }
 
-/// Returns the least fault of a statement, apart from undeclared names and the blocks inside it.
+/// Returns the least error of a statement, apart from undeclared names and the blocks inside it.
 fn misuse(
     alloc: Global,
     callees: &Callees<'_>,
@@ -116,8 +116,8 @@ fn misuse(
     }
 }
 
-/// Returns the least fault of a statement, apart from the blocks inside it.
-pub(crate) fn statement_fault(
+/// Returns the least error of a statement, apart from the blocks inside it.
+pub(crate) fn statement_error(
     alloc: Global,
     declared: &Scope<'_, '_>,
     callees: &Callees<'_>,
@@ -125,7 +125,7 @@ pub(crate) fn statement_fault(
     form: &Form,
 ) -> Result<Option<Found>, AllocError>
     ensures { IfOk result (Finds
-        (IsStatementFault declared.now callees.now labels.now (statement_of form.now))) }
+        (IsStatementError declared.now callees.now labels.now (statement_of form.now))) }
 {
     let found = misuse(alloc, callees, labels, form)?;
     Ok(least(found, stray(declared, form)))

@@ -1,8 +1,8 @@
 //! Laws of refusals.
-ghost use Rattle.bp_code.specs.Refusals.{OneRefusal, NoRefusalOfLawful};
+ghost use Rattle.bp_code.specs.Refusals.{OneRefusal, NoRefusalOfWellFormed};
 
-/// Proves that a program has at most one refusal, `Memory` aside, and a lawful one has none.
+/// Proves that a program has at most one refusal, `Memory` aside, and a well-formed one has none.
 pub fn has_one_refusal()
     ensures one { OneRefusal }
-    ensures none { NoRefusalOfLawful }
+    ensures none { NoRefusalOfWellFormed }
 {}

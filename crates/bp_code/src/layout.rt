@@ -5,8 +5,8 @@ ghost use Rattle.std.specs.Option.{option_or};
 ghost use Rattle.bp_language.specs.Blocks.{block_of, statement_of};
 ghost use Rattle.bp_flat.specs.Moves.{has_label};
 ghost use Rattle.bp_code.specs.Sets.{index_in};
-ghost use Rattle.bp_code.specs.Compiled.{block_size, size, label_number, inner_number};
-ghost use Rattle.bp_code.specs.Compilable.{block_sizes, inner_sizes, AreSizesOf};
+ghost use Rattle.bp_code.specs.CompiledCode.{block_size, size, label_number, inner_number};
+ghost use Rattle.bp_code.specs.CompilablePrograms.{block_sizes, inner_sizes, AreSizesOf};
 
 use bp_language::{Form, Name, Proc, Stmt};
 use std::alloc::{AllocError, Global};
@@ -32,7 +32,7 @@ impl<'a> Layout<'a> {
     {
         let mut sizes = Vec::new(alloc);
         let mut labels = BTreeMap::new(alloc);
-        note_block(&mut sizes, &mut labels, start, proc.body())?;
+        record_block(&mut sizes, &mut labels, start, proc.body())?;
         Ok(Layout {
             start,
             sizes,
@@ -88,7 +88,7 @@ impl<'a> Layout<'a> {
 
 /// Appends the sizes and labels of statements.
 #[cycle(note)]
-fn note_block<'a>(
+fn record_block<'a>(
     sizes: &mut Vec<u32>,
     labels: &mut BTreeMap<&'a str, u32>,
     start: u32,
@@ -128,17 +128,17 @@ fn note<'a>(
 {
     let index = sizes.len();
     if let Some(label) = stmt.label() {
-        note_label(labels, label, start + index as u32)?;
+        record_label(labels, label, start + index as u32)?;
     }
     sizes.push(0)?;
-    note_inside(sizes, labels, start, stmt.form())?;
+    record_inside(sizes, labels, start, stmt.form())?;
     sizes[index] = (sizes.len() - index) as u32;
     Ok(())
 }
 
 /// Appends the statements inside a statement, which is the last one appended.
 #[cycle(note)]
-fn note_inside<'a>(
+fn record_inside<'a>(
     sizes: &mut Vec<u32>,
     labels: &mut BTreeMap<&'a str, u32>,
     start: u32,
@@ -154,16 +154,16 @@ fn note_inside<'a>(
 {
     match form {
         Form::If(_, a, b) => {
-            note_block(sizes, labels, start, a.as_slice())?;
-            note_block(sizes, labels, start, b.as_slice())
+            record_block(sizes, labels, start, a.as_slice())?;
+            record_block(sizes, labels, start, b.as_slice())
         }
-        Form::While(_, body) => note_block(sizes, labels, start, body.as_slice()),
+        Form::While(_, body) => record_block(sizes, labels, start, body.as_slice()),
         _ => Ok(()),
     }
 }
 
 /// Records the number of a label, unless an earlier one has this text.
-fn note_label<'a>(
+fn record_label<'a>(
     labels: &mut BTreeMap<&'a str, u32>,
     label: &'a Name,
     number: u32,

@@ -1,4 +1,4 @@
-//! Programs as flat code: each lawful program is compiled to a code that stands for it.
+//! Programs as flat code: each well-formed program is compiled to a code that stands for it.
 #![tactic(auto)]
 
 mod checks;
@@ -20,13 +20,13 @@ pub use bp_flat::{
     Code, Effect, Heading, Instr, Kind, Store, Touched, bit_of, global_value, limits,
     local_slot_of, local_value, slot_of, steps_alike,
 };
-pub use bp_language::CheckFault;
+pub use bp_language::CheckError;
 pub use bp_syntax::Checked;
-pub use bp_text::{WriteFault, put};
+pub use bp_text::{WriteError, put};
 pub use checks::{CheckRefusal, check};
 pub use laws::has_one_refusal;
 pub use listing::list;
 pub use programs::compile;
 pub use starts::statement_starts;
 pub use tables::NameTable;
-pub use texts::{CodeFault, ProgramFault, code_of, lawful_program};
+pub use texts::{CodeError, ProgramError, code_of, well_formed_program};

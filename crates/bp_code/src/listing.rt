@@ -11,7 +11,7 @@ use bp_flat::code::Code;
 use bp_flat::headings::Heading;
 use bp_flat::instrs::Instr;
 use bp_text::Piece::{Bytes, Number};
-use bp_text::{Piece, Sink, WriteFault};
+use bp_text::{Piece, Sink, WriteError};
 use std::io::Write;
 
 /// Writes each number after a space.
@@ -123,7 +123,7 @@ fn put_procedures<W: Write>(code: &Code, sink: &mut Sink<'_, W>)
 
 /// Writes the listing: for each procedure a line with its name and its numbers of formals and of
 /// declared locals, and a line for each of its instructions.
-pub fn list<W: Write>(code: &Code, out: &mut W) -> Result<(), WriteFault>
+pub fn list<W: Write>(code: &Code, out: &mut W) -> Result<(), WriteError>
     ensures { Writes (W.contents out.old) (W.contents out.new) (listing_text code.now) result }
 {
     let mut sink = Sink::new(out);

@@ -1,16 +1,16 @@
-//! The faults of a procedure.
+//! The errors of a procedure.
 //! The variables that the statements of a procedure may name.
 ghost use Rattle.std.specs.Prelude.{◌≡◌, ◌++◌, IfOk, OnOk};
 ghost use Rattle.bp_language.specs.Blocks.{block_of, statement_of};
-ghost use Rattle.bp_language.specs.Faults.{statements, statements_inside, labels_of, has};
-ghost use Rattle.bp_code.specs.Sets.{names_of, all_labelled, IsFaultOfStatements, IsFaultOfBody, IsProcedureFault, Finds};
+ghost use Rattle.bp_language.specs.Errors.{statements, statements_inside, labels_of, has};
+ghost use Rattle.bp_code.specs.Sets.{names_of, all_labelled, IsErrorOfStatements, IsErrorOfBody, IsProcedureError, Finds};
 
 use crate::checks::{Found, least};
-use crate::forms::statement_fault;
-use crate::tables::{NameTable, fault_of_names, least_repeat};
+use crate::forms::statement_error;
+use crate::tables::{NameTable, error_of_names, least_repeat};
 use crate::uses::Callees;
 use bp_language::limits::MAX_OWN_NAMES;
-use bp_language::{CheckFault, Form, Name, Proc, Stmt};
+use bp_language::{CheckError, Form, Name, Proc, Stmt};
 use std::alloc::{AllocError, Global};
 use std::marker::Model;
 
@@ -56,8 +56,8 @@ fn gather_labels<'a>(out: &mut Vec<&'a Name>, stmts: &[&'a Stmt]) -> Result<(), 
     Ok(())
 }
 
-/// Returns the least fault of statements.
-fn fault_of_statements(
+/// Returns the least error of statements.
+fn error_of_statements(
     alloc: Global,
     declared: &Scope<'_, '_>,
     callees: &Callees<'_>,
@@ -65,11 +65,11 @@ fn fault_of_statements(
     stmts: &[&Stmt],
 ) -> Result<Option<Found>, AllocError>
     ensures { IfOk result (Finds
-        (IsFaultOfStatements declared.now callees.now labels.now (all_labelled stmts.now))) }
+        (IsErrorOfStatements declared.now callees.now labels.now (all_labelled stmts.now))) }
 {
     let mut best = None;
     for stmt in stmts {
-        let found = statement_fault(alloc, declared, callees, labels, stmt.form())?;
+        let found = statement_error(alloc, declared, callees, labels, stmt.form())?;
         best = least(best, found);
     }
     Ok(best)
@@ -92,34 +92,34 @@ fn labels_in<'a>(alloc: Global, stmts: &[&'a Stmt]) -> Result<Vec<&'a Name>, All
     Ok(labels)
 }
 
-/// Returns the least fault among the statements and labels of a procedure.
-fn fault_of_body(
+/// Returns the least error among the statements and labels of a procedure.
+fn error_of_body(
     alloc: Global,
     declared: &Scope<'_, '_>,
     callees: &Callees<'_>,
     proc: &Proc,
 ) -> Result<Option<Found>, AllocError>
-    ensures { IfOk result (Finds (IsFaultOfBody declared.now callees.now proc.now)) }
+    ensures { IfOk result (Finds (IsErrorOfBody declared.now callees.now proc.now)) }
 {
     let stmts = all_statements(alloc, proc)?;
     let labels = NameTable::new(alloc, labels_in(alloc, &stmts)?)?;
-    let found = fault_of_statements(alloc, declared, callees, &labels, &stmts)?;
-    Ok(least(found, least_repeat(&labels, CheckFault::TwiceLabel)))
+    let found = error_of_statements(alloc, declared, callees, &labels, &stmts)?;
+    Ok(least(found, least_repeat(&labels, CheckError::TwiceLabel)))
 }
 
-/// Returns the least fault inside a procedure.
-pub(crate) fn procedure_fault<'a>(
+/// Returns the least error inside a procedure.
+pub(crate) fn procedure_error<'a>(
     alloc: Global,
     globals: &NameTable<'a>,
     callees: &Callees<'_>,
     proc: &'a Proc,
 ) -> Result<Option<Found>, AllocError>
-    ensures { IfOk result (Finds (IsProcedureFault globals.now callees.now proc.now)) }
+    ensures { IfOk result (Finds (IsProcedureError globals.now callees.now proc.now)) }
 {
     let own = NameTable::of_variables(alloc, proc)?;
-    let found = fault_of_names(&own, CheckFault::TwiceLocal, MAX_OWN_NAMES);
+    let found = error_of_names(&own, CheckError::TwiceLocal, MAX_OWN_NAMES);
     let declared = Scope::new(own, globals);
-    let inside = fault_of_body(alloc, &declared, callees, proc)?;
+    let inside = error_of_body(alloc, &declared, callees, proc)?;
     Ok(least(found, inside))
 }
 

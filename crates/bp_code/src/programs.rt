@@ -2,11 +2,11 @@
 ghost use Rattle.std.specs.Prelude.{◌≡◌, ◌+◌, ◌^◌, ◌<◌, ◌≤◌, ◌++◌, ◌∷◌, [], IfOk, OnOk, length, map};
 ghost use Rattle.bp_flat.specs.declared.limits.TheConstants.{SLOTS};
 ghost use Rattle.bp_language.specs.Ast.{Program};
-ghost use Rattle.bp_code.specs.Known.{IsKnown};
-ghost use Rattle.bp_code.specs.Compiled.{block_size, procedures_size, headings_from, environment_at, procedure_code, flat_of};
+ghost use Rattle.bp_code.specs.KnownNames.{IsKnown};
+ghost use Rattle.bp_code.specs.CompiledCode.{block_size, procedures_size, headings_from, environment_at, procedure_code, flat_of};
 ghost use Rattle.bp_language.specs.Texts.{HasText};
-ghost use Rattle.bp_language.specs.Faults.{IsLawful};
-ghost use Rattle.bp_code.specs.Compilable.{IsCompilable, HaveFew};
+ghost use Rattle.bp_language.specs.Errors.{IsWellFormed};
+ghost use Rattle.bp_code.specs.CompilablePrograms.{IsCompilable, HaveFew};
 
 use crate::emit::{emit_block, push};
 use crate::environments::Environment;
@@ -95,7 +95,7 @@ fn compile_program(
 ) -> Result<Code, AllocError>
     requires parts { checked ≡ record { globals = globals.now; procedures = procs.now } }
     requires able { IsCompilable (record { globals = globals.now; procedures = procs.now }) }
-    requires lawful { IsLawful (record { globals = globals.now; procedures = procs.now }) }
+    requires well_formed { IsWellFormed (record { globals = globals.now; procedures = procs.now }) }
     requires of_text { HasText (record { globals = globals.now; procedures = procs.now }) }
     ensures { let t : Program = record { globals = globals.now; procedures = procs.now } in
         IfOk result (λ c. c ≡ flat_of t) }

@@ -9,29 +9,29 @@ use std::alloc::{AllocError, Global};
 
 /// Records the starts of statements, and of those inside them.
 #[cycle(note_starts)]
-fn note_block(starts: &mut Vec<Option<u32>>, stmts: &[Stmt]) -> Result<(), AllocError>
+fn record_block(starts: &mut Vec<Option<u32>>, stmts: &[Stmt]) -> Result<(), AllocError>
     ensures { OnOk result
         (starts.new.items ≡ starts.old.items ++ block_starts (block_of stmts.now)) }
 {
     for stmt in stmts {
         starts.push(Some(stmt.at()))?;
-        note_inside(starts, stmt.form())?;
+        record_inside(starts, stmt.form())?;
     }
     Ok(())
 }
 
 /// Records the starts of the statements inside a statement.
 #[cycle(note_starts)]
-fn note_inside(starts: &mut Vec<Option<u32>>, form: &Form) -> Result<(), AllocError>
+fn record_inside(starts: &mut Vec<Option<u32>>, form: &Form) -> Result<(), AllocError>
     ensures { OnOk result
         (starts.new.items ≡ starts.old.items ++ inner_starts (statement_of form.now)) }
 {
     match form {
         Form::If(_, a, b) => {
-            note_block(starts, a.as_slice())?;
-            note_block(starts, b.as_slice())
+            record_block(starts, a.as_slice())?;
+            record_block(starts, b.as_slice())
         }
-        Form::While(_, body) => note_block(starts, body.as_slice()),
+        Form::While(_, body) => record_block(starts, body.as_slice()),
         _ => Ok(()),
     }
 }
@@ -44,7 +44,7 @@ pub fn statement_starts(alloc: Global, checked: &Checked) -> Result<Vec<Option<u
     let procs = checked.tree().procs();
     let mut starts = Vec::new(alloc);
     for proc in procs {
-        note_block(&mut starts, proc.body())?;
+        record_block(&mut starts, proc.body())?;
         starts.push(None)?;
     }
     Ok(starts)

@@ -2,11 +2,11 @@
 //! Names that appear twice in a list, or past its limit.
 ghost use Rattle.std.specs.Prelude.{◌≡◌, ◌++◌, OnOk, IfOk, map, take};
 ghost use Rattle.bp_language.specs.Ast.{variables};
-ghost use Rattle.bp_language.specs.Faults.{has, first_index, IsTwice, IsPast};
-ghost use Rattle.bp_code.specs.Sets.{names_of, HasFirstIndices, Only, IsFaultOfNames, Finds};
+ghost use Rattle.bp_language.specs.Errors.{has, first_index, IsTwice, IsPast};
+ghost use Rattle.bp_code.specs.Sets.{names_of, HasFirstIndices, Only, IsErrorOfNames, Finds};
 
 use crate::checks::{Found, least};
-use bp_language::{CheckFault, Name, Proc};
+use bp_language::{CheckError, Name, Proc};
 use std::alloc::{AllocError, Global};
 use std::collections::BTreeMap;
 use std::marker::Model;
@@ -138,9 +138,9 @@ fn first_indices<'a>(
     Ok(first)
 }
 
-/// Returns the least place of a name with the text of an earlier one, as this fault.
-pub(crate) fn least_repeat(names: &NameTable<'_>, fault: CheckFault) -> Option<Found>
-    ensures { Finds (Only fault (IsTwice names.now)) result }
+/// Returns the least place of a name with the text of an earlier one, as this error.
+pub(crate) fn least_repeat(names: &NameTable<'_>, error: CheckError) -> Option<Found>
+    ensures { Finds (Only error (IsTwice names.now)) result }
 {
     let mut best = None;
     for (i, name) in names.names().iter().enumerate() {
@@ -148,7 +148,7 @@ pub(crate) fn least_repeat(names: &NameTable<'_>, fault: CheckFault) -> Option<F
             best = least(
                 best,
                 Some(Found {
-                    fault,
+                    error,
                     at: name.at(),
                 }),
             );
@@ -158,7 +158,7 @@ pub(crate) fn least_repeat(names: &NameTable<'_>, fault: CheckFault) -> Option<F
 }
 
 fn first_past(names: &NameTable<'_>, limit: usize) -> Option<Found>
-    ensures { Finds (Only CheckFault.Limit (IsPast limit names.now)) result }
+    ensures { Finds (Only CheckError.Limit (IsPast limit names.now)) result }
 {
     let names = names.names();
     if limit >= names.len() {
@@ -166,19 +166,19 @@ fn first_past(names: &NameTable<'_>, limit: usize) -> Option<Found>
     }
     let name = names[limit];
     Some(Found {
-        fault: CheckFault::Limit,
+        error: CheckError::Limit,
         at: name.at(),
     })
 }
 
-/// Returns the least fault of names of one kind: one appears twice, or is the first past the limit.
-pub(crate) fn fault_of_names(
+/// Returns the least error of names of one kind: one appears twice, or is the first past the limit.
+pub(crate) fn error_of_names(
     names: &NameTable<'_>,
-    fault: CheckFault,
+    error: CheckError,
     limit: usize,
 ) -> Option<Found>
-    ensures { Finds (IsFaultOfNames fault limit names.now) result }
+    ensures { Finds (IsErrorOfNames error limit names.now) result }
 {
-    let found = least_repeat(names, fault);
+    let found = least_repeat(names, error);
     least(found, first_past(names, limit))
 }

@@ -1,83 +1,83 @@
-//! The lawful program of a text, and its code.
+//! The well-formed program of a text, and its code.
 ghost use Rattle.std.specs.Prelude.{MatchResult};
-ghost use Rattle.bp_code.specs.LawfulTexts.{IsCodeRefusal, IsLawfulText, IsProgramRefusal};
+ghost use Rattle.bp_code.specs.WellFormedTexts.{IsCodeRefusal, IsWellFormedText, IsProgramRefusal};
 
 use crate::checks::check;
 use crate::programs::compile;
 use bp_flat::code::Code;
-use bp_language::CheckFault;
-use bp_syntax::{Checked, ReadFault, read};
+use bp_language::CheckError;
+use bp_syntax::{Checked, ReadError, read};
 use std::alloc::{AllocError, Global};
 use std::error::Error;
 use std::fmt;
 
-/// Why a text is not that of a lawful program: the first reason that applies, `Memory` aside.
+/// Why a text is not that of a well-formed program: the first reason that applies, `Memory` aside.
 #[derive(Debug, Drop, PartialEq, Eq)]
-pub enum ProgramFault {
+pub enum ProgramError {
     /// It is refused as a text.
-    Read(ReadFault),
+    Read(ReadError),
     /// Its program is refused, at this byte of the text. For refused memory the byte is 0.
-    Check(CheckFault, u32),
+    Check(CheckError, u32),
 }
 
-impl fmt::Display for ProgramFault {
+impl fmt::Display for ProgramError {
     fn fmt<W: fmt::Write>(&self, f: &mut fmt::Formatter<W>) -> fmt::Result {
         match self {
-            ProgramFault::Read(fault) => write!(f, "{fault}"),
-            ProgramFault::Check(CheckFault::Memory, _) => write!(f, "{}", CheckFault::Memory),
-            ProgramFault::Check(fault, at) => write!(f, "{fault} at {at}"),
+            ProgramError::Read(error) => write!(f, "{error}"),
+            ProgramError::Check(CheckError::Memory, _) => write!(f, "{}", CheckError::Memory),
+            ProgramError::Check(error, at) => write!(f, "{error} at {at}"),
         }
     }
 }
 
-impl Error for ProgramFault {}
+impl Error for ProgramError {}
 
 /// Reads and checks a text.
-pub fn lawful_program(alloc: Global, text: &[u8]) -> Result<Checked, ProgramFault>
-    ensures { MatchResult result (λ c. IsLawfulText text.now c) (IsProgramRefusal text.now) }
+pub fn well_formed_program(alloc: Global, text: &[u8]) -> Result<Checked, ProgramError>
+    ensures { MatchResult result (λ c. IsWellFormedText text.now c) (IsProgramRefusal text.now) }
 {
-    let tree = read(alloc, text).map_err(ProgramFault::Read)?;
+    let tree = read(alloc, text).map_err(ProgramError::Read)?;
     match check(alloc, tree) {
         Ok(checked) => Ok(checked),
-        Err(refusal) => Err(ProgramFault::Check(refusal.fault, refusal.at)),
+        Err(refusal) => Err(ProgramError::Check(refusal.error, refusal.at)),
     }
 }
 
 /// Why a text has no code.
 #[derive(Drop)]
-pub enum CodeFault {
-    /// It is not that of a lawful program.
-    Program(ProgramFault),
+pub enum CodeError {
+    /// It is not that of a well-formed program.
+    Program(ProgramError),
     /// There was not enough memory for the code.
     Memory,
 }
 
-impl From<ProgramFault> for CodeFault {
-    ghost use Rattle.bp_code.specs.declared.texts.CodeFault.{CodeFault};
+impl From<ProgramError> for CodeError {
+    ghost use Rattle.bp_code.specs.declared.texts.CodeError.{CodeError};
     ghost use Rattle.std.specs.Prelude.{◌≡◌};
 
-    ghost from_gives = { λ f e. e ≡ CodeFault.Program f };
+    ghost from_gives = { λ f e. e ≡ CodeError.Program f };
 
-    fn from(fault: ProgramFault) -> CodeFault {
-        CodeFault::Program(fault)
+    fn from(error: ProgramError) -> CodeError {
+        CodeError::Program(error)
     }
 }
 
-impl From<AllocError> for CodeFault {
-    ghost use Rattle.bp_code.specs.declared.texts.CodeFault.{CodeFault};
+impl From<AllocError> for CodeError {
+    ghost use Rattle.bp_code.specs.declared.texts.CodeError.{CodeError};
     ghost use Rattle.std.specs.Prelude.{◌≡◌};
 
-    ghost from_gives = { λ _ e. e ≡ CodeFault.Memory };
+    ghost from_gives = { λ _ e. e ≡ CodeError.Memory };
 
-    fn from(_: AllocError) -> CodeFault {
-        CodeFault::Memory
+    fn from(_: AllocError) -> CodeError {
+        CodeError::Memory
     }
 }
 
-/// Returns the code of the lawful program of a text.
-pub fn code_of(alloc: Global, text: &[u8]) -> Result<Code, CodeFault>
-    ensures { MatchResult result (λ c. IsLawfulText text.now c.tree) (IsCodeRefusal text.now) }
+/// Returns the code of the well-formed program of a text.
+pub fn code_of(alloc: Global, text: &[u8]) -> Result<Code, CodeError>
+    ensures { MatchResult result (λ c. IsWellFormedText text.now c.tree) (IsCodeRefusal text.now) }
 {
-    let checked = lawful_program(alloc, text)?;
+    let checked = well_formed_program(alloc, text)?;
     Ok(compile(alloc, &checked)?)
 }

@@ -4,8 +4,8 @@ ghost use Rattle.bp_language.specs.Views.{expression_of, decision_of};
 ghost use Rattle.bp_language.specs.NamesIn.{EachName, NamesInExpression, NamesInExpressions, NamesInDecision};
 ghost use Rattle.bp_flat.specs.Views.{formula_of, test_of};
 ghost use Rattle.bp_code.specs.Environments.{environment_of};
-ghost use Rattle.bp_code.specs.Known.{HasSlot, HasLabel, HasHeading};
-ghost use Rattle.bp_code.specs.Compiled.{slots_in, formula_in, formulas_in, test_in, slot_in, label_in, callee_in};
+ghost use Rattle.bp_code.specs.KnownNames.{HasSlot, HasLabel, HasHeading};
+ghost use Rattle.bp_code.specs.CompiledCode.{slots_in, formula_in, formulas_in, test_in, slot_in, label_in, callee_in};
 
 use crate::environments::Environment;
 use bp_flat::expr_lists::SlotExprs;

@@ -4,13 +4,13 @@ ghost use Rattle.std.specs.Prelude.{◌≡◌, map, IfOk};
 ghost use Rattle.std.specs.Option.{option_copied};
 ghost use Rattle.bp_language.specs.Views.{expression_of, decision_of};
 ghost use Rattle.bp_language.specs.Ast.{procedure_named};
-ghost use Rattle.bp_language.specs.Faults.{Uses, SomeUses, DecisionUses, Among};
+ghost use Rattle.bp_language.specs.Errors.{Uses, SomeUses, DecisionUses, Among};
 ghost use Rattle.bp_code.specs.Sets.{IsStray, Finds};
 
 use crate::checks::{Found, least};
 use crate::procedures::Scope;
 use crate::tables::NameTable;
-use bp_language::{CheckFault, Decider, Expr, Name, Proc};
+use bp_language::{CheckError, Decider, Expr, Name, Proc};
 use std::alloc::{AllocError, Global};
 use std::marker::Model;
 
@@ -22,7 +22,7 @@ pub(crate) fn stray_name(declared: &Scope<'_, '_>, name: &Name) -> Option<Found>
         return None;
     }
     Some(Found {
-        fault: CheckFault::UnknownVariable,
+        error: CheckError::UnknownVariable,
         at: name.at(),
     })
 }

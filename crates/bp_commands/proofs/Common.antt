@@ -1,9 +1,9 @@
 -- The imports of this crate's proofs: from std, the crates below and its own definitions.
-pub use Rattle.bp_code.specs.LawfulTexts.{IsLawfulText, IsProgramRefusal}
+pub use Rattle.bp_code.specs.WellFormedTexts.{IsWellFormedText, IsProgramRefusal}
 pub use Rattle.bp_commands.specs.Commands.{Answers, AnswersOf, Command, Inputs, IsDoneWith, IsNotDone, IsRefusedWith, Pair, bundle_alone, text_alone, text_alone_of}
 pub use Rattle.bp_commands.specs.Confirms.{IsOfSteps, choice_text, choices_text, confirmation_shown, confirms, line_as, verdict_word}
 pub use Rattle.bp_commands.specs.Explores.{bound_of, trace_of}
-pub use Rattle.bp_commands.specs.FaultReports.{AnswerRule, AreReadOr, ExplainsPair, ExplainsText, HasSummary, IsConcluded, IsEndOf, IsFileOfPair, IsFileOfText, IsObjectIn, IsObjectRead, IsObjectWith, IsReported, IsSaid, IsSaidFor, IsSaidOfRead, IsTextOf, IsTold, of_report, of_run}
+pub use Rattle.bp_commands.specs.ErrorReports.{AnswerRule, AreReadOr, ExplainsPair, ExplainsText, HasSummary, IsConcluded, IsEndOf, IsFileOfPair, IsFileOfText, IsObjectIn, IsObjectRead, IsObjectWith, IsReported, IsSaid, IsSaidFor, IsSaidOfRead, IsTextOf, IsTold, of_report, of_run}
 pub use Rattle.bp_commands.specs.Jobs.{Held, IsFinished, IsFlushed, pair_of_files, rest_of}
 pub use Rattle.bp_commands.specs.Programs.{IsOpened, checks, lists, start_asked}
 pub use Rattle.bp_commands.specs.Runs.{IsRunReport, IsRunnable, runs, seeded}
@@ -16,14 +16,14 @@ pub use Rattle.bp_machine.specs.Histories.{IsReport, is_failure, outcome_of}
 pub use Rattle.bp_machine.specs.Setups.{IsSetupRefusal, SetupOf, StartOf, setup_from}
 pub use Rattle.bp_machine.specs.declared.calls.Call.{Call}
 pub use Rattle.bp_machine.specs.declared.calls.Report.{Report}
-pub use Rattle.bp_messages.specs.FaultObjects.{IsValueIn, ShownVerdict, fault_object, name_in, verdict_object}
-pub use Rattle.bp_messages.specs.FaultTable.{fault_of_migration, fault_of_run, fault_of_schedule, fault_of_setup, fault_of_test, fault_of_trace, fault_of_view}
-pub use Rattle.bp_messages.specs.declared.faults.Fault.{Fault}
-pub use Rattle.bp_messages.specs.declared.faults.Fault.TheVariants.{Memory, Write}
+pub use Rattle.bp_messages.specs.ErrorObjects.{IsValueIn, ShownVerdict, error_object, name_in, verdict_object}
+pub use Rattle.bp_messages.specs.ErrorTable.{error_of_migration, error_of_run, error_of_schedule, error_of_setup, error_of_test, error_of_trace, error_of_view}
+pub use Rattle.bp_messages.specs.declared.errors.Error.{Error}
+pub use Rattle.bp_messages.specs.declared.errors.Error.TheVariants.{Memory, Write}
 pub use Rattle.bp_tasks.specs.NamedBits.{NamedBitOf, start_by_names}
 pub use Rattle.bp_tasks.specs.RunOptions.{OptionsOf}
 pub use Rattle.bp_tasks.specs.declared.limits.TheConstants.{MAX_JOBS}
-pub use Rattle.bp_test.specs.Shrinks.{IsEnd, IsShrunk, budgeted}
+pub use Rattle.bp_test.specs.Shrinks.{IsEnd, IsShrunk, with_contexts}
 pub use Rattle.bp_test.specs.Tests.{IsDeadlock, IsFound, IsTest, IsTestRefusal, setup_of_run}
 pub use Rattle.bp_text.proofs.Givings.{all_from, all_then, and_then, part_first, part_then, written_at_end}
 pub use Rattle.bp_text.specs.Writing.{AppendsAll, AppendsPart, Writes}

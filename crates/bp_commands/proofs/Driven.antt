@@ -1,11 +1,11 @@
 -- The answer of the command `drive`, from the result of driving a program.
-use Rattle.bp_commands.proofs.Common.{◌≡◌, refl, sym, subst, inl, inr, List, ℕ, Option, arith, [], ◌∷◌, ◌∙◌, ap, ◌+◌, ◌-◌, ◌<◌, ◌≤◌, ◌==◌, true, false, ◌++◌, length, take, drop, get_or, add-one, take-suc, take-append-drop, length-take-le, rules, Keeps, Keeps-refl, all_from, Program, IsLawfulText, Report, SetupOf, StartOf, NamedBitOf, trace_text, trace_text_2, IsMigrated, IsMigrateRefusal, fault_of_schedule, fault_of_migration, IsDoneWith, IsRefusedWith, Pair, IsOpened, drives, migrates, ends_line, HasNoSeparator, HasNoneBefore, IsScheduleRefused, IsSeparated, IsSplit}
+use Rattle.bp_commands.proofs.Common.{◌≡◌, refl, sym, subst, inl, inr, List, ℕ, Option, arith, [], ◌∷◌, ◌∙◌, ap, ◌+◌, ◌-◌, ◌<◌, ◌≤◌, ◌==◌, true, false, ◌++◌, length, take, drop, get_or, add-one, take-suc, take-append-drop, length-take-le, rules, Keeps, Keeps-refl, all_from, Program, IsWellFormedText, Report, SetupOf, StartOf, NamedBitOf, trace_text, trace_text_2, IsMigrated, IsMigrateRefusal, error_of_schedule, error_of_migration, IsDoneWith, IsRefusedWith, Pair, IsOpened, drives, migrates, ends_line, HasNoSeparator, HasNoneBefore, IsScheduleRefused, IsSeparated, IsSplit}
 use Rattle.std.proofs.Math.Seq.{take-append_seam, drop-append_seam}
 use Rattle.std.proofs.lemmas.Bool.{cases_lt, true≢false}
-use Rattle.bp_trace.specs.declared.faults.DriveFault.{DriveFault}
-use Rattle.bp_trace.specs.declared.faults.DriveFault.TheVariants.{TooLong, Line, AfterFinish, Memory, Write}
+use Rattle.bp_trace.specs.declared.errors.DriveError.{DriveError}
+use Rattle.bp_trace.specs.declared.errors.DriveError.TheVariants.{TooLong, Line, AfterFinish, Memory, Write}
 use Rattle.bp_trace.specs.Drives.{DrivesTo, IsRefusal, IsScheduleRefusal}
-use Rattle.bp_trace.specs.declared.faults.MigrateFault.{MigrateFault}
+use Rattle.bp_trace.specs.declared.errors.MigrateError.{MigrateError}
 
 module _ (start : StartOf) (named : List NamedBitOf) (given : Pair) (t : Program) (s : SetupOf) (opened : IsOpened start named given.text t s)
     (old new : Option (List ℕ)) where
@@ -26,13 +26,13 @@ module _ (start : StartOf) (named : List NamedBitOf) (given : Pair) (t : Program
     written = played.written;
   }
 
-  unplayed : (f : DriveFault) → IsScheduleRefusal t s given.input f → IsScheduleRefused start named given (fault_of_schedule f)
+  unplayed : (f : DriveError) → IsScheduleRefusal t s given.input f → IsScheduleRefused start named given (error_of_schedule f)
   unplayed f why = record { program = t; setup = s; opened = opened; cause = f; why = why; is = refl }
 
   kept : new ≡ old → Keeps old new
   kept same = subst (Keeps old) (sym same) (Keeps-refl old)
 
-  pub not_driven : (f : DriveFault) → IsRefusal t s given.input old new f → IsRefusedWith (drives start named) old new given (fault_of_schedule f)
+  pub not_driven : (f : DriveError) → IsRefusal t s given.input old new f → IsRefusedWith (drives start named) old new given (error_of_schedule f)
   not_driven TooLong found = inl (kept found.0, inr (unplayed TooLong found.1))
   not_driven (Line n) found = inl (kept found.0, inr (unplayed (Line n) found.1))
   not_driven (AfterFinish n) found = inl (kept found.0, inr (unplayed (AfterFinish n) found.1))
@@ -55,7 +55,7 @@ module _ (start : StartOf) (named : List NamedBitOf) (given : Pair) (t : Program
 
 -- The answer of the command `migrate`, from the result of migrating a trace.
 
-module _ (given : Pair) (t : Program) (of : IsLawfulText given.text t) (old new : Option (List ℕ)) where
+module _ (given : Pair) (t : Program) (of : IsWellFormedText given.text t) (old new : Option (List ℕ)) where
   pub migrated : (r : Report) → IsMigrated t given.input old new r → IsDoneWith migrates old new given r
   migrated r is = record {
     text = trace_text_2 is.setup is.history;
@@ -72,7 +72,7 @@ module _ (given : Pair) (t : Program) (of : IsLawfulText given.text t) (old new 
     written = is.written;
   }
 
-  pub not_migrated : (f : MigrateFault) → IsMigrateRefusal t given.input old new f → IsRefusedWith migrates old new given (fault_of_migration f)
+  pub not_migrated : (f : MigrateError) → IsMigrateRefusal t given.input old new f → IsRefusedWith migrates old new given (error_of_migration f)
   not_migrated f given1 = grind (arith)
 
 -- The first line that is a separator, found one place after the other.

@@ -1,13 +1,13 @@
 -- The answer of a command on a trace, from a text of its history.
-use Rattle.bp_commands.proofs.Common.{ℕ, List, Option, arith, AppendsAll, AppendsPart, Program, IsLawfulText, Call, Report, IsReport, SetupOf, IsReplayRefusal, IsTrace, fault_of_trace, Write, IsDoneWith, IsRefusedWith, Pair, on_trace, IsOfTrace, TextRule}
-use Rattle.bp_trace.specs.declared.faults.ReplayFault.{ReplayFault}
+use Rattle.bp_commands.proofs.Common.{ℕ, List, Option, arith, AppendsAll, AppendsPart, Program, IsWellFormedText, Call, Report, IsReport, SetupOf, IsReplayRefusal, IsTrace, error_of_trace, Write, IsDoneWith, IsRefusedWith, Pair, on_trace, IsOfTrace, TextRule}
+use Rattle.bp_trace.specs.declared.errors.ReplayError.{ReplayError}
 use Rattle.bp_trace.specs.declared.traces.Version.{Version}
 use Rattle.bp_commands.proofs.Answered.{cut_short}
 
-module _ (rule : TextRule) (given : Pair) (t : Program) (of : IsLawfulText given.text t) where
+module _ (rule : TextRule) (given : Pair) (t : Program) (of : IsWellFormedText given.text t) where
   -- the text is no trace of the program
-  pub no_trace : (old : Option (List ℕ)) (f : ReplayFault) → IsReplayRefusal t given.input f
-      → IsRefusedWith (on_trace rule) old old given (fault_of_trace f)
+  pub no_trace : (old : Option (List ℕ)) (f : ReplayError) → IsReplayRefusal t given.input f
+      → IsRefusedWith (on_trace rule) old old given (error_of_trace f)
   no_trace old f given1 = grind (arith)
 
   -- it is the trace of a history, which has this text

@@ -1,9 +1,9 @@
 -- The answer of the command `run`, from the result of running a code.
-use Rattle.bp_commands.proofs.Common.{◌≡◌, refl, sym, subst, inl, inr, List, ℕ, Option, true, false, Keeps, Keeps-refl, Program, SetupOf, NamedBitOf, OptionsOf, trace_text, IsDoneWith, IsOpened, IsRefusedWith, fault_of_run, fault_of_setup, runs, seeded, IsRunnable, IsRunReport}
-use Rattle.bp_machine.specs.declared.setup_faults.SetupFault.TheVariants.{OutOfRange}
+use Rattle.bp_commands.proofs.Common.{◌≡◌, refl, sym, subst, inl, inr, List, ℕ, Option, true, false, Keeps, Keeps-refl, Program, SetupOf, NamedBitOf, OptionsOf, trace_text, IsDoneWith, IsOpened, IsRefusedWith, error_of_run, error_of_setup, runs, seeded, IsRunnable, IsRunReport}
+use Rattle.bp_machine.specs.declared.setup_errors.SetupError.TheVariants.{OutOfRange}
 use Rattle.bp_run.specs.declared.answers.RunReport.{RunReport}
-use Rattle.bp_run.specs.declared.answers.RunFault.{RunFault}
-use Rattle.bp_run.specs.declared.answers.RunFault.TheVariants as run
+use Rattle.bp_run.specs.declared.answers.RunError.{RunError}
+use Rattle.bp_run.specs.declared.answers.RunError.TheVariants as run
 use Rattle.bp_run.specs.Options.{has_bad_turn_or_ring}
 use Rattle.bp_run.specs.Runs.{IsPlayedBy, IsPlayRefusal}
 
@@ -42,7 +42,7 @@ module _ (o : OptionsOf) (named : List NamedBitOf) (text : List ℕ) (t : Progra
     kept : new ≡ old → Keeps old new
     kept same = subst (Keeps old) (sym same) (Keeps-refl old)
 
-    pub refused : (f : RunFault) → IsPlayRefusal t (seeded o s) old new f → IsRefusedWith (runs o named) old new text (fault_of_run f)
+    pub refused : (f : RunError) → IsPlayRefusal t (seeded o s) old new f → IsRefusedWith (runs o named) old new text (error_of_run f)
     refused (run.Program f) found = absurd found
     refused (run.Setup f) found = absurd found
     refused run.Memory same = inl (kept same, inr (inr (inl refl, runnable)))
@@ -69,5 +69,5 @@ module _ (o : OptionsOf) (named : List NamedBitOf) (text : List ℕ) (t : Progra
         ))
 
   -- the turn or the ring is out of range
-  pub bad_numbers : (out : Option (List ℕ)) → has_bad_turn_or_ring o ≡ true → IsRefusedWith (runs o named) out out text (fault_of_setup OutOfRange)
+  pub bad_numbers : (out : Option (List ℕ)) → has_bad_turn_or_ring o ≡ true → IsRefusedWith (runs o named) out out text (error_of_setup OutOfRange)
   bad_numbers out bad = inl (Keeps-refl out, inr (inl (record { program = t; setup = s; opened = opened; out_of_range = bad; is = refl })))

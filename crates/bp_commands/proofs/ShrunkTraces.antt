@@ -1,20 +1,20 @@
 -- The answer of the command `shrink`, from the result of shrinking a trace's history.
-use Rattle.bp_commands.proofs.Common.{◌≡◌, ◌⊎◌, true, List, refl, ap, sym, subst, arith, inl, inr, Program, IsLawfulText, Call, outcome_of, is_failure, SetupOf, IsDeadlock, IsEnd, budgeted, IsShrunk, One, trace_text, IsReplayed, IsTrace, Fault, Memory, Pair, IsOfTrace, IsTraceOf, IsTraceReport, FailAlike, DeadlockAlike, IsEndRefusal, IsShrunkText, HasNoFailure, LacksMemory}
-use Rattle.bp_test.specs.declared.shrinking.HistoryEnd.{HistoryEnd}
-use Rattle.bp_test.specs.declared.shrinking.HistoryEnd.TheVariants.{Failure, Deadlock, Other}
-use Rattle.bp_test.specs.declared.shrinking.Shrunk.{Shrunk}
-use Rattle.bp_trace.specs.declared.replaying.Replayed.{Replayed}
+use Rattle.bp_commands.proofs.Common.{◌≡◌, ◌⊎◌, true, List, refl, ap, sym, subst, arith, inl, inr, Program, IsWellFormedText, Call, outcome_of, is_failure, SetupOf, IsDeadlock, IsEnd, with_contexts, IsShrunk, One, trace_text, IsReplayed, IsTrace, Error, Memory, Pair, IsOfTrace, IsTraceOf, IsTraceReport, FailAlike, DeadlockAlike, IsEndRefusal, IsShrunkText, HasNoFailure, LacksMemory}
+use Rattle.bp_test.specs.declared.shrinks.HistoryEnd.{HistoryEnd}
+use Rattle.bp_test.specs.declared.shrinks.HistoryEnd.TheVariants.{Failure, Deadlock, Other}
+use Rattle.bp_test.specs.declared.shrinks.Shrunk.{Shrunk}
+use Rattle.bp_trace.specs.declared.replays.Replayed.{Replayed}
 
 -- histories of one end that is kept end alike
 alike : (t : Program) (s z : SetupOf) (h g : List Call) (end : HistoryEnd) → (end ≡ Other → ⊥) → IsEnd t s h end
     → IsEnd t z g end → FailAlike t s z h g ⊎ DeadlockAlike t s z h g
 alike t s z h g end given1 given2 given3 = grind (arith)
 
-module _ (given : Pair) (t : Program) (of : IsLawfulText given.text t) (r : Replayed) (is : IsReplayed t given.input r) where
+module _ (given : Pair) (t : Program) (of : IsWellFormedText given.text t) (r : Replayed) (is : IsReplayed t given.input r) where
   pub read : IsTraceOf given.text given.input t r.setup r.history.items
   read = record { of = of; version = is.version; is = is.trace }
 
-  pub end_refuses : (f : Fault) → IsEndRefusal t r.setup r.history.items f → HasNoFailure given f ⊎ LacksMemory given f
+  pub end_refuses : (f : Error) → IsEndRefusal t r.setup r.history.items f → HasNoFailure given f ⊎ LacksMemory given f
   end_refuses f given1 = grind (arith)
 
   pub memory_refuses : (end : HistoryEnd) → (end ≡ Other → ⊥) → IsEnd t r.setup r.history.items end → LacksMemory given Memory
@@ -39,7 +39,7 @@ module _ (given : Pair) (t : Program) (of : IsLawfulText given.text t) (r : Repl
       setup = g.setup;
       history = g.history.items;
       trace = is_trace;
-      same = subst (λ k. g.setup ≡ budgeted r.setup k) (sym contexts_are) shrunk.setup;
+      same = subst (λ k. g.setup ≡ with_contexts r.setup k) (sym contexts_are) shrunk.setup;
       used = rw contexts_are shrunk.report.contexts;
       steps = shrunk.steps;
       alike = alike t r.setup g.setup r.history.items g.history.items end kept ends shrunk.ends;

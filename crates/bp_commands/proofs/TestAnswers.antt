@@ -1,15 +1,15 @@
 -- The answer of the command `test`, from the result of testing a program.
-use Rattle.bp_commands.proofs.Common.{◌≡◌, refl, sym, subst, inl, inr, ℕ, ◌<◌, ◌≤◌, ◌^◌, length, List, [], ◌∷◌, ◌++◌, Option, Some, map, arith, Appends, Appends-nil, Keeps-refl, Program, AppendsAll, SetupOf, trace_text, MAX_JOBS, setup_of_run, IsFound, IsTest, IsTestRefusal, IsDoneWith, IsRefusedWith, IsOpened, fault_of_setup, fault_of_test, Memory, tests, AreListed, IsTestable}
+use Rattle.bp_commands.proofs.Common.{◌≡◌, refl, sym, subst, inl, inr, ℕ, ◌<◌, ◌≤◌, ◌^◌, length, List, [], ◌∷◌, ◌++◌, Option, Some, map, arith, Appends, Appends-nil, Keeps-refl, Program, AppendsAll, SetupOf, trace_text, MAX_JOBS, setup_of_run, IsFound, IsTest, IsTestRefusal, IsDoneWith, IsRefusedWith, IsOpened, error_of_setup, error_of_test, Memory, tests, AreListed, IsTestable}
 use Rattle.bp_flat.specs.StandsFor.{places_of}
-use Rattle.bp_machine.specs.declared.setup_faults.SetupFault.TheVariants.{OutOfRange}
-use Rattle.bp_test.specs.declared.testing.TestFault.{TestFault}
-use Rattle.bp_test.specs.declared.testing.TestFault.TheVariants as fault
+use Rattle.bp_machine.specs.declared.setup_errors.SetupError.TheVariants.{OutOfRange}
+use Rattle.bp_test.specs.declared.tests.TestError.{TestError}
+use Rattle.bp_test.specs.declared.tests.TestError.TheVariants as error
 use Rattle.bp_tasks.specs.declared.options.TestOptions.{TestOptions}
 use Rattle.bp_tasks.specs.declared.tasks.TestTask.{TestTask}
-use Rattle.bp_test.specs.declared.testing.Found.{Found}
-use Rattle.bp_test.specs.declared.testing.Found.TheVariants.{Nothing, Failed, Deadlock}
-use Rattle.bp_test.specs.declared.testing.Tested.{Tested as Made}
-use Rattle.bp_test.specs.declared.waiting.Waiting.{Waiting}
+use Rattle.bp_test.specs.declared.tests.Found.{Found}
+use Rattle.bp_test.specs.declared.tests.Found.TheVariants.{Nothing, Failed, Deadlock}
+use Rattle.bp_test.specs.declared.tests.Tested.{Tested as Made}
+use Rattle.bp_test.specs.declared.waits.Waiting.{Waiting}
 use Rattle.bp_test.specs.Tallies.{AreCounts, AreDistinct, MadeRun, made as made_of, HasReached, IsCounted}
 use Rattle.bp_messages.specs.declared.summaries.TestReport.{TestReport}
 use Rattle.bp_source.specs.SourceStatements.{AreStatements}
@@ -74,9 +74,9 @@ module _ (task : TestTask) (text : List ℕ) (t : Program) (taken : SetupOf) (op
           written = found.written;
         }
 
-    pub refused : (f : TestFault) → IsTestRefusal t taken x old new f → IsRefusedWith (tests task) old new text (fault_of_test f)
-    refused fault.Memory same = grind (arith)
-    refused fault.Write cut = inr (inl (
+    pub refused : (f : TestError) → IsTestRefusal t taken x old new f → IsRefusedWith (tests task) old new text (error_of_test f)
+    refused error.Memory same = grind (arith)
+    refused error.Write cut = inr (inl (
       refl,
       record {
         text = trace_text (setup_of_run taken x.seed cut.run) cut.history;
@@ -107,5 +107,5 @@ module _ (task : TestTask) (text : List ℕ) (t : Program) (taken : SetupOf) (op
     lacks_memory out = inl (Keeps-refl out, inr (inr (refl, testable)))
 
   -- the number of jobs is over the maximum
-  pub many_jobs : (out : Option (List ℕ)) → MAX_JOBS < x.jobs → IsRefusedWith (tests task) out out text (fault_of_setup OutOfRange)
+  pub many_jobs : (out : Option (List ℕ)) → MAX_JOBS < x.jobs → IsRefusedWith (tests task) out out text (error_of_setup OutOfRange)
   many_jobs out given1 = grind (arith)

@@ -1,12 +1,12 @@
 -- The answer of the command `show`, from a view of a trace.
-use Rattle.bp_commands.proofs.Common.{◌++◌, ℕ, List, Option, refl, sym, inl, inr, subst, Some, arith, Keeps, Keeps-refl, AppendsAll, AppendsPart, all_then, part_first, part_then, Program, Report, IsReport, IsAcceptedTrace, IsLawfulText, IsViewed, IsViewOfTrace, IsViewRefusal, fault_of_view, fault_of_trace, Fault, Write, IsDoneWith, IsRefusedWith, Pair, Command, IsOfTrace, IsTraceReport, shows, IsViewText, last_line, on_valid_calls, refusal_text, IsPart, IsShownWithLine, OfPart, Refusal}
-use Rattle.bp_trace.specs.declared.replaying.AcceptedTrace.{AcceptedTrace}
+use Rattle.bp_commands.proofs.Common.{◌++◌, ℕ, List, Option, refl, sym, inl, inr, subst, Some, arith, Keeps, Keeps-refl, AppendsAll, AppendsPart, all_then, part_first, part_then, Program, Report, IsReport, IsAcceptedTrace, IsWellFormedText, IsViewed, IsViewOfTrace, IsViewRefusal, error_of_view, error_of_trace, Error, Write, IsDoneWith, IsRefusedWith, Pair, Command, IsOfTrace, IsTraceReport, shows, IsViewText, last_line, on_valid_calls, refusal_text, IsPart, IsShownWithLine, OfPart, Refusal}
+use Rattle.bp_trace.specs.declared.replays.AcceptedTrace.{AcceptedTrace}
 use Rattle.bp_tasks.specs.declared.options.ViewOptions.{ViewOptions}
 use Rattle.bp_tasks.specs.declared.options.ViewFormat.{ViewFormat}
-use Rattle.bp_view.specs.declared.faults.ViewFault.{ViewFault}
-use Rattle.bp_view.specs.declared.faults.ViewFault.TheVariants as view
+use Rattle.bp_view.specs.declared.errors.ViewError.{ViewError}
+use Rattle.bp_view.specs.declared.errors.ViewError.TheVariants as view
 
-module _ (o : ViewOptions) (file : List ℕ) (given : Pair) (t : Program) (of : IsLawfulText given.text t) where
+module _ (o : ViewOptions) (file : List ℕ) (given : Pair) (t : Program) (of : IsWellFormedText given.text t) where
   -- a view of a trace is the text and the report of the command
   module _ (written : List ℕ) (r : Report) (is : IsViewOfTrace t given.text given.input o file written r) where
     reported_of : IsReport is.replayed.setup is.replayed.history.items r
@@ -29,10 +29,10 @@ module _ (o : ViewOptions) (file : List ℕ) (given : Pair) (t : Program) (of : 
     pub viewed : (r : Report) → IsViewed t given.text given.input o file old new r → IsDoneWith (shows o file) old new given r
     viewed r done = record { text = done.text; reports = reported done.text r done.is; written = done.written }
 
-    pub not_viewed : (f : ViewFault) → IsViewRefusal t given.text given.input o file old new f → IsRefusedWith (shows o file) old new given (fault_of_view f)
+    pub not_viewed : (f : ViewError) → IsViewRefusal t given.text given.input o file old new f → IsRefusedWith (shows o file) old new given (error_of_view f)
     not_viewed (view.Replay f) found = inl (
       subst (Keeps old) (sym found.0) (Keeps-refl old),
-      inr (inl (record { program = t; lawful = of; cause = f; why = found.1; is = refl })),
+      inr (inl (record { program = t; well_formed = of; cause = f; why = found.1; is = refl })),
     )
     not_viewed (view.NoThread i) found = grind (arith)
     not_viewed (view.NoVariable n) found = grind (arith)
@@ -54,7 +54,7 @@ module _ (format : ViewFormat) (command : Command Pair Report) (given : Pair) wh
     of_part Holds holds = record { part = part; refusal = refusal; is = is; holds = holds }
 
     -- a refusal of the command on the part is one of the whole
-    refused_part : (old new : Option (List ℕ)) (f : Fault) → IsRefusedWith command old new part f → IsRefusedWith whole old new given f
+    refused_part : (old new : Option (List ℕ)) (f : Error) → IsRefusedWith command old new part f → IsRefusedWith whole old new given f
     refused_part old new f (inl (keeps, why)) = inl (keeps, inr (inr (of_part _ why)))
     refused_part old new f (inr (inl (write, cut))) = inr (inl (
       write,
@@ -67,17 +67,17 @@ module _ (format : ViewFormat) (command : Command Pair Report) (given : Pair) wh
     refused_part old new f (inr (inr spoilt)) = grind (arith)
 
   -- the trace is refused after some calls
-  module _ (p : Program) (lawful : IsLawfulText given.text p) (x : AcceptedTrace) (accepted : IsAcceptedTrace p given.input x) where
+  module _ (p : Program) (well_formed : IsWellFormedText given.text p) (x : AcceptedTrace) (accepted : IsAcceptedTrace p given.input x) where
     abbrev before : Pair
     before = record { text = given.text; input = x.trace.items }
 
     abbrev refusal : Refusal
-    refusal = Some (x.calls, fault_of_trace x.fault)
+    refusal = Some (x.calls, error_of_trace x.error)
 
     is_before : IsPart given before refusal
     is_before = record {
       program = p;
-      lawful = lawful;
+      well_formed = well_formed;
       accepted = x;
       is = accepted;
       part_is = refl;
@@ -86,7 +86,7 @@ module _ (format : ViewFormat) (command : Command Pair Report) (given : Pair) wh
     }
 
     -- the command refuses the trace of these calls, or is cut short
-    pub part_refused : (old new : Option (List ℕ)) (f : Fault) → IsRefusedWith command old new before f → IsRefusedWith whole old new given f
+    pub part_refused : (old new : Option (List ℕ)) (f : Error) → IsRefusedWith command old new before f → IsRefusedWith whole old new given f
     part_refused old new f is = refused_part before refusal is_before old new f is
 
     -- the calls were shown, but not the last line
@@ -103,7 +103,7 @@ module _ (format : ViewFormat) (command : Command Pair Report) (given : Pair) wh
 
     -- the calls were shown, and the last line
     pub line_shown : (old mid new : Option (List ℕ)) (r : Report) → IsDoneWith command old mid before r → AppendsAll mid new (refusal_text format x.calls)
-        → IsRefusedWith whole old new given (fault_of_trace x.fault)
+        → IsRefusedWith whole old new given (error_of_trace x.error)
     line_shown old mid new r done all = inr (inr (record {
       text = done.text ++ refusal_text format x.calls;
       spoils = of_part before refusal is_before _ (inr ((done.text, inr (r, done.reports), refl), refl));

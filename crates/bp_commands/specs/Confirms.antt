@@ -7,7 +7,7 @@ use Rattle.bp_machine.specs.declared.calls.Call.{Call}
 use Rattle.bp_machine.specs.Histories.{IsReport}
 use Rattle.bp_machine.specs.Setups.{SetupOf}
 use Rattle.bp_trace.specs.TraceText.{trace_text}
-use Rattle.bp_confirm.specs.declared.confirming.ConfirmFault.{ConfirmFault}
+use Rattle.bp_confirm.specs.declared.confirmations.ConfirmError.{ConfirmError}
 use Rattle.bp_confirm.specs.declared.choices.LastChoice.{LastChoice}
 use Rattle.bp_confirm.specs.ConfirmedTexts.{IsConfirmedText, IsStepsRefusal}
 use Rattle.bp_view.specs.FootFacts.{AreFootFacts, ShownFoot}
@@ -16,13 +16,13 @@ use Rattle.bp_tasks.specs.declared.tasks.Verdict.{Verdict}
 use Rattle.bp_tasks.specs.declared.tasks.Verdict.TheVariants.{Failure, Deadlock, Run}
 use Rattle.bp_tasks.specs.declared.options.ViewFormat.TheVariants.{Json}
 use Rattle.bp_view.specs.Views.{outcome_text, waits_text}
-use Rattle.bp_messages.specs.declared.faults.Fault.{Fault}
-use Rattle.bp_messages.specs.FaultTable.{exit_status, fault_of_steps}
-use Rattle.bp_messages.specs.FaultObjects.{verdict_object, ShownVerdict}
+use Rattle.bp_messages.specs.declared.errors.Error.{Error}
+use Rattle.bp_messages.specs.ErrorTable.{exit_status, error_of_steps}
+use Rattle.bp_messages.specs.ErrorObjects.{verdict_object, ShownVerdict}
 use Rattle.bp_commands.specs.Commands.{Command, Pair}
 use Rattle.bp_commands.specs.Programs.{IsNotOpened, IsOpened}
-use Rattle.bp_commands.specs.FaultReports.{AnswerRule}
-use Rattle.bp_commands.specs.declared.confirming.Confirmation.{Confirmation}
+use Rattle.bp_commands.specs.ErrorReports.{AnswerRule}
+use Rattle.bp_commands.specs.declared.confirmations.Confirmation.{Confirmation}
 
 -- the verdict on a run, by the facts of its end
 abbrev pub verdict_of : ShownFoot → Verdict
@@ -140,13 +140,13 @@ module _ (x : ConfirmTask) (given : Pair) where
         IsConfirmation given.text trace.program trace.setup trace.history trace.choices x answer
 
   -- the program accepts the setup, and no history is written that takes the steps
-  pub record AreStepsRefused (f : Fault) : Type 0 where
+  pub record AreStepsRefused (f : Error) : Type 0 where
     pub program : Program
     pub start : SetupOf
     pub opened : IsOpened x.start x.named given.text program start
-    pub cause : ConfirmFault
+    pub cause : ConfirmError
     pub why : IsStepsRefusal program start given.input given.text x.bound cause
-    pub is : f ≡ fault_of_steps cause
+    pub is : f ≡ error_of_steps cause
 
 -- the command writes the trace of the history that takes the steps
 abbrev pub confirms : ConfirmTask → Command Pair Confirmation

@@ -7,7 +7,7 @@ use Rattle.bp_explore.specs.declared.explorations.Finding.TheVariants as finding
 use Rattle.bp_explore.specs.declared.explorations.Reason.{Reason}
 use Rattle.bp_explore.specs.declared.explorations.ThroughEnding.{ThroughEnding}
 use Rattle.bp_explore.specs.declared.explorations.ThroughEnding.TheVariants.{Found, Unplayed, Missing, MissingWithin, Unfinished}
-use Rattle.bp_messages.specs.FaultTable.{exit_status}
+use Rattle.bp_messages.specs.ErrorTable.{exit_status}
 use Rattle.bp_commands.specs.declared.exploration_ends.EndFacts.{EndFacts}
 use Rattle.bp_commands.specs.declared.exploration_ends.Exploration.{Exploration}
 use Rattle.bp_commands.specs.declared.exploration_ends.FoundKind.{FoundKind}

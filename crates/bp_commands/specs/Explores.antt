@@ -18,11 +18,11 @@ use Rattle.bp_tasks.specs.declared.options.ViewFormat.{ViewFormat}
 use Rattle.bp_tasks.specs.declared.options.ViewFormat.TheVariants.{Columns, Json}
 use Rattle.bp_trace.specs.TraceText.{trace_text}
 use Rattle.bp_view.specs.Views.{clean_text, outcome_text, waits_text}
-use Rattle.bp_messages.specs.declared.faults.Fault.{Fault}
-use Rattle.bp_messages.specs.declared.faults.Fault.TheVariants.{Memory}
+use Rattle.bp_messages.specs.declared.errors.Error.{Error}
+use Rattle.bp_messages.specs.declared.errors.Error.TheVariants.{Memory}
 use Rattle.bp_commands.specs.Commands.{Command}
 use Rattle.bp_commands.specs.Programs.{IsNotOpened, IsOpened}
-use Rattle.bp_commands.specs.FaultReports.{AnswerRule, report_failed}
+use Rattle.bp_commands.specs.ErrorReports.{AnswerRule, report_failed}
 use Rattle.bp_commands.specs.ExplorationEnds.{facts_of_ending, status_of}
 use Rattle.bp_commands.specs.ExplorationTexts.{exploration_text}
 use Rattle.bp_commands.specs.declared.exploration_ends.Exploration.{Exploration}
@@ -93,7 +93,7 @@ module _ (x : ExploreTask) (text : List ℕ) where
         IsFindingSaid text trace.program x outcome answer.waits.items answer.failed trace.ending
 
   -- the program accepts the setup, and memory was refused
-  pub record LacksMemory (f : Fault) : Type 0 where
+  pub record LacksMemory (f : Error) : Type 0 where
     pub program : Program
     pub setup : SetupOf
     pub opened : IsOpened x.start x.named text program setup

@@ -2,15 +2,15 @@
 use Rattle.std.specs.Prelude.{ℕ, List, Option, None, Some, ◌≡◌, ◌≢◌, ◌⊎◌, [], Result, Err}
 use Rattle.std.specs.Io.KnownBytes.{append_known, Keeps}
 use Rattle.bp_machine.specs.declared.calls.Report.{Report}
-use Rattle.bp_tasks.specs.declared.tasks.FaultFormat.{FaultFormat}
-use Rattle.bp_messages.specs.declared.faults.Fault.{Fault}
-use Rattle.bp_messages.specs.declared.faults.Fault.TheVariants.{Write}
+use Rattle.bp_tasks.specs.declared.tasks.ErrorFormat.{ErrorFormat}
+use Rattle.bp_messages.specs.declared.errors.Error.{Error}
+use Rattle.bp_messages.specs.declared.errors.Error.TheVariants.{Write}
 use Rattle.bp_commands.specs.Commands.{text_and, Inputs, Pair, Command, Answers, bundle_alone, text_alone}
 use Rattle.bp_commands.specs.Traces.{bundles}
 use Rattle.bp_commands.specs.declared.run_ends.Explained.{Explained}
 use Rattle.bp_commands.specs.declared.run_ends.RunEnd.{RunEnd}
 use Rattle.bp_commands.specs.declared.explanations.SecondInput.{SecondInput}
-use Rattle.bp_commands.specs.FaultReports.{of_report, AnswerRule, IsSaidOfRead, FaultReport, on_bytes, on_pair, on_text, IsConcluded, IsObjectRead}
+use Rattle.bp_commands.specs.ErrorReports.{of_report, AnswerRule, IsSaidOfRead, ErrorReport, on_bytes, on_pair, on_text, IsConcluded, IsObjectRead}
 
 -- The bytes left of files.
 
@@ -37,11 +37,11 @@ pub record LacksEnd (held now : Option (List ℕ)) : Type 0 where
 -- command's; or it lacks some of the end, and the answer is that it was not written.
 abbrev pub IsFlushed
     : {T : Type 0}
-    → Result T Fault → Option (List ℕ) → Result T Fault → Option (List ℕ) → Type 0
+    → Result T Error → Option (List ℕ) → Result T Error → Option (List ℕ) → Type 0
 IsFlushed done held answer now =
     (Keeps held now × (answer ≡ done)) ⊎ (LacksEnd held now × (answer ≡ Err Write))
 
--- a command on inputs that it may leave unread in part, how it ends, the reports of faults of the
+-- a command on inputs that it may leave unread in part, how it ends, the reports of errors of the
 -- inputs, and their format
 pub record Job : Type 1 where
   pub Left : Type 0
@@ -50,8 +50,8 @@ pub record Job : Type 1 where
   pub command : Command Given Answer
   pub rule : AnswerRule Answer
   pub inputs : Left → Inputs Given
-  pub report : FaultReport Given
-  pub format : FaultFormat
+  pub report : ErrorReport Given
+  pub format : ErrorFormat
 
 -- the contents of the output and of standard error
 pub record Held : Type 0 where
@@ -64,11 +64,11 @@ held output errors = record { output = output; errors = errors }
 -- The streams held this before and after a run was ended by this answer: the output took the
 -- command's text, or not all of its end; and standard error has its summary, or its refusal.
 module _
-    {R : Type 0} (rule : AnswerRule R) (format : FaultFormat)
-    (IsObject : Explained → Fault → List ℕ → Type 0)
-    (IsSaid : Fault → Explained → List ℕ → Type 0) where
-  pub record IsFinished (done : Result R Fault) (before after : Held) (end : RunEnd) : Type 0 where
-    pub final : Result R Fault
+    {R : Type 0} (rule : AnswerRule R) (format : ErrorFormat)
+    (IsObject : Explained → Error → List ℕ → Type 0)
+    (IsSaid : Error → Explained → List ℕ → Type 0) where
+  pub record IsFinished (done : Result R Error) (before after : Held) (end : RunEnd) : Type 0 where
+    pub final : Result R Error
     pub flushed : IsFlushed done before.output final after.output
     pub concluded : IsConcluded rule format IsObject IsSaid final end before.errors after.errors
 
@@ -77,7 +77,7 @@ module _
 pub record IsRun (job : Job) (before after : Held) (end : RunEnd) : Type 0 where
   pub left : job.Left
   pub buffered : Option (List ℕ)
-  pub done : Result job.Answer Fault
+  pub done : Result job.Answer Error
   pub answers : Answers job.command (job.inputs left) before.output buffered done
   pub finished :
       let IsObject = IsObjectRead (job.inputs left) job.report.IsObject in
@@ -85,7 +85,7 @@ pub record IsRun (job : Job) (before after : Held) (end : RunEnd) : Type 0 where
       let wrote = held buffered before.errors in
       IsFinished job.rule job.format IsObject IsSaid done wrote after end
 
-module _ (bytes : List ℕ → Option (List ℕ)) (format : FaultFormat) where
+module _ (bytes : List ℕ → Option (List ℕ)) (format : ErrorFormat) where
   -- a command on the program of a file
   abbrev pub on_file : {R : Type 0} → Command (List ℕ) R → AnswerRule R → List ℕ → Job
   on_file {R} command rule path = record {
@@ -115,7 +115,7 @@ module _ (bytes : List ℕ → Option (List ℕ)) (format : FaultFormat) where
   }
 
 -- the bundle of a reader that has these bytes
-abbrev pub on_bundle : FaultFormat → Option (List ℕ) → Job
+abbrev pub on_bundle : ErrorFormat → Option (List ℕ) → Job
 on_bundle format bytes = record {
   Left = Option (List ℕ);
   Given = List ℕ;

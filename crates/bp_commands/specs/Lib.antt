@@ -1,7 +1,7 @@
 pub mod Traces
 pub mod Programs
 pub mod Commands
-pub mod FaultReports
+pub mod ErrorReports
 pub mod Jobs
 pub mod Runs
 pub mod Tests

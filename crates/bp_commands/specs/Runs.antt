@@ -2,7 +2,7 @@
 use Rattle.std.specs.Prelude.{◌≡◌, ◌⊎◌, ℕ, List, [], Some, true, false}
 use Rattle.bp_language.specs.Ast.{Program}
 use Rattle.bp_machine.specs.declared.calls.Call.{Call}
-use Rattle.bp_machine.specs.declared.setup_faults.SetupFault.TheVariants.{OutOfRange}
+use Rattle.bp_machine.specs.declared.setup_errors.SetupError.TheVariants.{OutOfRange}
 use Rattle.bp_machine.specs.Histories.{IsLegal, HasSeededBits}
 use Rattle.bp_machine.specs.Setups.{SetupOf}
 use Rattle.bp_run.specs.declared.answers.RunReport.{RunReport}
@@ -11,9 +11,9 @@ use Rattle.bp_tasks.specs.RunOptions.{OptionsOf}
 use Rattle.bp_run.specs.Options.{has_bad_turn_or_ring}
 use Rattle.bp_run.specs.Runs.{IsPlayedBy, IsEarly}
 use Rattle.bp_trace.specs.TraceText.{trace_text}
-use Rattle.bp_messages.specs.declared.faults.Fault.{Fault}
-use Rattle.bp_messages.specs.declared.faults.Fault.TheVariants.{Start, Early, Memory}
-use Rattle.bp_messages.specs.FaultTable.{fault_of_setup}
+use Rattle.bp_messages.specs.declared.errors.Error.{Error}
+use Rattle.bp_messages.specs.declared.errors.Error.TheVariants.{Start, Early, Memory}
+use Rattle.bp_messages.specs.ErrorTable.{error_of_setup}
 use Rattle.bp_commands.specs.Commands.{Command}
 use Rattle.bp_commands.specs.Programs.{IsNotOpened, IsOpened}
 
@@ -47,7 +47,7 @@ module _ (o : OptionsOf) (named : List NamedBitOf) (text : List ℕ) where
         IsPlayedBy runnable.program setup (Some []) (Some written) report
 
   -- an empty output after a run in which a worker stopped early has the trace of a history
-  pub record IsStoppedEarly (written : List ℕ) (f : Fault) : Type 0 where
+  pub record IsStoppedEarly (written : List ℕ) (f : Error) : Type 0 where
     pub runnable : IsRunnable
     pub thread : ℕ
     pub early :
@@ -56,18 +56,18 @@ module _ (o : OptionsOf) (named : List NamedBitOf) (text : List ℕ) where
     pub is : f ≡ Early thread
 
   -- the program accepts the setup, but the turn or the ring is out of range
-  pub record HasBadNumbers (f : Fault) : Type 0 where
+  pub record HasBadNumbers (f : Error) : Type 0 where
     pub program : Program
     pub setup : SetupOf
     pub opened : IsOpened o.start named text program setup
     pub out_of_range : has_bad_turn_or_ring o ≡ true
-    pub is : f ≡ fault_of_setup OutOfRange
+    pub is : f ≡ error_of_setup OutOfRange
 
   -- memory was refused before a worker was started, or a worker could not be started
-  abbrev pub IsNotStarted : Fault → Type 0
+  abbrev pub IsNotStarted : Error → Type 0
   IsNotStarted f = ((f ≡ Memory) ⊎ (f ≡ Start)) × IsRunnable
 
-  abbrev pub IsRunRefused : Fault → Type 0
+  abbrev pub IsRunRefused : Error → Type 0
   IsRunRefused f = IsNotOpened o.start named text f ⊎ (HasBadNumbers f ⊎ IsNotStarted f)
 
 -- the command writes the trace of the history that the workers make

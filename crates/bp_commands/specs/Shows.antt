@@ -7,9 +7,9 @@ use Rattle.bp_machine.specs.declared.calls.Report.{Report}
 use Rattle.bp_machine.specs.Histories.{IsReport}
 use Rattle.bp_machine.specs.Setups.{SetupOf, threads}
 use Rattle.bp_trace.specs.Replays.{HasNoCalls, IsAcceptedTrace, IsSomeTrace, IsReplayRefusal}
-use Rattle.bp_trace.specs.declared.replaying.AcceptedTrace.{AcceptedTrace}
-use Rattle.bp_trace.specs.declared.faults.ReplayFault.{ReplayFault}
-use Rattle.bp_code.specs.LawfulTexts.{IsLawfulText}
+use Rattle.bp_trace.specs.declared.replays.AcceptedTrace.{AcceptedTrace}
+use Rattle.bp_trace.specs.declared.errors.ReplayError.{ReplayError}
+use Rattle.bp_code.specs.WellFormedTexts.{IsWellFormedText}
 use Rattle.bp_tasks.specs.declared.tasks.ShowTask.{ShowTask}
 use Rattle.bp_tasks.specs.declared.options.ViewFormat.{ViewFormat}
 use Rattle.bp_tasks.specs.declared.options.ViewOptions.{ViewOptions}
@@ -19,9 +19,9 @@ use Rattle.bp_view.specs.States.{IsStateText}
 use Rattle.bp_view.specs.Views.{IsThere, IsView}
 use Rattle.bp_view.specs.Filters.{watched_names, AreDeclared, IsUndeclared}
 use Rattle.bp_confirm.specs.OwnSteps.{own_steps, own_steps_text}
-use Rattle.bp_messages.specs.declared.faults.Fault.{Fault}
-use Rattle.bp_messages.specs.declared.faults.Fault.TheVariants.{NoThread, NoVariable}
-use Rattle.bp_messages.specs.FaultTable.{fault_of_trace}
+use Rattle.bp_messages.specs.declared.errors.Error.{Error}
+use Rattle.bp_messages.specs.declared.errors.Error.TheVariants.{NoThread, NoVariable}
+use Rattle.bp_messages.specs.ErrorTable.{error_of_trace}
 use Rattle.bp_commands.specs.Commands.{Command, Pair}
 use Rattle.bp_commands.specs.Programs.{HasNoCode}
 use Rattle.bp_commands.specs.Traces.{migrates, on_trace, replays, shrinks, IsBegun, IsNoTrace, IsOfTrace, IsTraceOf, IsTraceReport, TextRule}
@@ -53,7 +53,7 @@ abbrev pub AreStepsOf : TextRule
 AreStepsOf text t s h written = written ≡ own_steps_text (own_steps text t s h)
 
 -- only the calls of one thread are to be shown, which the trace does not have
-pub record HasNoThread (o : ViewOptions) (given : Pair) (f : Fault) : Type 0 where
+pub record HasNoThread (o : ViewOptions) (given : Pair) (f : Error) : Type 0 where
   pub program : Program
   pub setup : SetupOf
   pub history : List Call
@@ -64,7 +64,7 @@ pub record HasNoThread (o : ViewOptions) (given : Pair) (f : Fault) : Type 0 whe
   pub is : f ≡ NoThread thread
 
 -- the trace has the thread that is asked for, and a watched name is not that of a variable
-pub record HasNoVariable (o : ViewOptions) (given : Pair) (f : Fault) : Type 0 where
+pub record HasNoVariable (o : ViewOptions) (given : Pair) (f : Error) : Type 0 where
   pub program : Program
   pub setup : SetupOf
   pub history : List Call
@@ -122,9 +122,9 @@ shows_part x screen =
 
 -- `show --valid`: the view of the accepted calls of a trace.
 
--- the number of calls after which a trace is refused, and its fault; None for an accepted trace
+-- the number of calls after which a trace is refused, and its error; None for an accepted trace
 abbrev pub Refusal : Type 0
-Refusal = Option (ℕ × Fault)
+Refusal = Option (ℕ × Error)
 
 -- the last line of the view of a trace that is refused after this number of calls
 abbrev pub refusal_text : ViewFormat → (calls : ℕ) → List ℕ
@@ -140,18 +140,18 @@ last_line format (Some refusal) = refusal_text format refusal.0
 -- the trace is one of a history of the program
 pub record IsWholeTrace (given : Pair) : Type 0 where
   pub program : Program
-  pub lawful : IsLawfulText given.text program
+  pub well_formed : IsWellFormedText given.text program
   pub trace : IsSomeTrace program given.input
 
--- the trace is refused for this fault, and the part has that of its accepted calls
-pub record IsAcceptedPart (given part : Pair) (calls : ℕ) (f : Fault) : Type 0 where
+-- the trace is refused for this error, and the part has that of its accepted calls
+pub record IsAcceptedPart (given part : Pair) (calls : ℕ) (f : Error) : Type 0 where
   pub program : Program
-  pub lawful : IsLawfulText given.text program
+  pub well_formed : IsWellFormedText given.text program
   pub accepted : AcceptedTrace
   pub is : IsAcceptedTrace program given.input accepted
   pub part_is : part ≡ record { text = given.text; input = accepted.trace.items }
   pub calls_are : calls ≡ accepted.calls
-  pub refused : f ≡ fault_of_trace accepted.fault
+  pub refused : f ≡ error_of_trace accepted.error
 
 -- the part has the trace of the accepted calls, which is the trace itself if that is accepted
 abbrev pub IsPart : (given part : Pair) → Refusal → Type 0
@@ -167,13 +167,13 @@ pub record OfPart (given : Pair) (Holds : Pair → Refusal → Type 0) : Type 0 
 
 -- no calls can be accepted: the text has no head of a setup that the program accepts, or memory was
 -- refused
-pub record HasNoPart (given : Pair) (f : Fault) : Type 0 where
+pub record HasNoPart (given : Pair) (f : Error) : Type 0 where
   pub program : Program
-  pub lawful : IsLawfulText given.text program
-  pub cause : ReplayFault
+  pub well_formed : IsWellFormedText given.text program
+  pub cause : ReplayError
   pub why : IsReplayRefusal program given.input cause
   pub none : HasNoCalls cause
-  pub is : f ≡ fault_of_trace cause
+  pub is : f ≡ error_of_trace cause
 
 module _ (format : ViewFormat) (command : Command Pair Report) where
   -- the command shows this of a trace
@@ -187,7 +187,7 @@ module _ (format : ViewFormat) (command : Command Pair Report) where
       (shown : List ℕ) × IsShown part shown × (text ≡ shown ++ last_line format refusal)
 
   -- the accepted calls were shown, with the last line, and then the trace is refused
-  abbrev pub IsRefusedAfter : (text : List ℕ) → Fault → Pair → Refusal → Type 0
+  abbrev pub IsRefusedAfter : (text : List ℕ) → Error → Pair → Refusal → Type 0
   IsRefusedAfter text f part None = ⊥
   IsRefusedAfter text f part (Some refusal) =
       IsShownWithLine text part (Some refusal) × (f ≡ refusal.1)

@@ -3,18 +3,18 @@ use Rattle.std.specs.Prelude.{if◌then◌else◌, ◌≡◌, ◌<◌, ◌≤◌
 use Rattle.bp_language.specs.Ast.{Program}
 use Rattle.bp_flat.specs.StandsFor.{places_of}
 use Rattle.bp_machine.specs.declared.calls.Report.{Report}
-use Rattle.bp_machine.specs.declared.setup_faults.SetupFault.TheVariants.{OutOfRange}
+use Rattle.bp_machine.specs.declared.setup_errors.SetupError.TheVariants.{OutOfRange}
 use Rattle.bp_machine.specs.Setups.{SetupOf}
 use Rattle.bp_tasks.specs.declared.limits.TheConstants.{MAX_JOBS}
 use Rattle.bp_tasks.specs.declared.tasks.TestTask.{TestTask}
 use Rattle.bp_test.specs.Tallies.{AreCounts, AreDistinctRuns, MadeRun, HasReached}
 use Rattle.bp_test.specs.Tests.{IsFound, IsSought, IsWrittenRun}
-use Rattle.bp_messages.specs.declared.faults.Fault.{Fault}
-use Rattle.bp_messages.specs.declared.faults.Fault.TheVariants.{Memory}
+use Rattle.bp_messages.specs.declared.errors.Error.{Error}
+use Rattle.bp_messages.specs.declared.errors.Error.TheVariants.{Memory}
 use Rattle.bp_messages.specs.declared.summaries.TestReport.{TestReport}
 use Rattle.bp_commands.specs.Commands.{Command}
-use Rattle.bp_commands.specs.FaultReports.{AnswerRule}
-use Rattle.bp_messages.specs.FaultTable.{fault_of_setup, exit_status}
+use Rattle.bp_commands.specs.ErrorReports.{AnswerRule}
+use Rattle.bp_messages.specs.ErrorTable.{error_of_setup, exit_status}
 use Rattle.bp_commands.specs.Programs.{IsNotOpened, IsOpened}
 use Rattle.bp_messages.specs.Notes.{has_found}
 use Rattle.bp_messages.specs.Summaries.{summary_text}
@@ -83,18 +83,18 @@ module _ (x : TestTask) (text : List ℕ) where
     pub lines : AreListed x text testable.program (map (λ v. v.items) tested.lines.items)
 
   -- the program accepts the setup, but the number of jobs is over the maximum
-  pub record HasManyJobs (f : Fault) : Type 0 where
+  pub record HasManyJobs (f : Error) : Type 0 where
     pub program : Program
     pub setup : SetupOf
     pub opened : IsOpened x.start x.named text program setup
     pub many : MAX_JOBS < x.options.jobs
-    pub is : f ≡ fault_of_setup OutOfRange
+    pub is : f ≡ error_of_setup OutOfRange
 
   -- memory was refused to a test of the program
-  abbrev pub LacksMemory : Fault → Type 0
+  abbrev pub LacksMemory : Error → Type 0
   LacksMemory f = (f ≡ Memory) × IsTestable
 
-  abbrev pub IsTestRefused : Fault → Type 0
+  abbrev pub IsTestRefused : Error → Type 0
   IsTestRefused f = IsNotOpened x.start x.named text f ⊎ (HasManyJobs f ⊎ LacksMemory f)
 
 -- The command writes the trace of the first run that the test searches for, or nothing. The

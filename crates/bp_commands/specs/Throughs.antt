@@ -1,7 +1,7 @@
 -- The command `explore --through`.
 use Rattle.std.specs.Prelude.{◌≡◌, ◌⊎◌, ℕ, Bool, List, [], Some, length}
 use Rattle.bp_language.specs.Ast.{Program}
-use Rattle.bp_confirm.specs.declared.confirming.ConfirmFault.{ConfirmFault}
+use Rattle.bp_confirm.specs.declared.confirmations.ConfirmError.{ConfirmError}
 use Rattle.bp_confirm.specs.ConfirmedTexts.{AreTold, IsUntold}
 use Rattle.bp_confirm.specs.OwnSteps.{listed_steps}
 use Rattle.bp_confirm.specs.Steps.{StepLineOf}
@@ -13,9 +13,9 @@ use Rattle.bp_flat.specs.StandsFor.{StandsFor}
 use Rattle.bp_machine.specs.Setups.{SetupOf}
 use Rattle.bp_tasks.specs.declared.tasks.ExploreTask.{ExploreTask}
 use Rattle.bp_trace.specs.TraceText.{trace_text}
-use Rattle.bp_messages.specs.declared.faults.Fault.{Fault}
-use Rattle.bp_messages.specs.declared.faults.Fault.TheVariants.{Memory}
-use Rattle.bp_messages.specs.FaultTable.{fault_of_steps}
+use Rattle.bp_messages.specs.declared.errors.Error.{Error}
+use Rattle.bp_messages.specs.declared.errors.Error.TheVariants.{Memory}
+use Rattle.bp_messages.specs.ErrorTable.{error_of_steps}
 use Rattle.bp_commands.specs.Commands.{Command, Pair}
 use Rattle.bp_commands.specs.Programs.{IsNotOpened, IsOpened}
 use Rattle.bp_commands.specs.ExplorationEnds.{facts_through, made_through}
@@ -72,23 +72,23 @@ module _ (x : ExploreTask) (given : Pair) where
         IsRunSaid given.text trace.program x outcome answer.waits.items answer.failed trace.ending
 
   -- the program accepts the setup, and the steps are not of its threads and variables
-  pub record AreStepsUntold (f : Fault) : Type 0 where
+  pub record AreStepsUntold (f : Error) : Type 0 where
     pub program : Program
     pub setup : SetupOf
     pub opened : IsOpened x.start x.named given.text program setup
-    pub cause : ConfirmFault
+    pub cause : ConfirmError
     pub why : IsUntold program setup given.input cause
-    pub is : f ≡ fault_of_steps cause
+    pub is : f ≡ error_of_steps cause
 
   -- the program accepts the setup, there are steps, and memory was refused
-  pub record LacksMemoryThrough (f : Fault) : Type 0 where
+  pub record LacksMemoryThrough (f : Error) : Type 0 where
     pub program : Program
     pub setup : SetupOf
     pub lines : List StepLineOf
     pub listed : AreListed program setup lines
     pub is : f ≡ Memory
 
-  abbrev pub IsThroughRefused : Fault → Type 0
+  abbrev pub IsThroughRefused : Error → Type 0
   IsThroughRefused f =
       IsNotOpened x.start x.named given.text f ⊎ (AreStepsUntold f ⊎ LacksMemoryThrough f)
 

@@ -6,21 +6,21 @@ use Rattle.bp_machine.specs.declared.calls.Report.{Report}
 use Rattle.bp_machine.specs.Runs.{printed_rows}
 use Rattle.bp_machine.specs.Histories.{outcome_of, IsReport, IsLeastWithin, granted_calls, granted_threads, is_failure}
 use Rattle.bp_machine.specs.Setups.{SetupOf, StartOf, default_start}
-use Rattle.bp_trace.specs.declared.faults.ReplayFault.{ReplayFault}
+use Rattle.bp_trace.specs.declared.errors.ReplayError.{ReplayError}
 use Rattle.bp_trace.specs.declared.traces.Version.{Version}
 use Rattle.bp_trace.specs.Replays.{IsTrace, IsReplayRefusal}
 use Rattle.bp_trace.specs.TraceText.{trace_text_2, trace_text}
-use Rattle.bp_trace.specs.declared.faults.DriveFault.{DriveFault}
+use Rattle.bp_trace.specs.declared.errors.DriveError.{DriveError}
 use Rattle.bp_trace.specs.Drives.{IsDriven, IsScheduleRefusal}
 use Rattle.bp_trace.specs.declared.traces.Version.TheVariants.{One}
-use Rattle.bp_code.specs.LawfulTexts.{IsLawfulText}
+use Rattle.bp_code.specs.WellFormedTexts.{IsWellFormedText}
 use Rattle.bp_tasks.specs.NamedBits.{NamedBitOf}
-use Rattle.bp_test.specs.declared.waiting.Waiting.{Waiting}
+use Rattle.bp_test.specs.declared.waits.Waiting.{Waiting}
 use Rattle.bp_test.specs.Tests.{FailsAt, IsDeadlock}
-use Rattle.bp_test.specs.Shrinks.{DeadlocksAt, IsOtherEnd, budgeted}
-use Rattle.bp_messages.specs.declared.faults.Fault.{Fault}
-use Rattle.bp_messages.specs.declared.faults.Fault.TheVariants.{Memory, NoFailure}
-use Rattle.bp_messages.specs.FaultTable.{fault_of_trace, fault_of_schedule}
+use Rattle.bp_test.specs.Shrinks.{DeadlocksAt, IsOtherEnd, with_contexts}
+use Rattle.bp_messages.specs.declared.errors.Error.{Error}
+use Rattle.bp_messages.specs.declared.errors.Error.TheVariants.{Memory, NoFailure}
+use Rattle.bp_messages.specs.ErrorTable.{error_of_trace, error_of_schedule}
 use Rattle.bp_messages.specs.ReplayLines.{shown_text}
 use Rattle.bp_flat.specs.Flat.{Flat}
 use Rattle.bp_commands.specs.Commands.{AnswersOf, Command, Pair}
@@ -41,10 +41,10 @@ IsReplayText text t s h written = written ≡ shown_text (printed_rows t s h) (o
 abbrev pub IsMigrationText : TextRule
 IsMigrationText text t s h written = written ≡ trace_text_2 s h
 
--- the text has this lawful program, and the trace is that of a legal history of it
+-- the text has this well-formed program, and the trace is that of a legal history of it
 pub record IsTraceOf
     (text trace : List ℕ) (t : Program) (s : SetupOf) (h : List Call) : Type 0 where
-  pub of : IsLawfulText text t
+  pub of : IsWellFormedText text t
   pub version : Version
   pub is : IsTrace t version s h trace
 
@@ -63,18 +63,18 @@ module _ (is_text : TextRule) where
     pub reported : IsReport trace.setup trace.history report
 
   -- memory was refused after a beginning of such a text was written
-  pub record IsBegun (given : Pair) (begun : List ℕ) (f : Fault) : Type 0 where
+  pub record IsBegun (given : Pair) (begun : List ℕ) (f : Error) : Type 0 where
     pub rest : List ℕ
     pub whole : IsOfTrace given (begun ++ rest)
     pub is : f ≡ Memory
 
--- the text is that of a lawful program, and the other text is not a trace of it
-pub record IsNoTrace (given : Pair) (f : Fault) : Type 0 where
+-- the text is that of a well-formed program, and the other text is not a trace of it
+pub record IsNoTrace (given : Pair) (f : Error) : Type 0 where
   pub program : Program
-  pub lawful : IsLawfulText given.text program
-  pub cause : ReplayFault
+  pub well_formed : IsWellFormedText given.text program
+  pub cause : ReplayError
   pub why : IsReplayRefusal program given.input cause
-  pub is : f ≡ fault_of_trace cause
+  pub is : f ≡ error_of_trace cause
 
 -- a command that writes such a text of a history
 abbrev pub on_trace : TextRule → Command Pair Report
@@ -96,10 +96,10 @@ migrates = on_trace IsMigrationText
 -- this is the answer of a command on a trace of the program of this code
 abbrev pub AnswersByCode
     : Command Pair Report → Flat → (trace : List ℕ) → Option (List ℕ) → Option (List ℕ)
-    → Result Report Fault → Type 0
+    → Result Report Error → Type 0
 AnswersByCode command code trace old new r =
     (text : List ℕ)
-    → IsLawfulText text code.tree
+    → IsWellFormedText text code.tree
     → AnswersOf command (record { text = text; input = trace }) old new r
 
 -- The parts of a bundle: a program text, a line that is exactly `%`, and a schedule.
@@ -163,13 +163,13 @@ module _ (start : StartOf) (named : List NamedBitOf) (given : Pair) where
     pub reported : IsReport trace.setup trace.history report
 
   -- the program accepts the setup, and the schedule does not drive it
-  pub record IsScheduleRefused (f : Fault) : Type 0 where
+  pub record IsScheduleRefused (f : Error) : Type 0 where
     pub program : Program
     pub setup : SetupOf
     pub opened : IsOpened start named given.text program setup
-    pub cause : DriveFault
+    pub cause : DriveError
     pub why : IsScheduleRefusal program setup given.input cause
-    pub is : f ≡ fault_of_schedule cause
+    pub is : f ≡ error_of_schedule cause
 
 -- the command writes the trace of the history to which the schedule drives the program
 abbrev pub drives : StartOf → List NamedBitOf → Command Pair Report
@@ -226,7 +226,7 @@ pub record IsShrunkText
   pub setup : SetupOf
   pub history : List Call
   pub trace : IsTrace t One setup history written
-  pub same : setup ≡ budgeted s setup.contexts
+  pub same : setup ≡ with_contexts s setup.contexts
   pub used : IsLeastWithin setup.contexts (granted_threads history)
   pub steps : granted_calls history ≡ history
   pub alike : FailAlike t s setup h history ⊎ DeadlockAlike t s setup h history
@@ -235,7 +235,7 @@ pub record IsShrunkText
   pub contexts : (n : ℕ) → IsLeastWithin n (granted_threads h) → setup.contexts ≤ n
 
 -- the trace is accepted, and ends neither in a failure nor in a deadlock
-pub record HasNoFailure (given : Pair) (f : Fault) : Type 0 where
+pub record HasNoFailure (given : Pair) (f : Error) : Type 0 where
   pub program : Program
   pub setup : SetupOf
   pub history : List Call
@@ -244,7 +244,7 @@ pub record HasNoFailure (given : Pair) (f : Fault) : Type 0 where
   pub is : f ≡ NoFailure
 
 -- the trace is accepted, ends in a failure or in a deadlock, and memory was refused after that
-pub record LacksMemory (given : Pair) (f : Fault) : Type 0 where
+pub record LacksMemory (given : Pair) (f : Error) : Type 0 where
   pub program : Program
   pub setup : SetupOf
   pub history : List Call
@@ -253,7 +253,7 @@ pub record LacksMemory (given : Pair) (f : Fault) : Type 0 where
   pub is : f ≡ Memory
 
 -- why no end is kept: there is none, or memory was refused in a deadlock
-abbrev pub IsEndRefusal : Program → SetupOf → List Call → Fault → Type 0
+abbrev pub IsEndRefusal : Program → SetupOf → List Call → Error → Type 0
 IsEndRefusal t s h NoFailure = IsOtherEnd t s h
 IsEndRefusal t s h Memory = IsDeadlock t s h
 IsEndRefusal t s h f = ⊥

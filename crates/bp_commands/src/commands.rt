@@ -2,13 +2,13 @@
 ghost use Rattle.std.specs.Prelude.{◌≡◌, List, ℕ};
 ghost use Rattle.bp_commands.specs.Commands.{Answers, AnswersOf, Command, text_alone, text_and, Pair};
 ghost use Rattle.bp_commands.specs.declared.explanations.SecondInput.{SecondInput};
-ghost use Rattle.bp_commands.specs.FaultReports.{AreReadOr};
+ghost use Rattle.bp_commands.specs.ErrorReports.{AreReadOr};
 
+use crate::error_contexts::OptionNumbers;
 use crate::explanations::SecondInput;
-use crate::fault_contexts::OptionNumbers;
 use crate::inputs::{Source, read_pair, read_text};
 use crate::run_ends::CommandAnswer;
-use bp_messages::Fault;
+use bp_messages::Error;
 use bp_tasks::NamedStart;
 use std::alloc::Global;
 use std::io::{Read, Write};
@@ -28,7 +28,7 @@ pub trait ProgramCommand {
         alloc: Global,
         text: &[u8],
         out: &mut W,
-    ) -> Result<Self::Answer, Fault>
+    ) -> Result<Self::Answer, Error>
         requires { allowed self.now }
         ensures { AnswersOf (command self.now) text.now
             (W.contents out.old) (W.contents out.new) result };
@@ -66,7 +66,7 @@ pub trait PairCommand {
         text: &[u8],
         input: &[u8],
         out: &mut W,
-    ) -> Result<Self::Answer, Fault>
+    ) -> Result<Self::Answer, Error>
         ensures { let given : Pair = record { text = text.now; input = input.now } in
             AnswersOf (command self.now) given (W.contents out.old) (W.contents out.new) result };
 
@@ -91,7 +91,7 @@ pub fn do_on_program<C: ProgramCommand, R: Read, W: Write>(
     command: &C,
     program: &mut Source<R>,
     out: &mut W,
-) -> Result<C::Answer, Fault>
+) -> Result<C::Answer, Error>
     requires { C.allowed command.now }
     ensures answers { let inputs = text_alone
         (R.remaining program.old.reader) (R.remaining program.new.reader) in
@@ -112,7 +112,7 @@ pub fn do_on_pair<C: PairCommand, R: Read, S: Read, W: Write>(
     program: &mut Source<R>,
     input: &mut Source<S>,
     out: &mut W,
-) -> Result<C::Answer, Fault>
+) -> Result<C::Answer, Error>
     ensures answers { let inputs = text_and (C.limit command.now)
         (R.remaining program.old.reader) (R.remaining program.new.reader)
         (S.remaining input.old.reader) (S.remaining input.new.reader) in

@@ -6,7 +6,7 @@ ghost use Rattle.bp_commands.specs.ExplorationTexts.{anywhere_by, anywhere_text,
 use crate::exploration_ends::{Exploration, FoundKind, ListedSteps};
 use bp_explore::Reason;
 use bp_text::Piece::{Bytes, Displayed, Key, List, Number, NumberOrNull, Text, TextOrNull, Truth};
-use bp_text::{Sink, WriteFault};
+use bp_text::{Sink, WriteError};
 use std::io::Write;
 
 /// Returns the last digit of a number.
@@ -419,7 +419,7 @@ fn put_object<W: Write>(x: &Exploration<'_>, sink: &mut Sink<'_, W>)
 }
 
 /// Writes the report of an exploration: lines for people, or an object.
-pub(crate) fn put_exploration<W: Write>(x: &Exploration<'_>, out: &mut W) -> Result<(), WriteFault>
+pub(crate) fn put_exploration<W: Write>(x: &Exploration<'_>, out: &mut W) -> Result<(), WriteError>
     ensures { Writes (W.contents out.old) (W.contents out.new) (exploration_text x.now) result }
 {
     let mut sink = Sink::new(out);

@@ -2,14 +2,14 @@
 //! Files that a command reads, by their paths.
 ghost use Rattle.std.specs.Prelude.{◌≡◌, ◌+◌, MatchResult, List, ℕ, Option, IfOk};
 ghost use Rattle.std.specs.IoError.{error_kind};
-ghost use Rattle.bp_messages.specs.FaultTable.{fault_of_text};
-ghost use Rattle.bp_commands.specs.Commands.{reading_fault_of, IsInput, IsInputRefusal, TookAtMost, IsPairIn, IsPairUnread, IsReadRefused, IsText, IsTextUnread};
+ghost use Rattle.bp_messages.specs.ErrorTable.{error_of_text};
+ghost use Rattle.bp_commands.specs.Commands.{reading_error_of, IsInput, IsInputRefusal, TookAtMost, IsPairIn, IsPairUnread, IsReadRefused, IsText, IsTextUnread};
 
-use crate::fault_contexts::FailedFile;
-use bp_code::ProgramFault;
+use crate::error_contexts::FailedFile;
+use bp_code::ProgramError;
 use bp_language::limits::TEXT_LIMIT;
-use bp_messages::{Fault, InputFault};
-use bp_syntax::ReadFault;
+use bp_messages::{Error, InputError};
+use bp_syntax::ReadError;
 use std::alloc::Global;
 use std::io::{self, ErrorKind, Read};
 
@@ -17,12 +17,12 @@ use std::io::{self, ErrorKind, Read};
 const CHUNK: usize = 4096;
 
 /// Returns why an input is not opened or read.
-fn reading_fault(error: &io::Error) -> InputFault
-    ensures { result ≡ reading_fault_of (error_kind error.now) }
+fn reading_error(error: &io::Error) -> InputError
+    ensures { result ≡ reading_error_of (error_kind error.now) }
 {
     match error.kind() {
-        ErrorKind::OutOfMemory => InputFault::Memory,
-        _ => InputFault::Device,
+        ErrorKind::OutOfMemory => InputError::Memory,
+        _ => InputError::Device,
     }
 }
 
@@ -32,7 +32,7 @@ pub fn read_whole<R: Read>(
     alloc: Global,
     limit: usize,
     input: &mut R,
-) -> Result<Vec<u8>, InputFault>
+) -> Result<Vec<u8>, InputError>
     ensures answer { MatchResult result
         (λ bytes. IsInput limit (R.remaining input.old) (R.remaining input.new) bytes.items)
         (IsInputRefusal limit (R.remaining input.old) (R.remaining input.new)) }
@@ -44,13 +44,13 @@ pub fn read_whole<R: Read>(
         let room = CHUNK.min((limit - bytes.len()).saturating_add(1));
         let count = match input.read(&mut chunk[..room]) {
             Ok(count) => count,
-            Err(error) => return Err(reading_fault(&error)),
+            Err(error) => return Err(reading_error(&error)),
         };
         if count == 0 {
             return Ok(bytes);
         }
         if count > limit - bytes.len() {
-            return Err(InputFault::TooLong);
+            return Err(InputError::TooLong);
         }
         bytes.extend_from_slice(&chunk[..count])?;
     }
@@ -76,18 +76,18 @@ impl<R> Source<R> {
     }
 }
 
-/// Returns the fault of a command for one of the program's input.
-fn fault_of_text(fault: InputFault) -> Fault
-    ensures { result ≡ fault_of_text fault }
+/// Returns the error of a command for one of the program's input.
+fn error_of_text(error: InputError) -> Error
+    ensures { result ≡ error_of_text error }
 {
-    match fault {
-        InputFault::TooLong => Fault::Program(ProgramFault::Read(ReadFault::TooLong)),
-        fault => Fault::from(fault),
+    match error {
+        InputError::TooLong => Error::Program(ProgramError::Read(ReadError::TooLong)),
+        error => Error::from(error),
     }
 }
 
 /// Reads a program text. It takes at most 65,537 bytes.
-pub fn read_text<R: Read>(alloc: Global, program: &mut Source<R>) -> Result<(), Fault>
+pub fn read_text<R: Read>(alloc: Global, program: &mut Source<R>) -> Result<(), Error>
     ensures { let old = R.remaining program.old.reader in
         let new = R.remaining program.new.reader in
         MatchResult result
@@ -99,13 +99,13 @@ pub fn read_text<R: Read>(alloc: Global, program: &mut Source<R>) -> Result<(), 
             program.bytes = text;
             Ok(())
         }
-        Err(fault) => Err(fault_of_text(fault)),
+        Err(error) => Err(error_of_text(error)),
     }
 }
 
 /// Reads an input other than a program text, of at most `limit` bytes. It takes at most one byte
 /// more than the limit.
-pub fn read_input<R: Read>(alloc: Global, limit: usize, input: &mut Source<R>) -> Result<(), Fault>
+pub fn read_input<R: Read>(alloc: Global, limit: usize, input: &mut Source<R>) -> Result<(), Error>
     ensures { let old = R.remaining input.old.reader in
         let new = R.remaining input.new.reader in
         MatchResult result
@@ -122,7 +122,7 @@ pub fn read_pair<R: Read, S: Read>(
     limit: usize,
     program: &mut Source<R>,
     input: &mut Source<S>,
-) -> Result<(), Fault>
+) -> Result<(), Error>
     ensures { let old = R.remaining program.old.reader in
         let new = R.remaining program.new.reader in
         let input_old = S.remaining input.old.reader in

@@ -2,40 +2,40 @@
 //! to the exit status and the line on standard error.
 #![tactic(auto)]
 
-mod checking;
+mod checks;
 mod commands;
-mod confirming;
-mod driving;
+mod confirmations;
+mod drives;
+mod error_contexts;
+mod error_reports;
 mod explanations;
 mod exploration_ends;
 mod exploration_texts;
-mod exploring;
-mod fault_contexts;
-mod fault_reports;
+mod explorations;
 mod inputs;
 pub mod limits;
 mod programs;
-mod replaying;
+mod replays;
 mod run_ends;
-mod running;
 mod runs;
 mod shows;
-mod testing;
-mod through;
+mod tests;
+mod throughs;
 mod trace_commands;
+mod worker_runs;
 
-pub use checking::show_check;
+pub use checks::show_check;
 pub use commands::{PairCommand, ProgramCommand, do_on_pair, do_on_program};
-pub use confirming::Confirmation;
-pub use driving::{BundleFault, drive_bundle};
+pub use confirmations::Confirmation;
+pub use drives::{BundleError, drive_bundle};
+pub use error_contexts::OptionNumbers;
 pub use explanations::SecondInput;
 pub use exploration_ends::{EndFacts, Exploration, FoundKind, ListedSteps};
-pub use exploring::Explore;
-pub use fault_contexts::OptionNumbers;
+pub use explorations::Explore;
 pub use inputs::{Files, InputFile, Source, read_whole};
 pub use run_ends::{CommandAnswer, Explained, RunEnd, end, flushed};
-pub use running::{Run, run_program};
 pub use runs::{Io, Streams, run_by_workers, run_on_bundle, run_on_pair, run_on_program};
 pub use shows::{Screen, Show};
-pub use testing::Test;
+pub use tests::Test;
 pub use trace_commands::TraceCommand;
+pub use worker_runs::{Run, run_program};

@@ -3,10 +3,10 @@ ghost use Rattle.std.specs.Prelude.{MatchResult, IfOk, ◌≡◌, None};
 ghost use Rattle.bp_machine.specs.Setups.{Fits, IsInRange};
 ghost use Rattle.bp_commands.specs.Programs.{IsNotOpened, IsOpened};
 
-use bp_code::{code_of, lawful_program};
+use bp_code::{code_of, well_formed_program};
 use bp_flat::Code;
 use bp_machine::{Setup, Start};
-use bp_messages::Fault;
+use bp_messages::Error;
 use bp_tasks::{NamedBits, NamedStart};
 use std::alloc::{AllocError, Global};
 
@@ -23,7 +23,7 @@ pub(crate) fn open(
     text: &[u8],
     start: &Start,
     named: &NamedBits<'_>,
-) -> Result<Opened, Fault>
+) -> Result<Opened, Error>
     ensures answer { MatchResult result
         (λ x. IsOpened start.now named.now text.now x.code.tree x.setup)
         (IsNotOpened start.now named.now text.now) }
@@ -37,7 +37,7 @@ pub(crate) fn open(
     }
     let checked = code.checked();
     if let Some(number) = named.unknown(checked) {
-        return Err(Fault::NoVariable(number));
+        return Err(Error::NoVariable(number));
     }
     let start = named.start(alloc, checked, start)?;
     let setup = start.setup(alloc, &code, None)?;
@@ -45,7 +45,7 @@ pub(crate) fn open(
 }
 
 /// Returns the start with the bits of the globals that are named in it, for the explanation of a
-/// later fault; None if none are named, or if the program lacks one. Fails only on allocation.
+/// later error; None if none are named, or if the program lacks one. Fails only on allocation.
 pub(crate) fn start_of_run(
     alloc: Global,
     text: &[u8],
@@ -55,9 +55,9 @@ pub(crate) fn start_of_run(
     if named.is_empty() {
         return Ok(None);
     }
-    let checked = match lawful_program(alloc, text).map_err(Fault::from) {
+    let checked = match well_formed_program(alloc, text).map_err(Error::from) {
         Ok(checked) => checked,
-        Err(Fault::Memory) => return Err(AllocError),
+        Err(Error::Memory) => return Err(AllocError),
         Err(_) => return Ok(None),
     };
     if named.unknown(&checked).is_some() {

@@ -2,14 +2,14 @@
 //! through a buffer.
 ghost use Rattle.std.specs.Prelude.{◌≡◌, None};
 ghost use Rattle.std.specs.Io.Buffered.{writer_contents};
-ghost use Rattle.bp_messages.specs.FaultTable.{exit_status};
-ghost use Rattle.bp_commands.specs.FaultReports.{AnswerRule, IsEndOf, HasFaultLine, HasSummary, done, nothing_explained, of_report, of_run, report_failed};
+ghost use Rattle.bp_messages.specs.ErrorTable.{exit_status};
+ghost use Rattle.bp_commands.specs.ErrorReports.{AnswerRule, IsEndOf, HasErrorLine, HasSummary, done, nothing_explained, of_report, of_run, report_failed};
 ghost use Rattle.bp_commands.specs.Jobs.{IsFlushed};
 
 use bp_machine::{Outcome, Report};
-use bp_messages::{Fault, exit_status, show_fault};
+use bp_messages::{Error, exit_status, show_error};
 use bp_run::RunReport;
-use bp_text::WriteFault;
+use bp_text::WriteError;
 use std::alloc::AllocError;
 use std::io::{BufWriter, Write};
 
@@ -22,7 +22,7 @@ pub trait CommandAnswer {
         ensures { result ≡ rule.status self.now };
 
     /// Writes the summary, if there is one.
-    fn summarize<E: Write>(&self, errors: &mut E) -> Result<(), WriteFault>
+    fn summarize<E: Write>(&self, errors: &mut E) -> Result<(), WriteError>
         ensures { HasSummary (rule.summary self.now)
             (E.contents errors.old) (E.contents errors.new) result };
 }
@@ -41,7 +41,7 @@ impl CommandAnswer for () {
         exit_status(false, None)
     }
 
-    fn summarize<E: Write>(&self, _errors: &mut E) -> Result<(), WriteFault> {
+    fn summarize<E: Write>(&self, _errors: &mut E) -> Result<(), WriteError> {
         Ok(())
     }
 }
@@ -53,7 +53,7 @@ impl CommandAnswer for Report {
         status_of_report(self)
     }
 
-    fn summarize<E: Write>(&self, _errors: &mut E) -> Result<(), WriteFault> {
+    fn summarize<E: Write>(&self, _errors: &mut E) -> Result<(), WriteError> {
         Ok(())
     }
 }
@@ -65,7 +65,7 @@ impl CommandAnswer for RunReport {
         status_of_report(&self.report)
     }
 
-    fn summarize<E: Write>(&self, _errors: &mut E) -> Result<(), WriteFault> {
+    fn summarize<E: Write>(&self, _errors: &mut E) -> Result<(), WriteError> {
         Ok(())
     }
 }
@@ -74,10 +74,10 @@ impl CommandAnswer for RunReport {
 #[derive(Clone, Copy, Debug, PartialEq, Eq)]
 pub struct Explained {
     /// Whether there was memory for its lines, or for its sentence in an object. Otherwise the
-    /// sentence of the fault is in its place.
+    /// sentence of the error is in its place.
     pub lines: Result<(), AllocError>,
     /// Whether standard error has all of it.
-    pub told: Result<(), WriteFault>,
+    pub told: Result<(), WriteError>,
 }
 
 impl Explained {
@@ -93,21 +93,21 @@ impl Explained {
 pub struct RunEnd {
     /// The exit status. It does not depend on the other parts.
     pub status: u8,
-    /// Whether standard error has all of the summary, or of the line or object of the fault.
-    pub told: Result<(), WriteFault>,
+    /// Whether standard error has all of the summary, or of the line or object of the error.
+    pub told: Result<(), WriteError>,
     pub explained: Explained,
 }
 
-/// Ends a run by the result of its command: writes its summary or the line of its fault, if there
+/// Ends a run by the result of its command: writes its summary or the line of its error, if there
 /// is one. Nothing is explained.
-pub fn end<T: CommandAnswer, E: Write>(done: &Result<T, Fault>, errors: &mut E) -> RunEnd
-    ensures ends { IsEndOf T.rule HasFaultLine done.now result
+pub fn end<T: CommandAnswer, E: Write>(done: &Result<T, Error>, errors: &mut E) -> RunEnd
+    ensures ends { IsEndOf T.rule HasErrorLine done.now result
         (E.contents errors.old) (E.contents errors.new) }
     ensures explained { result.explained ≡ nothing_explained }
 {
     let (told, status) = match done {
         Ok(answer) => (answer.summarize(errors), answer.status()),
-        Err(fault) => (show_fault(fault, errors), fault.status()),
+        Err(error) => (show_error(error, errors), error.status()),
     };
     RunEnd {
         status,
@@ -119,9 +119,9 @@ pub fn end<T: CommandAnswer, E: Write>(done: &Result<T, Fault>, errors: &mut E) 
 /// Flushes a buffer after a command's result, and returns the output. If bytes are lost, the result
 /// is that the output could not be written, whatever the command returned.
 pub fn flushed<T: Drop, W: Write + Drop>(
-    done: Result<T, Fault>,
+    done: Result<T, Error>,
     out: BufWriter<W>,
-) -> (Result<T, Fault>, W)
+) -> (Result<T, Error>, W)
     ensures { let held = writer_contents W.contents out in
         IsFlushed done held result.0 (W.contents result.1) }
 {
@@ -132,7 +132,7 @@ pub fn flushed<T: Drop, W: Write + Drop>(
             if lost.is_empty() {
                 return (done, output);
             }
-            (Err(Fault::Write), output)
+            (Err(Error::Write), output)
         }
     }
 }

@@ -1,33 +1,33 @@
 //! Runs of the commands, from the paths of their files to the exit status.
 ghost use Rattle.std.specs.Io.Buffered.{writer_contents};
-ghost use Rattle.bp_commands.specs.FaultReports.{of_run, IsObjectIn, IsSaid};
+ghost use Rattle.bp_commands.specs.ErrorReports.{of_run, IsObjectIn, IsSaid};
 ghost use Rattle.bp_commands.specs.Jobs.{held, on_bundle, on_file, on_files, IsFinished, IsRun};
 ghost use Rattle.bp_commands.specs.Runs.{runs};
 
 use crate::commands::{PairCommand, ProgramCommand, do_on_pair, do_on_program};
-use crate::driving::{drive_bundle, parts};
+use crate::drives::{drive_bundle, parts};
+use crate::error_contexts::{Asked, ErrorContext, FailedFile, Limited, OptionNumbers};
+use crate::error_reports::{NamedPair, ReadBundle, Texts, conclude};
 use crate::explanations::NamedText;
-use crate::fault_contexts::{Asked, FailedFile, FaultContext, Limited, OptionNumbers};
-use crate::fault_reports::{NamedPair, ReadBundle, Texts, conclude};
 use crate::inputs::{Files, InputFile, Source};
 use crate::limits::MAX_BUNDLE;
 use crate::run_ends::{CommandAnswer, RunEnd, flushed};
-use crate::running::{Run, run_program};
-use bp_messages::Fault;
+use crate::worker_runs::{Run, run_program};
+use bp_messages::Error;
 use bp_run::Gate;
-use bp_tasks::{FaultFormat, NamedStart};
+use bp_tasks::{ErrorFormat, NamedStart};
 use std::alloc::Global;
 use std::io::{BufWriter, Read, Write};
 use std::sync::Wait;
 use std::thread::Threads;
 use std::time::Clock;
 
-/// The environment of a command: this memory, these files, and this form of faults.
+/// The environment of a command: this memory, these files, and this form of errors.
 #[derive(Clone, Copy)]
 pub struct Io<'a, F> {
     pub alloc: Global,
     pub files: &'a F,
-    pub format: FaultFormat,
+    pub format: ErrorFormat,
 }
 
 /// Standard output and standard error.
@@ -40,10 +40,10 @@ pub struct Streams<O: Write + Drop, E: Write + Drop> {
 /// Flushes the output after a command's result, and ends the run by it.
 fn finish<G: Texts, T: CommandAnswer + Drop, W: Write + Drop, E: Write + Drop>(
     alloc: Global,
-    format: FaultFormat,
+    format: ErrorFormat,
     given: &G,
-    done: Result<T, Fault>,
-    context: FaultContext<'_, '_>,
+    done: Result<T, Error>,
+    context: ErrorContext<'_, '_>,
     streams: Streams<BufWriter<W>, E>,
 ) -> (RunEnd, Streams<W, E>)
     ensures { let before =
@@ -66,8 +66,8 @@ fn context_of<'a>(
     unread: Option<FailedFile<'a>>,
     numbers: OptionNumbers,
     start: Option<NamedStart<'a>>,
-) -> FaultContext<'a, 'a> {
-    FaultContext {
+) -> ErrorContext<'a, 'a> {
+    ErrorContext {
         unread,
         numbers,
         asked: Asked {
@@ -182,7 +182,7 @@ pub fn run_on_pair<'a, C: PairCommand, F: Files, W: Write + Drop, E: Write + Dro
         second_input: command.second_input(),
         start: command.start(),
     };
-    let context = FaultContext {
+    let context = ErrorContext {
         unread,
         numbers: OptionNumbers::NONE,
         asked: Asked {
@@ -207,7 +207,7 @@ const STANDARD_INPUT: &str = "standard input";
 /// streams.
 pub fn run_on_bundle<R: Read + Drop, W: Write + Drop, E: Write + Drop>(
     alloc: Global,
-    format: FaultFormat,
+    format: ErrorFormat,
     reader: R,
     mut streams: Streams<BufWriter<W>, E>,
 ) -> (RunEnd, Streams<W, E>)
@@ -221,7 +221,7 @@ pub fn run_on_bundle<R: Read + Drop, W: Write + Drop, E: Write + Drop>(
     let given = ReadBundle {
         bytes: &bundle.bytes,
     };
-    let context = FaultContext {
+    let context = ErrorContext {
         unread: None,
         numbers: OptionNumbers::NONE,
         asked: Asked {

@@ -2,17 +2,17 @@
 //! accepted calls of a trace that is refused.
 ghost use Rattle.std.specs.Prelude.{◌≡◌};
 ghost use Rattle.bp_text.specs.Writing.{Writes};
-ghost use Rattle.bp_code.specs.LawfulTexts.{IsLawfulText};
+ghost use Rattle.bp_code.specs.WellFormedTexts.{IsWellFormedText};
 ghost use Rattle.bp_commands.specs.Commands.{AnswersOf, Pair};
 ghost use Rattle.bp_commands.specs.Shows.{lists_contexts, lists_steps, on_screen, refusal_text, shows_part, shows_task, states};
 
 use bp_confirm::{own_steps, put_steps};
 use bp_flat::Code;
 use bp_machine::Report;
-use bp_messages::Fault;
+use bp_messages::Error;
 use bp_tasks::{ShowTask, ViewFormat, ViewOptions};
 use bp_text::Piece::{Bytes, Number};
-use bp_text::{WriteFault, put, put_pieces};
+use bp_text::{WriteError, put, put_pieces};
 use bp_trace::accepted_trace;
 use bp_view::{contexts_of, state_at, view};
 use std::alloc::Global;
@@ -55,8 +55,8 @@ fn show_state<W: Write>(
     format: ViewFormat,
     number: u64,
     out: &mut W,
-) -> Result<Report, Fault>
-    requires { IsLawfulText text.now code.now.tree }
+) -> Result<Report, Error>
+    requires { IsWellFormedText text.now code.now.tree }
     ensures { let given : Pair = record { text = text.now; input = trace.now } in
         AnswersOf (states format number) given (W.contents out.old) (W.contents out.new) result }
 {
@@ -74,8 +74,8 @@ fn show_contexts<W: Write>(
     trace: &[u8],
     format: ViewFormat,
     out: &mut W,
-) -> Result<Report, Fault>
-    requires { IsLawfulText text.now code.now.tree }
+) -> Result<Report, Error>
+    requires { IsWellFormedText text.now code.now.tree }
     ensures { let given : Pair = record { text = text.now; input = trace.now } in
         AnswersOf (lists_contexts format) given (W.contents out.old) (W.contents out.new) result }
 {
@@ -92,8 +92,8 @@ fn show_steps<W: Write>(
     code: &Code,
     trace: &[u8],
     out: &mut W,
-) -> Result<Report, Fault>
-    requires { IsLawfulText text.now code.now.tree }
+) -> Result<Report, Error>
+    requires { IsWellFormedText text.now code.now.tree }
     ensures { let given : Pair = record { text = text.now; input = trace.now } in
         AnswersOf lists_steps given (W.contents out.old) (W.contents out.new) result }
 {
@@ -111,8 +111,8 @@ fn show_part<W: Write>(
     trace: &[u8],
     asked: Show<'_>,
     out: &mut W,
-) -> Result<Report, Fault>
-    requires { IsLawfulText text.now code.now.tree }
+) -> Result<Report, Error>
+    requires { IsWellFormedText text.now code.now.tree }
     ensures { let given : Pair = record { text = text.now; input = trace.now } in
         let command = shows_part asked.entry.task.now asked.entry.screen in
         AnswersOf command given (W.contents out.old) (W.contents out.new) result }
@@ -134,7 +134,7 @@ fn show_part<W: Write>(
 }
 
 /// Writes that a trace is refused after this number of calls.
-fn put_refusal<W: Write>(format: ViewFormat, calls: u64, out: &mut W) -> Result<(), WriteFault>
+fn put_refusal<W: Write>(format: ViewFormat, calls: u64, out: &mut W) -> Result<(), WriteError>
     ensures { Writes (W.contents out.old) (W.contents out.new) (refusal_text format calls) result }
 {
     match format {
@@ -167,8 +167,8 @@ pub(crate) fn show_trace<W: Write>(
     trace: &[u8],
     asked: Show<'_>,
     out: &mut W,
-) -> Result<Report, Fault>
-    requires { IsLawfulText text.now code.now.tree }
+) -> Result<Report, Error>
+    requires { IsWellFormedText text.now code.now.tree }
     ensures { let given : Pair = record { text = text.now; input = trace.now } in
         let command = shows_task asked.entry.task.now asked.entry.screen in
         AnswersOf command given (W.contents out.old) (W.contents out.new) result }
@@ -182,5 +182,5 @@ pub(crate) fn show_trace<W: Write>(
     let valid = accepted.trace.as_slice();
     show_part(alloc, text, code, valid, asked, out)?;
     put_refusal(asked.task.options.format, accepted.calls, out)?;
-    Err(Fault::from(accepted.fault))
+    Err(Error::from(accepted.error))
 }

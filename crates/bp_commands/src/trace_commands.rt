@@ -3,11 +3,11 @@ ghost use Rattle.bp_commands.specs.Shows.{trace_command};
 
 use crate::commands::PairCommand;
 use crate::explanations::SecondInput;
-use crate::replaying::{migrate_trace, replay_trace, shrink_trace};
+use crate::replays::{migrate_trace, replay_trace, shrink_trace};
 use crate::shows::{Show, show_trace};
 use bp_code::code_of;
 use bp_machine::Report;
-use bp_messages::Fault;
+use bp_messages::Error;
 use bp_trace::limits::MAX_TRACE;
 use std::alloc::Global;
 use std::io::Write;
@@ -43,7 +43,7 @@ impl PairCommand for TraceCommand<'_> {
         text: &[u8],
         trace: &[u8],
         out: &mut W,
-    ) -> Result<Report, Fault> {
+    ) -> Result<Report, Error> {
         let code = code_of(alloc, text)?;
         match self {
             TraceCommand::Replay => replay_trace(alloc, &code, trace, out),

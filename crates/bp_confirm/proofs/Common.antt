@@ -1,21 +1,21 @@
 -- The imports of this crate's proofs: from std, the crates below and its own definitions.
-pub use Rattle.bp_code.specs.LawfulTexts.{IsLawfulText}
-pub use Rattle.bp_confirm.specs.ConfirmedTexts.{AreDeclared, AreDeclaredLines, AreKnown, AreRead, HasFitLength, IsConfirmedText, IsDeclared, IsFirstStray, IsFirstUndeclared, IsOfNoThread, IsOfNoVariable, IsSetupFor, IsStepsRefusal, contexts_allowed, thread_of}
-pub use Rattle.bp_confirm.specs.Confirms.{ForStuck, GoesOnAt, IsAnswered, IsDifference, IsLastChange, IsNotFollowed, IsReason, IsStepRefusal, IsStuck, IsUnclear, SeesOther, StandsAtPlace, seen_after, seen_by, stand_at_point, stand_at_start, stand_in, stand_of}
+pub use Rattle.bp_code.specs.WellFormedTexts.{IsWellFormedText}
+pub use Rattle.bp_confirm.specs.ConfirmedTexts.{AreDeclared, AreDeclaredLines, AreKnown, AreRead, HasFitLength, IsConfirmedText, IsDeclared, IsFirstUndeclaredLine, IsFirstUndeclared, IsOfNoThread, IsOfNoVariable, IsSetupFor, IsStepsRefusal, contexts_allowed, thread_of}
+pub use Rattle.bp_confirm.specs.Confirms.{ForStuck, GoesOnAt, IsAnswered, IsDifference, IsLastChange, IsNotFollowed, IsReason, IsStepRefusal, IsStuck, IsUnclear, SeesOther, StandsAtPlace, seen_after, seen_by, thread_place_at_point, thread_place_at_start, thread_place_in, thread_place_of}
 pub use Rattle.bp_confirm.specs.FollowedSteps.{IsInferred, IsInferredOn, IsNotTaken, IsRefusedHere, NextNumbers, TellsNext, are_both_there, bit_of_effects, bit_of_instruction, bit_towards_number, is_fork, is_fork_block, is_fork_on, is_point_at, is_there, last_bits, points_from, refusal_of, source_points_of, splits}
-pub use Rattle.bp_confirm.specs.Inferred.{AreBothAt, AreBothWays, EndsDeadlocked, EndsOtherwise, FollowAfter, Follows, IsAmbiguous, IsAmbiguousOnStack, IsClear, IsClearOnStack, IsClearWay, IsConfirmed, IsFollowed, IsTaken, LastBits, TakeEach, bit_of_block, bit_of_stack, bit_towards, deciding, differ, ones, some_follow, waiting_bits, waits_after, zeros}
+pub use Rattle.bp_confirm.specs.InferredBits.{AreBothAt, AreBothWays, EndsDeadlocked, EndsOtherwise, FollowAfter, Follows, IsAmbiguous, IsAmbiguousOnStack, IsClear, IsClearOnStack, IsClearWay, IsConfirmed, IsFollowed, IsTaken, LastBits, TakeEach, bit_of_block, bit_of_stack, bit_towards, deciding, differ, ones, some_follow, waiting_bits, waits_after, zeros}
 pub use Rattle.bp_confirm.specs.KeptLines.{AreWithin, GrowsByOne, IsKeptLine, IsStepThere, kept_lines, lines_at, no_line}
 pub use Rattle.bp_confirm.specs.Laws.{DeadlockIsTaken, IsMoveOf, IsRunOfSteps, MovesTake, NoRefusalOfConfirmed, OneConfirmed, OneRefusal, OnlyLinesAreAmbiguous, OwnDeadlockIsConfirmed, OwnLinesAreConfirmed, OwnTextIsConfirmed, RefusedFrontHasNoRun, RefusedHasNoRun, RefusedIsNotTaken}
-pub use Rattle.bp_confirm.specs.LineReading.{SaysValues, after_name, values_from, values_in}
+pub use Rattle.bp_confirm.specs.LineReadings.{SaysValues, after_name, values_from, values_in}
 pub use Rattle.bp_confirm.specs.OwnSteps.{AreOwnLines, AreShown, IsOwnLine, StepsAreOfTheRun, TextIsOfLines, exact_location, is_value, lines_of_steps, next_start, own_line, own_step, own_steps, own_steps_from, own_steps_text, sees_values}
-pub use Rattle.bp_confirm.specs.Steps.{HasLines, IsBadLine, IsFirstUnseen, IsStepOf, Place, SeesValues, StepLineOf, StepOf, TakeAfter, Takes, after_byte, local_seen, location, location_in, may_end, next_location, next_locations, next_place, own_value, place_of, qualified_values, stands_at, step_line, step_of, steps_of, value, value_of, value_seen}
+pub use Rattle.bp_confirm.specs.Steps.{HasLines, IsBadLine, IsFirstMismatch, IsStepOf, Place, SeesValues, StepLineOf, StepOf, TakeAfter, Takes, after_byte, local_seen, location, location_in, may_end, next_location, next_locations, next_place, own_value, place_of, qualified_values, stands_at, step_line, step_of, steps_of, value, value_of, value_seen}
 pub use Rattle.bp_confirm.specs.declared.choices.LastChoice.{LastChoice}
-pub use Rattle.bp_confirm.specs.declared.confirming.ConfirmFault.{ConfirmFault}
-pub use Rattle.bp_confirm.specs.declared.confirming.ConfirmFault.TheVariants.{Memory, NoSteps, NoThread, NoVariable, Step, TooLong}
-pub use Rattle.bp_confirm.specs.declared.confirming.Difference.{Difference}
-pub use Rattle.bp_confirm.specs.declared.confirming.StepReason.{StepReason}
-pub use Rattle.bp_confirm.specs.declared.confirming.StepReason.TheVariants.{Ambiguous, Differs, Elsewhere, Finished, Refused}
-pub use Rattle.bp_confirm.specs.declared.confirming.StepRefusal.{StepRefusal}
+pub use Rattle.bp_confirm.specs.declared.confirmations.ConfirmError.{ConfirmError}
+pub use Rattle.bp_confirm.specs.declared.confirmations.ConfirmError.TheVariants.{Memory, NoSteps, NoThread, NoVariable, Step, TooLong}
+pub use Rattle.bp_confirm.specs.declared.confirmations.Difference.{Difference}
+pub use Rattle.bp_confirm.specs.declared.confirmations.StepReason.{StepReason}
+pub use Rattle.bp_confirm.specs.declared.confirmations.StepReason.TheVariants.{Ambiguous, Differs, Elsewhere, Finished, Refused}
+pub use Rattle.bp_confirm.specs.declared.confirmations.StepRefusal.{StepRefusal}
 pub use Rattle.bp_confirm.specs.declared.kept_lines.KeptLine.{KeptLine}
 pub use Rattle.bp_confirm.specs.declared.source_points.SourcePoint.{SourcePoint}
 pub use Rattle.bp_confirm.specs.declared.step_lines.Location.{Location}
@@ -32,7 +32,7 @@ pub use Rattle.bp_language.specs.Tokens.{IsCut, Lexeme, Token, bad_byte, fit, ki
 pub use Rattle.bp_machine.proofs.ContextCounts.{least_opened, opened, opened_least, opened_more, opened_none}
 pub use Rattle.bp_machine.proofs.HistoryWithCall.{calls_of_thread-other, calls_of_thread-same, configuration_after-append, ends_with_last-append, granted_threads-append, set_other, set_same}
 pub use Rattle.bp_machine.proofs.RealFailures.{IsStep, is_step, step_moves, thread_below}
-pub use Rattle.bp_machine.specs.Histories.{Answers, IsAllowed, IsLeastWithin, IsLegal, IsLegalAfter, IsWithin, calls_of_thread, configuration_after, configuration_after_call, configuration_after_calls, ends_with_last, granted_calls, granted_threads, is_finished, is_granted, is_last, reply_of, reply_on_stack, reply_to_effect, stack_of}
+pub use Rattle.bp_machine.specs.Histories.{Answers, IsAllowed, IsLeastWithin, IsLegal, IsLegalAfter, IsWithin, calls_of_thread, configuration_after, configuration_after_call, configuration_after_calls, ends_with_last, granted_calls, granted_threads, is_terminated, is_granted, is_last, reply_of, reply_on_stack, reply_to_effect, stack_of}
 pub use Rattle.bp_machine.specs.Laws.{HistoriesAreRuns, RunsAreHistories}
 pub use Rattle.bp_machine.specs.Runs.{IsBoundedRun, IsDeadlocked, IsTop, has_frames, history_of_run, is_blocked, is_left, reply_of_step, waits}
 pub use Rattle.bp_machine.specs.Sessions.{IsNextCall, SessionOf, Stands, contexts_opened, given_bit}

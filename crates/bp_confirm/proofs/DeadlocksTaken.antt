@@ -1,7 +1,7 @@
 -- If a history takes steps and ends in a deadlock, the one that confirms them ends in one.
 use Rattle.bp_confirm.proofs.Common.{◌≡◌, ◌≢◌, ◌==◌, ◌&&◌, ℕ, Bool, true, false, not, List, [], ◌∷◌, ◌++◌, Option, Some, refl, ap, sym, ◌∙◌, subst, arith, inl, inr, ◌⊎◌, false≢true, nat_tests, regrouped, Program, Frame, Configuration, StatementEffect, effect, after_effect, Valuation, Call, Reply, stack_of, reply_on_stack, configuration_after, is_left, has_frames, IsDeadlocked, is_blocked, waits, SetupOf, DeadlockIsTaken, LastBits, zeros, ones, bit_of_block, bit_of_stack, some_follow, IsClear, IsClearOnStack, Follows, FollowAfter, waiting_bits, waits_after, Place, StepOf, IsStepOf, TakeAfter, next_place}
 use Rattle.std.proofs.Common.{append-nil}
-use Rattle.bp_confirm.proofs.Agreeing.{next_here, next_other}
+use Rattle.bp_confirm.proofs.Agreement.{next_here, next_other}
 use Rattle.bp_confirm.proofs.LastWays.{Among, LeaveAmong, FailAll, leaves_among}
 use Rattle.bp_confirm.proofs.StepMoves.{IsMove, move_of, HasLeft, has_left, has_failed, leaves_some, same_stack}
 

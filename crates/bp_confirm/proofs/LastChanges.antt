@@ -1,5 +1,5 @@
 -- At most one step changes a view last, and a call does not change a view before it.
-use Rattle.bp_confirm.proofs.Common.{◌≡◌, ◌∙◌, ◌<◌, ◌≤◌, ◌⊎◌, inl, inr, ℕ, Bool, List, [], ◌∷◌, ◌++◌, length, take, Option, None, Some, refl, ap, sym, subst, arith, length-append, ◌+◌, drop, get_or, map, option_map, slice_get, rules, take_all, take-append-le, drop_of_length-le, Program, Valuation, Call, configuration_after, IsLeastWithin, SetupOf, contexts_opened, opened, opened_none, opened_more, opened_least, IsLastChange, seen_by, seen_after, IsDifference, IsFirstUnseen, StepLineOf, thread_of}
+use Rattle.bp_confirm.proofs.Common.{◌≡◌, ◌∙◌, ◌<◌, ◌≤◌, ◌⊎◌, inl, inr, ℕ, Bool, List, [], ◌∷◌, ◌++◌, length, take, Option, None, Some, refl, ap, sym, subst, arith, length-append, ◌+◌, drop, get_or, map, option_map, slice_get, rules, take_all, take-append-le, drop_of_length-le, Program, Valuation, Call, configuration_after, IsLeastWithin, SetupOf, contexts_opened, opened, opened_none, opened_more, opened_least, IsLastChange, seen_by, seen_after, IsDifference, IsFirstMismatch, StepLineOf, thread_of}
 use Rattle.std.proofs.Math.Nat.{eq-or-lt_of_le}
 use Rattle.bp_confirm.proofs.Elements.{rest_at}
 
@@ -54,20 +54,20 @@ module _ {X : Type 0} (look : List X → Option Bool) (h : List X) where
 -- The first value that a thread does not see after a call, and the last call that changed its view.
 
 module _ (t : Program) (s : SetupOf) (h : List Call) (a : Call) (i : ℕ) (vs : Valuation) (name : List ℕ) (place : ℕ) (seen : Option Bool)
-    (named : option_map (λ v. v.0) (slice_get vs place) ≡ Some name) (unseen : IsFirstUnseen (configuration_after t s (h ++ a ∷ [])) i vs place seen) where
+    (named : option_map (λ v. v.0) (slice_get vs place) ≡ Some name) (mismatch : IsFirstMismatch (configuration_after t s (h ++ a ∷ [])) i vs place seen) where
   -- the view of the value's name, after the first calls of the history with the call
   abbrev sees : ℕ → Option Bool
   sees = seen_after t s (h ++ a ∷ []) i name
 
-  name_is : unseen.value.0 ≡ name
-  name_is = let e = sym (ap (option_map (λ v. v.0)) unseen.at) ∙ named in cc
+  name_is : mismatch.value.0 ≡ name
+  name_is = let e = sym (ap (option_map (λ v. v.0)) mismatch.at) ∙ named in cc
 
   all_calls : length h + 1 ≡ length (h ++ a ∷ [])
   all_calls = sym (length-append h (a ∷ []))
 
   seen_last : seen ≡ sees (length h + 1)
   seen_last =
-      unseen.is_seen ∙ ap (λ x. seen_by t s i x (h ++ a ∷ [])) name_is ∙ sym (seen_whole (seen_by t s i name) h (h ++ a ∷ [])) ∙ ap sees (sym all_calls)
+      mismatch.is_seen ∙ ap (λ x. seen_by t s i x (h ++ a ∷ [])) name_is ∙ sym (seen_whole (seen_by t s i name) h (h ++ a ∷ [])) ∙ ap sees (sym all_calls)
 
   -- the last change before the call, and then after it
   module _ (was : Option Bool) (old changed : Option ℕ)
@@ -82,7 +82,7 @@ module _ (t : Program) (s : SetupOf) (h : List Call) (a : Call) (i : ℕ) (vs : 
 
     pub difference_is : IsDifference t s (h ++ a ∷ []) i vs (record { place = place; seen = seen; changed = changed })
     difference_is = record {
-      unseen = unseen;
+      mismatch = mismatch;
       changed =
           subst (λ x. IsLastChange (seen_after t s (h ++ a ∷ []) i x) (length (h ++ a ∷ [])) changed) (sym name_is)
           (subst (λ m. IsLastChange sees m changed) all_calls changed_last);

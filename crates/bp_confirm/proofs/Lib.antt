@@ -1,5 +1,5 @@
 pub mod Common
-pub mod Agreeing
+pub mod Agreement
 pub mod StepMoves
 pub mod BitsOfEffects
 pub mod ValuesSeen

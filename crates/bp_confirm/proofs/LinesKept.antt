@@ -1,5 +1,5 @@
 -- Lines that are kept, and the places at which they are found.
-use Rattle.bp_confirm.proofs.Common.{◌≡◌, ◌∙◌, ◌++◌, ◌∷◌, [], ◌<◌, ◌-◌, ◌≢◌, ℕ, zero, suc, List, Option, None, Some, Bor, length, take, get_or, refl, ap, sym, subst, arith, length-append, ◌&&◌, ◌==◌, Bool, true, false, not, ap₂, ◌+◌, slice_get, IfSome, MatchOption, is_some, rules, AllByRecursion, append-nil, map-append, get_or_append_left, get_or_push, take_at, slice_get-get_or, slice_get-map, cases_lt, Configuration, Valuation, stack_of, KeptLine, kept_lines, lines_at, no_line, AreWithin, GrowsByOne, IsKeptLine, IsStepThere, IsAt, text_of, StepLineOf, step_line, stands_at, step_of, steps_of, StepOf, value_seen, IsFirstUnseen, SeesValues, is_value, sees_values}
+use Rattle.bp_confirm.proofs.Common.{◌≡◌, ◌∙◌, ◌++◌, ◌∷◌, [], ◌<◌, ◌-◌, ◌≢◌, ℕ, zero, suc, List, Option, None, Some, Bor, length, take, get_or, refl, ap, sym, subst, arith, length-append, ◌&&◌, ◌==◌, Bool, true, false, not, ap₂, ◌+◌, slice_get, IfSome, MatchOption, is_some, rules, AllByRecursion, append-nil, map-append, get_or_append_left, get_or_push, take_at, slice_get-get_or, slice_get-map, cases_lt, Configuration, Valuation, stack_of, KeptLine, kept_lines, lines_at, no_line, AreWithin, GrowsByOne, IsKeptLine, IsStepThere, IsAt, text_of, StepLineOf, step_line, stands_at, step_of, steps_of, StepOf, value_seen, IsFirstMismatch, SeesValues, is_value, sees_values}
 use Rattle.bp_confirm.proofs.Elements.{all_at_place}
 use Rattle.bp_confirm.proofs.ReadLines.{line_before}
 use Rattle.std.proofs.Math.Bool.{and-false}
@@ -87,20 +87,20 @@ module _ (c : Configuration) (i : ℕ) where
   all_seen (v ∷ vs) sees =
       ap₂ (λ a b. a && b) (ap (λ o. is_value o v.1) sees.0 ∙ own_value_is v.1) (all_seen vs sees.1)
 
-  one_unseen : (vs : Valuation) (n : ℕ) (v : List ℕ × Bool) → slice_get vs n ≡ Some v → test v ≡ false → sees_values c i vs ≡ false
-  one_unseen [] n v at off = absurd cc
-  one_unseen (w ∷ vs) zero v at off = grind (arith)
-  one_unseen (w ∷ vs) (suc n) v at off = ap (λ b. test w && b) (one_unseen vs n v at off) ∙ and-false (test w)
+  one_mismatch : (vs : Valuation) (n : ℕ) (v : List ℕ × Bool) → slice_get vs n ≡ Some v → test v ≡ false → sees_values c i vs ≡ false
+  one_mismatch [] n v at off = absurd cc
+  one_mismatch (w ∷ vs) zero v at off = grind (arith)
+  one_mismatch (w ∷ vs) (suc n) v at off = ap (λ b. test w && b) (one_mismatch vs n v at off) ∙ and-false (test w)
 
   pub seen_or_not : {X : Type 0} (o : Option X) (vs : Valuation) (place : X → ℕ) (seen : X → Option Bool) (all : Bool)
       → is_some o ≡ not all
-      → MatchOption o (SeesValues c i vs) (λ r. IsFirstUnseen c i vs (place r) (seen r))
+      → MatchOption o (SeesValues c i vs) (λ r. IsFirstMismatch c i vs (place r) (seen r))
       → all ≡ sees_values c i vs
   seen_or_not None vs place seen true is found = sym (all_seen vs found)
   seen_or_not None vs place seen false is found = absurd cc
   seen_or_not (Some r) vs place seen true is first = absurd cc
   seen_or_not (Some r) vs place seen false is first =
-      sym (one_unseen vs (place r) first.value first.at
+      sym (one_mismatch vs (place r) first.value first.at
       (no_other_value (value_seen c.globals (stack_of c i) first.value.0) first.value.1 (λ same. first.differs (first.is_seen ∙ same))))
 
 -- a step of thread i from c to d, and a reported one

@@ -1,18 +1,18 @@
 -- Steps have at most one refusal, and none if a history confirms them.
-use Rattle.bp_confirm.proofs.Common.{◌≡◌, ◌≢◌, ◌∙◌, ℕ, zero, suc, Bool, true, List, [], ◌∷◌, ◌++◌, length, Option, None, Some, refl, ap, sym, subst, ◌+◌, arith, length-append, rules, false≢true, append-nil, map-append, map_push, regrouped, Block, Done, Then, Program, Configuration, chain, Valuation, place, start_of_block, Call, Reply, stack_of, configuration_after, is_finished, SetupOf, IsLawfulText, Difference, StepReason, Elsewhere, Ambiguous, Finished, Refused, Differs, seen_by, seen_after, IsLastChange, GoesOnAt, IsAnswered, IsReason, IsUnclear, SeesOther, StandsAtPlace, ForStuck, IsStepRefusal, stand_of, AreBothAt, AreBothWays, IsAmbiguous, IsAmbiguousOnStack, IsClear, IsClearOnStack, IsClearWay, LastBits, Follows, FollowAfter, IsFollowed, Place, StepOf, value_seen, IsFirstUnseen, StepLineOf, step_of, steps_of, Takes, StepRefusal}
+use Rattle.bp_confirm.proofs.Common.{◌≡◌, ◌≢◌, ◌∙◌, ℕ, zero, suc, Bool, true, List, [], ◌∷◌, ◌++◌, length, Option, None, Some, refl, ap, sym, subst, ◌+◌, arith, length-append, rules, false≢true, append-nil, map-append, map_push, regrouped, Block, Done, Then, Program, Configuration, chain, Valuation, place, start_of_block, Call, Reply, stack_of, configuration_after, is_terminated, SetupOf, IsWellFormedText, Difference, StepReason, Elsewhere, Ambiguous, Finished, Refused, Differs, seen_by, seen_after, IsLastChange, GoesOnAt, IsAnswered, IsReason, IsUnclear, SeesOther, StandsAtPlace, ForStuck, IsStepRefusal, thread_place_of, AreBothAt, AreBothWays, IsAmbiguous, IsAmbiguousOnStack, IsClear, IsClearOnStack, IsClearWay, LastBits, Follows, FollowAfter, IsFollowed, Place, StepOf, value_seen, IsFirstMismatch, StepLineOf, step_of, steps_of, Takes, StepRefusal}
 use Rattle.bp_confirm.proofs.OnePosition.{IsFull, full_place}
 use Rattle.bp_confirm.proofs.StepMoves.{other_values, seen_same}
 use Rattle.bp_confirm.proofs.LastChanges.{one_change}
-use Rattle.bp_confirm.proofs.StepsFollowed.{unseen_not, follow_more, taken}
+use Rattle.bp_confirm.proofs.StepsFollowed.{mismatch_not, follow_more, taken}
 use Rattle.bp_confirm.proofs.StartsInOrder.{starts_distinct, one_goes_on}
 use Rattle.bp_confirm.proofs.OneConfirmed.{refused_is_not_taken}
 use Rattle.bp_trace.proofs.Walks.{Walk, Stays, Goes, IsSingle, Stops, one_end}
-use Rattle.bp_confirm.proofs.Agreeing.{same_stack_there}
+use Rattle.bp_confirm.proofs.Agreement.{same_stack_there}
 
 -- A step has at most one reason against it.
 
 -- if the later steps tell which way a `?` went, it may not have gone either way
-module _ (text : List ℕ) (t : Program) (is : IsLawfulText text t) where
+module _ (text : List ℕ) (t : Program) (is : IsWellFormedText text t) where
   apart_starts : (p : Place) (a k other : Block) → a ≢ Done → AreBothAt t p (chain a k) other → chain a k ≡ other → ⊥
   apart_starts p Done k other some both same = some refl
   apart_starts p (Then label at x b) k other some both same =
@@ -32,13 +32,13 @@ module _ (text : List ℕ) (t : Program) (is : IsLawfulText text t) where
 
 -- two configurations in which a thread sees the same have the same first unseen value
 module _ (c d : Configuration) (i : ℕ) (same : (x : List ℕ) → value_seen c.globals (stack_of c i) x ≡ value_seen d.globals (stack_of d i) x) where
-  one_unseen : (vs : Valuation) (m n : ℕ) (a b : Option Bool) → IsFirstUnseen c i vs m a → IsFirstUnseen d i vs n b → (m ≡ n) × (a ≡ b)
-  one_unseen [] m n a b p q = absurd (let none = p.at in cc)
-  one_unseen (v ∷ vs) zero zero a b p q = grind (arith)
-  one_unseen (v ∷ vs) zero (suc n) a b p q = grind (arith)
-  one_unseen (v ∷ vs) (suc m) zero a b p q = grind (arith)
-  one_unseen (v ∷ vs) (suc m) (suc n) a b p q =
-      let rest = one_unseen vs m n a b
+  one_mismatch : (vs : Valuation) (m n : ℕ) (a b : Option Bool) → IsFirstMismatch c i vs m a → IsFirstMismatch d i vs n b → (m ≡ n) × (a ≡ b)
+  one_mismatch [] m n a b p q = absurd (let none = p.at in cc)
+  one_mismatch (v ∷ vs) zero zero a b p q = grind (arith)
+  one_mismatch (v ∷ vs) zero (suc n) a b p q = grind (arith)
+  one_mismatch (v ∷ vs) (suc m) zero a b p q = grind (arith)
+  one_mismatch (v ∷ vs) (suc m) (suc n) a b p q =
+      let rest = one_mismatch vs m n a b
       (record { value = p.value; at = p.at; first = p.first.1; is_seen = p.is_seen; differs = p.differs })
       (record { value = q.value; at = q.at; first = q.first.1; is_seen = q.is_seen; differs = q.differs }) in
       (ap suc rest.0, rest.1)
@@ -60,19 +60,19 @@ module _ (t : Program) (s : SetupOf) (h : List Call) (x : StepOf) (later : List 
 
       by_reason : (reason : StepReason) → IsNotTakenFor reason → ⊥
       by_reason Elsewhere elsewhere = false≢true (sym elsewhere ∙ unclear.takes.at)
-      by_reason Finished over = false≢true (sym unclear.takes.allowed.unfinished ∙ ap (is_finished s h) unclear.takes.thread ∙ over.1)
+      by_reason Finished over = false≢true (sym unclear.takes.allowed.still_live ∙ ap (is_terminated s h) unclear.takes.thread ∙ over.1)
       by_reason (Refused r) refused = grind (arith)
       by_reason (Differs d) other =
           let seen = other.1 in
           let after = configuration_after t s (h ++ seen.call ∷ []) in
-          other_values t s h x seen.call seen.takes (unseen_not after x.thread x.values d.place d.seen seen.differs.unseen) a unclear.takes
+          other_values t s h x seen.call seen.takes (mismatch_not after x.thread x.values d.place d.seen seen.differs.mismatch) a unclear.takes
       by_reason Ambiguous none = none
 
-  over_or_answered : {X : Type 0} → is_finished s h x.thread ≡ true → (r : Reply) → IsAnswered t s h x r → X
-  over_or_answered over r answered = absurd (false≢true (sym answered.allowed.unfinished ∙ ap (is_finished s h) answered.thread ∙ over))
+  over_or_answered : {X : Type 0} → is_terminated s h x.thread ≡ true → (r : Reply) → IsAnswered t s h x r → X
+  over_or_answered over r answered = absurd (false≢true (sym answered.allowed.still_live ∙ ap (is_terminated s h) answered.thread ∙ over))
 
-  over_or_seen : {X : Type 0} → is_finished s h x.thread ≡ true → (d : Difference) → SeesOther t s h x d → X
-  over_or_seen over d sees = absurd (false≢true (sym sees.takes.allowed.unfinished ∙ ap (is_finished s h) sees.takes.thread ∙ over))
+  over_or_seen : {X : Type 0} → is_terminated s h x.thread ≡ true → (d : Difference) → SeesOther t s h x d → X
+  over_or_seen over d sees = absurd (false≢true (sym sees.takes.allowed.still_live ∙ ap (is_terminated s h) sees.takes.thread ∙ over))
 
   refused_or_seen : {X : Type 0} → (r : Reply) → IsAnswered t s h x r → (d : Difference) → SeesOther t s h x d → X
   refused_or_seen r given1 d given2 = grind (arith)
@@ -83,9 +83,9 @@ module _ (t : Program) (s : SetupOf) (h : List Call) (x : StepOf) (later : List 
   one_seen : (d e : Difference) → SeesOther t s h x d → SeesOther t s h x e → Differs d ≡ Differs e
   one_seen d e p q =
       let same = seen_same t s h x p.call q.call p.takes q.takes in
-      let one = p.differs.unseen in
-      let other = q.differs.unseen in
-      let both = one_unseen (configuration_after t s (h ++ p.call ∷ [])) (configuration_after t s (h ++ q.call ∷ []))
+      let one = p.differs.mismatch in
+      let other = q.differs.mismatch in
+      let both = one_mismatch (configuration_after t s (h ++ p.call ∷ [])) (configuration_after t s (h ++ q.call ∷ []))
       x.thread same x.values d.place e.place d.seen e.seen one other in
       let value : one.value ≡ other.value = (let at = one.at in let there = other.at in let place = both.0 in cc) in
       let name = one.value.0 in
@@ -167,7 +167,7 @@ module _ (text : List ℕ) (t : Program) (s : SetupOf) (last : LastBits) where
       Goes next (subst (λ q. Walk IsNext (h ++ a ∷ [], xs ++ later) (q, later)) (simp regrouped) (walk (h ++ a ∷ []) xs later p f.1))
   walk h xs later p f = absurd (assumption (f))
 
-module _ (text : List ℕ) (t : Program) (is : IsLawfulText text t) (s : SetupOf) (last : LastBits) (lines : List StepLineOf)
+module _ (text : List ℕ) (t : Program) (is : IsWellFormedText text t) (s : SetupOf) (last : LastBits) (lines : List StepLineOf)
     (r : StepRefusal) (refused : IsStepRefusal text t s last lines r) where
   pub goes_on : GoesOnAt t (configuration_after t s refused.history) (step_of text refused.step).thread r.number
   goes_on = subst (λ i. GoesOnAt t (configuration_after t s refused.history) i r.number) refused.thread refused.number
@@ -221,7 +221,7 @@ module _ (text : List ℕ) (t : Program) (is : IsLawfulText text t) (s : SetupOf
       let left : refused.step ∷ refused.later ≡ [] = ap (λ z. z.1) same in
       absurd cc
 
-pub one_step_refusal : (text : List ℕ) (t : Program) → IsLawfulText text t → (s : SetupOf) (last : LastBits) (lines : List StepLineOf) (r q : StepRefusal)
+pub one_step_refusal : (text : List ℕ) (t : Program) → IsWellFormedText text t → (s : SetupOf) (last : LastBits) (lines : List StepLineOf) (r q : StepRefusal)
     → IsStepRefusal text t s last lines r → IsStepRefusal text t s last lines q → r ≡ q
 one_step_refusal text t is s last lines r q refused other =
     let same = one_end (IsNext text t s last) (single text t s last) ([], lines) (end text t is s last lines r refused) (end text t is s last lines q other)
@@ -246,16 +246,16 @@ one_step_refusal text t is s last lines r q refused other =
     one_goes_on text t is (configuration_after t s refused.history) r.thread r.number q.number refused.number
     (subst (λ i. GoesOnAt t (configuration_after t s refused.history) i q.number) (sym thread)
     (subst (λ k. GoesOnAt t (configuration_after t s k) q.thread q.number) (sym history) other.number)) in
-    let stand : r.stand ≡ q.stand = refused.stand ∙ ap (stand_of text t) number ∙ sym other.stand in
+    let thread_place : r.thread_place ≡ q.thread_place = refused.thread_place ∙ ap (thread_place_of text t) number ∙ sym other.thread_place in
     let reason : r.reason ≡ q.reason =
     one_reason t s refused.history (step_of text refused.step) (steps_of text refused.later) r.reason q.reason refused.reason
     (subst (λ (z : List Call × StepLineOf × List StepLineOf). IsReason t s z.0 (step_of text z.1) (steps_of text z.2) q.reason)
     (λ i. (sym history i, sym step i, sym later i)) other.reason) in
-    λ j. record { line = line j; thread = thread j; location = location j; number = number j; stand = stand j; reason = reason j }
+    λ j. record { line = line j; thread = thread j; location = location j; number = number j; thread_place = thread_place j; reason = reason j }
 
--- Steps of a lawful text that are followed with some last bits are refused with none.
+-- Steps of a well-formed text that are followed with some last bits are refused with none.
 
-module _ (text : List ℕ) (t : Program) (is : IsLawfulText text t) (s : SetupOf) (some last : LastBits) (lines : List StepLineOf) (g : List Call)
+module _ (text : List ℕ) (t : Program) (is : IsWellFormedText text t) (s : SetupOf) (some last : LastBits) (lines : List StepLineOf) (g : List Call)
     (followed : IsFollowed t s some (steps_of text lines) g) where
   module _ (r : StepRefusal) (refused : IsStepRefusal text t s last lines r) where
     x : StepOf

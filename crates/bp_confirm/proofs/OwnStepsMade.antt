@@ -1,5 +1,5 @@
 -- A run makes the steps that it reports itself, and their text is confirmed.
-use Rattle.bp_confirm.proofs.Common.{◌≡◌, ◌∙◌, ◌==◌, ℕ, zero, suc, Bool, true, false, cond, List, [], ◌∷◌, ◌++◌, Option, None, Some, refl, ap, sym, subst, arith, ◌+◌, option_map, unwrap_or, slice_get, slice_index_or, ◌≤◌, map, length, nat_lt, rules, AllByRecursion, nat_tests, position_at, both_added, Program, Frame, Configuration, Moves, start_of_block, starts_of, stack_of, configuration_after_call, configuration_after, configuration_after_calls, granted_calls, IsLegalAfter, is_granted, IsWithin, IsLegal, RunsAreHistories, HistoriesAreRuns, Call, IsBoundedRun, IsTop, history_of_run, IsDeadlocked, SetupOf, start, threads, Top, is_step, step_moves, configuration_after-append, StepReason, Elsewhere, Ambiguous, Finished, Refused, Differs, Location, End, Line, Column, OwnLinesAreConfirmed, IsMoveOf, MovesTake, IsRunOfSteps, OwnDeadlockIsConfirmed, OwnTextIsConfirmed, ForStuck, IsStepRefusal, exact_location, next_start, IsOwnLine, AreOwnLines, own_step, own_steps, own_steps_from, lines_of_steps, own_line, StepsAreOfTheRun, TextIsOfLines, own_steps_text, place_of, stands_at, StepLineOf, step_of, steps_of, next_location, SeesValues, HasLines, IsBadLine, step_line, value, SourcePoint, points_from, source_points_of, IsTextOf, MAX_CONTEXTS, MAX_THREADS, ContextBound, AsUsed, ConfirmFault, Memory, NoSteps, NoThread, NoVariable, Step, TooLong, StepRefusal, zeros, IsConfirmed, HasFitLength, IsStepsRefusal, IsSetupFor, contexts_allowed, thread_of, AreDeclaredLines, IsFirstStray, IsOfNoThread, IsOfNoVariable, LastChoice, EachFits, Fits, text_of, none_bad, one_reading}
+use Rattle.bp_confirm.proofs.Common.{◌≡◌, ◌∙◌, ◌==◌, ℕ, zero, suc, Bool, true, false, cond, List, [], ◌∷◌, ◌++◌, Option, None, Some, refl, ap, sym, subst, arith, ◌+◌, option_map, unwrap_or, slice_get, slice_index_or, ◌≤◌, map, length, nat_lt, rules, AllByRecursion, nat_tests, position_at, both_added, Program, Frame, Configuration, Moves, start_of_block, starts_of, stack_of, configuration_after_call, configuration_after, configuration_after_calls, granted_calls, IsLegalAfter, is_granted, IsWithin, IsLegal, RunsAreHistories, HistoriesAreRuns, Call, IsBoundedRun, IsTop, history_of_run, IsDeadlocked, SetupOf, start, threads, Top, is_step, step_moves, configuration_after-append, StepReason, Elsewhere, Ambiguous, Finished, Refused, Differs, Location, End, Line, Column, OwnLinesAreConfirmed, IsMoveOf, MovesTake, IsRunOfSteps, OwnDeadlockIsConfirmed, OwnTextIsConfirmed, ForStuck, IsStepRefusal, exact_location, next_start, IsOwnLine, AreOwnLines, own_step, own_steps, own_steps_from, lines_of_steps, own_line, StepsAreOfTheRun, TextIsOfLines, own_steps_text, place_of, stands_at, StepLineOf, step_of, steps_of, next_location, SeesValues, HasLines, IsBadLine, step_line, value, SourcePoint, points_from, source_points_of, IsTextOf, MAX_CONTEXTS, MAX_THREADS, ContextBound, AsUsed, ConfirmError, Memory, NoSteps, NoThread, NoVariable, Step, TooLong, StepRefusal, zeros, IsConfirmed, HasFitLength, IsStepsRefusal, IsSetupFor, contexts_allowed, thread_of, AreDeclaredLines, IsFirstUndeclaredLine, IsOfNoThread, IsOfNoVariable, LastChoice, EachFits, Fits, text_of, none_bad, one_reading}
 use Rattle.std.proofs.Common.{append-nil, length-take}
 use Rattle.bp_confirm.specs.declared.noted_steps.OwnStep.{OwnStep}
 use Rattle.bp_confirm.proofs.NextLocations.{only_lines}
@@ -7,9 +7,9 @@ use Rattle.bp_confirm.proofs.OneConfirmed.{refused_has_no_run, run_takes}
 use Rattle.bp_confirm.proofs.ValuesSeen.{top_start}
 use Rattle.bp_text.proofs.LinesOfTexts.{column_within, line_within}
 use Rattle.bp_language.specs.declared.limits.TheConstants.{TEXT_LIMIT}
-use Rattle.bp_confirm.specs.declared.confirming.ConfirmFault.TheVariants.{Line}
+use Rattle.bp_confirm.specs.declared.confirmations.ConfirmError.TheVariants.{Line}
 use Rattle.bp_confirm.proofs.ReadLines.{IsShortLocation, line_fits, no_step_in_nothing}
-use Rattle.bp_confirm.proofs.OneTextRefusal.{IsStray, no_thread, no_variable, stray_alone}
+use Rattle.bp_confirm.proofs.OneTextRefusal.{IsUndeclared, no_thread, no_variable, undeclared_line_alone}
 use Rattle.bp_confirm.proofs.DeadlocksTaken.{deadlock_is_taken}
 
 -- A run takes the steps of its own lines, so that they are not refused.
@@ -270,21 +270,21 @@ module _ (text : List ℕ) (t : Program) (s : SetupOf) (steps : List ℕ) (bound
   no_bad : (n : ℕ) → IsBadLine steps n → ⊥
   no_bad n bad = none_bad has bad
 
-  no_stray : (others : List StepLineOf) (n : ℕ) (Is : StepLineOf → Type 0) → IsStray t s Is → HasLines steps others → IsFirstStray t s others n Is → ⊥
-  no_stray others n Is stray p first =
-      stray_alone t s lines n Is stray (subst (λ xs. IsFirstStray t s xs n Is) (same_lines others p) first) declared
+  no_undeclared_line : (others : List StepLineOf) (n : ℕ) (Is : StepLineOf → Type 0) → IsUndeclared t s Is → HasLines steps others → IsFirstUndeclaredLine t s others n Is → ⊥
+  no_undeclared_line others n Is undeclared_line p first =
+      undeclared_line_alone t s lines n Is undeclared_line (subst (λ xs. IsFirstUndeclaredLine t s xs n Is) (same_lines others p) first) declared
 
   not_refused : (r : StepRefusal) → IsStepsRefusal t s steps text bound (Step r) → ⊥
   not_refused r p =
       let same = same_lines p.lines p.told.read.has in
       taken p.setup r (subst (λ xs. IsSetupFor s xs bound p.setup) same p.allows) (subst (λ xs. IsStepRefusal text t p.setup zeros xs r) same p.refused)
 
-  only_memory : (f : ConfirmFault) → IsStepsRefusal t s steps text bound f → f ≡ Memory
+  only_memory : (f : ConfirmError) → IsStepsRefusal t s steps text bound f → f ≡ Memory
   only_memory TooLong p = absurd (omega (arith, p, fit.1))
   only_memory NoSteps p = absurd (omega (arith, p, fit.0))
   only_memory (Line n) p = absurd (no_bad n p.1)
-  only_memory (NoThread n i) p = absurd (no_stray p.lines n (IsOfNoThread s i) (no_thread t s i) p.read.has p.stray)
-  only_memory (NoVariable n k) p = absurd (no_stray p.lines n (IsOfNoVariable t s k) (no_variable t s k) p.read.has p.stray)
+  only_memory (NoThread n i) p = absurd (no_undeclared_line p.lines n (IsOfNoThread s i) (no_thread t s i) p.read.has p.undeclared_line)
+  only_memory (NoVariable n k) p = absurd (no_undeclared_line p.lines n (IsOfNoVariable t s k) (no_variable t s k) p.read.has p.undeclared_line)
   only_memory (Step r) p = absurd (not_refused r p)
   only_memory Memory p = refl
 

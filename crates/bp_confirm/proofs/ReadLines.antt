@@ -7,7 +7,7 @@ use Rattle.bp_confirm.specs.declared.fields.NameState.TheVariants.{Start}
 use Rattle.std.specs.Prelude.{slice_get}
 use Rattle.bp_confirm.specs.declared.fields.NameState.{NameState}
 use Rattle.bp_confirm.proofs.Elements.{past_none}
-use Rattle.bp_confirm.specs.LineReading.Reading.{Name, Bit}
+use Rattle.bp_confirm.specs.LineReadings.Reading.{Name, Bit}
 
 -- Each line of a step has a byte.
 

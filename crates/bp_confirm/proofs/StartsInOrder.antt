@@ -1,12 +1,12 @@
 -- The statements of the program of a text begin in the order of its instructions, each at a byte of
 -- its own; so a place is that of one.
-use Rattle.bp_confirm.proofs.Common.{◌≡◌, ◌+◌, ◌<◌, ◌≤◌, ℕ, zero, suc, List, [], ◌∷◌, ◌++◌, length, take, map, Option, None, Some, refl, ap, sym, subst, arith, slice_get, ◌∙◌, ◌||◌, inl, inr, Bool, true, false, option_map, rules, length-drop, map-append, Name, Expression, Decision, Block, Done, Statement, Procedure, Program, Then, Token, kind_of, Lexeme, IsCut, fit, open_brace, bad_byte, tokens_of, with_token, IsNames, one_name, more_names, IsAnyNames, IsExpr, of_or, implication, IsOr, of_xor, disjunction, IsXor, of_and, exclusion, IsAnd, of_eq, conjunction, IsEq, of_un, equality, difference, IsUn, negation, of_atom, IsAtom, constant_0, constant_1, variable, brackets, IsExprs, one_expr, more_exprs, IsAnyExprs, IsDecider, choice, by_value, IsForm, skip, jump, returning, assignment, branch, loop, assertion, assumption, printing, call, IsStmt, labelled, unlabelled, IsStmts, one_stmt, more_stmts, decl, IsDecls, no_decl, more_decls, IsProc, proc, IsProcs, no_proc, more_procs, Derives, program, first_word, first_name, IsTextOf, chain, Configuration, place, places, places_in, places_of, start_of_block, starts_of, Remains, cases_order, false≢true, slice_get-map, bytes_eq-Decides, IsLawfulText, starts, procedure_of, GoesOnAt}
+use Rattle.bp_confirm.proofs.Common.{◌≡◌, ◌+◌, ◌<◌, ◌≤◌, ℕ, zero, suc, List, [], ◌∷◌, ◌++◌, length, take, map, Option, None, Some, refl, ap, sym, subst, arith, slice_get, ◌∙◌, ◌||◌, inl, inr, Bool, true, false, option_map, rules, length-drop, map-append, Name, Expression, Decision, Block, Done, Statement, Procedure, Program, Then, Token, kind_of, Lexeme, IsCut, fit, open_brace, bad_byte, tokens_of, with_token, IsNames, one_name, more_names, IsAnyNames, IsExpr, of_or, implication, IsOr, of_xor, disjunction, IsXor, of_and, exclusion, IsAnd, of_eq, conjunction, IsEq, of_un, equality, difference, IsUn, negation, of_atom, IsAtom, constant_0, constant_1, variable, brackets, IsExprs, one_expr, more_exprs, IsAnyExprs, IsDecider, choice, by_value, IsForm, skip, jump, returning, assignment, branch, loop, assertion, assumption, printing, call, IsStmt, labelled, unlabelled, IsStmts, one_stmt, more_stmts, decl, IsDecls, no_decl, more_decls, IsProc, proc, IsProcs, no_proc, more_procs, Derives, program, first_word, first_name, IsTextOf, chain, Configuration, place, places, places_in, places_of, start_of_block, starts_of, Remains, cases_order, false≢true, slice_get-map, bytes_eq-Decides, IsWellFormedText, starts, procedure_of, GoesOnAt}
 use Rattle.bp_language.specs.Tokens.{ends}
 use Rattle.bp_language.specs.declared.tokens.TokenKind.{TokenKind}
 use Rattle.bp_flat.specs.StandsFor.{Place}
 use Rattle.std.specs.Str.{bytes_eq}
-use Rattle.bp_language.specs.Faults.{has}
-use Rattle.bp_language.proofs.LawsOfLawfulPrograms.{distinct_names}
+use Rattle.bp_language.specs.Errors.{has}
+use Rattle.bp_language.proofs.LawsOfWellFormedPrograms.{distinct_names}
 use Rattle.bp_flat.proofs.ProceduresOfPlaces.{ends as ends_among}
 
 abbrev first_at : List Token → ℕ
@@ -247,7 +247,7 @@ module _ (text : List ℕ) (t : Program) (is : IsTextOf text t) where
   pub starts_distinct : (m n a : ℕ) → slice_get (starts_of t) m ≡ Some (Some a) → slice_get (starts_of t) n ≡ Some (Some a) → m ≡ n
   starts_distinct m n a p q = distinct (length text) 0 ordered.0 (starts_of t) m n a ordered.1 p q
 
--- A place in the lawful program of a text is that of one instruction.
+-- A place in the well-formed program of a text is that of one instruction.
 
 -- after an end there is one more
 ends_grow : (xs : List (Option ℕ)) (m n : ℕ) → m < n → slice_get xs m ≡ Some None → ends_among (take m xs) < ends_among (take n xs)
@@ -272,14 +272,14 @@ has_before (x ∷ ns) (suc i) (suc j) n less at = by_first (bytes_eq x.text n.te
     by_first true is = refl
     by_first false is = is
 
-module _ (text : List ℕ) (t : Program) (is : IsLawfulText text t) where
+module _ (text : List ℕ) (t : Program) (is : IsWellFormedText text t) where
   name_at : (k : ℕ) (p : Procedure) → slice_get t.procedures k ≡ Some p → slice_get (map (λ q. q.name) t.procedures) k ≡ Some p.name
   name_at k p at = slice_get-map (λ (q : Procedure). q.name) t.procedures k ∙ ap (option_map (λ (q : Procedure). q.name)) at
 
   -- no procedure is there twice
   not_before : (i j : ℕ) (p : Procedure) → i < j → slice_get t.procedures i ≡ Some p → slice_get t.procedures j ≡ Some p → ⊥
   not_before i j p less first second =
-      false≢true (sym ((distinct_names t is.lawful).procedures j p.name (name_at j p second))
+      false≢true (sym ((distinct_names t is.well_formed).procedures j p.name (name_at j p second))
       ∙ has_before (map (λ q. q.name) t.procedures) i j p.name less (name_at i p first))
 
   start_at : (n : ℕ) (p : Procedure) (r : Block) → Remains (places_of t.procedures) n p r → slice_get (starts_of t) n ≡ Some (start_of_block r)

@@ -1,16 +1,16 @@
 -- One more step that is followed, and one that is refused.
-use Rattle.bp_confirm.proofs.Common.{◌≡◌, ◌∙◌, ℕ, Bool, List, ◌∷◌, false, Option, Some, ap, sym, subst, Bor, ◌<◌, ◌+◌, [], ◌++◌, length, take, drop, get_or, ◌≤◌, zero, suc, true, arith, slice_get, rules, option_copied, take_more, take-append-drop, append-nil, map_push, take_all, false≢true, length-take, drop_of_length-le, regrouped, Block, Procedure, Program, Configuration, Valuation, Flat, Instruction, StandsFor, Does, places_of, Top, stack_of, configuration_after, is_finished, IsAllowed, is_granted, IsTop, Call, IsNextCall, given_bit, SetupOf, TellsNext, is_fork, is_fork_on, IsInferred, IsInferredOn, IsRefusedHere, IsNotTaken, refusal_of, source_points_of, StepOf, next_place, StepLineOf, step_of, steps_of, value_seen, IsFirstUnseen, SeesValues, IsStepOf, TakeAfter, Takes, IsClearOnStack, LastBits, some_follow, IsFollowed, bit_of_stack, IsAmbiguousOnStack, Follows, FollowAfter, Difference, StepReason, Elsewhere, Ambiguous, Finished, Refused, Differs, StepRefusal, IsDifference, GoesOnAt, StandsAtPlace, IsStuck, IsReason, ForStuck, IsStepRefusal, IsNotFollowed, SourcePoint}
+use Rattle.bp_confirm.proofs.Common.{◌≡◌, ◌∙◌, ℕ, Bool, List, ◌∷◌, false, Option, Some, ap, sym, subst, Bor, ◌<◌, ◌+◌, [], ◌++◌, length, take, drop, get_or, ◌≤◌, zero, suc, true, arith, slice_get, rules, option_copied, take_more, take-append-drop, append-nil, map_push, take_all, false≢true, length-take, drop_of_length-le, regrouped, Block, Procedure, Program, Configuration, Valuation, Flat, Instruction, StandsFor, Does, places_of, Top, stack_of, configuration_after, is_terminated, IsAllowed, is_granted, IsTop, Call, IsNextCall, given_bit, SetupOf, TellsNext, is_fork, is_fork_on, IsInferred, IsInferredOn, IsRefusedHere, IsNotTaken, refusal_of, source_points_of, StepOf, next_place, StepLineOf, step_of, steps_of, value_seen, IsFirstMismatch, SeesValues, IsStepOf, TakeAfter, Takes, IsClearOnStack, LastBits, some_follow, IsFollowed, bit_of_stack, IsAmbiguousOnStack, Follows, FollowAfter, Difference, StepReason, Elsewhere, Ambiguous, Finished, Refused, Differs, StepRefusal, IsDifference, GoesOnAt, StandsAtPlace, IsStuck, IsReason, ForStuck, IsStepRefusal, IsNotFollowed, SourcePoint}
 use Rattle.bp_trace.specs.Replays.{IsPlayable}
 use Rattle.bp_trace.proofs.PlayableFronts.{front, own_is}
 use Rattle.bp_confirm.specs.Steps as point
 use Rattle.bp_confirm.specs.declared.choices.Inferred.{Inferred}
-use Rattle.bp_confirm.specs.declared.following.Next.{Next}
-use Rattle.bp_confirm.specs.declared.confirming.StepFault.{StepFault}
+use Rattle.bp_confirm.specs.declared.followed_steps.Next.{Next}
+use Rattle.bp_confirm.specs.declared.confirmations.StepError.{StepError}
 use Rattle.bp_confirm.proofs.Elements.{parts_at, rest_at, take_got}
 use Rattle.bp_confirm.proofs.BitsOfEffects.{fork_is}
 use Rattle.bp_confirm.proofs.ValuesSeen.{stands_as}
 use Rattle.bp_confirm.proofs.StepMoves.{same_reply, refused_for_all, other_values}
-use Rattle.bp_confirm.proofs.Agreeing.{transfer}
+use Rattle.bp_confirm.proofs.Agreement.{transfer}
 
 -- The bit that is inferred at an instruction is that of the stack which continues there.
 
@@ -85,14 +85,14 @@ module _ (text : List ℕ) (t : Program) (s : SetupOf) (last : LastBits) (lines 
         → IsStepRefusal text t s last lines r
     step_refused r given1 = search (rules, parts_at, length-take, rest_at, for_all)
 
-    by_fault : (f : StepFault) → IsNotTaken text t s h (get_or lines n d) (steps_of text (drop (n + 1) lines)) (n + 1) f → IsNotFollowed text t s last lines f
-    by_fault f given1 = search (rules, step_refused)
+    by_error : (f : StepError) → IsNotTaken text t s h (get_or lines n d) (steps_of text (drop (n + 1) lines)) (n + 1) f → IsNotFollowed text t s last lines f
+    by_error f given1 = search (rules, step_refused)
 
   -- the refusal of a step is one of the lines
-  pub not_followed : {x : StepLineOf} {r : SetupOf} {g h : List Call} (f : StepFault) → n < length lines → x ≡ get_or lines n x → r ≡ s → g ≡ h → length h ≡ n
+  pub not_followed : {x : StepLineOf} {r : SetupOf} {g h : List Call} (f : StepError) → n < length lines → x ≡ get_or lines n x → r ≡ s → g ≡ h → length h ≡ n
       → FollowAfter t s last [] (steps_of text (take n lines)) (steps_of text (drop n lines)) h
       → IsNotTaken text t r g x (steps_of text (drop (n + 1) lines)) (length g + 1) f → IsNotFollowed text t s last lines f
-  not_followed given1 given2 given3 given4 given5 given6 given7 = search (rules, by_fault)
+  not_followed given1 given2 given3 given4 given5 given6 given7 = search (rules, by_error)
 
   pub followed : (h : List Call) → length lines ≤ n
       → FollowAfter t s last [] (steps_of text (take n lines)) (steps_of text (drop n lines)) h
@@ -100,8 +100,8 @@ module _ (text : List ℕ) (t : Program) (s : SetupOf) (last : LastBits) (lines 
   followed h given1 given2 = search (rules, drop_of_length-le, take_all)
 
 -- a value that is not seen is one of those that are wanted
-pub unseen_not : (c : Configuration) (i : ℕ) (vs : Valuation) (n : ℕ) (seen : Option Bool) → IsFirstUnseen c i vs n seen → SeesValues c i vs → ⊥
-unseen_not c i vs n seen unseen sees = unseen.differs (unseen.is_seen ∙ seen_at vs n unseen.value unseen.at sees)
+pub mismatch_not : (c : Configuration) (i : ℕ) (vs : Valuation) (n : ℕ) (seen : Option Bool) → IsFirstMismatch c i vs n seen → SeesValues c i vs → ⊥
+mismatch_not c i vs n seen mismatch sees = mismatch.differs (mismatch.is_seen ∙ seen_at vs n mismatch.value mismatch.at sees)
   where
     seen_at : (ws : Valuation) (m : ℕ) (v : List ℕ × Bool) → slice_get ws m ≡ Some v → SeesValues c i ws → value_seen c.globals (stack_of c i) v.0 ≡ Some v.1
     seen_at [] m v at all = absurd cc
@@ -135,8 +135,8 @@ module _ (text : List ℕ) (t : Program) (s : SetupOf) (h : List Call) {x z : St
   elsewhere other = refused_for Elsewhere other (λ y takes. false≢true (sym other ∙ takes.at))
 
   module _ (at : StandsAtPlace t s h (step_of text x) true) where
-    pub finished : is_finished s h x.thread ≡ true → IsNotTaken text t s h z later n (refusal_of points z n number Finished)
-    finished over = refused_for Finished (at, over) (λ y takes. false≢true (sym takes.allowed.unfinished ∙ ap (is_finished s h) takes.thread ∙ over))
+    pub finished : is_terminated s h x.thread ≡ true → IsNotTaken text t s h z later n (refusal_of points z n number Finished)
+    finished over = refused_for Finished (at, over) (λ y takes. false≢true (sym takes.allowed.still_live ∙ ap (is_terminated s h) takes.thread ∙ over))
 
     module _ (last : LastBits) {a : Call} (thread : a.thread ≡ x.thread) (allowed : IsAllowed t s h a)
         (bit : a.bit ≡ bit_of_stack last x.thread later (stack_of (configuration_after t s h) x.thread)) where
@@ -155,7 +155,7 @@ module _ (text : List ℕ) (t : Program) (s : SetupOf) (h : List Call) {x z : St
         others_seen d found =
             let differs = subst (λ (w : SetupOf × StepLineOf). IsDifference t w.0 (h ++ a ∷ []) w.1.thread w.1.values d) (λ i. (same i, sym is i)) found in
             refused_for (Differs d) (at, record { call = a; takes = bare; differs = differs })
-            (other_values t s h (step_of text x) a bare (unseen_not (configuration_after t s (h ++ a ∷ [])) x.thread x.values d.place d.seen differs.unseen))
+            (other_values t s h (step_of text x) a bare (mismatch_not (configuration_after t s (h ++ a ∷ [])) x.thread x.values d.place d.seen differs.mismatch))
 
         module _ (found : SeesValues (configuration_after t r (h ++ a ∷ [])) z.thread z.values) where
           takes : IsStepOf t s h (step_of text x) a

@@ -1,5 +1,5 @@
 -- The values of the names of a thread's top.
-use Rattle.bp_confirm.proofs.Common.{◌≡◌, ◌∙◌, ◌+◌, ℕ, zero, suc, List, [], ◌∷◌, Option, None, Some, refl, ap, ◌<◌, length, get_or, ◌++◌, take, sym, arith, option_map, Bor, subst, ◌≢◌, Bool, true, false, cond, slice_get, MatchOption, IfSome, is_some, nat_lt, rules, fun_ext, take_more, slice_get_past, slice_get-get_or, slice_get-map, option_or, bytes_eq-Decides, position_at, Program, Procedure, starts_of, valuation_of, variables, start_of_block, bits_of, Configuration, Valuation, lookup, ends, procedure_of, Top, stack_of, IsTop, qualified, declares, SourcePoint, points_from, source_points_of, is_point_at, is_there, stand_at_point, stand_at_start, stand_in, stand_of, Location, place_of, stands_at, local_seen, own_value, qualified_values, AreKnown}
+use Rattle.bp_confirm.proofs.Common.{◌≡◌, ◌∙◌, ◌+◌, ℕ, zero, suc, List, [], ◌∷◌, Option, None, Some, refl, ap, ◌<◌, length, get_or, ◌++◌, take, sym, arith, option_map, Bor, subst, ◌≢◌, Bool, true, false, cond, slice_get, MatchOption, IfSome, is_some, nat_lt, rules, fun_ext, take_more, slice_get_past, slice_get-get_or, slice_get-map, option_or, bytes_eq-Decides, position_at, Program, Procedure, starts_of, valuation_of, variables, start_of_block, bits_of, Configuration, Valuation, lookup, ends, procedure_of, Top, stack_of, IsTop, qualified, declares, SourcePoint, points_from, source_points_of, is_point_at, is_there, thread_place_at_point, thread_place_at_start, thread_place_in, thread_place_of, Location, place_of, stands_at, local_seen, own_value, qualified_values, AreKnown}
 use Rattle.std.proofs.Common.{bytes_eq}
 use Rattle.bp_source.proofs.DecidersOfPlaces.{same_qualified}
 use Rattle.bp_confirm.proofs.Elements.{all_got}
@@ -8,16 +8,16 @@ use Rattle.bp_confirm.proofs.BitsOfEffects.{start_is_at, numbers_at}
 -- The point of an instruction has the start of its statement in the text.
 
 module _ (text : List ℕ) where
-  stand_there : (k : ℕ) (starts : List (Option ℕ)) (n : ℕ) → stand_at_point (slice_get (points_from text k starts) n) ≡ stand_at_start text (slice_get starts n)
-  stand_there k [] n = refl
-  stand_there k (None ∷ starts) zero = refl
-  stand_there k (Some at ∷ starts) zero = refl
-  stand_there k (None ∷ starts) (suc n) = stand_there (k + 1) starts n
-  stand_there k (Some at ∷ starts) (suc n) = stand_there k starts n
+  thread_place_there : (k : ℕ) (starts : List (Option ℕ)) (n : ℕ) → thread_place_at_point (slice_get (points_from text k starts) n) ≡ thread_place_at_start text (slice_get starts n)
+  thread_place_there k [] n = refl
+  thread_place_there k (None ∷ starts) zero = refl
+  thread_place_there k (Some at ∷ starts) zero = refl
+  thread_place_there k (None ∷ starts) (suc n) = thread_place_there (k + 1) starts n
+  thread_place_there k (Some at ∷ starts) (suc n) = thread_place_there k starts n
 
   pub stands_as : (t : Program) (points : List SourcePoint) (number : Option ℕ) → points ≡ source_points_of text t
-      → stand_in points number ≡ stand_of text t number
-  stands_as t points number given1 = search (rules, stand_there)
+      → thread_place_in points number ≡ thread_place_of text t number
+  stands_as t points number given1 = search (rules, thread_place_there)
 
 -- The point of an instruction has the start of its statement, and its procedure.
 

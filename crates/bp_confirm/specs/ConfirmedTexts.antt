@@ -10,19 +10,19 @@ use Rattle.bp_machine.specs.Histories.{IsLeastWithin}
 use Rattle.bp_machine.specs.declared.calls.Call.{Call}
 use Rattle.bp_machine.specs.Sessions.{Stands}
 use Rattle.bp_trace.specs.declared.limits.TheConstants.{MAX_SCHEDULE}
-use Rattle.bp_code.specs.LawfulTexts.{IsLawfulText}
+use Rattle.bp_code.specs.WellFormedTexts.{IsWellFormedText}
 use Rattle.bp_source.specs.Names.{declares}
 use Rattle.bp_tasks.specs.declared.tasks.ContextBound.{ContextBound}
 use Rattle.bp_tasks.specs.declared.tasks.ContextBound.TheVariants.{Kept, AsUsed}
 use Rattle.bp_confirm.specs.Steps.{StepLineOf, steps_of, HasLines, IsBadLine}
-use Rattle.bp_confirm.specs.declared.confirming.ConfirmFault.{ConfirmFault}
-use Rattle.bp_confirm.specs.declared.confirming.ConfirmFault.TheVariants as fault
-use Rattle.bp_confirm.specs.declared.declared.Stray.{Stray}
-use Rattle.bp_confirm.specs.declared.declared.Stray.TheVariants.{Thread, Variable}
-use Rattle.bp_confirm.specs.declared.confirming.StepRefusal.{StepRefusal}
+use Rattle.bp_confirm.specs.declared.confirmations.ConfirmError.{ConfirmError}
+use Rattle.bp_confirm.specs.declared.confirmations.ConfirmError.TheVariants as error
+use Rattle.bp_confirm.specs.declared.declarations.Undeclared.{Undeclared}
+use Rattle.bp_confirm.specs.declared.declarations.Undeclared.TheVariants.{Thread, Variable}
+use Rattle.bp_confirm.specs.declared.confirmations.StepRefusal.{StepRefusal}
 use Rattle.bp_confirm.specs.declared.histories.Confirmed.{Confirmed}
 use Rattle.bp_confirm.specs.Confirms.{IsStepRefusal}
-use Rattle.bp_confirm.specs.Inferred.{zeros, IsConfirmed, IsTaken}
+use Rattle.bp_confirm.specs.InferredBits.{zeros, IsConfirmed, IsTaken}
 use Rattle.bp_confirm.specs.declared.choices.LastChoice.{LastChoice}
 
 -- Lines of threads and variables that are declared, and the first line of another one.
@@ -49,7 +49,7 @@ abbrev pub AreDeclaredLines : Program → SetupOf → List StepLineOf → Type 0
 AreDeclaredLines t s lines = AllByRecursion (IsDeclared t s) lines
 
 -- line n is the first that is not
-pub record IsFirstStray
+pub record IsFirstUndeclaredLine
     (t : Program) (s : SetupOf) (lines : List StepLineOf) (n : ℕ) (Is : StepLineOf → Type 0)
     : Type 0 where
   pub before : List StepLineOf
@@ -97,14 +97,15 @@ abbrev pub AreKnown : Program → List (Bor (List ℕ)) → Type 0
 AreKnown t names = AllByRecursion (λ name. declares t name.now ≡ true) names
 
 -- line n is the first with an undeclared thread or variable, which is this one
-abbrev pub IsStray : Program → SetupOf → List StepLineOf → ℕ → Stray → Type 0
-IsStray t s lines n (Thread thread) = IsFirstStray t s lines n (IsOfNoThread s thread)
-IsStray t s lines n (Variable value) = IsFirstStray t s lines n (IsOfNoVariable t s value)
+abbrev pub IsUndeclared : Program → SetupOf → List StepLineOf → ℕ → Undeclared → Type 0
+IsUndeclared t s lines n (Thread thread) = IsFirstUndeclaredLine t s lines n (IsOfNoThread s thread)
+IsUndeclared t s lines n (Variable value) = IsFirstUndeclaredLine t s lines n
+    (IsOfNoVariable t s value)
 
--- the fault of line n
-abbrev pub fault_of_stray : ℕ → Stray → ConfirmFault
-fault_of_stray n (Thread thread) = fault.NoThread n thread
-fault_of_stray n (Variable value) = fault.NoVariable n value
+-- the error of line n
+abbrev pub error_of_undeclared : ℕ → Undeclared → ConfirmError
+error_of_undeclared n (Thread thread) = error.NoThread n thread
+error_of_undeclared n (Variable value) = error.NoVariable n value
 
 -- a text of steps, of a program in this setup
 module _ (t : Program) (s : SetupOf) (steps : List ℕ) where
@@ -123,19 +124,19 @@ module _ (t : Program) (s : SetupOf) (steps : List ℕ) where
     pub declared : AreDeclaredLines t s lines
 
   -- the first line that is not
-  pub record HasStray (n : ℕ) (Is : StepLineOf → Type 0) : Type 0 where
+  pub record HasUndeclaredLine (n : ℕ) (Is : StepLineOf → Type 0) : Type 0 where
     pub lines : List StepLineOf
     pub read : AreRead lines
-    pub stray : IsFirstStray t s lines n Is
+    pub undeclared_line : IsFirstUndeclaredLine t s lines n Is
 
   -- why it has no such lines; it does not say when memory is refused
-  abbrev pub IsUntold : ConfirmFault → Type 0
-  IsUntold fault.TooLong = MAX_SCHEDULE < length steps
-  IsUntold fault.NoSteps = length steps ≡ 0
-  IsUntold (fault.Line n) = HasFitLength × IsBadLine steps n
-  IsUntold (fault.NoThread n thread) = HasStray n (IsOfNoThread s thread)
-  IsUntold (fault.NoVariable n value) = HasStray n (IsOfNoVariable t s value)
-  IsUntold fault.Memory = HasFitLength
+  abbrev pub IsUntold : ConfirmError → Type 0
+  IsUntold error.TooLong = MAX_SCHEDULE < length steps
+  IsUntold error.NoSteps = length steps ≡ 0
+  IsUntold (error.Line n) = HasFitLength × IsBadLine steps n
+  IsUntold (error.NoThread n thread) = HasUndeclaredLine n (IsOfNoThread s thread)
+  IsUntold (error.NoVariable n value) = HasUndeclaredLine n (IsOfNoVariable t s value)
+  IsUntold error.Memory = HasFitLength
   IsUntold f = ⊥
 
   -- its places are those of the text of the program, with this bound on contexts
@@ -164,15 +165,15 @@ module _ (t : Program) (s : SetupOf) (steps : List ℕ) where
       pub refused : IsStepRefusal text t setup zeros lines r
 
     -- this history takes the steps, in the setup of this session, which stands after it; in the
-    -- program of a lawful text its last bits are those of a deadlock, if there is one
+    -- program of a well-formed text its last bits are those of a deadlock, if there is one
     pub record ConfirmsTo (x : Confirmed) : Type 0 where
       pub taken : IsTakenText x.session.setup x.history.items
       pub confirmed :
-          IsLawfulText text t
+          IsWellFormedText text t
           → IsConfirmedText x.session.setup x.history.items x.choices.items
       pub stands : Stands t x.session x.history.items
 
     -- why the steps are not confirmed: the first reason that applies
-    abbrev pub IsStepsRefusal : ConfirmFault → Type 0
-    IsStepsRefusal (fault.Step r) = IsRefusedText r
+    abbrev pub IsStepsRefusal : ConfirmError → Type 0
+    IsStepsRefusal (error.Step r) = IsRefusedText r
     IsStepsRefusal f = IsUntold f

@@ -7,49 +7,49 @@ use Rattle.bp_language.specs.Ast.{Program}
 use Rattle.bp_flat.specs.StandsFor.{starts_of}
 use Rattle.bp_flat.specs.Moves.{Valuation, Configuration}
 use Rattle.bp_machine.specs.declared.calls.Call.{Call}
-use Rattle.bp_machine.specs.Histories.{stack_of, configuration_after, is_finished, IsAllowed, is_granted}
+use Rattle.bp_machine.specs.Histories.{stack_of, configuration_after, is_terminated, IsAllowed, is_granted}
 use Rattle.bp_machine.specs.Setups.{SetupOf, threads}
 use Rattle.bp_machine.specs.declared.calls.Reply.{Reply}
 use Rattle.bp_machine.specs.declared.tops.Top.{Top}
 use Rattle.bp_machine.specs.Runs.{IsTop}
 use Rattle.bp_confirm.specs.declared.source_points.SourcePoint.{SourcePoint}
-use Rattle.bp_confirm.specs.declared.step_lines.Stand.{Stand}
-use Rattle.bp_confirm.specs.declared.step_lines.Stand.TheVariants.{Ended, End, Statement}
-use Rattle.bp_confirm.specs.declared.confirming.Difference.{Difference}
-use Rattle.bp_confirm.specs.Steps.{value_seen, IsFirstUnseen, stands_at, StepOf, IsStepOf, Takes, StepLineOf, step_of, steps_of}
-use Rattle.bp_confirm.specs.declared.confirming.StepFault.{StepFault}
-use Rattle.bp_confirm.specs.declared.confirming.StepFault.TheVariants as fault
-use Rattle.bp_confirm.specs.declared.confirming.StepReason.{StepReason}
-use Rattle.bp_confirm.specs.declared.confirming.StepReason.TheVariants.{Elsewhere, Ambiguous, Finished, Refused, Differs}
-use Rattle.bp_confirm.specs.declared.confirming.StepRefusal.{StepRefusal}
-use Rattle.bp_confirm.specs.Inferred.{IsAmbiguousOnStack, LastBits, FollowAfter}
+use Rattle.bp_confirm.specs.declared.step_lines.ThreadPlace.{ThreadPlace}
+use Rattle.bp_confirm.specs.declared.step_lines.ThreadPlace.TheVariants.{Ended, End, Statement}
+use Rattle.bp_confirm.specs.declared.confirmations.Difference.{Difference}
+use Rattle.bp_confirm.specs.Steps.{value_seen, IsFirstMismatch, stands_at, StepOf, IsStepOf, Takes, StepLineOf, step_of, steps_of}
+use Rattle.bp_confirm.specs.declared.confirmations.StepError.{StepError}
+use Rattle.bp_confirm.specs.declared.confirmations.StepError.TheVariants as error
+use Rattle.bp_confirm.specs.declared.confirmations.StepReason.{StepReason}
+use Rattle.bp_confirm.specs.declared.confirmations.StepReason.TheVariants.{Elsewhere, Ambiguous, Finished, Refused, Differs}
+use Rattle.bp_confirm.specs.declared.confirmations.StepRefusal.{StepRefusal}
+use Rattle.bp_confirm.specs.InferredBits.{IsAmbiguousOnStack, LastBits, FollowAfter}
 
 -- The position of a thread in the text of a program.
 
 -- it is at the statement that begins at this offset, or at a procedure's end; without an
 -- instruction it has ended
-abbrev pub stand_at_start : List ℕ → Option (Option ℕ) → Stand
-stand_at_start text None = Ended
-stand_at_start text (Some None) = End
-stand_at_start text (Some (Some at)) = Statement (position_at text at)
+abbrev pub thread_place_at_start : List ℕ → Option (Option ℕ) → ThreadPlace
+thread_place_at_start text None = Ended
+thread_place_at_start text (Some None) = End
+thread_place_at_start text (Some (Some at)) = Statement (position_at text at)
 
 -- its position if it continues at the instruction of this number of a program of the text
-abbrev pub stand_of : List ℕ → Program → Option ℕ → Stand
-stand_of text t None = Ended
-stand_of text t (Some number) = stand_at_start text (slice_get (starts_of t) number)
+abbrev pub thread_place_of : List ℕ → Program → Option ℕ → ThreadPlace
+thread_place_of text t None = Ended
+thread_place_of text t (Some number) = thread_place_at_start text (slice_get (starts_of t) number)
 
 -- A device: also by the points of the instructions.
-abbrev pub stand_at : Option Position → Stand
-stand_at None = End
-stand_at (Some position) = Statement position
+abbrev pub thread_place_at : Option Position → ThreadPlace
+thread_place_at None = End
+thread_place_at (Some position) = Statement position
 
-abbrev pub stand_at_point : Option SourcePoint → Stand
-stand_at_point None = Ended
-stand_at_point (Some point) = stand_at point.position
+abbrev pub thread_place_at_point : Option SourcePoint → ThreadPlace
+thread_place_at_point None = Ended
+thread_place_at_point (Some point) = thread_place_at point.position
 
-abbrev pub stand_in : List SourcePoint → Option ℕ → Stand
-stand_in points None = Ended
-stand_in points (Some number) = stand_at_point (slice_get points number)
+abbrev pub thread_place_in : List SourcePoint → Option ℕ → ThreadPlace
+thread_place_in points None = Ended
+thread_place_in points (Some number) = thread_place_at_point (slice_get points number)
 
 -- The last step of a history that changed a thread's view of a variable.
 
@@ -84,8 +84,8 @@ seen_after t s h i name k = seen_by t s i name (take k h)
 pub record IsDifference
     (t : Program) (s : SetupOf) (h : List Call) (i : ℕ) (vs : Valuation) (d : Difference)
     : Type 0 where
-  pub unseen : IsFirstUnseen (configuration_after t s h) i vs d.place d.seen
-  pub changed : IsLastChange (seen_after t s h i unseen.value.0) (length h) d.changed
+  pub mismatch : IsFirstMismatch (configuration_after t s h) i vs d.place d.seen
+  pub changed : IsLastChange (seen_after t s h i mismatch.value.0) (length h) d.changed
 
 -- When a history confirms reported steps, and why none does.
 
@@ -127,7 +127,7 @@ module _ (t : Program) (s : SetupOf) (h : List Call) (x : StepOf) where
   -- Why it is refused, before these later steps: the first reason that applies.
   abbrev pub IsReason : List StepOf → StepReason → Type 0
   IsReason later Elsewhere = StandsAtPlace false
-  IsReason later Finished = StandsAtPlace true × (is_finished s h x.thread ≡ true)
+  IsReason later Finished = StandsAtPlace true × (is_terminated s h x.thread ≡ true)
   IsReason later (Refused r) = StandsAtPlace true × IsAnswered r
   IsReason later (Differs d) = StandsAtPlace true × SeesOther d
   IsReason later Ambiguous = IsUnclear later
@@ -156,7 +156,7 @@ pub record IsStepRefusal
   pub follows :
       FollowAfter t s last [] (steps_of text before) (steps_of text (step ∷ later)) history
   pub number : GoesOnAt t (configuration_after t s history) r.thread r.number
-  pub stand : r.stand ≡ stand_of text t r.number
+  pub thread_place : r.thread_place ≡ thread_place_of text t r.number
   pub reason : IsReason t s history (step_of text step) (steps_of text later) r.reason
   pub none :
       ForStuck r.reason
@@ -164,9 +164,9 @@ pub record IsStepRefusal
 
 -- the steps are refused in this way, or memory was refused
 abbrev pub IsNotFollowed
-    : List ℕ → Program → SetupOf → LastBits → List StepLineOf → StepFault → Type 0
-IsNotFollowed text t s last lines (fault.Refusal r) = IsStepRefusal text t s last lines r
-IsNotFollowed text t s last lines fault.Memory = Unit {0}
+    : List ℕ → Program → SetupOf → LastBits → List StepLineOf → StepError → Type 0
+IsNotFollowed text t s last lines (error.Refusal r) = IsStepRefusal text t s last lines r
+IsNotFollowed text t s last lines error.Memory = Unit {0}
 
 -- each line is one of a thread of the setup
 abbrev pub AreOfThreads : SetupOf → List StepLineOf → Type 0

@@ -8,23 +8,23 @@ use Rattle.bp_flat.specs.declared.effects.Effect.TheVariants.{Continues, Fails, 
 use Rattle.bp_flat.specs.Flat.{Instruction, If, While, Assert, Assume}
 use Rattle.bp_flat.specs.StandsFor.{starts_of}
 use Rattle.bp_machine.specs.declared.calls.Call.{Call}
-use Rattle.bp_machine.specs.Histories.{configuration_after, is_finished}
+use Rattle.bp_machine.specs.Histories.{configuration_after, is_terminated}
 use Rattle.bp_machine.specs.Setups.{SetupOf}
 use Rattle.bp_confirm.specs.declared.step_lines.Location.{Location}
 use Rattle.bp_confirm.specs.declared.source_points.SourcePoint.{SourcePoint}
 use Rattle.bp_confirm.specs.Steps.{is_at, Place, StepOf, place_of, next_place, StepLineOf, location_in, step_of}
 use Rattle.bp_confirm.specs.declared.choices.Inferred.{Inferred}
-use Rattle.bp_confirm.specs.Inferred.{LastBits, bit_of_block, bit_of_stack, IsAmbiguous, IsAmbiguousOnStack, IsClear, IsClearOnStack, waiting_bits, some_follow}
+use Rattle.bp_confirm.specs.InferredBits.{LastBits, bit_of_block, bit_of_stack, IsAmbiguous, IsAmbiguousOnStack, IsClear, IsClearOnStack, waiting_bits, some_follow}
 use Rattle.bp_confirm.specs.declared.choices.LastBits as given
 use Rattle.bp_confirm.specs.declared.choices.LastBits.TheVariants.{Each, Waiting}
-use Rattle.bp_confirm.specs.declared.confirming.StepFault.{StepFault}
-use Rattle.bp_confirm.specs.declared.confirming.StepFault.TheVariants as fault
-use Rattle.bp_confirm.specs.declared.confirming.StepReason.{StepReason}
-use Rattle.bp_confirm.specs.declared.confirming.StepRefusal.{StepRefusal}
-use Rattle.bp_confirm.specs.declared.following.Next.{Next}
-use Rattle.bp_confirm.specs.declared.following.NotCalled.{NotCalled}
-use Rattle.bp_confirm.specs.declared.following.NotCalled.TheVariants as call
-use Rattle.bp_confirm.specs.Confirms.{stand_in, stand_of, GoesOnAt, IsStuck, IsReason, ForStuck}
+use Rattle.bp_confirm.specs.declared.confirmations.StepError.{StepError}
+use Rattle.bp_confirm.specs.declared.confirmations.StepError.TheVariants as error
+use Rattle.bp_confirm.specs.declared.confirmations.StepReason.{StepReason}
+use Rattle.bp_confirm.specs.declared.confirmations.StepRefusal.{StepRefusal}
+use Rattle.bp_confirm.specs.declared.followed_steps.Next.{Next}
+use Rattle.bp_confirm.specs.declared.followed_steps.NotCalled.{NotCalled}
+use Rattle.bp_confirm.specs.declared.followed_steps.NotCalled.TheVariants as call
+use Rattle.bp_confirm.specs.Confirms.{thread_place_in, thread_place_of, GoesOnAt, IsStuck, IsReason, ForStuck}
 
 -- A device: the inferred bit by the two effects of an instruction.
 
@@ -135,29 +135,29 @@ pub record IsRefusedHere
   pub thread : r.thread ≡ x.thread
   pub location : r.location ≡ x.location
   pub number : GoesOnAt t (configuration_after t s h) r.thread r.number
-  pub stand : r.stand ≡ stand_of text t r.number
+  pub thread_place : r.thread_place ≡ thread_place_of text t r.number
   pub reason : IsReason t s h (step_of text x) later r.reason
   pub stuck : ForStuck r.reason (IsStuck t s h (step_of text x))
 
 -- the step is refused so, or memory is refused
 abbrev pub IsNotTaken
-    : List ℕ → Program → SetupOf → List Call → StepLineOf → List StepOf → ℕ → StepFault → Type 0
-IsNotTaken text t s h x later n (fault.Refusal r) = IsRefusedHere text t s h x later n r
-IsNotTaken text t s h x later n fault.Memory = Unit {0}
+    : List ℕ → Program → SetupOf → List Call → StepLineOf → List StepOf → ℕ → StepError → Type 0
+IsNotTaken text t s h x later n (error.Refusal r) = IsRefusedHere text t s h x later n r
+IsNotTaken text t s h x later n error.Memory = Unit {0}
 
 -- the session does not call thread i: it has made its last call, or memory is refused
 abbrev pub IsNotCalled : SetupOf → List Call → ℕ → NotCalled → Type 0
-IsNotCalled s h i call.Finished = is_finished s h i ≡ true
+IsNotCalled s h i call.Finished = is_terminated s h i ≡ true
 IsNotCalled s h i call.Memory = Unit {0}
 
 -- the refusal of the step of this line, the n-th
-abbrev pub refusal_of : List SourcePoint → StepLineOf → ℕ → Option ℕ → StepReason → StepFault
-refusal_of points x n number reason = fault.Refusal (record {
+abbrev pub refusal_of : List SourcePoint → StepLineOf → ℕ → Option ℕ → StepReason → StepError
+refusal_of points x n number reason = error.Refusal (record {
   line = n;
   thread = x.thread;
   location = x.location;
   number = number;
-  stand = stand_in points number;
+  thread_place = thread_place_in points number;
   reason = reason;
 })
 

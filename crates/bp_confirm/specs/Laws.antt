@@ -8,19 +8,19 @@ use Rattle.bp_machine.specs.Histories.{stack_of, configuration_after, IsLegal}
 use Rattle.bp_machine.specs.Runs.{IsBoundedRun, IsDeadlocked}
 use Rattle.bp_machine.specs.Setups.{SetupOf, start, threads}
 use Rattle.bp_machine.specs.declared.limits.TheConstants.{MAX_CONTEXTS, MAX_THREADS}
-use Rattle.bp_code.specs.LawfulTexts.{IsLawfulText}
+use Rattle.bp_code.specs.WellFormedTexts.{IsWellFormedText}
 use Rattle.bp_tasks.specs.declared.tasks.ContextBound.{ContextBound}
 use Rattle.bp_tasks.specs.declared.tasks.ContextBound.TheVariants.{AsUsed}
 use Rattle.bp_confirm.specs.Steps.{stands_at, StepOf, SeesValues, Takes, StepLineOf, steps_of, next_location, HasLines, IsBadLine}
-use Rattle.bp_confirm.specs.declared.confirming.StepReason.TheVariants.{Ambiguous}
-use Rattle.bp_confirm.specs.declared.confirming.StepRefusal.{StepRefusal}
+use Rattle.bp_confirm.specs.declared.confirmations.StepReason.TheVariants.{Ambiguous}
+use Rattle.bp_confirm.specs.declared.confirmations.StepRefusal.{StepRefusal}
 use Rattle.bp_confirm.specs.declared.step_lines.Location.TheVariants.{Line}
 use Rattle.bp_confirm.specs.OwnSteps.{AreOwnLines, own_steps, own_steps_text}
 use Rattle.bp_confirm.specs.Confirms.{IsStepRefusal, ForStuck}
-use Rattle.bp_confirm.specs.Inferred.{LastBits, IsConfirmed}
+use Rattle.bp_confirm.specs.InferredBits.{LastBits, IsConfirmed}
 use Rattle.bp_confirm.specs.declared.choices.LastChoice.{LastChoice}
-use Rattle.bp_confirm.specs.declared.confirming.ConfirmFault.{ConfirmFault}
-use Rattle.bp_confirm.specs.declared.confirming.ConfirmFault.TheVariants.{Memory}
+use Rattle.bp_confirm.specs.declared.confirmations.ConfirmError.{ConfirmError}
+use Rattle.bp_confirm.specs.declared.confirmations.ConfirmError.TheVariants.{Memory}
 use Rattle.bp_confirm.specs.ConfirmedTexts.{IsConfirmedText, IsStepsRefusal, HasFitLength}
 
 -- Runs of a program that take reported steps, without the machine.
@@ -141,12 +141,12 @@ NoBadLineOfReadTexts =
 
 -- Law: a text of steps is confirmed, or it has one refusal.
 
--- steps of the lawful program of a text have at most one refusal, memory aside
+-- steps of the well-formed program of a text have at most one refusal, memory aside
 abbrev pub OneRefusal : Type 0
 OneRefusal =
     (text : List ℕ) (t : Program) (s : SetupOf) (steps : List ℕ) (bound : ContextBound)
-    (f g : ConfirmFault)
-    → IsLawfulText text t
+    (f g : ConfirmError)
+    → IsWellFormedText text t
     → f ≢ Memory
     → g ≢ Memory
     → IsStepsRefusal t s steps text bound f
@@ -157,8 +157,8 @@ OneRefusal =
 abbrev pub NoRefusalOfConfirmed : Type 0
 NoRefusalOfConfirmed =
     (text : List ℕ) (t : Program) (s : SetupOf) (steps : List ℕ) (bound : ContextBound)
-    (setup : SetupOf) (h : List Call) (choices : List LastChoice) (f : ConfirmFault)
-    → IsLawfulText text t
+    (setup : SetupOf) (h : List Call) (choices : List LastChoice) (f : ConfirmError)
+    → IsWellFormedText text t
     → IsConfirmedText t s steps text bound setup h choices
     → IsStepsRefusal t s steps text bound f
     → f ≡ Memory
@@ -172,7 +172,7 @@ NoRefusalOfConfirmed =
 abbrev pub OwnTextIsConfirmed : Type 0
 OwnTextIsConfirmed =
     (text : List ℕ) (t : Program) (s : SetupOf) (h : List Call) (bound : ContextBound)
-    (f : ConfirmFault)
+    (f : ConfirmError)
     → IsTextOf text t
     → threads s ≤ MAX_THREADS
     → (bound ≡ AsUsed → s.contexts ≤ MAX_CONTEXTS)

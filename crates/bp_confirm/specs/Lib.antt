@@ -1,9 +1,9 @@
-pub mod Inferred
+pub mod InferredBits
 pub mod FollowedSteps
 pub mod Steps
 pub mod Confirms
 pub mod OwnSteps
 pub mod Laws
-pub mod LineReading
+pub mod LineReadings
 pub mod ConfirmedTexts
 pub mod KeptLines

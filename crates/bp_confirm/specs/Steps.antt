@@ -77,7 +77,7 @@ SeesValues c i (v ∷ vs) =
 
 -- Value n of these, from 0, is the first that thread i does not see: it sees this one instead, or
 -- no variable of its name.
-pub record IsFirstUnseen
+pub record IsFirstMismatch
     (c : Configuration) (i : ℕ) (vs : Valuation) (n : ℕ) (seen : Option Bool) : Type 0 where
   pub value : List ℕ × Bool
   pub at : slice_get vs n ≡ Some value

@@ -5,7 +5,7 @@ ghost use Rattle.bp_language.specs.Ast.{Block, Procedure, Program};
 ghost use Rattle.bp_flat.specs.StandsFor.{Does, places_of};
 ghost use Rattle.bp_machine.specs.Sessions.{AfterEach};
 ghost use Rattle.bp_confirm.specs.FollowedSteps.{bit_of_effects, bit_of_instruction, has_test, is_fork, splits, IsInferred, is_there, source_points_of, last_bits};
-ghost use Rattle.bp_confirm.specs.Inferred.{bit_of_block, IsClear, deciding, differ, waits_after};
+ghost use Rattle.bp_confirm.specs.InferredBits.{bit_of_block, IsClear, deciding, differ, waits_after};
 ghost use Rattle.bp_confirm.specs.Steps.{place_of, Place};
 
 use crate::source_points::{SourcePoint, is_there};

@@ -2,7 +2,7 @@
 ghost use Rattle.std.specs.Prelude.{◌≡◌, MatchOption};
 ghost use Rattle.bp_text.specs.Formats.{Finds, HasNone, IsAt};
 ghost use Rattle.bp_text.specs.Formats.Format.{Many};
-ghost use Rattle.bp_confirm.specs.LineReading.{values_in, SaysValues};
+ghost use Rattle.bp_confirm.specs.LineReadings.{values_in, SaysValues};
 ghost use Rattle.bp_confirm.specs.Steps.{after_byte, location, may_end, outside_braces, short, step_line, value, value_of};
 
 use crate::step_lines::{Location, SeenValue, StepLine};

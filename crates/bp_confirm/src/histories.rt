@@ -1,17 +1,17 @@
 //! The history that takes the steps of lines.
 ghost use Rattle.std.specs.Prelude.{◌≡◌, ◌<◌, ◌^◌, None, List, ℕ, false, length, map, IfErr, IfOk, IfSome, IsSome, MatchResult};
-ghost use Rattle.bp_code.specs.LawfulTexts.{IsLawfulText};
+ghost use Rattle.bp_code.specs.WellFormedTexts.{IsWellFormedText};
 ghost use Rattle.bp_machine.specs.declared.calls.Call.{Call as Answered};
 ghost use Rattle.bp_machine.specs.Sessions.{Stands};
 ghost use Rattle.bp_machine.specs.Setups.{Fits};
 ghost use Rattle.bp_confirm.specs.Confirms.{AreOfThreads, IsNotFollowed};
-ghost use Rattle.bp_confirm.specs.Inferred.{zeros, IsFollowed, LastBits as AnyBits, IsConfirmed, IsTaken};
+ghost use Rattle.bp_confirm.specs.InferredBits.{zeros, IsFollowed, LastBits as AnyBits, IsConfirmed, IsTaken};
 ghost use Rattle.bp_confirm.specs.FollowedSteps.{last_bits, source_points_of};
 ghost use Rattle.bp_confirm.specs.Steps.{location_in, next_locations, steps_of};
 
 use crate::choices::{LastBits, LastChoice, deciding, waits_of};
-use crate::confirming::StepFault;
-use crate::following::take_steps;
+use crate::confirmations::StepError;
+use crate::followed_steps::take_steps;
 use crate::kept_lines::StepLines;
 use crate::source_points::{SourcePoint, source_points_of};
 use crate::step_lines::next_steps;
@@ -46,7 +46,7 @@ fn take_with(
     nexts: &[u32],
     lines: &StepLines,
     last: LastBits<'_>,
-) -> Result<Taken, StepFault>
+) -> Result<Taken, StepError>
     requires fits { Fits code.now.tree setup.now }
     requires nexts { map (location_in lines.now) nexts.now ≡ next_locations lines.now }
     requires threads { AreOfThreads setup.now lines.now }
@@ -88,7 +88,7 @@ fn take_with(
 }
 
 /// Takes the steps once more, with other last bits. Returns None if a step is refused now, which
-/// never happens for a lawful text.
+/// never happens for a well-formed text.
 fn take_again(
     alloc: Global,
     code: &Code,
@@ -110,7 +110,7 @@ fn take_again(
         IsFollowed code.now.tree setup.now (last_bits last.entry) steps f.history.items)) }
     ensures refused { (text : List ℕ) (other : AnyBits) (h : List Answered)
         → points.now ≡ source_points_of text code.now.tree
-        → IsLawfulText text code.now.tree
+        → IsWellFormedText text code.now.tree
         → IsFollowed code.now.tree setup.now other (steps_of text lines.now) h
         → IfOk result IsSome }
     ensures stands { IfOk result (λ found.
@@ -120,8 +120,8 @@ fn take_again(
 {
     match take_with(alloc, code, setup, points, nexts, lines, last) {
         Ok(taken) => Ok(Some(taken)),
-        Err(StepFault::Refusal(_)) => Ok(None),
-        Err(StepFault::Memory) => Err(AllocError),
+        Err(StepError::Refusal(_)) => Ok(None),
+        Err(StepError::Memory) => Err(AllocError),
     }
 }
 
@@ -147,7 +147,7 @@ pub(crate) fn confirm_lines(
     code: &Code,
     setup: &Setup,
     lines: &StepLines,
-) -> Result<Confirmed, StepFault>
+) -> Result<Confirmed, StepError>
     requires fits { Fits code.now.tree setup.now }
     requires threads { AreOfThreads setup.now lines.now }
     requires unseeded { setup.now.seed ≡ None }
@@ -155,7 +155,7 @@ pub(crate) fn confirm_lines(
     ensures answer { MatchResult result
         (λ f. IsTaken code.now.tree setup.now (steps_of text.now lines.now) f.history.items)
         (IsNotFollowed text.now code.now.tree setup.now zeros lines.now) }
-    ensures confirmed { IsLawfulText text.now code.now.tree
+    ensures confirmed { IsWellFormedText text.now code.now.tree
         → IfOk result (λ f.
         IsConfirmed code.now.tree setup.now (steps_of text.now lines.now)
         f.history.items f.choices.items) }

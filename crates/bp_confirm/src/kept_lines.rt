@@ -4,7 +4,7 @@ ghost use Rattle.std.specs.Prelude.{◌≡◌, ◌<◌, ◌≤◌, ◌^◌, ◌+
 ghost use Rattle.std.specs.List.{AllByRecursion};
 ghost use Rattle.bp_confirm.specs.KeptLines.{kept_lines, GrowsByOne, IsKeptLine, IsStepThere};
 ghost use Rattle.bp_text.specs.Formats.{HasNone};
-ghost use Rattle.bp_confirm.specs.LineReading.{IsStepOnLine, IsUnreadable, IsValueOnLine, SaysValues, values_in};
+ghost use Rattle.bp_confirm.specs.LineReadings.{IsStepOnLine, IsUnreadable, IsValueOnLine, SaysValues, values_in};
 ghost use Rattle.bp_confirm.specs.Steps.{HasLines, step_line, value_of};
 
 use crate::fields::{step_at, value_at};
@@ -15,21 +15,21 @@ use std::marker::Model;
 
 /// Why a text is not read as steps.
 #[derive(Clone, Copy)]
-pub(crate) enum StepsFault {
+pub(crate) enum StepsError {
     /// This line is the first that is malformed, or the last one that does not end.
     Line(u32),
     /// There was not enough memory.
     Memory,
 }
 
-impl From<AllocError> for StepsFault {
+impl From<AllocError> for StepsError {
     ghost use Rattle.std.specs.Prelude.{◌≡◌};
-    ghost use Rattle.bp_confirm.specs.declared.kept_lines.StepsFault.{StepsFault};
+    ghost use Rattle.bp_confirm.specs.declared.kept_lines.StepsError.{StepsError};
 
-    ghost from_gives = { λ _ e. e ≡ StepsFault.Memory };
+    ghost from_gives = { λ _ e. e ≡ StepsError.Memory };
 
-    fn from(_: AllocError) -> StepsFault {
-        StepsFault::Memory
+    fn from(_: AllocError) -> StepsError {
+        StepsError::Memory
     }
 }
 
@@ -105,7 +105,7 @@ fn add(places: &mut Vec<u32>, place: u32) -> Result<(), AllocError>
 /// procedure. Numbers have 32 bits and no leading zeros. A name in braces ends at its first `}`;
 /// another one has no space, and ends at its first `=`.
 /// Most lines with the same text are kept once.
-pub(crate) fn read_lines(alloc: Global, text: &[u8]) -> Result<StepLines<'_>, StepsFault>
+pub(crate) fn read_lines(alloc: Global, text: &[u8]) -> Result<StepLines<'_>, StepsError>
     requires { length text.now < 2 ^ 32 }
     ensures read { MatchResult result
         (HasLines text.now)
@@ -120,7 +120,7 @@ pub(crate) fn read_lines(alloc: Global, text: &[u8]) -> Result<StepLines<'_>, St
         let n = places.len() as u32 + 1;
         let read = read_line(&mut kept, &mut noted, rest)?;
         let Some((place, more)) = read else {
-            return Err(StepsFault::Line(n));
+            return Err(StepsError::Line(n));
         };
         add(&mut places, place)?;
         rest = more;

@@ -3,10 +3,10 @@
 #![tactic(auto)]
 
 mod choices;
-mod confirming;
-mod declared;
+mod confirmations;
+mod declarations;
 mod fields;
-mod following;
+mod followed_steps;
 mod histories;
 mod kept_lines;
 mod laws;
@@ -17,7 +17,7 @@ mod step_lines;
 mod values;
 
 pub use choices::LastChoice;
-pub use confirming::{ConfirmFault, Difference, StepReason, StepRefusal, confirm};
+pub use confirmations::{ConfirmError, Difference, StepReason, StepRefusal, confirm};
 pub use fields::NameState;
 pub use histories::Confirmed;
 pub use kept_lines::value_on_line;
@@ -27,4 +27,4 @@ pub use laws::{
 };
 pub use listed_lines::{ListedLines, read_listed_lines};
 pub use noted_steps::{OwnStep, OwnSteps, own_steps, put_steps};
-pub use step_lines::{Location, SeenValue, Stand};
+pub use step_lines::{Location, SeenValue, ThreadPlace};

@@ -4,12 +4,12 @@ ghost use Rattle.bp_flat.specs.Moves.{Configuration};
 ghost use Rattle.bp_confirm.specs.ConfirmedTexts.{AreTold, IsUntold};
 ghost use Rattle.bp_confirm.specs.OwnSteps.{sees_values, AreShown};
 ghost use Rattle.bp_confirm.specs.FollowedSteps.{source_points_of};
-ghost use Rattle.bp_confirm.specs.LineReading.{values_in, SaysValues};
+ghost use Rattle.bp_confirm.specs.LineReadings.{values_in, SaysValues};
 
-use crate::confirming::{ConfirmFault, told_lines};
+use crate::confirmations::{ConfirmError, told_lines};
 use crate::kept_lines::StepLines;
 use crate::source_points::{SourcePoint, is_there, source_points_of};
-use crate::values::first_unseen;
+use crate::values::first_mismatch;
 use bp_code::Checked;
 use bp_explore::{Observer, SeenStep};
 use bp_machine::{Setup, Top};
@@ -41,7 +41,7 @@ fn sees_values(
         → AreShown checked.now c i top globals
         → result ≡ sees_values c i (values_in values.now) }
 {
-    first_unseen(checked, points, top, globals, values).is_none()
+    first_mismatch(checked, points, top, globals, values).is_none()
 }
 
 impl Observer for ListedLines<'_> {
@@ -79,7 +79,7 @@ pub fn read_listed_lines<'a>(
     checked: &'a Checked,
     setup: &Setup,
     steps: &'a [u8],
-) -> Result<ListedLines<'a>, ConfirmFault>
+) -> Result<ListedLines<'a>, ConfirmError>
     ensures told { MatchResult result
         (λ x. AreTold checked.now setup.now steps.now x.lines)
         (IsUntold checked.now setup.now steps.now) }
@@ -87,7 +87,7 @@ pub fn read_listed_lines<'a>(
 {
     let lines = told_lines(alloc, checked, setup, steps)?;
     let Ok(points) = source_points_of(alloc, text, checked) else {
-        return Err(ConfirmFault::Memory);
+        return Err(ConfirmError::Memory);
     };
     Ok(ListedLines {
         text,

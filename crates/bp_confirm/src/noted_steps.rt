@@ -12,11 +12,11 @@ ghost use Rattle.bp_confirm.specs.FollowedSteps.{source_points_of};
 
 use crate::source_points::{SourcePoint, point_of, source_points_of};
 use bp_flat::Code;
-use bp_machine::{AskFault, Call, Reply, Report, Session, Setup};
+use bp_machine::{AskError, Call, Reply, Report, Session, Setup};
 use bp_text::Piece::{Bytes, Number};
-use bp_text::{Position, WriteFault, put_pieces};
+use bp_text::{Position, WriteError, put_pieces};
 use bp_trace::limits::MAX_TRACE;
-use bp_trace::{ReplayFault, Watcher, replay_watched};
+use bp_trace::{ReplayError, Watcher, replay_watched};
 use std::alloc::{AllocError, Global};
 use std::io::Write;
 
@@ -91,7 +91,7 @@ impl Watcher for StepWatcher<'_> {
         Ok(())
     }
 
-    fn make(&mut self, session: &mut Session, recorded: &Call) -> Result<Call, AskFault> {
+    fn make(&mut self, session: &mut Session, recorded: &Call) -> Result<Call, AskError> {
         let position = position_of(session, self.points, recorded.thread);
         let call = session.ask_as_recorded(recorded.thread, recorded.bit)?;
         if is_granted(call.reply) {
@@ -109,14 +109,14 @@ pub fn own_steps(
     text: &[u8],
     code: &Code,
     trace: &[u8],
-) -> Result<OwnSteps, ReplayFault>
+) -> Result<OwnSteps, ReplayError>
     ensures { MatchResult result
         (λ found.
         AreStepsOfTrace text.now code.now.tree trace.now found.steps.items found.report)
         (IsReplayRefusal code.now.tree trace.now) }
 {
     if trace.len() > MAX_TRACE {
-        return Err(ReplayFault::TooLong);
+        return Err(ReplayError::TooLong);
     }
     let points = source_points_of(alloc, text, code.checked())?;
     let watcher = StepWatcher {
@@ -131,7 +131,7 @@ pub fn own_steps(
 }
 
 /// Writes the line of a step.
-fn put_step<W: Write>(step: &OwnStep, out: &mut W) -> Result<(), WriteFault>
+fn put_step<W: Write>(step: &OwnStep, out: &mut W) -> Result<(), WriteError>
     ensures { Writes (W.contents out.old) (W.contents out.new)
         (own_line step.now) result }
 {
@@ -150,7 +150,7 @@ fn put_step<W: Write>(step: &OwnStep, out: &mut W) -> Result<(), WriteFault>
 }
 
 /// Writes a line for each step: its thread, and the line and column at which it begins.
-pub fn put_steps<W: Write>(steps: &[OwnStep], out: &mut W) -> Result<(), WriteFault>
+pub fn put_steps<W: Write>(steps: &[OwnStep], out: &mut W) -> Result<(), WriteError>
     ensures { Writes (W.contents out.old) (W.contents out.new) (own_steps_text steps.now) result }
 {
     for step in steps {

@@ -4,7 +4,7 @@ ghost use Rattle.std.specs.Prelude.{◌≡◌, ◌==◌, ◌<◌, ◌^◌, lengt
 ghost use Rattle.std.specs.List.{AllByRecursion};
 ghost use Rattle.bp_machine.specs.declared.limits.TheConstants.{MAX_THREADS};
 ghost use Rattle.bp_confirm.specs.Steps.{is_at, location_in, next_locations};
-ghost use Rattle.bp_confirm.specs.Confirms.{stand_in};
+ghost use Rattle.bp_confirm.specs.Confirms.{thread_place_in};
 
 use crate::kept_lines::StepLines;
 use crate::source_points::SourcePoint;
@@ -33,7 +33,7 @@ pub struct StepLine<'a> {
 
 impl<'a> Model for StepLine<'a> {
     ghost use Rattle.bp_confirm.specs.Steps.{StepLineOf};
-    ghost use Rattle.bp_confirm.specs.LineReading.{values_in, SaysValues};
+    ghost use Rattle.bp_confirm.specs.LineReadings.{values_in, SaysValues};
 
     ghost Value = { StepLineOf };
 
@@ -83,7 +83,7 @@ impl Location {
 
 /// The position of a thread in the text of a program.
 #[derive(Clone, Copy, Debug, PartialEq, Eq)]
-pub enum Stand {
+pub enum ThreadPlace {
     /// Nowhere: the thread has ended.
     Ended,
     /// At the end of a procedure.
@@ -93,21 +93,21 @@ pub enum Stand {
 }
 
 /// Returns the position of a thread that continues at the instruction of this number, or has ended.
-pub(crate) fn stand_in(points: &[SourcePoint], number: Option<u32>) -> Stand
-    ensures { result ≡ stand_in points.now number }
+pub(crate) fn thread_place_in(points: &[SourcePoint], number: Option<u32>) -> ThreadPlace
+    ensures { result ≡ thread_place_in points.now number }
 {
     let Some(number) = number else {
-        return Stand::Ended;
+        return ThreadPlace::Ended;
     };
     match points.get(number as usize) {
-        None => Stand::Ended,
-        Some(SourcePoint { position: None, .. }) => Stand::End,
+        None => ThreadPlace::Ended,
+        Some(SourcePoint { position: None, .. }) => ThreadPlace::End,
         Some(
             SourcePoint {
                 position: Some(position),
                 ..
             },
-        ) => Stand::Statement(*position),
+        ) => ThreadPlace::Statement(*position),
     }
 }
 

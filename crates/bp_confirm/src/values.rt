@@ -11,8 +11,8 @@ ghost use Rattle.bp_machine.specs.Setups.{Fits};
 ghost use Rattle.bp_trace.specs.Replays.{IsPlayable};
 ghost use Rattle.bp_confirm.specs.FollowedSteps.{source_points_of};
 ghost use Rattle.bp_confirm.specs.OwnSteps.{AreShown};
-ghost use Rattle.bp_confirm.specs.Steps.{local_seen, own_value, value_seen, IsFirstUnseen, SeesValues};
-ghost use Rattle.bp_confirm.specs.LineReading.{values_in, IsNameIn, SaysValues};
+ghost use Rattle.bp_confirm.specs.Steps.{local_seen, own_value, value_seen, IsFirstMismatch, SeesValues};
+ghost use Rattle.bp_confirm.specs.LineReadings.{values_in, IsNameIn, SaysValues};
 ghost use Rattle.bp_confirm.specs.Confirms.{seen_after, IsLastChange};
 
 use crate::fields::value_at;
@@ -119,7 +119,7 @@ fn is_value(seen: Option<bool>, bit: bool) -> bool
 
 /// A value that a thread does not see.
 #[derive(Clone, Copy)]
-pub(crate) struct Unseen<'a> {
+pub(crate) struct Mismatch<'a> {
     /// Its index among the values of its line, from 0.
     pub(crate) place: usize,
     pub(crate) name: &'a [u8],
@@ -128,13 +128,13 @@ pub(crate) struct Unseen<'a> {
 }
 
 /// Returns the first of the values of a text that a thread with this top does not see.
-pub(crate) fn first_unseen<'a>(
+pub(crate) fn first_mismatch<'a>(
     checked: &Checked,
     points: &[SourcePoint],
     top: Option<Top>,
     globals: u128,
     values: &'a [u8],
-) -> Option<Unseen<'a>>
+) -> Option<Mismatch<'a>>
     requires { SaysValues values.now }
     ensures name { IfSome result (λ r. IsNameIn values.now r.place r.name.now) }
     ensures first { (text : List ℕ) (c : Configuration) (i : ℕ)
@@ -142,7 +142,7 @@ pub(crate) fn first_unseen<'a>(
         → AreShown checked.now c i top globals
         → MatchOption result
         (SeesValues c i (values_in values.now))
-        (λ r. IsFirstUnseen c i (values_in values.now) r.place r.seen) }
+        (λ r. IsFirstMismatch c i (values_in values.now) r.place r.seen) }
 {
     let mut rest = values;
     let mut place: usize = 0;
@@ -150,7 +150,7 @@ pub(crate) fn first_unseen<'a>(
         let name = value.name;
         let seen = value_at_top(checked, points, top, globals, name);
         if !is_value(seen, value.bit) {
-            return Some(Unseen { place, name, seen });
+            return Some(Mismatch { place, name, seen });
         }
         rest = more;
         place += 1;
@@ -160,14 +160,14 @@ pub(crate) fn first_unseen<'a>(
 
 /// A thread's view of a variable after some steps.
 #[derive(Clone, Copy)]
-pub(crate) struct Sight {
+pub(crate) struct LastSeen {
     pub(crate) seen: Option<bool>,
     /// The last of the steps that changed it, from 1; None if no step did.
     pub(crate) changed: Option<u32>,
 }
 
 /// Returns the thread's view after step `n`; `before` is its view after the steps before that one.
-pub(crate) fn sight_after(before: Sight, seen: Option<bool>, n: u32) -> Sight
+pub(crate) fn last_seen_after(before: LastSeen, seen: Option<bool>, n: u32) -> LastSeen
     ensures changed { (sees : ℕ → Option Bool) (m : ℕ)
         → n ≡ m + 1
         → before.seen ≡ sees m
@@ -179,14 +179,14 @@ pub(crate) fn sight_after(before: Sight, seen: Option<bool>, n: u32) -> Sight
     if before.seen == seen {
         return before;
     }
-    Sight {
+    LastSeen {
         seen,
         changed: Some(n),
     }
 }
 
 /// Returns a thread's view of a variable after a history, by making the calls of the history again.
-pub(crate) fn sight_of(
+pub(crate) fn last_seen_of(
     alloc: Global,
     checked: &Checked,
     points: &[SourcePoint],
@@ -194,7 +194,7 @@ pub(crate) fn sight_of(
     history: &[Call],
     thread: u32,
     name: &[u8],
-) -> Result<Sight, AllocError>
+) -> Result<LastSeen, AllocError>
     requires code { session.now.code.tree ≡ checked.now }
     requires fits { Fits session.now.code.tree session.now.setup }
     requires playable { IsPlayable checked.now session.now.setup history.now }
@@ -207,7 +207,7 @@ pub(crate) fn sight_of(
         × IsLastChange sees (length history.now) r.changed) }
 {
     let mut again = Session::new(alloc, session.code(), session.setup())?;
-    let mut sight = Sight {
+    let mut last_seen = LastSeen {
         seen: value_seen(checked, points, &again, thread, name),
         changed: None,
     };
@@ -217,7 +217,7 @@ pub(crate) fn sight_of(
             return Err(AllocError);
         };
         let seen = value_seen(checked, points, &again, thread, name);
-        sight = sight_after(sight, seen, n as u32 + 1);
+        last_seen = last_seen_after(last_seen, seen, n as u32 + 1);
     }
-    Ok(sight)
+    Ok(last_seen)
 }

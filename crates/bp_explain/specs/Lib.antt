@@ -1,1 +1,1 @@
-pub mod Explained
+pub mod ExplainedErrors

@@ -1,10 +1,10 @@
 //! Sentences on a call of a trace that is not the machine's own.
 
-use crate::sources::{Source, Standing, source_of};
+use crate::sources::{Source, ThreadPlaceText, source_of};
 use crate::traces::RefusedLine;
 use crate::value_sentences::{session_after, values};
 use bp_advice::number_at_front;
-use bp_confirm::Stand;
+use bp_confirm::ThreadPlace;
 use bp_machine::{Call, Reply, Session};
 use bp_text::line_of;
 use bp_trace::Due;
@@ -25,13 +25,15 @@ fn verb_of(letter: u8) -> Option<&'static str> {
 }
 
 /// Returns the position of a thread of a session.
-fn stand_of(source: &Source<'_>, session: &Session, thread: u32) -> Stand {
+fn thread_place_of(source: &Source<'_>, session: &Session, thread: u32) -> ThreadPlace {
     let Some(top) = session.top(thread) else {
-        return Stand::Ended;
+        return ThreadPlace::Ended;
     };
     match source.statements.get(top.number as usize) {
-        Some(statement) => statement.position.map_or(Stand::End, Stand::Statement),
-        None => Stand::Ended,
+        Some(statement) => statement
+            .position
+            .map_or(ThreadPlace::End, ThreadPlace::Statement),
+        None => ThreadPlace::Ended,
     }
 }
 
@@ -75,7 +77,7 @@ impl RefusedLine<'_, '_> {
         let Some(session) = &session_after(alloc, source, &accepted.trace)? else {
             return Ok(nothing);
         };
-        let here = Standing(self.program, stand_of(source, session, thread));
+        let here = ThreadPlaceText(self.program, thread_place_of(source, session, thread));
         let read = values(alloc, source, session, thread)?;
         format!(in alloc; "is at {here}{read} and ")
     }

@@ -4,7 +4,7 @@
 use crate::sources::Located;
 use crate::tried_steps::{RefusedStep, Tried};
 use bp_advice::between;
-use bp_confirm::{Location, Stand, StepReason, StepRefusal};
+use bp_confirm::{Location, StepReason, StepRefusal, ThreadPlace};
 use bp_machine::limits::MAX_THREADS;
 use std::alloc::{AllocError, Global};
 use std::fmt::Write;
@@ -27,28 +27,37 @@ fn push_step(steps: &mut Vec<u8>, thread: u32, location: Location) -> Result<(),
 }
 
 /// Returns the line of a statement.
-fn line_of(stand: Stand) -> Option<usize> {
-    match stand {
-        Stand::Statement(position) => Some(position.line),
-        Stand::End | Stand::Ended => None,
+fn line_of(thread_place: ThreadPlace) -> Option<usize> {
+    match thread_place {
+        ThreadPlace::Statement(position) => Some(position.line),
+        ThreadPlace::End | ThreadPlace::Ended => None,
     }
 }
 
 /// Returns whether two of these statements, one after the other, begin on one line.
-fn share_a_line(stands: &[Stand]) -> bool {
-    let mut pairs = stands.iter().zip(stands.iter().skip(1));
-    pairs.any(|(stand, next)| line_of(*stand).is_some() && line_of(*stand) == line_of(*next))
+fn share_a_line(thread_places: &[ThreadPlace]) -> bool {
+    let mut pairs = thread_places.iter().zip(thread_places.iter().skip(1));
+    pairs.any(|(thread_place, next)| line_of(*thread_place).is_some()
+        && line_of(*thread_place) == line_of(*next))
 }
 
 /// Returns the places of some steps as lines of steps name them, the last after an 'and'.
-fn places(alloc: Global, stands: &[Stand], by_column: bool) -> Result<String, AllocError> {
+fn places(
+    alloc: Global,
+    thread_places: &[ThreadPlace],
+    by_column: bool,
+) -> Result<String, AllocError> {
     let mut list = String::new(alloc);
-    for (index, stand) in stands.iter().enumerate() {
-        let before = between(index, stands.len(), " and ");
-        match stand {
-            Stand::Ended | Stand::End => write!(list, "{before}'-'")?,
-            Stand::Statement(at) if by_column => write!(list, "{before}{}:{}", at.line, at.column)?,
-            Stand::Statement(at) => write!(list, "{before}{}", at.line)?,
+    for (index, thread_place) in thread_places.iter().enumerate() {
+        let before = between(index, thread_places.len(), " and ");
+        match thread_place {
+            ThreadPlace::Ended | ThreadPlace::End => write!(list, "{before}'-'")?,
+            ThreadPlace::Statement(at) if by_column => write!(
+                list,
+                "{before}{}:{}",
+                at.line, at.column
+            )?,
+            ThreadPlace::Statement(at) => write!(list, "{before}{}", at.line)?,
         }
     }
     Ok(list)
@@ -88,11 +97,11 @@ impl RefusedStep<'_> {
     /// choice.
     fn location_without_choice(&self, here: StepRefusal) -> Option<Location> {
         let statement = self.source.statements.get(here.number? as usize)?;
-        match here.stand {
+        match here.thread_place {
             _ if statement.excerpt.reads_choice => None,
-            Stand::Ended => None,
-            Stand::End => Some(Location::End),
-            Stand::Statement(position) => Some(Location::Column(
+            ThreadPlace::Ended => None,
+            ThreadPlace::End => Some(Location::End),
+            ThreadPlace::Statement(position) => Some(Location::Column(
                 u32::try_from(position.line).ok()?,
                 u32::try_from(position.column).ok()?,
             )),
@@ -101,23 +110,23 @@ impl RefusedStep<'_> {
 
     /// Returns the positions of the thread of the refused step before each of the steps that lead
     /// it to the location of that step, if they do not depend on a choice and are few.
-    fn missing_steps(&self) -> Result<Option<Vec<Stand>>, AllocError> {
+    fn missing_steps(&self) -> Result<Option<Vec<ThreadPlace>>, AllocError> {
         let mut steps = Vec::new(self.alloc);
         steps.extend_from_slice(self.before())?;
-        let mut stands = Vec::new(self.alloc);
+        let mut thread_places = Vec::new(self.alloc);
         let (thread, mut here) = (self.refusal.thread, self.refusal);
         for made in 1..=MOST_MISSING {
             let Some(location) = self.location_without_choice(here) else {
                 return Ok(None);
             };
             push_step(&mut steps, thread, location)?;
-            stands.push(here.stand)?;
+            thread_places.push(here.thread_place)?;
             let number = self.refusal.line.saturating_add(made);
             match self.try_with(steps.as_slice(), thread)? {
                 Tried::Unread => return Ok(None),
                 Tried::Refused(found) if found.line != number => return Ok(None),
                 Tried::Refused(found) if found.reason == StepReason::Elsewhere => here = found,
-                Tried::Taken(_) | Tried::Refused(_) => return Ok(Some(stands)),
+                Tried::Taken(_) | Tried::Refused(_) => return Ok(Some(thread_places)),
             }
         }
         Ok(None)
@@ -127,19 +136,19 @@ impl RefusedStep<'_> {
     /// if they do not depend on a choice and are few.
     fn missing(&self) -> Result<String, AllocError> {
         let alloc = self.alloc;
-        let Some(stands) = self.missing_steps()? else {
+        let Some(thread_places) = self.missing_steps()? else {
             return Ok(String::new(alloc));
         };
         let has_column = matches!(self.refusal.location, Location::Column(_, _));
-        let by_column = has_column || share_a_line(stands.as_slice());
-        let are_lines = !by_column && !stands.contains(&Stand::End);
-        let (lead, verb) = match (stands.len(), are_lines) {
+        let by_column = has_column || share_a_line(thread_places.as_slice());
+        let are_lines = !by_column && !thread_places.contains(&ThreadPlace::End);
+        let (lead, verb) = match (thread_places.len(), are_lines) {
             (1, true) => ("line", "is"),
             (_, true) => ("lines", "are"),
             (1, false) => ("the step at", "is"),
             (_, false) => ("the steps at", "are"),
         };
-        let places = places(alloc, stands.as_slice(), by_column)?;
+        let places = places(alloc, thread_places.as_slice(), by_column)?;
         format!(in alloc; "; {lead} {places} {verb} missing")
     }
 

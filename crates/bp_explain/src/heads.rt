@@ -1,21 +1,21 @@
-//! The head of a trace, and the line of it to which a fault of its setup refers. Sentences on a
+//! The head of a trace, and the line of it to which an error of its setup refers. Sentences on a
 //! malformed line of a trace.
 ghost use Rattle.std.specs.Prelude.{◌≡◌, ◌<◌, ◌^◌, nat_lt, IfOk};
 ghost use Rattle.bp_machine.specs.declared.limits.TheConstants.{MAX_CONTEXTS};
 ghost use Rattle.bp_machine.specs.Setups.{threads};
-ghost use Rattle.bp_explain.specs.Explained.{BeginsWithHead, IsReadHead, IsSetupLine};
+ghost use Rattle.bp_explain.specs.ExplainedErrors.{BeginsWithHead, IsReadHead, IsSetupLine};
 
 use crate::traces::RefusedLine;
 use bp_advice::{
     Count, ENDS_IN_CR_LF, Quoted, ends_in_cr_lf, first_procedure, near_entry, number_at_front,
     tree_of,
 };
-use bp_machine::SetupFault;
+use bp_machine::SetupError;
 use bp_machine::limits::{MAX_CALLS, MAX_CONTEXTS, MAX_THREADS};
 use bp_syntax::Tree;
 use bp_text::{line_of, part_from};
 use bp_trace::limits::MAX_TRACE;
-use bp_trace::{Head, ReplayFault, read_head};
+use bp_trace::{Head, ReplayError, read_head};
 use std::alloc::{AllocError, Global};
 
 /// The line of the first entry.
@@ -28,12 +28,12 @@ pub(crate) fn head_of(alloc: Global, trace: &[u8]) -> Result<Option<Head<'_>>, A
     if trace.len() > MAX_TRACE {
         return Ok(None);
     }
-    let fault = match read_head(alloc, trace) {
+    let error = match read_head(alloc, trace) {
         Ok(head) => return Ok(Some(head)),
-        Err(fault) => fault,
+        Err(error) => error,
     };
-    match fault {
-        ReplayFault::Head(_) => Ok(None),
+    match error {
+        ReplayError::Head(_) => Ok(None),
         _ => Err(AllocError),
     }
 }
@@ -52,21 +52,21 @@ fn numbers_of(trace: &[u8], head: &Option<Head<'_>>) -> (usize, bool)
     }
 }
 
-/// Returns the line of a trace with this head to which a fault of its setup refers.
-pub(crate) fn line_of_setup(trace: &[u8], head: &Option<Head<'_>>, fault: SetupFault) -> usize
+/// Returns the line of a trace with this head to which an error of its setup refers.
+pub(crate) fn line_of_setup(trace: &[u8], head: &Option<Head<'_>>, error: SetupError) -> usize
     requires { IsReadHead trace.now head.now }
-    ensures { IsSetupLine trace.now fault result }
+    ensures { IsSetupLine trace.now error result }
 {
     let (threads, has_many_contexts) = numbers_of(trace, head);
-    match fault {
-        SetupFault::Threads | SetupFault::Memory if threads == 0 => FIRST_ENTRY,
-        SetupFault::Threads | SetupFault::Memory => FIRST_ENTRY + MAX_THREADS,
-        SetupFault::UnknownEntry(thread) | SetupFault::EntryHasFormals(thread) => {
+    match error {
+        SetupError::Threads | SetupError::Memory if threads == 0 => FIRST_ENTRY,
+        SetupError::Threads | SetupError::Memory => FIRST_ENTRY + MAX_THREADS,
+        SetupError::UnknownEntry(thread) | SetupError::EntryHasFormals(thread) => {
             FIRST_ENTRY + thread as usize
         }
-        SetupFault::InitLength => FIRST_ENTRY + threads,
-        SetupFault::OutOfRange if has_many_contexts => FIRST_ENTRY + threads + 1,
-        SetupFault::OutOfRange => FIRST_ENTRY + threads + 2,
+        SetupError::InitLength => FIRST_ENTRY + threads,
+        SetupError::OutOfRange if has_many_contexts => FIRST_ENTRY + threads + 1,
+        SetupError::OutOfRange => FIRST_ENTRY + threads + 2,
     }
 }
 
@@ -79,38 +79,38 @@ pub(crate) fn formals_of(alloc: Global, tree: &Tree, entry: &[u8]) -> Result<Str
 
 impl RefusedLine<'_, '_> {
     /// Explains why the setup of the head does not fit the program.
-    pub(crate) fn setup_sentence(&self, fault: SetupFault) -> Result<String, AllocError> {
+    pub(crate) fn setup_sentence(&self, error: SetupError) -> Result<String, AllocError> {
         let alloc = self.alloc;
         let Some(tree) = &tree_of(alloc, self.program)? else {
             return Ok(String::new(alloc));
         };
         let text = self.text_of(self.number);
         let entry = part_from(text, b"entry ".len());
-        match fault {
-            SetupFault::Threads => format!(in alloc;
+        match error {
+            SetupError::Threads => format!(in alloc;
                 "there must be 1 to {MAX_THREADS} threads, each with a line 'entry NAME'"
             ),
-            SetupFault::UnknownEntry(_) => {
+            SetupError::UnknownEntry(_) => {
                 let near = near_entry(alloc, tree, entry)?;
                 format!(in alloc; "there is no procedure {}{near}", Quoted(entry))
             }
-            SetupFault::EntryHasFormals(_) => {
+            SetupError::EntryHasFormals(_) => {
                 let formals = formals_of(alloc, tree, entry)?;
                 format!(in alloc; "{}{formals}", Quoted(entry))
             }
-            SetupFault::InitLength => {
+            SetupError::InitLength => {
                 let count = Count(tree.globals().len(), "global");
                 format!(in alloc;
                     "expected one initial bit for each global; the program has {count}"
                 )
             }
-            SetupFault::OutOfRange if text.starts_with(b"contexts ") => {
+            SetupError::OutOfRange if text.starts_with(b"contexts ") => {
                 format!(in alloc; "the contexts are at most {MAX_CONTEXTS}")
             }
-            SetupFault::OutOfRange => {
+            SetupError::OutOfRange => {
                 format!(in alloc; "the calls of a thread are 1 to {MAX_CALLS}")
             }
-            SetupFault::Memory => Ok(String::new(alloc)),
+            SetupError::Memory => Ok(String::new(alloc)),
         }
     }
 

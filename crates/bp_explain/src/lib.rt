@@ -1,4 +1,4 @@
-//! Explanations of faults of schedules, steps and traces, for people: the line, and its expected
+//! Explanations of errors of schedules, steps and traces, for people: the line, and its expected
 //! form or the mistake. Also sentences on the arguments that make up a setup.
 #![tactic(auto)]
 

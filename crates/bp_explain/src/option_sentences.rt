@@ -4,7 +4,7 @@ use crate::heads::formals_of;
 use bp_advice::{Count, cut_name, listed, near_entry, near_global, near_name, tree_of};
 use bp_language::Name;
 use bp_machine::limits::DEFAULT_ENTRY;
-use bp_machine::{SetupFault, Start};
+use bp_machine::{SetupError, Start};
 use bp_syntax::Tree;
 use std::alloc::{AllocError, Global};
 
@@ -86,25 +86,25 @@ fn init_length(alloc: Global, tree: &Tree, start: &Start) -> Result<Vec<u8>, All
     Ok(sentence.into_bytes())
 }
 
-/// Returns the sentence on a fault of the setup of a run of the program of a text. It is empty if
-/// the fault needs no word of the program. Fails only on allocation.
+/// Returns the sentence on an error of the setup of a run of the program of a text. It is empty if
+/// the error needs no word of the program. Fails only on allocation.
 pub fn start_sentence(
     alloc: Global,
     program: &[u8],
     start: &Start,
-    fault: SetupFault,
+    error: SetupError,
 ) -> Result<Vec<u8>, AllocError> {
     let nothing = Vec::new(alloc);
     let Some(tree) = &tree_of(alloc, program)? else {
         return Ok(nothing);
     };
     let entry_of = |thread: u32| start.entries.get(thread as usize);
-    match fault {
-        SetupFault::UnknownEntry(thread) => match entry_of(thread) {
+    match error {
+        SetupError::UnknownEntry(thread) => match entry_of(thread) {
             Some(entry) => unknown_entry(alloc, tree, start, thread, entry),
             None => Ok(nothing),
         },
-        SetupFault::EntryHasFormals(thread) => match entry_of(thread) {
+        SetupError::EntryHasFormals(thread) => match entry_of(thread) {
             Some(entry) => {
                 let before = format!(in alloc; "thread {thread}:")?;
                 let formals = formals_of(alloc, tree, entry.as_bytes())?;
@@ -112,7 +112,7 @@ pub fn start_sentence(
             }
             None => Ok(nothing),
         },
-        SetupFault::InitLength => init_length(alloc, tree, start),
+        SetupError::InitLength => init_length(alloc, tree, start),
         _ => Ok(nothing),
     }
 }

@@ -1,14 +1,14 @@
-//! Explanations of the faults of schedules. The call of a schedule that finished a thread, and why.
+//! Explanations of the errors of schedules. The call of a schedule that finished a thread, and why.
 ghost use Rattle.std.specs.Prelude.{IfOk};
 ghost use Rattle.bp_advice.specs.Explanations.{IsExplanationOf};
-ghost use Rattle.bp_explain.specs.Explained.{ExplainsSchedule};
+ghost use Rattle.bp_explain.specs.ExplainedErrors.{ExplainsSchedule};
 
 use crate::sources::{Source, lines_before, setup_of, source_of};
 use bp_advice::{ENDS_IN_CR_LF, Explanation, Quoted, about_line, ends_in_cr_lf, number_at_front};
 use bp_machine::limits::MAX_FRAMES;
 use bp_machine::{Reply, Start};
 use bp_text::{Line, line_of};
-use bp_trace::{DriveFault, ReplayFault, drive, replay};
+use bp_trace::{DriveError, ReplayError, drive, replay};
 use std::alloc::{AllocError, Global};
 
 /// Says "there is no thread N".
@@ -47,12 +47,12 @@ fn last_call(
     let mut trace = Vec::new(alloc);
     match drive(alloc, code, &setup, lines, &mut trace) {
         Ok(_) => {}
-        Err(DriveFault::Memory | DriveFault::Write) => return Err(AllocError),
+        Err(DriveError::Memory | DriveError::Write) => return Err(AllocError),
         Err(_) => return Ok(None),
     }
     let history = match replay(alloc, code, &trace) {
         Ok(replayed) => replayed.history,
-        Err(ReplayFault::Memory) => return Err(AllocError),
+        Err(ReplayError::Memory) => return Err(AllocError),
         Err(_) => return Ok(None),
     };
     let mut calls = history.iter().enumerate();
@@ -60,7 +60,7 @@ fn last_call(
     Ok(last.map(|(index, call)| (index.saturating_add(1), call.reply)))
 }
 
-/// Explains why a thread was finished by a call with this reply, in a run from this start.
+/// Explains why a thread was terminated by a call with this reply, in a run from this start.
 fn cause(alloc: Global, start: &Start, thread: u32, reply: Reply) -> Result<String, AllocError> {
     let (contexts, calls) = (start.contexts, start.calls);
     let verb = |number: u32| if number == 1 { "is" } else { "are" };
@@ -127,7 +127,7 @@ fn finished(
     }
 }
 
-/// Explains this fault of a schedule of the program of a text, which runs from this start, at its
+/// Explains this error of a schedule of the program of a text, which runs from this start, at its
 /// line. For a thread that has made its last call the schedule is played up to that line. Nothing
 /// explains a schedule that is too long, refused memory, or an output that failed. Fails only on
 /// allocation.
@@ -137,23 +137,23 @@ pub fn explain_schedule<'a>(
     start: &Start,
     file: &'a str,
     schedule: &[u8],
-    fault: &DriveFault,
+    error: &DriveError,
 ) -> Result<Option<Explanation<'a>>, AllocError>
-    ensures { let Explains = ExplainsSchedule file.now fault.now in
+    ensures { let Explains = ExplainsSchedule file.now error.now in
         IfOk result (IsExplanationOf Explains) }
 {
-    let (number, sentence) = match *fault {
-        DriveFault::Line(number) => match line_of(schedule, number as usize) {
+    let (number, sentence) = match *error {
+        DriveError::Line(number) => match line_of(schedule, number as usize) {
             Some(line) => (number, line_sentence(alloc, line)?),
             None => (number, String::new(alloc)),
         },
-        DriveFault::AfterFinish(number) => {
+        DriveError::AfterFinish(number) => {
             (
                 number,
                 finished(alloc, program, start, schedule, number as usize)?,
             )
         }
-        DriveFault::TooLong | DriveFault::Memory | DriveFault::Write => return Ok(None),
+        DriveError::TooLong | DriveError::Memory | DriveError::Write => return Ok(None),
     };
     Ok(Some(about_line(alloc, file, schedule, number as usize, sentence.as_str())?))
 }

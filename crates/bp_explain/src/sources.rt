@@ -1,21 +1,21 @@
-//! The lawful program of a text, as explanations look at it. Names of files as words of a shell
-//! command. Words for the positions of threads.
+//! The well-formed program of a text, as explanations look at it. Names of files as words of a
+//! shell command. Words for the positions of threads.
 ghost use Rattle.std.specs.Prelude.{◌≡◌, None, IfOk, IfSome};
 ghost use Rattle.bp_machine.specs.Setups.{Fits};
 
 use bp_advice::{Named, Plain, Quoted};
-use bp_code::{CodeFault, ProgramFault, code_of};
-use bp_confirm::{Location, Stand};
+use bp_code::{CodeError, ProgramError, code_of};
+use bp_confirm::{Location, ThreadPlace};
 use bp_flat::{Code, global_value, local_value};
-use bp_language::{CheckFault, Proc};
-use bp_machine::{Session, Setup, SetupFault, Start};
+use bp_language::{CheckError, Proc};
+use bp_machine::{Session, Setup, SetupError, Start};
 use bp_source::{SourceStatement, procedure_at, source_statements_of};
-use bp_syntax::ReadFault;
+use bp_syntax::ReadError;
 use bp_text::{Position, line_of, part_before, part_from, text_from_line};
 use std::alloc::{AllocError, Global};
 use std::fmt;
 
-/// The code of a lawful program with its text, and its source statements.
+/// The code of a well-formed program with its text, and its source statements.
 #[derive(Drop)]
 pub(crate) struct Source<'a> {
     pub(crate) text: &'a [u8],
@@ -24,13 +24,13 @@ pub(crate) struct Source<'a> {
     pub(crate) statements: Vec<SourceStatement>,
 }
 
-/// Returns the lawful program of a text, if it has one.
+/// Returns the well-formed program of a text, if it has one.
 pub(crate) fn source_of(alloc: Global, text: &[u8]) -> Result<Option<Source<'_>>, AllocError> {
     let code = match code_of(alloc, text) {
         Ok(code) => code,
-        Err(CodeFault::Memory)
-        | Err(CodeFault::Program(ProgramFault::Read(ReadFault::Memory)))
-        | Err(CodeFault::Program(ProgramFault::Check(CheckFault::Memory, _))) => {
+        Err(CodeError::Memory)
+        | Err(CodeError::Program(ProgramError::Read(ReadError::Memory)))
+        | Err(CodeError::Program(ProgramError::Check(CheckError::Memory, _))) => {
             return Err(AllocError);
         }
         Err(_) => return Ok(None),
@@ -53,7 +53,7 @@ pub(crate) fn setup_of(
 {
     match start.setup(alloc, code, None) {
         Ok(setup) => Ok(Some(setup)),
-        Err(SetupFault::Memory) => Err(AllocError),
+        Err(SetupError::Memory) => Err(AllocError),
         Err(_) => Ok(None),
     }
 }
@@ -166,7 +166,7 @@ impl fmt::Display for Located {
 /// The position of a thread in the text of a program, in words: of a statement its position and its
 /// source on that line.
 #[derive(Clone, Copy)]
-pub(crate) struct Standing<'a>(pub(crate) &'a [u8], pub(crate) Stand);
+pub(crate) struct ThreadPlaceText<'a>(pub(crate) &'a [u8], pub(crate) ThreadPlace);
 
 /// Returns the source from a position up to a semicolon or the end of the line.
 fn source_at(program: &[u8], position: Position) -> &[u8] {
@@ -180,12 +180,12 @@ fn source_at(program: &[u8], position: Position) -> &[u8] {
     }
 }
 
-impl fmt::Display for Standing<'_> {
+impl fmt::Display for ThreadPlaceText<'_> {
     fn fmt<W: fmt::Write>(&self, f: &mut fmt::Formatter<W>) -> fmt::Result {
         match self.1 {
-            Stand::Ended => write!(f, "no statement"),
-            Stand::End => write!(f, "the end of a procedure"),
-            Stand::Statement(at) => {
+            ThreadPlace::Ended => write!(f, "no statement"),
+            ThreadPlace::End => write!(f, "the end of a procedure"),
+            ThreadPlace::Statement(at) => {
                 let source = Quoted(source_at(self.0, at).trim_ascii_end());
                 write!(f, "{}:{} {source}", at.line, at.column)
             }

@@ -1,11 +1,11 @@
 //! Sentences on a step that is not taken.
 
 use crate::schedules::last_sentence;
-use crate::sources::{Located, Standing, word_of};
+use crate::sources::{Located, ThreadPlaceText, word_of};
 use crate::tried_steps::{RefusedStep, Tried};
 use crate::value_sentences::{changes, session_after, values};
 use bp_advice::{Count, Named, Quoted, listed};
-use bp_confirm::{Difference, Stand, StepReason, value_on_line};
+use bp_confirm::{Difference, StepReason, ThreadPlace, value_on_line};
 use bp_machine::Reply;
 use bp_machine::limits::MAX_FRAMES;
 use bp_text::Position;
@@ -14,14 +14,14 @@ use std::fmt::Write;
 
 impl RefusedStep<'_> {
     /// Returns the position of the thread, not where its line says.
-    fn here(&self) -> Standing<'_> {
-        Standing(self.source.text, self.refusal.stand)
+    fn here(&self) -> ThreadPlaceText<'_> {
+        ThreadPlaceText(self.source.text, self.refusal.thread_place)
     }
 
     /// Gives the position of the thread, not where its line says, and the ways to that place.
     fn elsewhere(&self) -> Result<String, AllocError> {
         let (alloc, thread, ways) = (self.alloc, self.refusal.thread, self.ways_there()?);
-        if self.refusal.stand == Stand::Ended {
+        if self.refusal.thread_place == ThreadPlace::Ended {
             return format!(in alloc; "thread {thread} has ended{ways}");
         }
         let (here, there) = (self.here(), Located(self.refusal.location));
@@ -63,7 +63,7 @@ impl RefusedStep<'_> {
         )
     }
 
-    /// Says by which step the thread was finished, and why.
+    /// Says by which step the thread was terminated, and why.
     fn finished(&self) -> Result<String, AllocError> {
         let (start, thread) = (self.start, self.refusal.thread);
         let threads = self.threads_before()?;

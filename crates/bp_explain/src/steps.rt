@@ -1,13 +1,13 @@
-//! Explanations of the faults of reported steps. Sentences on a line that is not a step.
+//! Explanations of the errors of reported steps. Sentences on a line that is not a step.
 ghost use Rattle.std.specs.Prelude.{IfOk};
 ghost use Rattle.bp_advice.specs.Explanations.{IsExplanationOf};
-ghost use Rattle.bp_explain.specs.Explained.{ExplainsSteps};
+ghost use Rattle.bp_explain.specs.ExplainedErrors.{ExplainsSteps};
 
 use crate::schedules::no_entry;
 use crate::sources::source_of;
 use crate::tried_steps::RefusedStep;
 use bp_advice::{ENDS_IN_CR_LF, Explanation, Quoted, about_line, ends_in_cr_lf};
-use bp_confirm::{ConfirmFault, StepRefusal, value_on_line};
+use bp_confirm::{ConfirmError, StepRefusal, value_on_line};
 use bp_machine::Start;
 use bp_source::is_braced_after;
 use bp_text::{Line, line_of, part_before, part_from};
@@ -137,7 +137,7 @@ fn refusal_sentence(
     step.sentence()
 }
 
-/// Explains this fault of the reported steps of the program of a text, which run from this start,
+/// Explains this error of the reported steps of the program of a text, which run from this start,
 /// at its line, and a list without a step at its first. The files are those of the program and of
 /// the steps. Nothing explains steps that are too long, or refused memory. Fails only on
 /// allocation.
@@ -148,32 +148,32 @@ pub fn explain_steps<'a>(
     start: &Start,
     file: &'a str,
     steps: &[u8],
-    fault: &ConfirmFault,
+    error: &ConfirmError,
 ) -> Result<Option<Explanation<'a>>, AllocError>
-    ensures { let Explains = ExplainsSteps file.now fault.now in
+    ensures { let Explains = ExplainsSteps file.now error.now in
         IfOk result (IsExplanationOf Explains) }
 {
-    let explanation = match *fault {
-        ConfirmFault::NoSteps => {
+    let explanation = match *error {
+        ConfirmError::NoSteps => {
             let sentence = "the list has no step, so there is nothing to confirm";
             about_line(alloc, file, steps, 1, sentence)?
         }
-        ConfirmFault::Line(line) => {
+        ConfirmError::Line(line) => {
             let sentence = match line_of(steps, line as usize) {
                 Some(line) => malformed(alloc, line)?,
                 None => String::new(alloc),
             };
             about_line(alloc, file, steps, line as usize, sentence.as_str())?
         }
-        ConfirmFault::NoThread(line, thread) => {
+        ConfirmError::NoThread(line, thread) => {
             let sentence = no_entry(alloc, thread)?;
             about_line(alloc, file, steps, line as usize, sentence.as_str())?
         }
-        ConfirmFault::NoVariable(line, place) => {
+        ConfirmError::NoVariable(line, place) => {
             let sentence = no_variable(alloc, steps, line, place)?;
             about_line(alloc, file, steps, line as usize, sentence.as_str())?
         }
-        ConfirmFault::Step(refusal) => {
+        ConfirmError::Step(refusal) => {
             let sentence = refusal_sentence(
                 alloc,
                 program_file,
@@ -185,7 +185,7 @@ pub fn explain_steps<'a>(
             )?;
             about_line(alloc, file, steps, refusal.line as usize, sentence.as_str())?
         }
-        ConfirmFault::TooLong | ConfirmFault::Memory => return Ok(None),
+        ConfirmError::TooLong | ConfirmError::Memory => return Ok(None),
     };
     Ok(Some(explanation))
 }

@@ -1,17 +1,17 @@
-//! Explanations of the faults of traces. The number of accepted calls of a refused trace.
+//! Explanations of the errors of traces. The number of accepted calls of a refused trace.
 ghost use Rattle.std.specs.Prelude.{IfOk};
 ghost use Rattle.bp_advice.specs.Explanations.{ExplainsLine, IsExplanationOf};
-ghost use Rattle.bp_explain.specs.Explained.{ExplainsTrace};
+ghost use Rattle.bp_explain.specs.ExplainedErrors.{ExplainsTrace};
 
 use crate::heads::{head_of, line_of_setup};
 use crate::sources::source_of;
 use bp_advice::{Explanation, Place, explained, number_at_front};
 use bp_flat::Code;
 use bp_text::{first_line, position_of, push_line, push_place, take_line, text_from_line};
-use bp_trace::{AcceptedTrace, EndCounts, Head, ReplayFault, Version, accepted_trace};
+use bp_trace::{AcceptedTrace, EndCounts, Head, ReplayError, Version, accepted_trace};
 use std::alloc::{AllocError, Global};
 
-/// A line of a trace of the program of a text, and its fault.
+/// A line of a trace of the program of a text, and its error.
 #[derive(Clone, Copy)]
 pub(crate) struct RefusedLine<'a, 't> {
     pub(crate) alloc: Global,
@@ -19,7 +19,7 @@ pub(crate) struct RefusedLine<'a, 't> {
     pub(crate) trace: &'a [u8],
     /// The head of the trace, if it has one.
     pub(crate) head: Option<&'a Head<'t>>,
-    pub(crate) fault: &'a ReplayFault,
+    pub(crate) error: &'a ReplayError,
     pub(crate) number: usize,
 }
 
@@ -30,11 +30,11 @@ impl RefusedLine<'_, '_> {
     }
 
     /// Returns the places in the trace of the choice bit and of the reply's letter, of the call
-    /// that the fault names. In version 1 a space is between them.
+    /// that the error names. In version 1 a space is between them.
     pub(crate) fn call(&self) -> Option<(usize, usize)> {
-        let mut before = match self.fault {
-            ReplayFault::AfterFinish(_, made) => *made as usize,
-            ReplayFault::Bit(_, due) | ReplayFault::Reply(_, due) => due.calls as usize,
+        let mut before = match self.error {
+            ReplayError::AfterFinish(_, made) => *made as usize,
+            ReplayError::Bit(_, due) | ReplayError::Reply(_, due) => due.calls as usize,
             _ => return None,
         };
         let size: usize = if self.is_version_two() { 2 } else { 3 };
@@ -62,18 +62,18 @@ impl RefusedLine<'_, '_> {
     pub(crate) fn accepted_part(&self, code: &Code) -> Result<Option<AcceptedTrace>, AllocError> {
         match accepted_trace(self.alloc, code, self.trace) {
             Ok(accepted) => Ok(accepted),
-            Err(ReplayFault::Memory) => Err(AllocError),
+            Err(ReplayError::Memory) => Err(AllocError),
             Err(_) => Ok(None),
         }
     }
 
     /// Returns the number of accepted calls of the trace, if any could be.
     fn accepted_calls(&self) -> Result<Option<u64>, AllocError> {
-        match self.fault {
-            ReplayFault::AfterFinish(_, made) => Ok(Some(*made)),
-            ReplayFault::Bit(_, due) | ReplayFault::Reply(_, due) => Ok(Some(due.calls)),
-            ReplayFault::NoEnd(counts) | ReplayFault::EndCount(_, counts) => Ok(Some(counts.calls)),
-            ReplayFault::Line(_) => match &source_of(self.alloc, self.program)? {
+        match self.error {
+            ReplayError::AfterFinish(_, made) => Ok(Some(*made)),
+            ReplayError::Bit(_, due) | ReplayError::Reply(_, due) => Ok(Some(due.calls)),
+            ReplayError::NoEnd(counts) | ReplayError::EndCount(_, counts) => Ok(Some(counts.calls)),
+            ReplayError::Line(_) => match &source_of(self.alloc, self.program)? {
                 Some(source) => Ok(self.accepted_part(&source.code)?.map(|part| part.calls)),
                 None => Ok(None),
             },
@@ -84,26 +84,26 @@ impl RefusedLine<'_, '_> {
     /// Explains the mistake in the line.
     fn line_sentence(&self) -> Result<String, AllocError> {
         let alloc = self.alloc;
-        match self.fault {
-            ReplayFault::Head(_) => self.head_sentence(),
-            ReplayFault::Setup(fault) => self.setup_sentence(*fault),
-            ReplayFault::Line(_) => self.body_sentence(),
-            ReplayFault::AfterFinish(..) => self.finished(),
-            ReplayFault::Bit(_, due) => self.other_bit(*due),
-            ReplayFault::Reply(_, due) => self.other_reply(*due),
-            ReplayFault::NoEnd(EndCounts { calls, left_open }) => {
-                let more = if *left_open > 0 {
+        match self.error {
+            ReplayError::Head(_) => self.head_sentence(),
+            ReplayError::Setup(error) => self.setup_sentence(*error),
+            ReplayError::Line(_) => self.body_sentence(),
+            ReplayError::AfterFinish(..) => self.finished(),
+            ReplayError::Bit(_, due) => self.other_bit(*due),
+            ReplayError::Reply(_, due) => self.other_reply(*due),
+            ReplayError::NoEnd(EndCounts { calls, left_live }) => {
+                let more = if *left_live > 0 {
                     " or another line of calls"
                 } else {
                     ""
                 };
-                format!(in alloc; "the trace ends here; expected 'end {calls} {left_open}'{more}")
+                format!(in alloc; "the trace ends here; expected 'end {calls} {left_live}'{more}")
             }
-            ReplayFault::EndCount(_, EndCounts { calls, left_open }) => format!(in alloc;
-                "expected 'end {calls} {left_open}': \
+            ReplayError::EndCount(_, EndCounts { calls, left_live }) => format!(in alloc;
+                "expected 'end {calls} {left_live}': \
                 the number of calls, and of threads that may go on"
             ),
-            ReplayFault::TooLong | ReplayFault::Memory => Ok(String::new(alloc)),
+            ReplayError::TooLong | ReplayError::Memory => Ok(String::new(alloc)),
         }
     }
 
@@ -135,8 +135,8 @@ fn explain_line<'a>(
 {
     let sentence = line.sentence()?;
     let mut excerpt = Vec::new(line.alloc);
-    match (line.fault, line.call()) {
-        (ReplayFault::Reply(..), Some((_, at))) => push_place(&mut excerpt, line.trace, at)?,
+    match (line.error, line.call()) {
+        (ReplayError::Reply(..), Some((_, at))) => push_place(&mut excerpt, line.trace, at)?,
         (_, Some((at, _))) => push_place(&mut excerpt, line.trace, at)?,
         (_, None) => push_line(&mut excerpt, line.trace, line.number)?,
     }
@@ -149,7 +149,7 @@ fn explain_line<'a>(
     )
 }
 
-/// Explains this fault of a trace of the program of a text, at its line, with a caret below the
+/// Explains this error of a trace of the program of a text, at its line, with a caret below the
 /// place in a call that is not the machine's own. Nothing explains a trace that is too long, or
 /// refused memory. Fails only on allocation.
 pub fn explain_trace<'a, 't>(
@@ -157,29 +157,29 @@ pub fn explain_trace<'a, 't>(
     program: &'t [u8],
     file: &'a str,
     trace: &'t [u8],
-    fault: &'t ReplayFault,
+    error: &'t ReplayError,
 ) -> Result<Option<Explanation<'a>>, AllocError>
-    ensures { let Explains = ExplainsTrace file.now trace.now fault.now in
+    ensures { let Explains = ExplainsTrace file.now trace.now error.now in
         IfOk result (IsExplanationOf Explains) }
 {
     let head = head_of(alloc, trace)?;
-    let number = match fault {
-        ReplayFault::Setup(setup) => line_of_setup(trace, &head, *setup),
-        ReplayFault::NoEnd(_) => position_of(trace, trace.len()).line,
-        ReplayFault::Head(line)
-        | ReplayFault::Line(line)
-        | ReplayFault::EndCount(line, _)
-        | ReplayFault::AfterFinish(line, _)
-        | ReplayFault::Bit(line, _)
-        | ReplayFault::Reply(line, _) => *line as usize,
-        ReplayFault::TooLong | ReplayFault::Memory => return Ok(None),
+    let number = match error {
+        ReplayError::Setup(setup) => line_of_setup(trace, &head, *setup),
+        ReplayError::NoEnd(_) => position_of(trace, trace.len()).line,
+        ReplayError::Head(line)
+        | ReplayError::Line(line)
+        | ReplayError::EndCount(line, _)
+        | ReplayError::AfterFinish(line, _)
+        | ReplayError::Bit(line, _)
+        | ReplayError::Reply(line, _) => *line as usize,
+        ReplayError::TooLong | ReplayError::Memory => return Ok(None),
     };
     let line = RefusedLine {
         alloc,
         program,
         trace,
         head: head.as_ref(),
-        fault,
+        error,
         number,
     };
     Ok(Some(explain_line(file, &line)?))

@@ -2,7 +2,7 @@
 //! The threads and the contexts of a list of steps.
 use crate::sources::{Source, lines_before, setup_of};
 use bp_advice::number_at_front;
-use bp_confirm::{ConfirmFault, StepRefusal, confirm};
+use bp_confirm::{ConfirmError, StepRefusal, confirm};
 use bp_machine::{Call, Setup, Start};
 use bp_tasks::ContextBound;
 use bp_text::take_line;
@@ -55,9 +55,9 @@ impl<'a> RefusedStep<'a> {
         };
         match confirm(alloc, source.text, code, &setup, bound, steps) {
             Ok(confirmed) => traced(alloc, confirmed.session.setup(), &confirmed.history),
-            Err(ConfirmFault::Step(refusal)) => Ok(Tried::Refused(refusal)),
-            Err(ConfirmFault::NoSteps) => traced(alloc, &setup, &[]),
-            Err(ConfirmFault::Memory) => Err(AllocError),
+            Err(ConfirmError::Step(refusal)) => Ok(Tried::Refused(refusal)),
+            Err(ConfirmError::NoSteps) => traced(alloc, &setup, &[]),
+            Err(ConfirmError::Memory) => Err(AllocError),
             Err(_) => Ok(Tried::Unread),
         }
     }

@@ -1,9 +1,9 @@
 //! Words for the values that an assertion or an assumption reads.
 
 use crate::sources::{Source, variable_of};
-use bp_machine::{AskFault, Call, Session, Setup};
+use bp_machine::{AskError, Call, Session, Setup};
 use bp_source::{decider_at, variables_read};
-use bp_trace::{ReplayFault, Unwatched, Watcher, replay_watched};
+use bp_trace::{ReplayError, Unwatched, Watcher, replay_watched};
 use std::alloc::{AllocError, Global};
 use std::fmt::Write;
 
@@ -66,7 +66,7 @@ impl Watcher for ChangeWatcher<'_> {
         Ok(())
     }
 
-    fn make(&mut self, session: &mut Session, recorded: &Call) -> Result<Call, AskFault> {
+    fn make(&mut self, session: &mut Session, recorded: &Call) -> Result<Call, AskError> {
         let before = self.value(session);
         let call = session.ask_as_recorded(recorded.thread, recorded.bit)?;
         self.made = self.made.saturating_add(1);
@@ -94,7 +94,7 @@ fn last_change(
     };
     match replay_watched(alloc, &source.code, trace, watcher) {
         Ok(watched) => Ok(watched.watcher.changed),
-        Err(ReplayFault::Memory) => Err(AllocError),
+        Err(ReplayError::Memory) => Err(AllocError),
         Err(_) => Ok(None),
     }
 }
@@ -129,7 +129,7 @@ pub(crate) fn session_after(
 ) -> Result<Option<Session>, AllocError> {
     match replay_watched(alloc, &source.code, trace, Unwatched) {
         Ok(watched) => Ok(Some(watched.session)),
-        Err(ReplayFault::Memory) => Err(AllocError),
+        Err(ReplayError::Memory) => Err(AllocError),
         Err(_) => Ok(None),
     }
 }

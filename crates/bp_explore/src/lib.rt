@@ -1,12 +1,12 @@
 //! Exploring all runs of a program within a bound on contexts, or within any number of them.
 #![tactic(auto)]
 
+mod cells;
 mod explorations;
 mod found_runs;
 pub mod limits;
 mod nodes;
 mod observers;
-mod packing;
 mod searches;
 mod spaces;
 mod states;

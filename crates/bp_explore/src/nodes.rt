@@ -7,8 +7,8 @@ ghost use Rattle.bp_machine.specs.Transitions.{IsTransitionOn};
 ghost use Rattle.bp_explore.specs.States.{IsLive, NodeOf, IsRecordOf, node_of, record_at, take_key, Shows, state_after};
 ghost use Rattle.bp_explore.specs.Searches.{IsTopOrNone, ShowsStep};
 
+use crate::cells::{push_number, read_number};
 use crate::observers::SeenStep;
-use crate::packing::{push_number, read_number};
 use crate::states::State;
 use bp_flat::{Code, Effect};
 use bp_machine::{Call, Reply, Top, Transition};

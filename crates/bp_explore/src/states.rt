@@ -10,8 +10,8 @@ ghost use Rattle.bp_explore.specs.States.{frames_of, first_stack_of, Shows, stat
 ghost use Rattle.bp_machine.specs.Transitions.{IsTransitionOn};
 ghost use Rattle.bp_machine.specs.declared.threads.Transition.{Transition as TransitionOf};
 
+use crate::cells::{push_number, push_stacks, read_number, read_stacks};
 use crate::observers::SeenStep;
-use crate::packing::{push_number, push_stacks, read_number, read_stacks};
 use bp_flat::stores::word_of;
 use bp_flat::{Code, Effect, Store, steps_alike};
 use bp_machine::limits::MAX_FRAMES;

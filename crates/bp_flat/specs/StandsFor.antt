@@ -3,7 +3,7 @@ use Rattle.std.specs.Prelude.{◌≡◌, ℕ, suc, Bool, List, [], ◌∷◌, �
 pub use Rattle.bp_language.specs.Ast.{variables}
 use Rattle.bp_language.specs.Ast.{Name, Expression, Decision, Block, Done, Then, Statement, Skips, GoesTo, Returns, Assigns, Branches, Loops, Asserts, Assumes, Prints, Calls, Procedure, Program}
 use Rattle.bp_language.specs.Texts.{HasText}
-use Rattle.bp_language.specs.Faults.{IsLawful}
+use Rattle.bp_language.specs.Errors.{IsWellFormed}
 use Rattle.bp_flat.specs.declared.slots.Slot.{Slot}
 use Rattle.bp_flat.specs.Flat.{Formula, Instruction, Skip, Goto, Return, Assign, If, While, Assert, Assume, Print, Call, Heading, Flat}
 use Rattle.bp_flat.specs.Moves.{Store, Valuation, expression_values, decision_value, after_assignment, chain, from_label, procedure_named, Frame, Leaves, Fails, Blocks, StatementEffect, effect}
@@ -210,9 +210,9 @@ abbrev mutual
   inner_starts (Loops d a) = block_starts a
   inner_starts s = []
 
--- the code stands for its tree, which is the lawful program of some text
+-- the code stands for its tree, which is the well-formed program of some text
 pub record IsOfProgram (c : Flat) : Type 0 where
-  pub lawful : IsLawful c.tree
+  pub well_formed : IsWellFormed c.tree
   pub of_text : HasText c.tree
   pub stands : StandsFor c c.tree
 

@@ -14,7 +14,7 @@ use std::sync::Arc;
 
 /// A program as flat code: one instruction for each statement, numbered from 0 in text order over
 /// all procedures, and one return after each procedure's statements. Each instruction names its
-/// successors. A code has the lawful program that it stands for. Copies of a code share it.
+/// successors. A code has the well-formed program that it stands for. Copies of a code share it.
 #[derive(Drop)]
 pub struct Code {
     parts: Arc<Parts, Global>,
@@ -160,7 +160,7 @@ impl Code {
         &self.parts().checked
     }
 
-    /// Proves that a code stands for its program, which is the lawful program of some text.
+    /// Proves that a code stands for its program, which is the well-formed program of some text.
     pub fn is_of_a_program(&self)
         ensures { IsOfProgram self.now }
     {

@@ -13,7 +13,7 @@ pub mod limits;
 mod prints;
 pub mod slots;
 pub mod stores;
-pub mod touched;
+pub mod touched_globals;
 pub mod variables;
 
 pub use code::Code;
@@ -22,5 +22,5 @@ pub use headings::Heading;
 pub use instrs::{Instr, Kind};
 pub use laws::steps_alike;
 pub use stores::Store;
-pub use touched::Touched;
+pub use touched_globals::Touched;
 pub use variables::{bit_of, global_value, local_slot_of, local_value, slot_of};

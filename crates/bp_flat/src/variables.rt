@@ -1,6 +1,6 @@
 //! The slots of variables by their names, and their values.
 ghost use Rattle.std.specs.Prelude.{◌≡◌, ◌<◌, length, MatchOption};
-ghost use Rattle.bp_language.specs.Faults.{first_index};
+ghost use Rattle.bp_language.specs.Errors.{first_index};
 ghost use Rattle.bp_flat.specs.InstrEffects.{bits_of};
 ghost use Rattle.bp_flat.specs.StandsFor.{valuation_of, variables};
 ghost use Rattle.bp_flat.specs.Moves.{lookup};

@@ -1,5 +1,5 @@
 pub mod Common
-pub mod LawsOfLawfulPrograms
+pub mod LawsOfWellFormedPrograms
 pub mod SpelledNames
 pub mod NamesOfTokens
 pub mod GrownLists

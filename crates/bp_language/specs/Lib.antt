@@ -1,5 +1,5 @@
 pub mod Tokens
-pub mod Faults
+pub mod Errors
 pub mod Grammar
 pub mod NamesIn
 pub mod Texts

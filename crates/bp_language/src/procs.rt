@@ -33,7 +33,7 @@ impl Model for Proc {
 impl Proc {
     ghost use Rattle.bp_language.specs.Blocks.{block_of};
 
-    /// Puts a procedure together, without checking whether its names are lawful.
+    /// Puts a procedure together, without checking whether its names are well-formed.
     pub fn new(name: Name, formals: Names, locals: Names, body: Block) -> Proc
         ensures { result ≡ record { name = name; formals = formals; locals = locals; body = body } }
     {

@@ -9,10 +9,10 @@ pub use Rattle.bp_flat.specs.declared.effects.Effect.{Effect}
 pub use Rattle.bp_flat.specs.declared.effects.Effect.TheVariants.{Continues, Enters, Returns}
 pub use Rattle.bp_language.proofs.GrownLists.{regrouped}
 pub use Rattle.bp_language.specs.Ast.{Asserts, Assigns, Assumes, Block, Branches, Calls, Decision, Done, GoesTo, Loops, Name, Prints, Procedure, Program, Skips, Then}
-pub use Rattle.bp_machine.specs.Histories.{ChoicesOf, EachIs, EachOfOne, IsAllowed, IsAt, IsAtFalseAssertion, IsBitOfCall, IsLeastWithin, IsLegal, IsLegalAfter, IsRealFailure, IsRun, IsSeeded, IsWithin, calls_of_thread, choice_bit, choice_word, configuration_after, configuration_after_call, configuration_after_calls, configuration_after_step, ends, ends_with_last, finished_by, granted_calls, granted_threads, is_failure, is_finished, is_full, is_granted, is_last, open_below, open_lines, outcome_of, outcome_or, reply_of, reply_on_stack, reply_to_effect, stack_of}
+pub use Rattle.bp_machine.specs.Histories.{ChoicesOf, EachIs, EachOfOne, IsAllowed, IsAt, IsAtFalseAssertion, IsBitOfCall, IsLeastWithin, IsLegal, IsLegalAfter, IsRealFailure, IsRun, IsSeeded, IsWithin, calls_of_thread, choice_bit, choice_word, configuration_after, configuration_after_call, configuration_after_calls, configuration_after_step, ends, ends_with_last, terminated_by, granted_calls, granted_threads, is_failure, is_terminated, is_full, is_granted, is_last, live_below, live_threads, outcome_of, outcome_or, reply_of, reply_on_stack, reply_to_effect, stack_of}
 pub use Rattle.bp_machine.specs.Runs.{EachHasRoom, HasBoundedRun, HasRoom, IsBoundedRun, IsDeadlocked, IsHistoryOfSteps, has_frames, history_of_run, is_blocked, is_left, printed_rows, reply_of_step, rows_after, rows_of_call, values_at, values_printed, waits}
-pub use Rattle.bp_machine.specs.Sessions.{GuestThreadOf, HasOpenLine, IsAskRefusal, IsCallStep, IsCountOf, IsInOrder, IsNextCall, KeptThread, MachineOf, SessionOf, ShowsThread, Stands, StandsAfter, State, activation_of, activations, choices_of, contexts_opened, count_with, entered_top, first_thread, guests, last_thread, rooms, top_of, used_with, with_top}
-pub use Rattle.bp_machine.specs.Setups.{Fits, IsInRange, IsSetupRefusal, SetupOf, entries_fault, entry_fault, fault_if, first_of, has_bad_threads, initial_bits, is_out_of_range, setup_fault, setup_from, setup_of, start, threads}
+pub use Rattle.bp_machine.specs.Sessions.{GuestThreadOf, IsLiveThread, IsAskRefusal, IsCallStep, IsCountOf, IsInOrder, IsNextCall, KeptThread, MachineOf, SessionOf, ShowsThread, Stands, StandsAfter, State, activation_of, activations, choices_of, contexts_opened, count_with, entered_top, first_thread, guests, last_thread, rooms, top_of, used_with, with_top}
+pub use Rattle.bp_machine.specs.Setups.{Fits, IsInRange, IsSetupRefusal, SetupOf, entries_error, entry_error, error_if, first_of, has_bad_threads, initial_bits, is_out_of_range, setup_error, setup_from, setup_of, start, threads}
 pub use Rattle.bp_machine.specs.Transitions.{AreDrawn, AreFirstChoices, IsCallTransition, IsEntering, IsJudged, IsKeptBit, IsKeptRefusal, IsTransition, IsTransitionAt, IsTransitionOn, IsTransitionUnless, TransitionFitsIn, globals_after, is_over, reply_of_transition, session_of, stack_after, state_after, thread_after, transition_of}
 pub use Rattle.bp_machine.specs.declared.calls.Call.{Call}
 pub use Rattle.bp_machine.specs.declared.calls.Outcome.{Outcome}
@@ -22,7 +22,7 @@ pub use Rattle.bp_machine.specs.declared.calls.Reply.TheVariants.{Blocked, Ended
 pub use Rattle.bp_machine.specs.declared.contexts.ContextCount.{ContextCount}
 pub use Rattle.bp_machine.specs.declared.limits.TheConstants.{MAX_CALLS, MAX_FRAMES, MAX_THREADS}
 pub use Rattle.bp_machine.specs.declared.sessions.Judged.{Judged}
-pub use Rattle.bp_machine.specs.declared.setup_faults.SetupFault.{SetupFault}
+pub use Rattle.bp_machine.specs.declared.setup_errors.SetupError.{SetupError}
 pub use Rattle.bp_machine.specs.declared.stacks.ActivationRecord.{ActivationRecord}
 pub use Rattle.bp_machine.specs.declared.threads.Transition.{Transition}
 pub use Rattle.bp_machine.specs.declared.threads.Transition.TheVariants.{Fails, Stays, Steps}

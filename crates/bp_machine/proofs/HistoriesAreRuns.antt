@@ -1,5 +1,5 @@
 -- The granted calls of a legal history are a run within the bounds of its setup.
-use Rattle.bp_machine.proofs.Common.{◌≡◌, ◌≢◌, ℕ, zero, suc, ◌+◌, ◌*◌, ◌<◌, ◌≤◌, ◌==◌, Bool, true, false, cond, ◌||◌, List, [], ◌∷◌, ◌++◌, length, refl, ap, sym, ◌∙◌, subst, arith, add-one, inl, inr, length-append, map, rules, suc-mul, nat_tests, Program, regrouped, Configuration, Moves, Call, SetupOf, threads, calls_of_thread, is_finished, IsAllowed, IsLegalAfter, IsLegal, configuration_after_call, IsWithin, configuration_after, granted_threads, granted_calls, is_granted, IsRun, Reply, HasRoom, EachHasRoom, reply_of_step, history_of_run, HasBoundedRun}
+use Rattle.bp_machine.proofs.Common.{◌≡◌, ◌≢◌, ℕ, zero, suc, ◌+◌, ◌*◌, ◌<◌, ◌≤◌, ◌==◌, Bool, true, false, cond, ◌||◌, List, [], ◌∷◌, ◌++◌, length, refl, ap, sym, ◌∙◌, subst, arith, add-one, inl, inr, length-append, map, rules, suc-mul, nat_tests, Program, regrouped, Configuration, Moves, Call, SetupOf, threads, calls_of_thread, is_terminated, IsAllowed, IsLegalAfter, IsLegal, configuration_after_call, IsWithin, configuration_after, granted_threads, granted_calls, is_granted, IsRun, Reply, HasRoom, EachHasRoom, reply_of_step, history_of_run, HasBoundedRun}
 use Rattle.std.proofs.Common.{append-nil}
 use Rattle.bp_machine.proofs.HistoryWithCall.{calls_of_thread-same, calls_of_thread-other, same_or_not, configuration_after-append}
 use Rattle.bp_machine.proofs.RealFailures.{IsStep, is_step, step_moves, run_from, runs, within, first_step, ended, one_move}
@@ -62,11 +62,11 @@ total_bound zero k h each = omega arith
 total_bound (suc n) k h each = omega (arith, total_bound n k h each, each n, suc-mul n k)
 
 module _ (t : Program) (s : SetupOf) where
-  -- an open line has fewer calls than are allowed
+  -- a live thread has fewer calls than are allowed
   fewer : (a b : Bool) → (a || b) ≡ false → b ≡ false
   fewer a b given1 = grind (arith)
 
-  room : (h : List Call) (i : ℕ) → is_finished s h i ≡ false → length (calls_of_thread i h) < s.calls
+  room : (h : List Call) (i : ℕ) → is_terminated s h i ≡ false → length (calls_of_thread i h) < s.calls
   room h i given1 = grind (arith)
 
   next : (p : List Call) (x : Call) → IsAllowed t s p x → ((i : ℕ) → length (calls_of_thread i p) ≤ s.calls) → (i : ℕ)
@@ -79,7 +79,7 @@ module _ (t : Program) (s : SetupOf) where
       own : x.thread ≡ i → length (calls_of_thread i (p ++ x ∷ [])) ≤ s.calls
       own same =
           let is = ap length (calls_of_thread-same p x i same) ∙ length-append (calls_of_thread i p) (x ∷ []) in
-          let few = subst (λ j. length (calls_of_thread j p) < s.calls) same (room p x.thread allowed.unfinished) in
+          let few = subst (λ j. length (calls_of_thread j p) < s.calls) same (room p x.thread allowed.still_live) in
           omega (arith, is, few)
 
   pub bounded : (p xs : List Call) → IsLegalAfter t s p xs → ((i : ℕ) → length (calls_of_thread i p) ≤ s.calls)

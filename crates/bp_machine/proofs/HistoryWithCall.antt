@@ -1,5 +1,5 @@
 -- A history with one more call.
-use Rattle.bp_machine.proofs.Common.{◌≡◌, ◌≢◌, ℕ, zero, suc, ◌+◌, ◌<◌, ◌==◌, Bool, true, false, cond, ◌||◌, nat_le, List, [], ◌∷◌, ◌++◌, length, refl, ap, ◌∙◌, subst, arith, take, get_or, sym, length-append, ◌⊎◌, Some, inl, inr, ◌≤◌, slice_get, slice_set, rules, append-nil, take_more, length-set, nat_tests, Program, regrouped, Configuration, bits_of, valuation_of, ShowsStack, Call, SetupOf, start, threads, configuration_after_call, is_last, is_granted, configuration_after_calls, configuration_after, granted_threads, calls_of_thread, ends_with_last, is_finished, open_below, IsAllowed, IsLegalAfter, IsLegal, outcome_or, outcome_of, is_failure, stack_of, finished_by, open_lines, Reply, Stepped, Outcome, Clean, IsCountOf, State, activations, ShowsThread, StandsAfter, GuestThreadOf}
+use Rattle.bp_machine.proofs.Common.{◌≡◌, ◌≢◌, ℕ, zero, suc, ◌+◌, ◌<◌, ◌==◌, Bool, true, false, cond, ◌||◌, nat_le, List, [], ◌∷◌, ◌++◌, length, refl, ap, ◌∙◌, subst, arith, take, get_or, sym, length-append, ◌⊎◌, Some, inl, inr, ◌≤◌, slice_get, slice_set, rules, append-nil, take_more, length-set, nat_tests, Program, regrouped, Configuration, bits_of, valuation_of, ShowsStack, Call, SetupOf, start, threads, configuration_after_call, is_last, is_granted, configuration_after_calls, configuration_after, granted_threads, calls_of_thread, ends_with_last, is_terminated, live_below, IsAllowed, IsLegalAfter, IsLegal, outcome_or, outcome_of, is_failure, stack_of, terminated_by, live_threads, Reply, Stepped, Outcome, Clean, IsCountOf, State, activations, ShowsThread, StandsAfter, GuestThreadOf}
 use Rattle.bp_machine.specs.declared.calls.Reply.TheVariants as replies
 use Rattle.bp_machine.specs.declared.calls.Outcome.TheVariants.{Failed}
 
@@ -57,13 +57,13 @@ ends_with_last-append [] x = refl
 ends_with_last-append (y ∷ []) x = refl
 ends_with_last-append (y ∷ z ∷ cs) x = ends_with_last-append (z ∷ cs) x
 
-pub finished-other : (s : SetupOf) (h : List Call) (x : Call) (i : ℕ) → x.thread ≢ i → is_finished s (h ++ x ∷ []) i ≡ is_finished s h i
-finished-other s h x i n = ap (λ cs. ends_with_last cs || nat_le s.calls (length cs)) (calls_of_thread-other h x i n)
+pub terminated-other : (s : SetupOf) (h : List Call) (x : Call) (i : ℕ) → x.thread ≢ i → is_terminated s (h ++ x ∷ []) i ≡ is_terminated s h i
+terminated-other s h x i n = ap (λ cs. ends_with_last cs || nat_le s.calls (length cs)) (calls_of_thread-other h x i n)
 
--- at the start every line is open
-pub open_at_start : (n : ℕ) (s : SetupOf) → 0 < s.calls → open_below n s [] ≡ n
-open_at_start zero s some = refl
-open_at_start (suc n) s some = ap (λ b. cond b (open_below n s []) (open_below n s [] + 1)) none ∙ (omega (arith, open_at_start n s some))
+-- at the start every thread is live
+pub live_at_start : (n : ℕ) (s : SetupOf) → 0 < s.calls → live_below n s [] ≡ n
+live_at_start zero s some = refl
+live_at_start (suc n) s some = ap (λ b. cond b (live_below n s []) (live_below n s [] + 1)) none ∙ (omega (arith, live_at_start n s some))
   where
     none : nat_le s.calls 0 ≡ false
     none = grind (arith, nat_tests)
@@ -208,55 +208,55 @@ module _ (t : Program) (s : SetupOf) (x : State) (h : List Call) (stands : Stand
                 other_guest call guest_after y d e j other l (sym (set_other x.threads i j guest_after other) ∙ at)
           ]
 
--- A call changes no line but its own: which lines are finished, and how many are open, before and after it.
+-- A call changes no thread but its own: which threads have terminated, and how many are live, before and after it.
 
--- a last reply finishes the line
-pub last_finishes : (s : SetupOf) (h : List Call) (x : Call) → is_last x.reply ≡ true → is_finished s (h ++ x ∷ []) x.thread ≡ true
-last_finishes s h x last =
+-- a last reply terminates the thread
+pub last_terminates : (s : SetupOf) (h : List Call) (x : Call) → is_last x.reply ≡ true → is_terminated s (h ++ x ∷ []) x.thread ≡ true
+last_terminates s h x last =
     let ended = ap ends_with_last (calls_of_thread-same h x x.thread refl) ∙ ends_with_last-append (calls_of_thread x.thread h) x ∙ last in
     ap (λ b. b || nat_le s.calls (length (calls_of_thread x.thread (h ++ x ∷ [])))) ended
 
 abbrev one_if : Bool → ℕ
 one_if b = cond b 1 0
 
-module _ (s : SetupOf) (h : List Call) (x : Call) (unfinished : is_finished s h x.thread ≡ false) where
-  same_below : (n : ℕ) → n ≤ x.thread → open_below n s (h ++ x ∷ []) ≡ open_below n s h
+module _ (s : SetupOf) (h : List Call) (x : Call) (still_live : is_terminated s h x.thread ≡ false) where
+  same_below : (n : ℕ) → n ≤ x.thread → live_below n s (h ++ x ∷ []) ≡ live_below n s h
   same_below zero within = refl
-  same_below (suc n) within = search (rules, (same_below n (omega arith)), finished-other)
+  same_below (suc n) within = search (rules, (same_below n (omega arith)), terminated-other)
 
   own_line : (now : Bool) (count : ℕ) → cond now count (count + 1) + one_if now ≡ count + 1
   own_line now count = grind (arith)
 
-  pub open_with : (n : ℕ) → x.thread < n → open_below n s (h ++ x ∷ []) + finished_by s h x ≡ open_below n s h
-  open_with zero within = absurd (omega arith)
-  open_with (suc n) within = elim (same_or_not x.thread n) [
+  pub live_with : (n : ℕ) → x.thread < n → live_below n s (h ++ x ∷ []) + terminated_by s h x ≡ live_below n s h
+  live_with zero within = absurd (omega arith)
+  live_with (suc n) within = elim (same_or_not x.thread n) [
     | inl same ↦ here same
-    | inr other ↦ there other (open_with n (below other))
+    | inr other ↦ there other (live_with n (below other))
   ]
     where
       below : x.thread ≢ n → x.thread < n
       below other = grind (arith, nat_tests)
 
-      here : x.thread ≡ n → open_below (suc n) s (h ++ x ∷ []) + finished_by s h x ≡ open_below (suc n) s h
+      here : x.thread ≡ n → live_below (suc n) s (h ++ x ∷ []) + terminated_by s h x ≡ live_below (suc n) s h
       here same =
           let count = same_below n (omega (arith, same)) in
-          let own : one_if (is_finished s (h ++ x ∷ []) x.thread) ≡ one_if (is_finished s (h ++ x ∷ []) n) =
-          ap (λ i. one_if (is_finished s (h ++ x ∷ []) i)) same in
-          let before : is_finished s h n ≡ false = sym (ap (is_finished s h) same) ∙ unfinished in
-          ap (λ k. cond (is_finished s (h ++ x ∷ []) n) k (k + 1) + one_if (is_finished s (h ++ x ∷ []) x.thread)) count
-          ∙ ap (λ k. cond (is_finished s (h ++ x ∷ []) n) (open_below n s h) (open_below n s h + 1) + k) own
-          ∙ own_line (is_finished s (h ++ x ∷ []) n) (open_below n s h)
-          ∙ sym (ap (λ b. cond b (open_below n s h) (open_below n s h + 1)) before)
+          let own : one_if (is_terminated s (h ++ x ∷ []) x.thread) ≡ one_if (is_terminated s (h ++ x ∷ []) n) =
+          ap (λ i. one_if (is_terminated s (h ++ x ∷ []) i)) same in
+          let before : is_terminated s h n ≡ false = sym (ap (is_terminated s h) same) ∙ still_live in
+          ap (λ k. cond (is_terminated s (h ++ x ∷ []) n) k (k + 1) + one_if (is_terminated s (h ++ x ∷ []) x.thread)) count
+          ∙ ap (λ k. cond (is_terminated s (h ++ x ∷ []) n) (live_below n s h) (live_below n s h + 1) + k) own
+          ∙ own_line (is_terminated s (h ++ x ∷ []) n) (live_below n s h)
+          ∙ sym (ap (λ b. cond b (live_below n s h) (live_below n s h + 1)) before)
 
-      more : (b : Bool) → open_below n s (h ++ x ∷ []) + finished_by s h x ≡ open_below n s h
-          → cond b (open_below n s (h ++ x ∷ [])) (open_below n s (h ++ x ∷ []) + 1) + finished_by s h x ≡ cond b (open_below n s h) (open_below n s h + 1)
+      more : (b : Bool) → live_below n s (h ++ x ∷ []) + terminated_by s h x ≡ live_below n s h
+          → cond b (live_below n s (h ++ x ∷ [])) (live_below n s (h ++ x ∷ []) + 1) + terminated_by s h x ≡ cond b (live_below n s h) (live_below n s h + 1)
       more b given1 = grind (arith)
 
-      there : x.thread ≢ n → open_below n s (h ++ x ∷ []) + finished_by s h x ≡ open_below n s h
-          → open_below (suc n) s (h ++ x ∷ []) + finished_by s h x ≡ open_below (suc n) s h
-      there other before = search (rules, finished-other, more)
+      there : x.thread ≢ n → live_below n s (h ++ x ∷ []) + terminated_by s h x ≡ live_below n s h
+          → live_below (suc n) s (h ++ x ∷ []) + terminated_by s h x ≡ live_below (suc n) s h
+      there other before = search (rules, terminated-other, more)
 
--- the open lines before and after a call that is allowed
-pub open_lines-append : (t : Program) (s : SetupOf) (h : List Call) (x : Call) → IsAllowed t s h x
-    → open_lines s (h ++ x ∷ []) + finished_by s h x ≡ open_lines s h
-open_lines-append t s h x allowed = open_with s h x allowed.unfinished (threads s) allowed.thread
+-- the live threads before and after a call that is allowed
+pub live_threads-append : (t : Program) (s : SetupOf) (h : List Call) (x : Call) → IsAllowed t s h x
+    → live_threads s (h ++ x ∷ []) + terminated_by s h x ≡ live_threads s h
+live_threads-append t s h x allowed = live_with s h x allowed.still_live (threads s) allowed.thread

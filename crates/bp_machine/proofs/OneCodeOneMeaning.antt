@@ -1,6 +1,6 @@
 -- Programs of one code have the same legal histories and printed rows: each of them does what the
 -- code does.
-use Rattle.bp_machine.proofs.Common.{◌≡◌, ◌≢◌, ℕ, zero, suc, ◌+◌, ◌<◌, ◌==◌, ◌&&◌, nat_le, not, Bool, true, false, cond, List, [], ◌∷◌, ◌++◌, length, map, get_or, Option, None, Some, refl, ap, sym, ◌∙◌, subst, arith, inl, inr, slice_get, slice_set, option_map, unwrap_or, rules, option_to_list, get_or-set_same, get_or-set_other, get_or_past, cases_lt, nat_tests, Block, Procedure, Program, Frame, Configuration, is_call, first_stack, procedure_named, StatementEffect, Leaves, Blocks, Misses, effect, after_effect, Flat, Instruction, Bits, Activation, InstructionEffect, bits_from, step, StandsFor, Does, valuation_of, places_of, ShowsStack, SameEffect, Reply, Stopped, Ended, NoContexts, Full, Blocked, Failed, Stepped, MAX_FRAMES, is_granted, stack_of, reply_to_effect, reply_on_stack, reply_of, configuration_after_step, configuration_after_call, configuration_after, IsLegalAfter, IsLegal, first_thread, activations, SetupOf, start, entries_fault, entry_fault, Fits, rows_of_call, rows_after, printed_rows}
+use Rattle.bp_machine.proofs.Common.{◌≡◌, ◌≢◌, ℕ, zero, suc, ◌+◌, ◌<◌, ◌==◌, ◌&&◌, nat_le, not, Bool, true, false, cond, List, [], ◌∷◌, ◌++◌, length, map, get_or, Option, None, Some, refl, ap, sym, ◌∙◌, subst, arith, inl, inr, slice_get, slice_set, option_map, unwrap_or, rules, option_to_list, get_or-set_same, get_or-set_other, get_or_past, cases_lt, nat_tests, Block, Procedure, Program, Frame, Configuration, is_call, first_stack, procedure_named, StatementEffect, Leaves, Blocks, Misses, effect, after_effect, Flat, Instruction, Bits, Activation, InstructionEffect, bits_from, step, StandsFor, Does, valuation_of, places_of, ShowsStack, SameEffect, Reply, Stopped, Ended, NoContexts, Full, Blocked, Failed, Stepped, MAX_FRAMES, is_granted, stack_of, reply_to_effect, reply_on_stack, reply_of, configuration_after_step, configuration_after_call, configuration_after, IsLegalAfter, IsLegal, first_thread, activations, SetupOf, start, entries_error, entry_error, Fits, rows_of_call, rows_after, printed_rows}
 use Rattle.bp_flat.specs.Moves.{Fails}
 use Rattle.bp_flat.specs.Flat.{Call}
 use Rattle.bp_flat.proofs.StandsForStepsAlike.{steps_alike}
@@ -157,11 +157,11 @@ module _ (c : Flat) where
   abbrev pub first_state : SetupOf → CodeState
   first_state s = record { globals = bits_from s.init; stacks = λ i. activations_of (slice_get s.entries i); failed = false }
 
-  first_stacks : (t : Program) (s : SetupOf) (is : StandsFor c t) (es : List (List ℕ)) (k : ℕ) → entries_fault t k es ≡ None → (i : ℕ)
+  first_stacks : (t : Program) (s : SetupOf) (is : StandsFor c t) (es : List (List ℕ)) (k : ℕ) → entries_error t k es ≡ None → (i : ℕ)
       → ShowsStack t (activations_of (slice_get es i)) (get_or (map (λ x. first_stack (procedure_named t.procedures x)) es) i [])
   first_stacks t s is [] k none i = tt
   first_stacks t s is (e ∷ es) k none zero = search (rules, entry_fine, shown)
-  first_stacks t s is (e ∷ es) k none (suc i) = search (rules, (first_stacks t s is es (k + 1) (others_fine (entry_fault k (procedure_named t.procedures e)) (entries_fault t (k + 1) es) none) i), others_fine)
+  first_stacks t s is (e ∷ es) k none (suc i) = search (rules, (first_stacks t s is es (k + 1) (others_fine (entry_error k (procedure_named t.procedures e)) (entries_error t (k + 1) es) none) i), others_fine)
 
   pub shows_start : (t : Program) (s : SetupOf) → StandsFor c t → Fits t s → Shows t (first_state s) (start t s)
   shows_start t s is fits = record {
@@ -184,7 +184,7 @@ module _ (c : Flat) (t u : Program) (st : StandsFor c t) (su : StandsFor c u) (s
       let next = state_after_call c.instructions z x in (
         record {
           thread = allowed.thread;
-          unfinished = allowed.unfinished;
+          still_live = allowed.still_live;
           answers = record { fits = answers.fits; decides = answers.decides; is = reply ∙ answers.is };
         },
         same_legal next (done ++ x ∷ []) xs

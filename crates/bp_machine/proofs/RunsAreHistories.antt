@@ -1,5 +1,5 @@
 -- A run within the bounds of a setup is a legal history.
-use Rattle.bp_machine.proofs.Common.{◌≡◌, ◌<◌, ℕ, Bool, true, false, cond, ◌&&◌, nat_le, List, [], ◌∷◌, length, Some, refl, ap, ◌∙◌, arith, ◌≢◌, ◌+◌, ◌≤◌, ◌++◌, sym, subst, length-append, inl, inr, unwrap_or, map, rules, Program, regrouped, Configuration, is_call, StatementEffect, effect, after_effect, Moves, Reply, Stopped, Full, Call, MAX_FRAMES, stack_of, reply_to_effect, reply_on_stack, reply_of, configuration_after_step, configuration_after_call, is_granted, IsRun, IsWithin, configuration_after_calls, configuration_after, granted_threads, granted_calls, calls_of_thread, ends_with_last, is_finished, IsAllowed, IsLegalAfter, is_last, HasRoom, reply_of_step, EachHasRoom, IsBoundedRun, history_of_run, IsHistoryOfSteps, SetupOf, threads, start}
+use Rattle.bp_machine.proofs.Common.{◌≡◌, ◌<◌, ℕ, Bool, true, false, cond, ◌&&◌, nat_le, List, [], ◌∷◌, length, Some, refl, ap, ◌∙◌, arith, ◌≢◌, ◌+◌, ◌≤◌, ◌++◌, sym, subst, length-append, inl, inr, unwrap_or, map, rules, Program, regrouped, Configuration, is_call, StatementEffect, effect, after_effect, Moves, Reply, Stopped, Full, Call, MAX_FRAMES, stack_of, reply_to_effect, reply_on_stack, reply_of, configuration_after_step, configuration_after_call, is_granted, IsRun, IsWithin, configuration_after_calls, configuration_after, granted_threads, granted_calls, calls_of_thread, ends_with_last, is_terminated, IsAllowed, IsLegalAfter, is_last, HasRoom, reply_of_step, EachHasRoom, IsBoundedRun, history_of_run, IsHistoryOfSteps, SetupOf, threads, start}
 use Rattle.bp_machine.specs.Histories as reports
 use Rattle.bp_machine.proofs.RealFailures.{stack_is, step_is, ended, first_step, FirstStep, move_keeps, thread_below, stacks_at_start}
 use Rattle.bp_machine.proofs.ContextCounts.{within_front}
@@ -49,14 +49,14 @@ counts_one x xs i given1 = grind (arith)
 counts_none : (x : Call) (xs : List Call) (i : ℕ) → x.thread ≢ i → length (calls_of_thread i (x ∷ xs)) ≡ length (calls_of_thread i xs)
 counts_none x xs i given1 = grind (arith)
 
-unfinished : (s : SetupOf) (h : List Call) (i : ℕ) → ends_with_last (calls_of_thread i h) ≡ false
-    → length (calls_of_thread i h) < s.calls → is_finished s h i ≡ false
-unfinished s h i given1 given2 = grind (arith)
+still_live : (s : SetupOf) (h : List Call) (i : ℕ) → ends_with_last (calls_of_thread i h) ≡ false
+    → length (calls_of_thread i h) < s.calls → is_terminated s h i ≡ false
+still_live s h i given1 given2 = grind (arith)
 
 module _ (t : Program) (s : SetupOf) where
-  -- the calls p are made, no line is finished, and the steps xs are to come
+  -- the calls p are made, no thread has terminated, and the steps xs are to come
   record Stands (p xs : List Call) (e : Configuration) : Type 0 where
-    open_lines : (i : ℕ) → ends_with_last (calls_of_thread i p) ≡ false
+    live_threads : (i : ℕ) → ends_with_last (calls_of_thread i p) ≡ false
     run : IsRun t (configuration_after t s p) xs e
     contexts : IsWithin s.contexts (granted_threads p ++ map thread_of xs)
     calls : (i : ℕ) → length (calls_of_thread i p) + length (calls_of_thread i xs) ≤ s.calls
@@ -96,7 +96,7 @@ module _ (t : Program) (s : SetupOf) where
         let stacks = now.stacks in
         record {
           thread = omega (arith, below, stacks);
-          unfinished = unfinished s p x.thread (now.open_lines x.thread) (omega (arith, one, few));
+          still_live = still_live s p x.thread (now.live_threads x.thread) (omega (arith, one, few));
           answers = record {
             fits = true;
             decides = (λ _. fits_here, λ _. refl);
@@ -124,7 +124,7 @@ module _ (t : Program) (s : SetupOf) where
     opens_next : is_last made.reply ≡ false → (i : ℕ) → ends_with_last (calls_of_thread i (p ++ made ∷ [])) ≡ false
     opens_next goes_on i = elim (same_or_not x.thread i) [
       | inl same ↦ ap ends_with_last (calls_of_thread-same p made i same) ∙ ends_with_last-append (calls_of_thread i p) made ∙ goes_on
-      | inr other ↦ ap ends_with_last (calls_of_thread-other p made i other) ∙ now.open_lines i
+      | inr other ↦ ap ends_with_last (calls_of_thread-other p made i other) ∙ now.live_threads i
     ]
 
     room_next : EachHasRoom t first.next xs
@@ -133,7 +133,7 @@ module _ (t : Program) (s : SetupOf) where
 
     next : is_last made.reply ≡ false → Stands (p ++ made ∷ []) xs e
     next goes_on = record {
-      open_lines = opens_next goes_on;
+      live_threads = opens_next goes_on;
       run = subst (λ d. IsRun t d xs e) (sym arrives) first.rest;
       contexts = subst (λ ts. IsWithin s.contexts (ts ++ map thread_of xs)) (sym granted_is) (subst (λ ts. IsWithin s.contexts ts) all_threads now.contexts);
       calls = counts_next;
@@ -162,7 +162,7 @@ pub run_is_history : (t : Program) (s : SetupOf) (steps : List Call) (d : Config
     → IsHistoryOfSteps t s (history_of_run steps d.failed) d
 run_is_history t s steps d run = record {
   legal = legal_from t s [] steps d (record {
-    open_lines = λ i. refl;
+    live_threads = λ i. refl;
     run = run.run;
     contexts = run.contexts;
     calls = λ i. let few = run.calls i in omega (arith, few);

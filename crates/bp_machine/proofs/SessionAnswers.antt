@@ -1,16 +1,16 @@
 -- The results of a session that stands after a history: a call, a refusal, and its accessors.
-use Rattle.bp_machine.proofs.Common.{◌≡◌, ℕ, ◌+◌, ◌<◌, ◌||◌, nat_le, Bool, true, false, List, [], ◌∷◌, ◌++◌, length, Option, Some, is_some, refl, ap, sym, ◌∙◌, subst, arith, cond, add-one, zero, suc, ◌≤◌, None, get_or, ◌⊎◌, inl, inr, ◌^◌, slice_get, rules, ∥∥₁_map, slice_get_within, slice_get_cases, Name, Program, bits_of, Bits, Flat, StandsFor, valuation_of, StepsAlike, Call, Transition, Judged, ChoicesOf, choice_bit, IsBitOfCall, configuration_after, is_finished, ends_with_last, calls_of_thread, open_below, SetupOf, threads, IsInRange, State, MachineOf, StandsAfter, GuestThreadOf, SessionOf, Stands, IsInOrder, HasOpenLine, IsNextCall, IsAskRefusal, choices_of, state_after, is_over, IsCallTransition, AreDrawn, IsKeptBit, IsJudged, IsKeptRefusal, session_of}
+use Rattle.bp_machine.proofs.Common.{◌≡◌, ℕ, ◌+◌, ◌<◌, ◌||◌, nat_le, Bool, true, false, List, [], ◌∷◌, ◌++◌, length, Option, Some, is_some, refl, ap, sym, ◌∙◌, subst, arith, cond, add-one, zero, suc, ◌≤◌, None, get_or, ◌⊎◌, inl, inr, ◌^◌, slice_get, rules, ∥∥₁_map, slice_get_within, slice_get_cases, Name, Program, bits_of, Bits, Flat, StandsFor, valuation_of, StepsAlike, Call, Transition, Judged, ChoicesOf, choice_bit, IsBitOfCall, configuration_after, is_terminated, ends_with_last, calls_of_thread, live_below, SetupOf, threads, IsInRange, State, MachineOf, StandsAfter, GuestThreadOf, SessionOf, Stands, IsInOrder, IsLiveThread, IsNextCall, IsAskRefusal, choices_of, state_after, is_over, IsCallTransition, AreDrawn, IsKeptBit, IsJudged, IsKeptRefusal, session_of}
 use Rattle.std.proofs.Common.{length-set}
 use Rattle.std.specs.Option.{option_map}
-use Rattle.bp_machine.specs.declared.calls.AskFault.{AskFault}
-use Rattle.bp_machine.specs.declared.calls.AskFault.TheVariants.{NoThread, Finished, Seeded, Unseeded, Memory, Busy}
+use Rattle.bp_machine.specs.declared.calls.AskError.{AskError}
+use Rattle.bp_machine.specs.declared.calls.AskError.TheVariants.{NoThread, Terminated, Seeded, Unseeded, Memory, Busy}
 use Rattle.bp_machine.proofs.StandsAfterTransition.{seeded-append, choices_after, allowed, stands_after, call_step}
 use Rattle.bp_machine.proofs.SessionsInOrder.{still_stands, stays_in_order, still_judged, few_calls}
 
 module _ (t : Program) (s : SetupOf) (x : State) (h : List Call) (stands : StandsAfter t s x h) (i : ℕ)
     (guest : GuestThreadOf) (has : slice_get x.threads i ≡ Some guest) where
-  -- the session's thread tells whether the line is finished
-  pub over_is : is_over s guest ≡ is_finished s h i
+  -- the session's thread tells whether the thread has terminated
+  pub over_is : is_over s guest ≡ is_terminated s h i
   over_is =
       let shown = stands.thread i guest has in
       ap (λ b. b || nat_le s.calls guest.calls) shown.ended ∙ ap (λ n. ends_with_last (calls_of_thread i h) || nat_le s.calls n) shown.calls
@@ -18,8 +18,8 @@ module _ (t : Program) (s : SetupOf) (x : State) (h : List Call) (stands : Stand
   pub within_threads : i < threads s
   within_threads = omega (arith, slice_get_within x.threads i guest has, stands.thread_count)
 
-  unfinished : is_over s guest ≡ false → is_finished s h i ≡ false
-  unfinished goes_on = sym over_is ∙ goes_on
+  still_live : is_over s guest ≡ false → is_terminated s h i ≡ false
+  still_live goes_on = sym over_is ∙ goes_on
 
 -- a session has choices of a thread if and only if its setup has a seed
 module _ (s : SetupOf) (choices : List ChoicesOf) (count : length choices ≡ choices_of s) (i : ℕ) where
@@ -55,11 +55,11 @@ module _ (t : Program) (x : SessionOf) (h : List Call) (stands : Stands t x h)
   abbrev state : State
   state = x.machine.state
 
-  has_open_line : (guest : GuestThreadOf) → slice_get state.threads i ≡ Some guest → is_over s guest ≡ false → HasOpenLine s h i
-  has_open_line guest given1 given2 = search (rules, within_threads, unfinished)
+  is_live_thread : (guest : GuestThreadOf) → slice_get state.threads i ≡ Some guest → is_over s guest ≡ false → IsLiveThread s h i
+  is_live_thread guest given1 given2 = search (rules, within_threads, still_live)
 
   -- why a session refuses a call is why it is refused after the history
-  pub refused_after : (e : AskFault) → IsKeptRefusal x i given e → IsAskRefusal t s h i given e
+  pub refused_after : (e : AskError) → IsKeptRefusal x i given e → IsAskRefusal t s h i given e
   refused_after NoThread none = there (slice_get_cases state.threads i).1
     where
       there : ((y : GuestThreadOf) × (i < length state.threads) × (slice_get state.threads i ≡ Some y)
@@ -67,9 +67,9 @@ module _ (t : Program) (x : SessionOf) (h : List Call) (stands : Stands t x h)
           → threads s ≤ i
       there (inl (y, inside, has, is)) = let a = has in let b = none in absurd cc
       there (inr (past, is)) = omega (arith, past, stands.state.thread_count)
-  refused_after Finished over = search (rules, within_threads, over_is)
-  refused_after Seeded (goes_on, ((c, has), (bit, is))) = search (rules, has_seed, has_open_line, is_some_of)
-  refused_after Unseeded (goes_on, (none, is)) = search (rules, has_open_line, no_seed)
+  refused_after Terminated over = search (rules, within_threads, over_is)
+  refused_after Seeded (goes_on, ((c, has), (bit, is))) = search (rules, has_seed, is_live_thread, is_some_of)
+  refused_after Unseeded (goes_on, (none, is)) = search (rules, is_live_thread, no_seed)
   refused_after Memory never = absurd never
   refused_after Busy never = absurd never
 
@@ -78,8 +78,8 @@ module _ (t : Program) (x : SessionOf) (h : List Call) (stands : Stands t x h)
   bit_of given bit given1 given2 = grind (arith, no_seed, has_seed)
 
   module _ (alike : StepsAlike x.code t) (p : Judged) (judged : IsJudged x i given p) where
-    line_of : HasOpenLine s h i
-    line_of = let next = judged.transition in has_open_line next.guest next.has next.goes_on
+    line_of : IsLiveThread s h i
+    line_of = let next = judged.transition in is_live_thread next.guest next.has next.goes_on
 
     -- the call that was judged is the next call
     pub judged_next : IsNextCall t s h i given p.call
@@ -105,7 +105,7 @@ module _ (t : Program) (x : SessionOf) (h : List Call) (stands : Stands t x h) (
       let next = judged.transition in
       let line = judged_next t x h stands count i given alike p judged in
       let after = stands_after x.code t alike x.setup x.machine.state h stands.state i next.guest next.has
-      line.allowed.thread line.allowed.unfinished p.call.bit p.transition next.is in
+      line.allowed.thread line.allowed.still_live p.call.bit p.transition next.is in
       subst (λ z. StandsAfter t x.setup z (h ++ p.call ∷ [])) (sym made)
       (subst (λ r. StandsAfter t x.setup (state_after x.machine.state i next.guest p.transition)
       (h ++ record { thread = i; bit = p.call.bit; reply = r } ∷ [])) (sym judged.reply) after)
@@ -146,7 +146,7 @@ still_in_order x y i guest v code setup made count order goes_on = record {
 -- one more line of those that were counted
 pub count_more : (t : Program) (s : SetupOf) (x : State) (h : List Call) (stands : StandsAfter t s x h) (i : ℕ)
     (guest : GuestThreadOf) → slice_get x.threads i ≡ Some guest
-    → (over : Bool) → over ≡ is_over s guest → (count : ℕ) → count ≡ open_below i s h → cond over count (count + 1) ≡ open_below (i + 1) s h
+    → (over : Bool) → over ≡ is_over s guest → (count : ℕ) → count ≡ live_below i s h → cond over count (count + 1) ≡ live_below (i + 1) s h
 count_more t s x h stands i guest given1 over given2 count given3 = search (rules, over_is, add-one)
 
 -- the bit of a global, if its names stand for the bits of a word

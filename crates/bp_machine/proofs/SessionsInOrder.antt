@@ -1,6 +1,6 @@
 -- A new session is in order, and one that makes room for a call stays so; a call that was judged
 -- may be made.
-use Rattle.bp_machine.proofs.Common.{◌≡◌, ℕ, zero, suc, ◌+◌, ◌==◌, Bool, false, List, [], ◌∷◌, ◌++◌, length, map, Option, None, Some, refl, ap, sym, ◌∙◌, subst, ◌<◌, ◌^◌, nat_le, true, arith, ◌⊎◌, ◌-◌, drop, reverse, inl, inr, slice_get, option_map, slice_set, rules, option_or, length-map, reverse-append, slice_get-map, get_or_from_slice_get, ∥∥₁_map, set-append_seam, Name, Procedure, Program, regrouped, bits_of, binding, procedure_named, first_stack, Flat, Heading, heading_named, Instruction, bits_from, StandsFor, valuation_of, places_of, ShowsStack, IsOfProgram, SameHeading, heading_of_procedure, SetupFault, IsCountOf, State, activations, ShowsThread, StandsAfter, GuestThreadOf, first_thread, used_with, MachineOf, SessionOf, Stands, IsInOrder, top_of, with_top, entered_top, SetupOf, start, entry_fault, entries_fault, Fits, IsInRange, Clean, is_failure, ChoicesOf, Call, Judged, ActivationRecord, is_over, session_of, AreFirstChoices, IsJudged}
+use Rattle.bp_machine.proofs.Common.{◌≡◌, ℕ, zero, suc, ◌+◌, ◌==◌, Bool, false, List, [], ◌∷◌, ◌++◌, length, map, Option, None, Some, refl, ap, sym, ◌∙◌, subst, ◌<◌, ◌^◌, nat_le, true, arith, ◌⊎◌, ◌-◌, drop, reverse, inl, inr, slice_get, option_map, slice_set, rules, option_or, length-map, reverse-append, slice_get-map, get_or_from_slice_get, ∥∥₁_map, set-append_seam, Name, Procedure, Program, regrouped, bits_of, binding, procedure_named, first_stack, Flat, Heading, heading_named, Instruction, bits_from, StandsFor, valuation_of, places_of, ShowsStack, IsOfProgram, SameHeading, heading_of_procedure, SetupError, IsCountOf, State, activations, ShowsThread, StandsAfter, GuestThreadOf, first_thread, used_with, MachineOf, SessionOf, Stands, IsInOrder, top_of, with_top, entered_top, SetupOf, start, entry_error, entries_error, Fits, IsInRange, Clean, is_failure, ChoicesOf, Call, Judged, ActivationRecord, is_over, session_of, AreFirstChoices, IsJudged}
 use Rattle.std.proofs.Math.Path.{fun_ext}
 use Rattle.std.proofs.lemmas.List.{length-append}
 use Rattle.std.proofs.lemmas.Nat.Bits.{bit_at-zero}
@@ -21,10 +21,10 @@ zero_bits (n ∷ ns) ms = ap (λ m. (n.text, false) ∷ m) (zero_bits ns ms)
 no_bits : bits_of 0 ≡ (λ k. false)
 no_bits = fun_ext (λ k. ap (λ n. n == 1) (bit_at-zero k))
 
-pub entry_fine : (k : ℕ) (o : Option Procedure) (rest : Option SetupFault) → option_or (entry_fault k o) rest ≡ None → (p : Procedure) × (o ≡ Some p)
+pub entry_fine : (k : ℕ) (o : Option Procedure) (rest : Option SetupError) → option_or (entry_error k o) rest ≡ None → (p : Procedure) × (o ≡ Some p)
 entry_fine k o rest given1 = grind (arith)
 
-pub others_fine : (o rest : Option SetupFault) → option_or o rest ≡ None → rest ≡ None
+pub others_fine : (o rest : Option SetupError) → option_or o rest ≡ None → rest ≡ None
 others_fine o rest given1 = grind (arith)
 
 of_map : {X Y : Type 0} (f : X → Y) (o : Option X) (y : Y) → option_map f o ≡ Some y → (x : X) × (o ≡ Some x) × (f x ≡ y)
@@ -32,11 +32,11 @@ of_map given1 = grind (arith)
 
 module _ (c : Flat) (t : Program) (s : SetupOf) (is : StandsFor c t) where
   -- the entry of a thread, if the setup fits
-  entry_here : (es : List (List ℕ)) (k i : ℕ) (e : List ℕ) → entries_fault t k es ≡ None → slice_get es i ≡ Some e
+  entry_here : (es : List (List ℕ)) (k i : ℕ) (e : List ℕ) → entries_error t k es ≡ None → slice_get es i ≡ Some e
       → (p : Procedure) × (procedure_named t.procedures e ≡ Some p)
   entry_here [] k i e none found = absurd cc
   entry_here (d ∷ es) k zero e none found = search (rules, entry_fine)
-  entry_here (d ∷ es) k (suc i) e none found = search (rules, (entry_here es (k + 1) i e (others_fine (entry_fault k (procedure_named t.procedures d)) (entries_fault t (k + 1) es) none) found), others_fine)
+  entry_here (d ∷ es) k (suc i) e none found = search (rules, (entry_here es (k + 1) i e (others_fine (entry_error k (procedure_named t.procedures d)) (entries_error t (k + 1) es) none) found), others_fine)
 
   -- the first thread at a procedure shows its first stack
   at_heading : (e : List ℕ) (p : Procedure) (o : Option Heading) → heading_named c.headings e ≡ o → procedure_named t.procedures e ≡ Some p

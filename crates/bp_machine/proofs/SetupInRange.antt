@@ -1,17 +1,17 @@
--- A setup without a fault fits its program, and its numbers are within their limits, since a program has few globals.
-use Rattle.bp_machine.proofs.Common.{◌≡◌, ℕ, Bool, true, false, List, refl, sym, ◌<◌, ◌≤◌, ◌==◌, ◌||◌, nat_lt, not, length, [], ◌∷◌, Option, None, Some, arith, ◌≢◌, ◌+◌, cond, All, ◌∙◌, subst, bytes_eq, zero, suc, ap, option_map, map, get_or, take, ◌++◌, Bor, String, Global, string_bytes, if◌then◌else◌, drop, add-one, replicate, slice_get, is_some, rules, false≢true, ∥∥₁_map, ∥∥₁_elim, ℕ_set, option_or, option_copied, nat_tests, AllByRecursion, map-append, take_more, take-replicate, slice_get-map, slice_get-get_or, Program, Procedure, Flat, Heading, heading_named, StandsFor, IsOfProgram, procedure_named, formals_of_procedure, Call, open_lines, SessionOf, Stands, SetupFault, MAX_THREADS, MAX_CALLS, SetupOf, threads, entries_fault, fault_if, first_of, has_bad_threads, is_out_of_range, setup_fault, Fits, IsInRange, entry_fault, IsSetupRefusal, initial_bits}
+-- A setup without an error fits its program, and its numbers are within their limits, since a program has few globals.
+use Rattle.bp_machine.proofs.Common.{◌≡◌, ℕ, Bool, true, false, List, refl, sym, ◌<◌, ◌≤◌, ◌==◌, ◌||◌, nat_lt, not, length, [], ◌∷◌, Option, None, Some, arith, ◌≢◌, ◌+◌, cond, All, ◌∙◌, subst, bytes_eq, zero, suc, ap, option_map, map, get_or, take, ◌++◌, Bor, String, Global, string_bytes, if◌then◌else◌, drop, add-one, replicate, slice_get, is_some, rules, false≢true, ∥∥₁_map, ∥∥₁_elim, ℕ_set, option_or, option_copied, nat_tests, AllByRecursion, map-append, take_more, take-replicate, slice_get-map, slice_get-get_or, Program, Procedure, Flat, Heading, heading_named, StandsFor, IsOfProgram, procedure_named, formals_of_procedure, Call, live_threads, SessionOf, Stands, SetupError, MAX_THREADS, MAX_CALLS, SetupOf, threads, entries_error, error_if, first_of, has_bad_threads, is_out_of_range, setup_error, Fits, IsInRange, entry_error, IsSetupRefusal, initial_bits}
 use Rattle.std.specs.Coded.{le_prop}
 use Rattle.std.proofs.lemmas.List.Elements.{All-nil, All-cons}
 use Rattle.std.proofs.lemmas.Slice.Eq.{bytes_eq-Decides}
 use Rattle.bp_language.specs.Texts.{HasText}
-use Rattle.bp_language.specs.Faults.{IsLawful}
+use Rattle.bp_language.specs.Errors.{IsWellFormed}
 use Rattle.bp_language.specs.declared.limits.TheConstants.{MAX_GLOBALS}
 use Rattle.bp_language.specs.NamesIn.{NamesInProcedures}
 use Rattle.bp_language.specs.Tokens.{IsSpelled}
-use Rattle.bp_language.proofs.LawsOfLawfulPrograms.{few_names}
+use Rattle.bp_language.proofs.LawsOfWellFormedPrograms.{few_names}
 use Rattle.bp_language.proofs.SpelledNames.{on_one_line, spelled_names}
 use Rattle.bp_flat.specs.declared.headings.Heading as kept
-use Rattle.bp_machine.specs.declared.setup_faults.SetupFault.TheVariants.{Threads, InitLength, OutOfRange, EntryHasFormals, Memory}
+use Rattle.bp_machine.specs.declared.setup_errors.SetupError.TheVariants.{Threads, InitLength, OutOfRange, EntryHasFormals, Memory}
 
 -- a code by another name stands for its program
 pub stands_for_own : {c d : Flat} → d ≡ c → IsOfProgram d → StandsFor c c.tree
@@ -22,12 +22,12 @@ pub stands_of : {c d : Flat} {x : SessionOf} {h : List Call} → c ≡ d → Sta
 stands_of {x = x} {h = h} e stands = subst (λ (k : Flat). Stands k.tree x h) e stands
 
 pub few_globals : (c : Flat) → IsOfProgram c → c.globals ≤ MAX_GLOBALS
-few_globals c of_some = omega (arith, (few_names c.tree of_some.lawful).globals, of_some.stands.globals)
+few_globals c of_some = omega (arith, (few_names c.tree of_some.well_formed).globals, of_some.stands.globals)
 
 pub neither : {X : Type 0} (a b : Option X) → option_or a b ≡ None → (a ≡ None) × (b ≡ None)
 neither given1 = grind (arith)
 
-untrue : (b : Bool) (f : SetupFault) → fault_if b f ≡ None → b ≡ false
+untrue : (b : Bool) (f : SetupError) → error_if b f ≡ None → b ≡ false
 untrue b f given1 = grind (arith)
 
 no_other : (a b : Bool) → (a || b) ≡ false → (a ≡ false) × (b ≡ false)
@@ -42,18 +42,18 @@ above a b e = grind (arith, nat_tests)
 range_by : (s : SetupOf) → has_bad_threads s ≡ false → is_out_of_range s ≡ false → length s.init ≤ MAX_GLOBALS → IsInRange s
 range_by s given1 given2 given3 = grind (arith)
 
-module _ (t : Program) (s : SetupOf) (none : setup_fault t s ≡ None) where
-  -- no fault of the four, the first first
-  rest : (entries_fault t 0 s.entries ≡ None)
-      × (first_of (fault_if (not (length s.init == length t.globals)) InitLength ∷ fault_if (is_out_of_range s) OutOfRange ∷ [])
+module _ (t : Program) (s : SetupOf) (none : setup_error t s ≡ None) where
+  -- no error of the four, the first first
+  rest : (entries_error t 0 s.entries ≡ None)
+      × (first_of (error_if (not (length s.init == length t.globals)) InitLength ∷ error_if (is_out_of_range s) OutOfRange ∷ [])
       ≡ None)
-  rest = neither (entries_fault t 0 s.entries) _ (neither (fault_if (has_bad_threads s) Threads) _ none).1
+  rest = neither (entries_error t 0 s.entries) _ (neither (error_if (has_bad_threads s) Threads) _ none).1
 
   bits : not (length s.init == length t.globals) ≡ false
-  bits = untrue _ InitLength (neither (fault_if (not (length s.init == length t.globals)) InitLength) _ rest.1).0
+  bits = untrue _ InitLength (neither (error_if (not (length s.init == length t.globals)) InitLength) _ rest.1).0
 
   threads_fine : has_bad_threads s ≡ false
-  threads_fine = untrue (has_bad_threads s) Threads (neither (fault_if (has_bad_threads s) Threads) _ none).0
+  threads_fine = untrue (has_bad_threads s) Threads (neither (error_if (has_bad_threads s) Threads) _ none).0
 
   numbers_fine : is_out_of_range s ≡ false
   numbers_fine = grind (arith)
@@ -67,11 +67,11 @@ module _ (t : Program) (s : SetupOf) (none : setup_fault t s ≡ None) where
   pub few_calls : s.calls ≤ MAX_CALLS
   few_calls = grind (arith)
 
-  pub range_of : IsLawful t → IsInRange s
-  range_of is_lawful = range_by s threads_fine numbers_fine (omega (arith, (few_names t is_lawful).globals, fits.init))
+  pub range_of : IsWellFormed t → IsInRange s
+  range_of is_well_formed = range_by s threads_fine numbers_fine (omega (arith, (few_names t is_well_formed).globals, fits.init))
 
--- The entries of a setup without a fault are names of the program, and have the property of each of
--- its names.
+-- The entries of a setup without an error are names of the program, and have the property of each
+-- of its names.
 
 module _ (P : List ℕ → Type 0) where
   -- the name of the procedure that was found
@@ -84,14 +84,14 @@ module _ (P : List ℕ → Type 0) where
       go false is later = later (sym (λ i. cond (is i) (Some q) (procedure_named qs e)) ∙ found)
 
   fine_name : (t : Program) (k : ℕ) (e : List ℕ) (o : Option Procedure) → NamesInProcedures (λ n. P n.text) t.procedures
-      → procedure_named t.procedures e ≡ o → entry_fault k o ≡ None → P e
+      → procedure_named t.procedures e ≡ o → entry_error k o ≡ None → P e
   fine_name t k e o given1 given2 given3 = search (rules, found_name)
 
   pub entries_are_names : (t : Program) (k : ℕ) (es : List (List ℕ)) → NamesInProcedures (λ n. P n.text) t.procedures
-      → entries_fault t k es ≡ None → AllByRecursion P es
+      → entries_error t k es ≡ None → AllByRecursion P es
   entries_are_names t k [] each none = tt
   entries_are_names t k (e ∷ es) each none =
-      let parts = neither (entry_fault k (procedure_named t.procedures e)) (entries_fault t (k + 1) es) none in
+      let parts = neither (entry_error k (procedure_named t.procedures e)) (entries_error t (k + 1) es) none in
       (fine_name t k e (procedure_named t.procedures e) each refl parts.0, entries_are_names t (k + 1) es each parts.1)
 
 abbrev HasNoFeed : List ℕ → Type 0
@@ -104,7 +104,7 @@ spelled_on_one_line (e ∷ es) spelled = All-cons HasNoFeed e es (on_one_line e 
 pub entries_hold_no_feed : (t : Program) (s : SetupOf) → HasText t → Fits t s → All HasNoFeed s.entries
 entries_hold_no_feed t s of_text fits = spelled_on_one_line s.entries (entries_are_names IsSpelled t 0 s.entries (spelled_names t of_text).1 fits.entries)
 
--- A name that finds a heading is the name of that heading; and the entries of a setup without a fault find theirs.
+-- A name that finds a heading is the name of that heading; and the entries of a setup without an error find theirs.
 
 pub name_of_found : (hs : List Heading) (x : List ℕ) (h : Heading) → heading_named hs x ≡ Some h → h.name ≡ x
 name_of_found [] x h e = absurd cc
@@ -114,20 +114,20 @@ name_of_found (k ∷ hs) x h e = go (bytes_eq k.name x) refl (λ later. name_of_
     go true is later found = let same : k ≡ h = cc in ap (λ (z : Heading). z.name) (sym same) ∙ (bytes_eq-Decides k.name x).0 is
     go false is later found = later found
 
--- an entry without a fault has a procedure, and so a heading
+-- an entry without an error has a procedure, and so a heading
 some_heading : (h : Option Heading) (k : ℕ) (o : Option Procedure)
     → option_map (λ (z : Heading). z.formals) h ≡ option_map (λ (p : Procedure). length p.formals) o
-    → entry_fault k o ≡ None → is_some h ≡ true
+    → entry_error k o ≡ None → is_some h ≡ true
 some_heading h k o given1 given2 = grind (arith)
 
 module _ (c : Flat) (t : Program) (is : StandsFor c t) where
-  each_found : (es : List (List ℕ)) (k i : ℕ) (name : List ℕ) → entries_fault t k es ≡ None → slice_get es i ≡ Some name
+  each_found : (es : List (List ℕ)) (k i : ℕ) (name : List ℕ) → entries_error t k es ≡ None → slice_get es i ≡ Some name
       → is_some (heading_named c.headings name) ≡ true
   each_found [] k i name none at = absurd cc
   each_found (e ∷ es) k zero name none at = search (rules, neither, some_heading, formals_of_procedure)
-  each_found (e ∷ es) k (suc i) name none at = search (rules, (each_found es (k + 1) i name (neither (entry_fault k (procedure_named t.procedures e)) (entries_fault t (k + 1) es) none).1 at), neither)
+  each_found (e ∷ es) k (suc i) name none at = search (rules, (each_found es (k + 1) i name (neither (entry_error k (procedure_named t.procedures e)) (entries_error t (k + 1) es) none).1 at), neither)
 
-pub names_found : (c : Flat) (es : List (List ℕ)) → IsOfProgram c → entries_fault c.tree 0 es ≡ None
+pub names_found : (c : Flat) (es : List (List ℕ)) → IsOfProgram c → entries_error c.tree 0 es ≡ None
     → (i : ℕ) (name : List ℕ) → slice_get es i ≡ Some name → is_some (heading_named c.headings name) ≡ true
 names_found c es of_some none i name at = each_found c c.tree of_some.stands es 0 i name none at
 
@@ -150,12 +150,12 @@ names_more xs i d within old name same is =
     ∙ sym (map-append (λ n. n.now) (take i xs) (get_or xs i d ∷ []))
     ∙ ap (map (λ n. n.now)) (sym (take_more xs i d within))
 
--- A fault of a setup is never that memory was refused.
+-- An error of a setup is never that memory was refused.
 
-either : (a b : Option SetupFault) → (a ≡ Some Memory → ⊥) → (b ≡ Some Memory → ⊥) → option_or a b ≡ Some Memory → ⊥
+either : (a b : Option SetupError) → (a ≡ Some Memory → ⊥) → (b ≡ Some Memory → ⊥) → option_or a b ≡ Some Memory → ⊥
 either a b given1 given2 given3 = grind (arith)
 
-entry : (k : ℕ) (o : Option Procedure) → entry_fault k o ≡ Some Memory → ⊥
+entry : (k : ℕ) (o : Option Procedure) → entry_error k o ≡ Some Memory → ⊥
 entry k None e = cc
 entry k (Some p) e = by_test (length p.formals == 0) e
   where
@@ -163,20 +163,20 @@ entry k (Some p) e = by_test (length p.formals == 0) e
     by_test true e = cc
     by_test false e = cc
 
-entries : (t : Program) (k : ℕ) (es : List (List ℕ)) → entries_fault t k es ≡ Some Memory → ⊥
+entries : (t : Program) (k : ℕ) (es : List (List ℕ)) → entries_error t k es ≡ Some Memory → ⊥
 entries t k [] e = cc
 entries t k (x ∷ es) e = search (rules, (entries t (k + 1) es), either, entry)
 
 module _ (t : Program) (s : SetupOf) where
-  test : (b : Bool) (f : SetupFault) → (Some f ≡ Some Memory → ⊥) → fault_if b f ≡ Some Memory → ⊥
+  test : (b : Bool) (f : SetupError) → (Some f ≡ Some Memory → ⊥) → error_if b f ≡ Some Memory → ⊥
   test b f given1 given2 = grind (arith)
 
-  never_memory : setup_fault t s ≡ Some Memory → ⊥
+  never_memory : setup_error t s ≡ Some Memory → ⊥
   never_memory given1 = search (rules, either, test, entries)
 
-  -- a fault refuses the setup
-  pub fault_refuses : (f : SetupFault) → setup_fault t s ≡ Some f → IsSetupRefusal t s f
-  fault_refuses f given1 = search (rules, never_memory)
+  -- an error refuses the setup
+  pub error_refuses : (f : SetupError) → setup_error t s ≡ Some f → IsSetupRefusal t s f
+  error_refuses f given1 = search (rules, never_memory)
 
 -- Entries of threads, one after the other.
 
@@ -185,27 +185,27 @@ map_at f [] i x d h e = absurd (omega arith)
 map_at f (y ∷ xs) zero x d h e = ap (λ z. f z ∷ map f xs) (sym e)
 map_at f (y ∷ xs) (suc i) x d h e = map_at f xs i x d (omega arith) e
 
-first_is : (o r : Option SetupFault) → is_some o ≡ true → option_or o r ≡ o
+first_is : (o r : Option SetupError) → is_some o ≡ true → option_or o r ≡ o
 first_is o r given1 = grind (arith)
 
-second_is : (o r : Option SetupFault) → is_some o ≡ false → option_or o r ≡ r
+second_is : (o r : Option SetupError) → is_some o ≡ false → option_or o r ≡ r
 second_is o r given1 = grind (arith)
 
 -- the entries from thread i on, if x is the entry of that thread
 module _ (t : Program) {X : Type 0} (name : X → List ℕ) (xs : List X) (i : ℕ) (x d : X) (within : i < length xs) (is : x ≡ get_or xs i d) where
-  abbrev own : Option SetupFault
-  own = entry_fault i (procedure_named t.procedures (name x))
+  abbrev own : Option SetupError
+  own = entry_error i (procedure_named t.procedures (name x))
 
-  abbrev others : Option SetupFault
-  others = entries_fault t (i + 1) (drop (i + 1) (map name xs))
+  abbrev others : Option SetupError
+  others = entries_error t (i + 1) (drop (i + 1) (map name xs))
 
-  here : entries_fault t i (drop i (map name xs)) ≡ option_or own others
-  here = ap (entries_fault t i) (map_at name xs i x d within is) ∙ ap (λ n. option_or own (entries_fault t (i + 1) (drop n (map name xs)))) (sym (add-one i))
+  here : entries_error t i (drop i (map name xs)) ≡ option_or own others
+  here = ap (entries_error t i) (map_at name xs i x d within is) ∙ ap (λ n. option_or own (entries_error t (i + 1) (drop n (map name xs)))) (sym (add-one i))
 
-  pub refused : is_some own ≡ true → entries_fault t i (drop i (map name xs)) ≡ own
+  pub refused : is_some own ≡ true → entries_error t i (drop i (map name xs)) ≡ own
   refused some = here ∙ first_is own others some
 
-  pub fine : is_some own ≡ false → entries_fault t i (drop i (map name xs)) ≡ others
+  pub fine : is_some own ≡ false → entries_error t i (drop i (map name xs)) ≡ others
   fine none = here ∙ second_is own others none
 
 -- The initial bits of a setup: those that are given, else a 0 for each global.

@@ -1,5 +1,5 @@
--- A session that stands after a history stands after it with the call that it answers.
-use Rattle.bp_machine.proofs.Common.{◌≡◌, ℕ, ◌+◌, ◌<◌, Bool, true, false, cond, nat_le, List, [], ◌∷◌, ◌++◌, length, Some, refl, ap, sym, ◌∙◌, subst, arith, suc, ◌/◌, add-one, ◌⊎◌, zero, inl, inr, slice_get, slice_set, unwrap_or, length-append, rules, Lcg, started, increment_of, multiplier_64, pcg32, slice_get_within, slice_get_cases, Program, Frame, Configuration, after_effect, Flat, ShowsStack, StepsAlike, Effect, Continues, Enters, Returns, Reply, Stopped, Failed, Stepped, Call, Transition, Stays, Fails, Steps, used_with, count_with, IsCountOf, State, activations, StandsAfter, GuestThreadOf, IsCallStep, SetupOf, threads, is_granted, stack_of, reply_on_stack, configuration_after_step, configuration_after, granted_threads, is_finished, IsAllowed, is_failure, ChoicesOf, IsAt, choice_word, choice_bit, calls_of_thread, IsSeeded, IsTransition, reply_of_transition, thread_after, state_after, stack_after, IsEntering, IsCallTransition, AreDrawn, ActivationRecord}
+-- A session that stands after a history stands after it with the call that it returns.
+use Rattle.bp_machine.proofs.Common.{◌≡◌, ℕ, ◌+◌, ◌<◌, Bool, true, false, cond, nat_le, List, [], ◌∷◌, ◌++◌, length, Some, refl, ap, sym, ◌∙◌, subst, arith, suc, ◌/◌, add-one, ◌⊎◌, zero, inl, inr, slice_get, slice_set, unwrap_or, length-append, rules, Lcg, started, increment_of, multiplier_64, pcg32, slice_get_within, slice_get_cases, Program, Frame, Configuration, after_effect, Flat, ShowsStack, StepsAlike, Effect, Continues, Enters, Returns, Reply, Stopped, Failed, Stepped, Call, Transition, Stays, Fails, Steps, used_with, count_with, IsCountOf, State, activations, StandsAfter, GuestThreadOf, IsCallStep, SetupOf, threads, is_granted, stack_of, reply_on_stack, configuration_after_step, configuration_after, granted_threads, is_terminated, IsAllowed, is_failure, ChoicesOf, IsAt, choice_word, choice_bit, calls_of_thread, IsSeeded, IsTransition, reply_of_transition, thread_after, state_after, stack_after, IsEntering, IsCallTransition, AreDrawn, ActivationRecord}
 use Rattle.std.proofs.Common.{length-set, append-nil, get_or-set_same, get_or-set_other}
 use Rattle.bp_flat.specs.declared.effects.Effect.TheVariants as instr
 use Rattle.bp_machine.specs.Histories.{generator_after}
@@ -10,7 +10,7 @@ use Rattle.bp_machine.proofs.EffectSizes.{shown_length, is_a_call}
 
 module _ (c : Flat) (t : Program) (alike : StepsAlike c t) (s : SetupOf) (x : State) (h : List Call) (stands : StandsAfter t s x h)
     (i : ℕ) (guest : GuestThreadOf) (has : slice_get x.threads i ≡ Some guest) (within : i < threads s)
-    (unfinished : is_finished s h i ≡ false) (bit : Bool) where
+    (still_live : is_terminated s h i ≡ false) (bit : Bool) where
   abbrev call_of : Reply → Call
   call_of r = record { thread = i; bit = bit; reply = r }
 
@@ -32,7 +32,7 @@ module _ (c : Flat) (t : Program) (alike : StepsAlike c t) (s : SetupOf) (x : St
     pub allowed : IsAllowed t s h (call_of (reply_of_transition v))
     allowed = record {
       thread = within;
-      unfinished = unfinished;
+      still_live = still_live;
       answers = record {
         fits = fits;
         decides = fits_with x.contexts (granted_threads h) i stands.contexts s.contexts;

@@ -146,28 +146,28 @@ ends_with_last [] = false
 ends_with_last (x ∷ []) = is_last x.reply
 ends_with_last (x ∷ y ∷ xs) = ends_with_last (y ∷ xs)
 
--- the line of thread i is finished: its last call had such a reply, or it has as many calls as are
+-- thread i has terminated: its last call had such a reply, or it has as many calls as are
 -- allowed
-abbrev pub is_finished : SetupOf → List Call → ℕ → Bool
-is_finished s h i =
+abbrev pub is_terminated : SetupOf → List Call → ℕ → Bool
+is_terminated s h i =
     ends_with_last (calls_of_thread i h) || nat_le s.calls (length (calls_of_thread i h))
 
 -- the number of lines that the call x finishes after h
-abbrev pub finished_by : SetupOf → List Call → Call → ℕ
-finished_by s h x = if is_finished s (h ++ x ∷ []) x.thread then 1 else 0
+abbrev pub terminated_by : SetupOf → List Call → Call → ℕ
+terminated_by s h x = if is_terminated s (h ++ x ∷ []) x.thread then 1 else 0
 
--- the number of open lines of the threads below n
-abbrev pub open_below : ℕ → SetupOf → List Call → ℕ
-open_below zero s h = 0
-open_below (suc n) s h = if is_finished s h n then open_below n s h else open_below n s h + 1
+-- the number of live threads of the threads below n
+abbrev pub live_below : ℕ → SetupOf → List Call → ℕ
+live_below zero s h = 0
+live_below (suc n) s h = if is_terminated s h n then live_below n s h else live_below n s h + 1
 
-abbrev pub open_lines : SetupOf → List Call → ℕ
-open_lines s h = open_below (threads s) s h
+abbrev pub live_threads : SetupOf → List Call → ℕ
+live_threads s h = live_below (threads s) s h
 
--- the call x may follow h: its thread's line is open, and its reply is the machine's
+-- the call x may follow h: its thread is live, and its reply is the machine's
 pub record IsAllowed (t : Program) (s : SetupOf) (h : List Call) (x : Call) : Type 0 where
   pub thread : x.thread < threads s
-  pub unfinished : is_finished s h x.thread ≡ false
+  pub still_live : is_terminated s h x.thread ≡ false
   pub answers :
       Answers t s.contexts (configuration_after t s h) (granted_threads h) x.thread x.bit x.reply
 
@@ -198,7 +198,7 @@ is_failure o = false
 pub record IsReport (s : SetupOf) (h : List Call) (r : Report) : Type 0 where
   pub outcome : r.outcome ≡ outcome_of h
   pub calls : r.calls ≡ length h
-  pub left_open : r.left_open ≡ open_lines s h
+  pub left_live : r.left_live ≡ live_threads s h
   pub contexts : IsLeastWithin r.contexts (granted_threads h)
 
 -- these calls are moves, one after the other, from c to d

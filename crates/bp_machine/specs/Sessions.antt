@@ -7,14 +7,14 @@ use Rattle.bp_flat.specs.InstrEffects.{bits_of}
 use Rattle.bp_flat.specs.Steps.{Activation}
 use Rattle.bp_flat.specs.StandsFor.{valuation_of, ShowsStack}
 use Rattle.bp_machine.specs.declared.contexts.ContextCount.{ContextCount}
-use Rattle.bp_machine.specs.Histories.{IsLeastWithin, stack_of, configuration_after, granted_threads, calls_of_thread, ends_with_last, IsLegal, outcome_of, is_failure, ChoicesOf, IsAt, HasSeededBits, IsBitOfCall, Answers, is_finished, IsAllowed}
+use Rattle.bp_machine.specs.Histories.{IsLeastWithin, stack_of, configuration_after, granted_threads, calls_of_thread, ends_with_last, IsLegal, outcome_of, is_failure, ChoicesOf, IsAt, HasSeededBits, IsBitOfCall, Answers, is_terminated, IsAllowed}
 use Rattle.bp_machine.specs.declared.stacks.ActivationRecord.{ActivationRecord}
 use Rattle.bp_machine.specs.declared.calls.Call.{Call}
 use Rattle.bp_machine.specs.declared.calls.Outcome.{Outcome}
 use Rattle.bp_machine.specs.Setups.{SetupOf, threads, IsInRange}
 use Rattle.bp_machine.specs.declared.calls.Reply.TheVariants.{Stepped}
-use Rattle.bp_machine.specs.declared.calls.AskFault.{AskFault}
-use Rattle.bp_machine.specs.declared.calls.AskFault.TheVariants.{NoThread, Finished, Seeded, Unseeded, Memory, Busy}
+use Rattle.bp_machine.specs.declared.calls.AskError.{AskError}
+use Rattle.bp_machine.specs.declared.calls.AskError.TheVariants.{NoThread, Terminated, Seeded, Unseeded, Memory, Busy}
 
 -- Counting contexts step by step: the contexts of the steps so far, and the last step's thread.
 
@@ -189,28 +189,28 @@ pub record IsNextCall
 abbrev pub given_bit : SetupOf → Bool → Option Bool
 given_bit s bit = if is_some s.seed then None else Some bit
 
--- thread i exists, and its line is open
-abbrev pub HasOpenLine : SetupOf → List Call → ℕ → Type 0
-HasOpenLine s h i = (i < threads s) × (is_finished s h i ≡ false)
+-- thread i exists, and its thread is live
+abbrev pub IsLiveThread : SetupOf → List Call → ℕ → Type 0
+IsLiveThread s h i = (i < threads s) × (is_terminated s h i ≡ false)
 
 -- Why a call of thread i is refused after the history h with this given bit, or none: there is no
--- such thread; else its line is finished; else a bit was given although the setup has a seed, or
--- none although it has none. Memory may be refused only if its step is a call.
+-- such thread; else its thread has terminated; else a bit was given although the setup has a seed,
+-- or none although it has none. Memory may be refused only if its step is a call.
 module _ (t : Program) (s : SetupOf) (h : List Call) (i : ℕ) (given : Option Bool) where
-  abbrev pub IsAskRefusal : AskFault → Type 0
+  abbrev pub IsAskRefusal : AskError → Type 0
   IsAskRefusal NoThread = threads s ≤ i
-  IsAskRefusal Finished = (i < threads s) × (is_finished s h i ≡ true)
+  IsAskRefusal Terminated = (i < threads s) × (is_terminated s h i ≡ true)
   IsAskRefusal Seeded =
-      HasOpenLine s h i × (is_some given ≡ true) × (is_some s.seed ≡ true)
-  IsAskRefusal Unseeded = HasOpenLine s h i × (given ≡ None) × (s.seed ≡ None)
+      IsLiveThread s h i × (is_some given ≡ true) × (is_some s.seed ≡ true)
+  IsAskRefusal Unseeded = IsLiveThread s h i × (given ≡ None) × (s.seed ≡ None)
   IsAskRefusal Memory =
-      HasOpenLine s h i
+      IsLiveThread s h i
       × ((bit : Bool) × IsBitOfCall s h i given bit × IsCallStep t s h i bit)
   IsAskRefusal Busy = ⊥
 
 -- Why a look at the next values that thread i prints is refused: there is no such thread. Memory
 -- may be refused only if it prints some.
-abbrev pub IsPrintRefusal : SetupOf → ℕ → Option (List Bool) → AskFault → Type 0
+abbrev pub IsPrintRefusal : SetupOf → ℕ → Option (List Bool) → AskError → Type 0
 IsPrintRefusal s i printed NoThread = threads s ≤ i
 IsPrintRefusal s i printed Memory = (i < threads s) × (is_some printed ≡ true)
 IsPrintRefusal s i printed f = ⊥

@@ -5,8 +5,8 @@ use Rattle.bp_language.specs.Ast.{Procedure, Program}
 use Rattle.bp_language.specs.declared.limits.TheConstants.{MAX_GLOBALS}
 use Rattle.bp_flat.specs.Moves.{Configuration, procedure_named, start_of}
 use Rattle.bp_machine.specs.declared.limits.TheConstants.{MAX_THREADS, MAX_CONTEXTS, MAX_CALLS, DEFAULT_CONTEXTS, DEFAULT_CALLS}
-use Rattle.bp_machine.specs.declared.setup_faults.SetupFault.{SetupFault}
-use Rattle.bp_machine.specs.declared.setup_faults.SetupFault.TheVariants.{Threads, UnknownEntry, EntryHasFormals, InitLength, OutOfRange, Memory}
+use Rattle.bp_machine.specs.declared.setup_errors.SetupError.{SetupError}
+use Rattle.bp_machine.specs.declared.setup_errors.SetupError.TheVariants.{Threads, UnknownEntry, EntryHasFormals, InitLength, OutOfRange, Memory}
 
 -- an entry procedure for each thread, a bit for each global, the contexts and the calls of a thread
 -- that are allowed, and the seed of the choice bits
@@ -39,15 +39,15 @@ abbrev pub start : Program → SetupOf → Configuration
 start t s = start_of t s.entries s.init
 
 -- an entry is a procedure without formals
-abbrev pub entry_fault : ℕ → Option Procedure → Option SetupFault
-entry_fault k None = Some (UnknownEntry k)
-entry_fault k (Some p) = if length p.formals == 0 then None else Some (EntryHasFormals k)
+abbrev pub entry_error : ℕ → Option Procedure → Option SetupError
+entry_error k None = Some (UnknownEntry k)
+entry_error k (Some p) = if length p.formals == 0 then None else Some (EntryHasFormals k)
 
--- the first fault of the entries from thread k on
-abbrev pub entries_fault : Program → ℕ → List (List ℕ) → Option SetupFault
-entries_fault t k [] = None
-entries_fault t k (e ∷ es) =
-    option_or (entry_fault k (procedure_named t.procedures e)) (entries_fault t (k + 1) es)
+-- the first error of the entries from thread k on
+abbrev pub entries_error : Program → ℕ → List (List ℕ) → Option SetupError
+entries_error t k [] = None
+entries_error t k (e ∷ es) =
+    option_or (entry_error k (procedure_named t.procedures e)) (entries_error t (k + 1) es)
 
 -- there are no threads, or too many
 abbrev pub has_bad_threads : SetupOf → Bool
@@ -57,36 +57,36 @@ abbrev pub is_out_of_range : SetupOf → Bool
 is_out_of_range s =
     nat_lt MAX_CONTEXTS s.contexts || (s.calls == 0 || nat_lt MAX_CALLS s.calls)
 
-abbrev pub fault_if : Bool → SetupFault → Option SetupFault
-fault_if b f = if b then Some f else None
+abbrev pub error_if : Bool → SetupError → Option SetupError
+error_if b f = if b then Some f else None
 
-abbrev pub first_of : List (Option SetupFault) → Option SetupFault
+abbrev pub first_of : List (Option SetupError) → Option SetupError
 first_of [] = None
 first_of (o ∷ os) = option_or o (first_of os)
 
--- the faults of the initial bits and of the numbers
-abbrev pub number_faults : Program → SetupOf → List (Option SetupFault)
-number_faults t s =
-    fault_if (not (length s.init == length t.globals)) InitLength
-    ∷ fault_if (is_out_of_range s) OutOfRange
+-- the errors of the initial bits and of the numbers
+abbrev pub number_errors : Program → SetupOf → List (Option SetupError)
+number_errors t s =
+    error_if (not (length s.init == length t.globals)) InitLength
+    ∷ error_if (is_out_of_range s) OutOfRange
     ∷ []
 
--- the first fault of a setup for a program
-abbrev pub setup_fault : Program → SetupOf → Option SetupFault
-setup_fault t s = first_of (
-    fault_if (has_bad_threads s) Threads
-    ∷ entries_fault t 0 s.entries
-    ∷ number_faults t s)
+-- the first error of a setup for a program
+abbrev pub setup_error : Program → SetupOf → Option SetupError
+setup_error t s = first_of (
+    error_if (has_bad_threads s) Threads
+    ∷ entries_error t 0 s.entries
+    ∷ number_errors t s)
 
--- why a setup is refused for a program: its first fault, or memory if it has none
-abbrev pub IsSetupRefusal : Program → SetupOf → SetupFault → Type 0
-IsSetupRefusal t s Memory = setup_fault t s ≡ None
-IsSetupRefusal t s f = setup_fault t s ≡ Some f
+-- why a setup is refused for a program: its first error, or memory if it has none
+abbrev pub IsSetupRefusal : Program → SetupOf → SetupError → Type 0
+IsSetupRefusal t s Memory = setup_error t s ≡ None
+IsSetupRefusal t s f = setup_error t s ≡ Some f
 
 -- the setup fits the program: each entry is a procedure of it without formals, and there is a bit
 -- for each global
 pub record Fits (t : Program) (s : SetupOf) : Type 0 where
-  pub entries : entries_fault t 0 s.entries ≡ None
+  pub entries : entries_error t 0 s.entries ≡ None
   pub init : length s.init ≡ length t.globals
 
 -- the numbers are within their limits, and there are no more bits than a program may have globals

@@ -19,8 +19,8 @@ use Rattle.bp_machine.specs.declared.limits.TheConstants.{MAX_FRAMES}
 use Rattle.bp_machine.specs.Histories.{is_last, is_failure, ChoicesOf, IsAt, next_bit}
 use Rattle.bp_machine.specs.Sessions.{used_with, count_with, GuestThreadOf, State, MachineOf, SessionOf, choices_of}
 use Rattle.bp_machine.specs.Setups.{SetupOf}
-use Rattle.bp_machine.specs.declared.calls.AskFault.{AskFault}
-use Rattle.bp_machine.specs.declared.calls.AskFault.TheVariants.{NoThread, Finished, Seeded, Unseeded, Memory, Busy}
+use Rattle.bp_machine.specs.declared.calls.AskError.{AskError}
+use Rattle.bp_machine.specs.declared.calls.AskError.TheVariants.{NoThread, Terminated, Seeded, Unseeded, Memory, Busy}
 use Rattle.bp_machine.specs.declared.sessions.Judged.{Judged}
 
 -- the store that the topmost record sees: the globals, and its locals
@@ -208,7 +208,7 @@ IsKeptBit choices i None bit =
     (c : ChoicesOf) × (slice_get choices i ≡ Some c) × (bit ≡ next_bit c)
 
 -- a bit was given although thread i has choices, or none although it has none
-abbrev pub IsBitRefusal : List ChoicesOf → ℕ → Option Bool → AskFault → Type 0
+abbrev pub IsBitRefusal : List ChoicesOf → ℕ → Option Bool → AskError → Type 0
 IsBitRefusal choices i given Seeded =
     ((c : ChoicesOf) × (slice_get choices i ≡ Some c)) × ((bit : Bool) × (given ≡ Some bit))
 IsBitRefusal choices i given Unseeded = (slice_get choices i ≡ None) × (given ≡ None)
@@ -223,9 +223,9 @@ pub record IsJudged (x : SessionOf) (i : ℕ) (given : Option Bool) (p : Judged)
   pub reply : p.call.reply ≡ reply_of_transition p.transition
 
 -- why a call of thread i is refused before memory is allocated
-abbrev pub IsKeptRefusal : SessionOf → ℕ → Option Bool → AskFault → Type 0
+abbrev pub IsKeptRefusal : SessionOf → ℕ → Option Bool → AskError → Type 0
 IsKeptRefusal x i given NoThread = slice_get x.machine.state.threads i ≡ None
-IsKeptRefusal x i given Finished = IsOver x.setup x.machine.state i
+IsKeptRefusal x i given Terminated = IsOver x.setup x.machine.state i
 IsKeptRefusal x i given Memory = ⊥
 IsKeptRefusal x i given Busy = ⊥
 IsKeptRefusal x i given f =

@@ -1,7 +1,7 @@
 //! Calls of guest threads, their replies and refusals. Threads that a history finishes or leaves
 //! open. Reports of histories.
 ghost use Rattle.std.specs.Prelude.{◌≡◌};
-ghost use Rattle.bp_machine.specs.Histories.{is_finished, open_lines};
+ghost use Rattle.bp_machine.specs.Histories.{is_terminated, live_threads};
 
 use crate::setups::Setup;
 use std::alloc::AllocError;
@@ -10,13 +10,13 @@ use thiserror::Error;
 /// Why a call is refused: the first reason that applies. The session is unchanged, and no choice
 /// bit is used.
 #[derive(Clone, Copy, Debug, PartialEq, Eq, Error)]
-pub enum AskFault {
+pub enum AskError {
     /// There is no such thread.
     #[error("there is no such thread")]
     NoThread,
     /// The thread makes no more calls.
     #[error("the thread has made its last call")]
-    Finished,
+    Terminated,
     /// A choice bit was given, although the setup has a seed.
     #[error("the choice bits are those of the seed")]
     Seeded,
@@ -31,14 +31,14 @@ pub enum AskFault {
     Busy,
 }
 
-impl From<AllocError> for AskFault {
+impl From<AllocError> for AskError {
     ghost use Rattle.std.specs.Prelude.{◌≡◌};
-    ghost use Rattle.bp_machine.specs.declared.calls.AskFault.{AskFault};
+    ghost use Rattle.bp_machine.specs.declared.calls.AskError.{AskError};
 
-    ghost from_gives = { λ _ e. e ≡ AskFault.Memory };
+    ghost from_gives = { λ _ e. e ≡ AskError.Memory };
 
-    fn from(_: AllocError) -> AskFault {
-        AskFault::Memory
+    fn from(_: AllocError) -> AskError {
+        AskError::Memory
     }
 }
 
@@ -99,8 +99,8 @@ pub struct Call {
 }
 
 /// Returns whether the thread makes no more calls after the history.
-fn is_finished(setup: &Setup, history: &[Call], thread: u32) -> bool
-    ensures { result ≡ is_finished setup.now history.now thread }
+fn is_terminated(setup: &Setup, history: &[Call], thread: u32) -> bool
+    ensures { result ≡ is_terminated setup.now history.now thread }
 {
     let mut count: usize = 0;
     let mut ended = false;
@@ -114,12 +114,12 @@ fn is_finished(setup: &Setup, history: &[Call], thread: u32) -> bool
 }
 
 /// Returns the number of threads that may continue after the history.
-pub fn open_lines(setup: &Setup, history: &[Call]) -> u32
-    ensures { result ≡ open_lines setup.now history.now }
+pub fn live_threads(setup: &Setup, history: &[Call]) -> u32
+    ensures { result ≡ live_threads setup.now history.now }
 {
     let mut count = 0;
     for thread in 0..setup.threads() {
-        if !is_finished(setup, history, thread) {
+        if !is_terminated(setup, history, thread) {
             count += 1;
         }
     }
@@ -141,7 +141,7 @@ pub struct Report {
     /// The number of calls, also of those that made no step.
     pub calls: u64,
     /// The number of threads that may continue.
-    pub left_open: u32,
+    pub left_live: u32,
     /// The least number of contexts within which the steps are.
     pub contexts: u32,
 }

@@ -8,14 +8,14 @@ mod laws;
 pub mod limits;
 mod machine;
 mod sessions;
-mod setup_faults;
+mod setup_errors;
 mod setups;
 mod stacks;
 mod starts;
 mod threads;
 pub mod tops;
 
-pub use calls::{AskFault, Call, Outcome, Reply, Report, open_lines};
+pub use calls::{AskError, Call, Outcome, Reply, Report, live_threads};
 pub use choices::Choices;
 pub use laws::{
     entries_are_on_one_line, failures_are_real, histories_are_short, one_code_has_one_meaning,
@@ -23,7 +23,7 @@ pub use laws::{
 };
 pub use machine::{globals_after, transition_on};
 pub use sessions::Session;
-pub use setup_faults::SetupFault;
+pub use setup_errors::SetupError;
 pub use setups::Setup;
 pub use stacks::{ActivationRecord, Stack};
 pub use starts::Start;

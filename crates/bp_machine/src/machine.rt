@@ -4,7 +4,7 @@ ghost use Rattle.bp_language.specs.Ast.{Program};
 ghost use Rattle.bp_flat.specs.InstrEffects.{bits_of};
 ghost use Rattle.bp_machine.specs.declared.calls.Call.{Call as Answered};
 ghost use Rattle.bp_machine.specs.Setups.{SetupOf};
-ghost use Rattle.bp_machine.specs.Histories.{open_lines, is_failure};
+ghost use Rattle.bp_machine.specs.Histories.{live_threads, is_failure};
 ghost use Rattle.bp_machine.specs.Sessions.{GuestThreadOf, first_thread, guests, StandsAfter};
 ghost use Rattle.bp_machine.specs.Transitions.{transition_of, IsTransitionOn, IsTransition, MayGrow, HasRoom, globals_after, state_after, IsCallTransition};
 
@@ -187,16 +187,16 @@ impl Machine {
     }
 
     /// Returns the number of threads that may continue, if `calls` calls of each are allowed.
-    pub(crate) fn open_lines(&self, calls: u32) -> u32
+    pub(crate) fn live_threads(&self, calls: u32) -> u32
         requires { length self.now.state.threads ≤ MAX_THREADS }
         ensures { (t : Program) (s : SetupOf) (h : List Answered)
             → s.calls ≡ calls
             → StandsAfter t s self.now.state h
-            → result ≡ open_lines s h }
+            → result ≡ live_threads s h }
     {
         let mut count = 0;
         for thread in self.threads.as_slice() {
-            if !thread.is_finished(calls) {
+            if !thread.is_terminated(calls) {
                 count += 1;
             }
         }

@@ -4,13 +4,13 @@ ghost use Rattle.bp_machine.specs.Setups.{Fits};
 ghost use Rattle.bp_machine.specs.Sessions.{Stands, IsNextCall, IsAskRefusal, given_bit, AfterEach};
 ghost use Rattle.bp_machine.specs.Transitions.{AreFirstChoices, AreDrawn, IsGiven};
 
-mod copying;
-mod judging;
+mod copies;
+mod judgements;
 mod readings;
-mod restarting;
-mod waiting;
+mod restarts;
+mod waits;
 
-use crate::calls::{AskFault, Call};
+use crate::calls::{AskError, Call};
 use crate::choices::Choices;
 use crate::machine::Machine;
 use crate::setups::Setup;
@@ -122,7 +122,7 @@ impl Session {
     /// Makes a call of a thread with the choice bit of the setup's seed. Only a step that is a call
     /// allocates.
     #[inline(always)]
-    pub fn ask(&mut self, thread: u32) -> Result<Call, AskFault>
+    pub fn ask(&mut self, thread: u32) -> Result<Call, AskError>
         ensures answer { AfterEach self.old (λ t h. MatchResult result
             (IsNextCall t self.old.setup h thread None)
             (IsAskRefusal t self.old.setup h thread None)) }
@@ -138,7 +138,7 @@ impl Session {
     /// Makes a call of a thread with this choice bit, if the setup has no seed. Only a step that is
     /// a call allocates.
     #[inline(always)]
-    pub fn ask_with(&mut self, thread: u32, bit: bool) -> Result<Call, AskFault>
+    pub fn ask_with(&mut self, thread: u32, bit: bool) -> Result<Call, AskError>
         ensures answer { AfterEach self.old (λ t h. MatchResult result
             (IsNextCall t self.old.setup h thread (Some bit))
             (IsAskRefusal t self.old.setup h thread (Some bit))) }
@@ -154,7 +154,7 @@ impl Session {
     /// Makes the machine's own call of the thread of a recorded call: with the bit of the seed if
     /// the setup has one, else with the recorded bit. Only a step that is a call allocates.
     #[inline(always)]
-    pub fn ask_as_recorded(&mut self, thread: u32, bit: bool) -> Result<Call, AskFault>
+    pub fn ask_as_recorded(&mut self, thread: u32, bit: bool) -> Result<Call, AskError>
         ensures answer { AfterEach self.old (λ t h. let given = given_bit self.old.setup bit in
             MatchResult result
             (IsNextCall t self.old.setup h thread given)

@@ -1,8 +1,8 @@
 //! The start of a session.
 ghost use Rattle.std.specs.Prelude.{◌≡◌, ◌↔◌, IsTrue, None, map, slice_get, string_bytes, MatchResult, IfOk, option_map};
-ghost use Rattle.bp_machine.specs.Setups.{setup_of, threads, setup_fault, IsSetupRefusal, Fits, IsInRange};
+ghost use Rattle.bp_machine.specs.Setups.{setup_of, threads, setup_error, IsSetupRefusal, Fits, IsInRange};
 
-use crate::setup_faults::{SetupFault, fault_of_entries, fault_of_setup};
+use crate::setup_errors::{SetupError, error_of_entries, error_of_setup};
 use bp_flat::Code;
 use std::alloc::{AllocError, Global};
 use std::marker::Model;
@@ -97,17 +97,17 @@ impl Setup {
         contexts: u32,
         calls: u32,
         seed: Option<u64>,
-    ) -> Result<Setup, SetupFault>
+    ) -> Result<Setup, SetupError>
         ensures answer { let names = map string_bytes entries.now in
             let given = setup_of names init.now contexts calls seed in
             let t = code.now.tree in MatchResult result
-            (λ s. (s ≡ given) × (setup_fault t given ≡ None))
+            (λ s. (s ≡ given) × (setup_error t given ≡ None))
             (IsSetupRefusal t given) }
         ensures taken { IfOk result (λ s. Fits code.now.tree s × IsInRange s × (s.seed ≡ seed)) }
     {
         code.is_of_a_program();
-        match fault_of_setup(code, entries, init, contexts, calls) {
-            Some(fault) => Err(fault),
+        match error_of_setup(code, entries, init, contexts, calls) {
+            Some(error) => Err(error),
             None => Ok(kept(alloc, entries, init, contexts, calls, seed)?),
         }
     }
@@ -212,7 +212,7 @@ impl Setup {
     pub fn fits(&self, code: &Code) -> bool
         ensures { IsTrue result ↔ Fits code.now.tree self.now }
     {
-        fault_of_entries(code, self.entries.as_slice()).is_none()
+        error_of_entries(code, self.entries.as_slice()).is_none()
             && self.init.len() == code.globals() as usize
     }
 

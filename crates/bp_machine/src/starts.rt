@@ -3,11 +3,11 @@
 ghost use Rattle.std.specs.Prelude.{◌≡◌, ◌≤◌, None, MatchResult, IfOk, ℕ, true, List, Some, map, length, slice_get, is_some, string_bytes};
 ghost use Rattle.bp_language.specs.declared.limits.TheConstants.{MAX_GLOBALS};
 ghost use Rattle.bp_flat.specs.Flat.{heading_named};
-ghost use Rattle.bp_machine.specs.Setups.{setup_fault, IsSetupRefusal, Fits, IsInRange, default_start, setup_from, setup_of, entries_fault};
+ghost use Rattle.bp_machine.specs.Setups.{setup_error, IsSetupRefusal, Fits, IsInRange, default_start, setup_from, setup_of, entries_error};
 ghost use Rattle.bp_machine.specs.declared.limits.TheConstants.{MAX_THREADS};
 
 use crate::limits::{DEFAULT_CALLS, DEFAULT_CONTEXTS, DEFAULT_ENTRY, MAX_THREADS};
-use crate::setup_faults::{SetupFault, fault_of_entry, fault_of_numbers};
+use crate::setup_errors::{SetupError, error_of_entry, error_of_numbers};
 use crate::setups::Setup;
 use bp_flat::Code;
 use bp_language::limits::MAX_GLOBALS;
@@ -61,10 +61,10 @@ impl Start {
     }
 
     /// Makes the setup of the program of this code, with this seed or none.
-    pub fn setup(&self, alloc: Global, code: &Code, seed: Option<u64>) -> Result<Setup, SetupFault>
+    pub fn setup(&self, alloc: Global, code: &Code, seed: Option<u64>) -> Result<Setup, SetupError>
         ensures answer { let t = code.now.tree in let given = setup_from self.now seed t in
             MatchResult result
-            (λ s. (s ≡ given) × (setup_fault t given ≡ None))
+            (λ s. (s ≡ given) × (setup_error t given ≡ None))
             (IsSetupRefusal t given) }
         ensures taken { IfOk result (λ s. Fits code.now.tree s × IsInRange s × (s.seed ≡ seed)) }
     {
@@ -79,38 +79,38 @@ impl Start {
     }
 }
 
-/// Returns the first fault of the entries.
-fn fault_of_names(code: &Code, entries: &[&[u8]]) -> Option<SetupFault>
+/// Returns the first error of the entries.
+fn error_of_names(code: &Code, entries: &[&[u8]]) -> Option<SetupError>
     requires { length entries.now ≤ MAX_THREADS }
-    ensures { result ≡ entries_fault code.now.tree 0 (map (λ n. n.now) entries.now) }
+    ensures { result ≡ entries_error code.now.tree 0 (map (λ n. n.now) entries.now) }
 {
     for (thread, name) in entries.iter().enumerate() {
-        let fault = fault_of_entry(code, thread as u32, name);
-        if fault.is_some() {
-            return fault;
+        let error = error_of_entry(code, thread as u32, name);
+        if error.is_some() {
+            return error;
         }
     }
     None
 }
 
-/// Returns the first fault of a setup with these names, apart from memory.
-fn fault_of_named(
+/// Returns the first error of a setup with these names, apart from memory.
+fn error_of_named(
     code: &Code,
     entries: &[&[u8]],
     init: &[bool],
     contexts: u64,
     calls: u64,
-) -> Option<SetupFault>
+) -> Option<SetupError>
     ensures { let given = setup_of (map (λ n. n.now) entries.now) init.now contexts calls None in
-        result ≡ setup_fault code.now.tree given }
+        result ≡ setup_error code.now.tree given }
 {
     if entries.is_empty() || entries.len() > MAX_THREADS {
-        return Some(SetupFault::Threads);
+        return Some(SetupError::Threads);
     }
-    if let Some(fault) = fault_of_names(code, entries) {
-        return Some(fault);
+    if let Some(error) = error_of_names(code, entries) {
+        return Some(error);
     }
-    fault_of_numbers(code, init, contexts, calls)
+    error_of_numbers(code, init, contexts, calls)
 }
 
 /// Returns the names of the procedures that these bytes name.
@@ -141,17 +141,17 @@ impl Setup {
         contexts: u64,
         calls: u64,
         seed: Option<u64>,
-    ) -> Result<Setup, SetupFault>
+    ) -> Result<Setup, SetupError>
         ensures answer { let names = map (λ n. n.now) entries.now in
             let given = setup_of names init.now contexts calls seed in
             let t = code.now.tree in MatchResult result
-            (λ s. (s ≡ given) × (setup_fault t given ≡ None))
+            (λ s. (s ≡ given) × (setup_error t given ≡ None))
             (IsSetupRefusal t given) }
         ensures taken { IfOk result (λ s. Fits code.now.tree s × IsInRange s × (s.seed ≡ seed)) }
     {
         code.is_of_a_program();
-        if let Some(fault) = fault_of_named(code, entries, init, contexts, calls) {
-            return Err(fault);
+        if let Some(error) = error_of_named(code, entries, init, contexts, calls) {
+            return Err(error);
         }
         let names = own_names(alloc, code, entries)?;
         let bits = Vec::from_slice(alloc, init)?;

@@ -92,7 +92,7 @@ impl GuestThread {
     }
 
     /// Returns whether the thread makes no more calls, if it may make `calls` calls.
-    pub(crate) fn is_finished(&self, calls: u32) -> bool
+    pub(crate) fn is_terminated(&self, calls: u32) -> bool
         ensures { result ≡ (self.now.guest.ended || nat_le calls self.now.guest.calls) }
     {
         self.ended || calls <= self.calls

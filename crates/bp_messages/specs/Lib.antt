@@ -1,6 +1,6 @@
 pub mod Summaries
-pub mod FaultObjects
-pub mod FaultTable
+pub mod ErrorObjects
+pub mod ErrorTable
 pub mod Notes
 pub mod ProgressTexts
 pub mod ReplayLines

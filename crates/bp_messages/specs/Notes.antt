@@ -4,8 +4,8 @@ use Rattle.std.specs.List.{concat}
 use Rattle.bp_text.specs.Pieces.{key_text, truth_text}
 use Rattle.bp_test.specs.declared.counts.Distinct.{Distinct}
 use Rattle.bp_test.specs.Tallies.{capped}
-use Rattle.bp_test.specs.declared.testing.Found.{Found}
-use Rattle.bp_test.specs.declared.testing.Found.TheVariants.{Nothing, Failed, Deadlock}
+use Rattle.bp_test.specs.declared.tests.Found.{Found}
+use Rattle.bp_test.specs.declared.tests.Found.TheVariants.{Nothing, Failed, Deadlock}
 use Rattle.bp_messages.specs.declared.limits.TheConstants.{NOTED_SHARE}
 use Rattle.bp_messages.specs.declared.notes.Notes.{Notes}
 use Rattle.bp_messages.specs.declared.summaries.TestReport.{TestReport}

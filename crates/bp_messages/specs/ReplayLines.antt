@@ -5,7 +5,7 @@ use Rattle.bp_text.specs.Pieces.{bit_text}
 use Rattle.bp_machine.specs.Runs.{PrintedRow}
 use Rattle.bp_machine.specs.declared.calls.Outcome.{Outcome}
 use Rattle.bp_machine.specs.declared.calls.Outcome.TheVariants.{Clean, Failed}
-use Rattle.bp_trace.specs.declared.judging.Printed.{Printed}
+use Rattle.bp_trace.specs.declared.judgements.Printed.{Printed}
 use Rattle.bp_trace.specs.Replays.{row_of}
 
 -- `print`, the thread, and a digit for each value

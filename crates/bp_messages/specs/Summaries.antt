@@ -6,9 +6,9 @@ use Rattle.bp_text.specs.Pieces.{string_text, displayed, bit_text, key_text, num
 use Rattle.bp_text.specs.declared.lines.Position.{Position}
 use Rattle.bp_machine.specs.declared.calls.Outcome.{Outcome}
 use Rattle.bp_machine.specs.declared.calls.Outcome.TheVariants as outcome
-use Rattle.bp_test.specs.declared.waiting.Waiting.{Waiting}
-use Rattle.bp_test.specs.declared.testing.Found.{Found}
-use Rattle.bp_test.specs.declared.testing.Found.TheVariants.{Nothing, Failed, Deadlock}
+use Rattle.bp_test.specs.declared.waits.Waiting.{Waiting}
+use Rattle.bp_test.specs.declared.tests.Found.{Found}
+use Rattle.bp_test.specs.declared.tests.Found.TheVariants.{Nothing, Failed, Deadlock}
 use Rattle.bp_test.specs.declared.counts.Counts.{Counts}
 use Rattle.bp_test.specs.declared.counts.Distinct.{Distinct}
 use Rattle.bp_messages.specs.declared.limits.TheConstants.{MOST_RUNS}

@@ -4,8 +4,8 @@ use Rattle.std.specs.Prelude.{ℕ, List, [], ◌∷◌, ◌++◌, Option, None, 
 use Rattle.std.specs.List.{concat}
 use Rattle.bp_test.specs.declared.counts.Counts.{Counts}
 use Rattle.bp_test.specs.declared.counts.Distinct.{Distinct}
-use Rattle.bp_test.specs.declared.testing.Found.{Found}
-use Rattle.bp_test.specs.declared.testing.Found.TheVariants.{Nothing, Failed, Deadlock}
+use Rattle.bp_test.specs.declared.tests.Found.{Found}
+use Rattle.bp_test.specs.declared.tests.Found.TheVariants.{Nothing, Failed, Deadlock}
 use Rattle.bp_text.specs.Pieces.{string_text, key_text, number_or_null}
 use Rattle.bp_messages.specs.declared.summaries.TestReport.{TestReport}
 use Rattle.bp_messages.specs.Summaries.{asked_member, failure_member, failed_assertion, statement_of, unreached_text, waits_member}

@@ -3,11 +3,11 @@
 #![tactic(auto)]
 
 mod asked_tests;
+mod error_lines;
+mod error_objects;
+mod error_table;
+mod errors;
 mod failures;
-mod fault_lines;
-mod fault_objects;
-mod fault_table;
-mod faults;
 pub mod limits;
 mod notes;
 mod progress;
@@ -16,10 +16,10 @@ mod step_objects;
 mod summaries;
 mod summary_objects;
 
-pub use fault_lines::{InputFault, show_fault};
-pub use fault_objects::put_fault_object;
-pub use fault_table::{Detail, Row, exit_status};
-pub use faults::Fault;
+pub use error_lines::{InputError, show_error};
+pub use error_objects::put_error_object;
+pub use error_table::{Detail, Row, exit_status};
+pub use errors::Error;
 pub use progress::{clear_progress, put_exploration_progress, put_progress};
 pub use replay_lines::show_replay;
 pub use step_objects::{VerdictFacts, put_verdict, value_in};

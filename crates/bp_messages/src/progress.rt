@@ -5,7 +5,7 @@ ghost use Rattle.bp_messages.specs.ProgressTexts.{cleared, exploration_progress_
 
 use crate::summaries::{limit_piece, of_word};
 use bp_text::Piece::{Bytes, Number};
-use bp_text::{WriteFault, put, put_pieces};
+use bp_text::{WriteError, put, put_pieces};
 use std::io::Write;
 
 /// Returns the text that moves the cursor of a terminal to the beginning of the line and clears it.
@@ -47,7 +47,7 @@ pub fn put_progress<W: Write>(
     millis: u64,
     seconds: Option<u64>,
     out: &mut W,
-) -> Result<(), WriteFault>
+) -> Result<(), WriteError>
     ensures { let text = progress_text done runs millis seconds in
         Writes (W.contents out.old) (W.contents out.new) text result }
 {
@@ -76,7 +76,7 @@ pub fn put_exploration_progress<W: Write>(
     states: u64,
     millis: u64,
     out: &mut W,
-) -> Result<(), WriteFault>
+) -> Result<(), WriteError>
     ensures { let text = exploration_progress_text contexts states millis in
         Writes (W.contents out.old) (W.contents out.new) text result }
 {
@@ -97,7 +97,7 @@ pub fn put_exploration_progress<W: Write>(
 }
 
 /// Removes the line of progress.
-pub fn clear_progress<W: Write>(out: &mut W) -> Result<(), WriteFault>
+pub fn clear_progress<W: Write>(out: &mut W) -> Result<(), WriteError>
     ensures { Writes (W.contents out.old) (W.contents out.new) cleared result }
 {
     put(out, cleared())

@@ -6,7 +6,7 @@ ghost use Rattle.bp_messages.specs.ReplayLines.{outcome_line, printed_line, row_
 
 use bp_machine::Outcome;
 use bp_text::Piece::{Bytes, Number};
-use bp_text::{Sink, WriteFault};
+use bp_text::{Sink, WriteError};
 use bp_trace::{Printed, Replayed};
 use std::io::Write;
 
@@ -44,7 +44,7 @@ fn put_outcome<W: Write>(outcome: Outcome, sink: &mut Sink<'_, W>)
 
 /// Writes `print T BITS` for each step that printed, with its thread and values, and after them
 /// `outcome clean`, or `outcome failed T` with the thread whose assertion failed.
-pub fn show_replay<W: Write>(replayed: &Replayed, out: &mut W) -> Result<(), WriteFault>
+pub fn show_replay<W: Write>(replayed: &Replayed, out: &mut W) -> Result<(), WriteError>
     ensures { let rows = map row_of replayed.now.printed.items in
         Writes (W.contents out.old) (W.contents out.new)
         (shown_text rows replayed.now.report.outcome) result }

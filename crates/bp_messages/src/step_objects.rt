@@ -1,18 +1,20 @@
-//! The part of a fault's object on a step that is not taken. The verdict on reported steps in JSON.
-//! It is written without memory.
+//! The part of an error's object on a step that is not taken. The verdict on reported steps in
+//! JSON. It is written without memory.
 ghost use Rattle.std.specs.Prelude.{◌≡◌, option_map, flat_map};
 ghost use Rattle.bp_text.specs.Pieces.{piece_text, string_or_null};
 ghost use Rattle.bp_text.specs.Writing.{Given, Writes};
 ghost use Rattle.bp_confirm.specs.Steps.{value_of};
-ghost use Rattle.bp_messages.specs.FaultObjects.{bit_in, changed_in, has_ended, name_of_value, place_named, position_of_stand, reply_text, seen_in, step_object, step_text, IsValueIn, refuted_after, shown_verdict, verdict_object};
+ghost use Rattle.bp_messages.specs.ErrorObjects.{bit_in, changed_in, has_ended, name_of_value, place_named, position_of_thread_place, reply_text, seen_in, step_object, step_text, IsValueIn, refuted_after, shown_verdict, verdict_object};
 
+use crate::error_table::Detail;
 use crate::failures::{column_of, line_of};
-use crate::fault_table::Detail;
-use bp_confirm::{Difference, Location, SeenValue, Stand, StepReason, StepRefusal, value_on_line};
+use bp_confirm::{
+    Difference, Location, SeenValue, StepReason, StepRefusal, ThreadPlace, value_on_line,
+};
 use bp_text::Piece::{
     BitOrNull, Bytes, Key, Letter, List, Number, NumberOrNull, Text, TextOrNull, Truth,
 };
-use bp_text::{Piece, Position, Sink, WriteFault, put_pieces};
+use bp_text::{Piece, Position, Sink, WriteError, put_pieces};
 use std::io::Write;
 
 /// Returns the line and the column that a location names; neither for the end of a procedure.
@@ -27,20 +29,20 @@ fn place_named(location: Location) -> (Option<u64>, Option<u64>)
 }
 
 /// Returns the position of the statement at which a thread is.
-fn position_of_stand(stand: Stand) -> Option<Position>
-    ensures { result ≡ position_of_stand stand }
+fn position_of_thread_place(thread_place: ThreadPlace) -> Option<Position>
+    ensures { result ≡ position_of_thread_place thread_place }
 {
-    match stand {
-        Stand::Statement(position) => Some(position),
+    match thread_place {
+        ThreadPlace::Statement(position) => Some(position),
         _ => None,
     }
 }
 
 /// Returns whether a thread has ended.
-fn has_ended(stand: Stand) -> bool
-    ensures { result ≡ has_ended stand }
+fn has_ended(thread_place: ThreadPlace) -> bool
+    ensures { result ≡ has_ended thread_place }
 {
-    matches!(stand, Stand::Ended)
+    matches!(thread_place, ThreadPlace::Ended)
 }
 
 /// Returns the letter of the reply that is not a step, as a trace has it.
@@ -99,7 +101,7 @@ fn bit_in(value: Option<SeenValue<'_>>) -> Option<bool>
     }
 }
 
-/// Returns the value on a line of the steps that a fault names, if any.
+/// Returns the value on a line of the steps that an error names, if any.
 pub fn value_in<'a>(steps: &'a [u8], detail: Detail) -> Option<SeenValue<'a>>
     ensures { IsValueIn steps.now detail (option_map value_of result) }
 {
@@ -119,12 +121,12 @@ fn put_refusal<W: Write>(refusal: StepRefusal, value: Option<SeenValue<'_>>, sin
 {
     let StepRefusal {
         location,
-        stand,
+        thread_place,
         reason,
         ..
     } = refusal;
     let (line, column) = place_named(location);
-    let position = position_of_stand(stand);
+    let position = position_of_thread_place(thread_place);
     sink.put_pieces(&[
         Bytes(b",\"step\":{\"expected\":{\"line\":"),
         NumberOrNull(line),
@@ -135,7 +137,7 @@ fn put_refusal<W: Write>(refusal: StepRefusal, value: Option<SeenValue<'_>>, sin
         Key(b"column"),
         NumberOrNull(column_of(position)),
         Key(b"ended"),
-        Truth(has_ended(stand)),
+        Truth(has_ended(thread_place)),
         Bytes(b"},\"reply\":"),
         reply_piece(reason),
         Key(b"variable"),
@@ -150,7 +152,7 @@ fn put_refusal<W: Write>(refusal: StepRefusal, value: Option<SeenValue<'_>>, sin
     ])
 }
 
-/// Writes the member of the step that a fault names, or null.
+/// Writes the member of the step that an error names, or null.
 pub(crate) fn put_step<W: Write>(
     detail: Detail,
     value: Option<SeenValue<'_>>,
@@ -205,7 +207,7 @@ fn verdict_pieces<'a>(facts: VerdictFacts<'a>) -> [Piece<'a>; 14]
 }
 
 /// Writes the object of the verdict on reported steps.
-pub fn put_verdict<'a, W: Write>(facts: VerdictFacts<'a>, out: &mut W) -> Result<(), WriteFault>
+pub fn put_verdict<'a, W: Write>(facts: VerdictFacts<'a>, out: &mut W) -> Result<(), WriteError>
     ensures { let object = verdict_object (shown_verdict facts.entry) in
         Writes (W.contents out.old) (W.contents out.new) object result }
 {

@@ -14,7 +14,7 @@ use bp_machine::Setup;
 use bp_tasks::TestOptions;
 use bp_test::{Counts, Distinct, Found, Waiting};
 use bp_text::Piece::{Bytes, Number};
-use bp_text::{Piece, Position, Sink, WriteFault};
+use bp_text::{Piece, Position, Sink, WriteError};
 use std::io::Write;
 
 /// Writes that a deadlock was found in a run of this test, and the places at which threads wait.
@@ -180,7 +180,7 @@ pub(crate) fn put_unreached<W: Write>(lines: &[Vec<u8>], reached: &[bool], sink:
 }
 
 /// Writes the summary of a test.
-pub fn put_summary<W: Write>(tested: &TestReport, out: &mut W) -> Result<(), WriteFault>
+pub fn put_summary<W: Write>(tested: &TestReport, out: &mut W) -> Result<(), WriteError>
     ensures { let text = summary_text tested.now in
         Writes (W.contents out.old) (W.contents out.new) text result }
 {

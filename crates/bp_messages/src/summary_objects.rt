@@ -10,7 +10,7 @@ use crate::notes::{new_percent, put_notes_members};
 use crate::summaries::{TestReport, put_unreached};
 use bp_test::{Counts, Distinct, Found};
 use bp_text::Piece::{Bytes, Key, Number, NumberOrNull, Text};
-use bp_text::{Sink, WriteFault};
+use bp_text::{Sink, WriteError};
 use std::io::Write;
 
 /// Returns the word for the finding.
@@ -139,7 +139,7 @@ fn put_summary_object<W: Write>(tested: &TestReport, sink: &mut Sink<'_, W>)
 }
 
 /// Writes the summary of a test as objects, each on a line.
-pub fn put_summary_objects<W: Write>(tested: &TestReport, out: &mut W) -> Result<(), WriteFault>
+pub fn put_summary_objects<W: Write>(tested: &TestReport, out: &mut W) -> Result<(), WriteError>
     ensures { let text = summary_objects tested.now in
         Writes (W.contents out.old) (W.contents out.new) text result }
 {

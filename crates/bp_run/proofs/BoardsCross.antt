@@ -14,7 +14,7 @@ use Rattle.bp_run.specs.declared.boards.Calls as Calls
 use Rattle.bp_run.specs.contracts.desks.Desk as Desk
 use Rattle.bp_run.specs.contracts.desks.Desk.TheInside as Inside
 use Rattle.bp_run.specs.contracts.boards.Board as Board
-use Rattle.bp_run.specs.contracts.signals.Bell as Bell
+use Rattle.bp_run.specs.contracts.signals.Notify as Notify
 use Rattle.bp_run.specs.contracts.signals.Signals as Signals
 
 -- That sessions may be shared among threads.
@@ -28,23 +28,23 @@ machine_send = search (sendable, crosses) depth 40
 pub session_send : IsSend Session.the_row
 session_send = search (sendable, crosses, code_send, setup_send, machine_send) depth 40
 
-module _ (C O : RattleType) (calls : Calls.Ghosts C.Denot) (made : Ledger.Ghosts C.Denot) (lines : Ledger.Ghosts O.Denot) where
-  desk_send : IsSend (Desk.the_row C O calls made lines)
+module _ (C O : RattleType) (calls : Calls.Ghosts C.Denot) (made : Ledger.Ghosts C.Denot) (live : Ledger.Ghosts O.Denot) where
+  desk_send : IsSend (Desk.the_row C O calls made live)
   desk_send =
       view_send _ _ _ _ _
-      (recorded_send _ _ _ (Inside.the_type C O calls made lines).to_one
-      (struct_send (structs.shape (Inside.the_type C O calls made lines)) (
+      (recorded_send _ _ _ (Inside.the_type C O calls made live).to_one
+      (struct_send (structs.shape (Inside.the_type C O calls made live)) (
         search (sendable, crosses, session_send) depth 5,
-        (search (sendable, crosses, End.the_send) depth 40, (Book.the_send C made, (Book.the_send O lines, tt))),
+        (search (sendable, crosses, End.the_send) depth 40, (Book.the_send C made, (Book.the_send O live, tt))),
       )))
 
-  pub board_sync : IsSync (Board.the_row C O calls made lines)
+  pub board_sync : IsSync (Board.the_row C O calls made live)
   board_sync = search (sendable, crosses, desk_send) depth 40
 
 -- That the signals of a run may be shared among threads.
 
-bell_sync : IsSync Bell.the_row
-bell_sync = search (sendable, crosses) depth 40
+notify_sync : IsSync Notify.the_row
+notify_sync = search (sendable, crosses) depth 40
 
 pub signals_sync : IsSync Signals.the_row
-signals_sync = search (sendable, crosses, bell_sync) depth 40
+signals_sync = search (sendable, crosses, notify_sync) depth 40

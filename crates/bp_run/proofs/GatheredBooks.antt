@@ -1,5 +1,5 @@
 -- The books of a desk once its seats and its tap are joined with it.
-use Rattle.bp_run.proofs.Common.{◌≡◌, Bool, true, false, sym, ◌∙◌, ap, ℕ, ◌+◌, ◌*◌, ◌<◌, ◌≤◌, ◌^◌, cond, List, [], ◌∷◌, ◌++◌, None, is_some, subst, arith, length-append, ◌↔◌, IsTrue, length, Option, Some, rules, Call, is_finished, finished_by, open_lines, IsLegal, IsReport, HasSeededBits, SessionOf, Stands, IsNextCall, threads, Fits, IsInRange, SetupOf, Report, open_at_start, open_lines-append, IsInBooks, SeatOf, TapOf, calls_of_seats, open_seats, AreOnePerThread, AreSeatsOf, IsGathered, TellsEarly}
+use Rattle.bp_run.proofs.Common.{◌≡◌, Bool, true, false, sym, ◌∙◌, ap, ℕ, ◌+◌, ◌*◌, ◌<◌, ◌≤◌, ◌^◌, cond, List, [], ◌∷◌, ◌++◌, None, is_some, subst, arith, length-append, ◌↔◌, IsTrue, length, Option, Some, rules, Call, is_terminated, terminated_by, live_threads, IsLegal, IsReport, HasSeededBits, SessionOf, Stands, IsNextCall, threads, Fits, IsInRange, SetupOf, Report, live_at_start, live_threads-append, IsInBooks, SeatOf, TapOf, calls_of_seats, open_seats, AreOnePerThread, AreSeatsOf, IsGathered, TellsEarly}
 use Rattle.std.proofs.Math.Nat.{mul-le-mul_left, mul-le-mul_right}
 use Rattle.bp_flat.specs.Flat.{Flat}
 use Rattle.bp_machine.specs.declared.limits.TheConstants.{MAX_THREADS, MAX_CALLS}
@@ -8,45 +8,45 @@ use Rattle.bp_machine.proofs.HistoriesAreRuns.{legal_length}
 -- The books of a desk at the start, and after one more call.
 
 -- a session that stands after no call
-pub books_at_start : (x : SessionOf) (made lines : ℕ) → Fits x.code.tree x.setup → is_some x.setup.seed ≡ true → Stands x.code.tree x [] → 0 < x.setup.calls
-    → made ≡ 0 → lines ≡ threads x.setup → IsInBooks x [] made lines
-books_at_start x made lines given1 given2 given3 given4 given5 given6 = search (rules, open_at_start)
+pub books_at_start : (x : SessionOf) (made live : ℕ) → Fits x.code.tree x.setup → is_some x.setup.seed ≡ true → Stands x.code.tree x [] → 0 < x.setup.calls
+    → made ≡ 0 → live ≡ threads x.setup → IsInBooks x [] made live
+books_at_start x made live given1 given2 given3 given4 given5 given6 = search (rules, live_at_start)
 
-module _ (x new : SessionOf) (h : List Call) (made lines i : ℕ) (call : Call) (books : IsInBooks x h made lines)
+module _ (x new : SessionOf) (h : List Call) (made live i : ℕ) (call : Call) (books : IsInBooks x h made live)
     (next : IsNextCall x.code.tree x.setup h i None call) (stands : Stands x.code.tree new (h ++ call ∷ []))
     (code : new.code ≡ x.code) (setup : new.setup ≡ x.setup)
   where
-    open_with : open_lines x.setup (h ++ call ∷ []) + finished_by x.setup h call ≡ open_lines x.setup h
-    open_with = open_lines-append x.code.tree x.setup h call next.allowed
+    live_with : live_threads x.setup (h ++ call ∷ []) + terminated_by x.setup h call ≡ live_threads x.setup h
+    live_with = live_threads-append x.code.tree x.setup h call next.allowed
 
-    books_with : (more less : ℕ) → more ≡ made + 1 → less + finished_by x.setup h call ≡ lines → IsInBooks new (h ++ call ∷ []) more less
-    books_with more less given1 given2 = grind (arith, length-append, open_with)
+    books_with : (more less : ℕ) → more ≡ made + 1 → less + terminated_by x.setup h call ≡ live → IsInBooks new (h ++ call ∷ []) more less
+    books_with more less given1 given2 = grind (arith, length-append, live_with)
 
-    -- a line that the call finishes
-    pub books_when_finished : (more less : ℕ) → more ≡ made + 1 → less + 1 ≡ lines
-        → is_finished x.setup (h ++ call ∷ []) call.thread ≡ true → IsInBooks new (h ++ call ∷ []) more less
-    books_when_finished more less one_more closed finished =
-        books_with more less one_more (ap (λ b. less + cond b 1 0) finished ∙ closed)
+    -- a thread that the call terminates
+    pub books_when_terminated : (more less : ℕ) → more ≡ made + 1 → less + 1 ≡ live
+        → is_terminated x.setup (h ++ call ∷ []) call.thread ≡ true → IsInBooks new (h ++ call ∷ []) more less
+    books_when_terminated more less one_more closed terminated =
+        books_with more less one_more (ap (λ b. less + cond b 1 0) terminated ∙ closed)
 
     -- a line that continues
-    pub books_when_open : (more : ℕ) → more ≡ made + 1 → is_finished x.setup (h ++ call ∷ []) call.thread ≡ false → IsInBooks new (h ++ call ∷ []) more lines
-    books_when_open more one_more unfinished =
-        books_with more lines one_more (ap (λ b. lines + cond b 1 0) unfinished ∙ omega arith)
+    pub books_when_live : (more : ℕ) → more ≡ made + 1 → is_terminated x.setup (h ++ call ∷ []) call.thread ≡ false → IsInBooks new (h ++ call ∷ []) more live
+    books_when_live more one_more still_live =
+        books_with more live one_more (ap (λ b. live + cond b 1 0) still_live ∙ omega arith)
 
 -- the books count few calls
-pub few_made : (x : SessionOf) (h : List Call) (made lines : ℕ) → IsInBooks x h made lines → IsInRange x.setup → made < 2 ^ 32
-few_made x h made lines books range =
+pub few_made : (x : SessionOf) (h : List Call) (made live : ℕ) → IsInBooks x h made live → IsInRange x.setup → made < 2 ^ 32
+few_made x h made live books range =
     let long = legal_length x.code.tree x.setup h books.stands.state.legal in
     let one = mul-le-mul_right x.setup.calls range.few in
     let other = mul-le-mul_left MAX_THREADS range.calls in
     let was = books.made_is in
     omega (arith, long, one, other, was)
 
-module _ (x : SessionOf) (h : List Call) (made lines : ℕ) (books : IsInBooks x h made lines)
+module _ (x : SessionOf) (h : List Call) (made live : ℕ) (books : IsInBooks x h made live)
     (seats : List SeatOf) (one_each : AreOnePerThread (threads x.setup) seats)
     (r : Report) (early : Option ℕ) (agree : Bool)
     (report : (g : List Call) → Stands x.code.tree x g → IsReport x.setup g r) (calls : calls_of_seats seats ≡ made)
-    (open_are : open_seats seats ≡ lines)
+    (open_are : open_seats seats ≡ live)
     (stops : (g : List Call) → Stands x.code.tree x g → TellsEarly x.code.tree x.setup g early)
     (agreement : (g : List Call) → Stands x.code.tree x g → (IsTrue agree ↔ AreSeatsOf x.setup g seats)) where
   reported : IsReport x.setup h r
@@ -65,7 +65,7 @@ module _ (x : SessionOf) (h : List Call) (made lines : ℕ) (books : IsInBooks x
     calls = calls ∙ books.made_is ∙ ap length (sym all);
     stops = subst (λ g. TellsEarly x.code.tree x.setup g early) (sym all) (stops h books.stands);
     agreement = subst (λ g. IsTrue agree ↔ AreSeatsOf x.setup g seats) (sym all) (agreement h books.stands);
-    open_are = open_are ∙ books.lines_are ∙ sym reported.left_open;
+    open_are = open_are ∙ books.live_are ∙ sym reported.left_live;
   }
 
 -- the result of gathering, by other names of the code and the setup

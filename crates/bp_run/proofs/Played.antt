@@ -1,5 +1,5 @@
 -- The result of playing a setup, from the promises of the stage, the gathering and the rest.
-use Rattle.bp_run.proofs.Common.{◌≡◌, ℕ, Bool, true, List, [], ◌∷◌, ◌++◌, Option, Some, None, is_some, refl, sym, ◌∙◌, ap, subst, ◌<◌, ◌≤◌, ◌==◌, zero, suc, ◌+◌, false, cond, length, map, arith, length-append, rules, false≢true, flat_map-append, count_by, range_with_len, sum_by-cons, length-map-range_with_len, Given, HasTaken, AppendsAll, AppendsPart, Program, Call, SetupOf, Report, open_lines, IsTakenOf, SeatOf, AreNewSeats, new_seat, TapOf, AreOnePerThread, IsGathered, TellsEarly, One, head_text, call_line, end_line, trace_text, lines_of, IsRestScribed, IsPlayedFrom, IsEarly, IsCutTrace}
+use Rattle.bp_run.proofs.Common.{◌≡◌, ℕ, Bool, true, List, [], ◌∷◌, ◌++◌, Option, Some, None, is_some, refl, sym, ◌∙◌, ap, subst, ◌<◌, ◌≤◌, ◌==◌, zero, suc, ◌+◌, false, cond, length, map, arith, length-append, rules, false≢true, flat_map-append, count_by, range_with_len, sum_by-cons, length-map-range_with_len, Given, HasTaken, AppendsAll, AppendsPart, Program, Call, SetupOf, Report, live_threads, IsTakenOf, SeatOf, AreNewSeats, new_seat, TapOf, AreOnePerThread, IsGathered, TellsEarly, One, head_text, call_line, end_line, trace_text, lines_of, IsRestWritten, IsPlayedFrom, IsEarly, IsCutTrace}
 use Rattle.std.proofs.lemmas.List.{append-nil, length-map}
 use Rattle.std.proofs.lemmas.Option.{same_Some}
 use Rattle.bp_text.specs.declared.sinks.Sink.{Sink}
@@ -17,13 +17,13 @@ module _ {W : Type 0} (contents : W → Option (List ℕ)) where
       → Given contents a b (lines_of cs) → Given contents b c (call_line x) → Given contents a c (lines_of (cs ++ x ∷ []))
   given_line a b c cs x given1 given2 = search (rules, lines_append, append-nil, and_then)
 
-  pub rest_begins : (a : Sink W) (rest : Option (List Call)) → is_some rest ≡ true → IsRestScribed contents a a rest rest
+  pub rest_begins : (a : Sink W) (rest : Option (List Call)) → is_some rest ≡ true → IsRestWritten contents a a rest rest
   rest_begins a (Some cs) t = record { more = []; left = cs; were = refl; are = refl; given = given_none contents a }
   rest_begins a None t = absurd (false≢true t)
 
   -- one more of the calls that are left was taken and written
   pub rest_more : (a b c : Sink W) (rest r1 r2 : Option (List Call)) (x : Call)
-      → IsRestScribed contents a b rest r1 → IsTakenOf r1 (Some x) r2 → Given contents b c (call_line x) → IsRestScribed contents a c rest r2
+      → IsRestWritten contents a b rest r1 → IsTakenOf r1 (Some x) r2 → Given contents b c (call_line x) → IsRestWritten contents a c rest r2
   rest_more a b c rest r1 r2 x s next w =
       let step = subst (λ o. IsTakenOf o (Some x) r2) s.are next in record {
         more = s.more ++ x ∷ [];
@@ -101,8 +101,8 @@ module _ {W : Type 0} (contents : W → Option (List ℕ)) (t : Program) (s : Se
     (rest_now : Option (List Call)) (seats : List SeatOf) (tap : TapOf) (r : Report) (early : Option ℕ) (agree : Bool)
     (fresh : a.refused ≡ false) (staged : Given contents a b (head_text One s ++ lines_of taken))
     (g : IsGathered t s taken seats tap r early agree)
-    (rest : IsRestScribed contents b c tap.rest rest_now) (all : rest_now ≡ Some [])
-    (ended : Given contents c d (end_line r.calls r.left_open)) where
+    (rest : IsRestWritten contents b c tap.rest rest_now) (all : rest_now ≡ Some [])
+    (ended : Given contents c d (end_line r.calls r.left_live)) where
   abbrev old : Option (List ℕ)
   old = contents a.out.now
 
@@ -113,10 +113,10 @@ module _ {W : Type 0} (contents : W → Option (List ℕ)) (t : Program) (s : Se
   same : rest.more ≡ g.left
   same = search (rules, same_Some, append-nil)
 
-  the_end : end_line r.calls r.left_open ≡ end_line (length (taken ++ g.left)) (open_lines s (taken ++ g.left))
-  the_end = ap (λ n. end_line n r.left_open) g.report.calls ∙ ap (λ n. end_line (length (taken ++ g.left)) n) g.report.left_open
+  the_end : end_line r.calls r.left_live ≡ end_line (length (taken ++ g.left)) (live_threads s (taken ++ g.left))
+  the_end = ap (λ n. end_line n r.left_live) g.report.calls ∙ ap (λ n. end_line (length (taken ++ g.left)) n) g.report.left_live
 
-  bytes : (head_text One s ++ lines_of taken) ++ (lines_of rest.more ++ end_line r.calls r.left_open) ≡ trace_text s (taken ++ g.left)
+  bytes : (head_text One s ++ lines_of taken) ++ (lines_of rest.more ++ end_line r.calls r.left_live) ≡ trace_text s (taken ++ g.left)
   bytes = search (rules, both_lines, same, the_end)
 
   taken_all : HasTaken old now d.refused (trace_text s (taken ++ g.left))
@@ -150,7 +150,8 @@ module _ {W : Type 0} (contents : W → Option (List ℕ)) (t : Program) (s : Se
   pub cut : d.refused ≡ true → IsCutTrace t s old now
   cut given1 = search (rules, taken_all)
 
--- The pen stopped before the end: the calls that were taken are written, or a part of their lines.
+-- The writer stopped before the end: the calls that were taken are written, or a part of their
+-- lines.
 module _ {W : Type 0} (contents : W → Option (List ℕ)) (t : Program) (s : SetupOf) (a b : Sink W) (taken : List Call)
     (seats : List SeatOf) (tap : TapOf) (r : Report) (early : Option ℕ) (agree : Bool) (fresh : a.refused ≡ false)
     (staged : Given contents a b (head_text One s ++ lines_of taken)) (g : IsGathered t s taken seats tap r early agree) where
@@ -158,15 +159,15 @@ module _ {W : Type 0} (contents : W → Option (List ℕ)) (t : Program) (s : Se
   begun = head_text One s ++ lines_of taken
 
   the_rest : List ℕ
-  the_rest = lines_of g.left ++ end_line (length (taken ++ g.left)) (open_lines s (taken ++ g.left))
+  the_rest = lines_of g.left ++ end_line (length (taken ++ g.left)) (live_threads s (taken ++ g.left))
 
   has_end : 0 < length the_rest
   unfolding the_rest
-  has_end = rw (length-append (lines_of g.left) (end_line (length (taken ++ g.left)) (open_lines s (taken ++ g.left)))) (omega arith)
+  has_end = rw (length-append (lines_of g.left) (end_line (length (taken ++ g.left)) (live_threads s (taken ++ g.left)))) (omega arith)
 
   whole : begun ++ the_rest ≡ trace_text s (taken ++ g.left)
   unfolding the_rest begun
-  whole = both_lines (head_text One s) (end_line (length (taken ++ g.left)) (open_lines s (taken ++ g.left))) taken g.left
+  whole = both_lines (head_text One s) (end_line (length (taken ++ g.left)) (live_threads s (taken ++ g.left))) taken g.left
 
   part : (old now : Option (List ℕ)) (refused : Bool) → HasTaken old now refused begun → AppendsPart old now (begun ++ the_rest)
   part old now refused given1 = search (rules, part_then, begun, the_rest, has_end, part_first)

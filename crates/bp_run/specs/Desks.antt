@@ -16,7 +16,7 @@ use Rattle.bp_flat.specs.Codes.{coded_flat}
 use Rattle.bp_machine.specs.Setups.{SetupOf, setup_of, Fits}
 use Rattle.bp_machine.specs.declared.calls.Call.{Call}
 use Rattle.bp_machine.specs.declared.limits.TheConstants.{MAX_THREADS}
-use Rattle.bp_machine.specs.Histories.{open_lines, IsLegal, HasSeededBits}
+use Rattle.bp_machine.specs.Histories.{live_threads, IsLegal, HasSeededBits}
 use Rattle.bp_machine.specs.Sessions.{SessionOf, Stands}
 use Rattle.bp_machine.specs.SessionCodes.{coded_setup, coded_call}
 
@@ -55,43 +55,44 @@ no_setup = setup_of [] [] 0 0 None
 -- The parts of a board.
 
 -- the number of threads, the names of the two ledgers, the ring, and its number of free places
-pub record KitOf : Type 0 where
+pub record BoardPartsOf : Type 0 where
   pub threads : ℕ
   pub calls : ℕ
-  pub lines : ℕ
+  pub live : ℕ
   pub ring : RingOf
   pub free : ℕ
 
-abbrev pub kit_of : ℕ → ℕ → ℕ → Producer Call Global AnyItems → KitOf
-kit_of threads calls lines to = record {
+abbrev pub board_parts_of : ℕ → ℕ → ℕ → Producer Call Global AnyItems → BoardPartsOf
+board_parts_of threads calls live to = record {
   threads = threads;
   calls = calls;
-  lines = lines;
+  live = live;
   ring = producer_ring to;
   free = known_free to;
 }
 
 -- the ledgers have a part for each thread, and nothing was sent through the ring
-pub record IsNewKit
-    (threads call_parts line_parts : ℕ)
+pub record AreNewBoardParts
+    (threads call_parts live_parts : ℕ)
     (to : Producer Call Global AnyItems) (from : Consumer Call Global AnyItems)
     : Type 0 where
   pub some : 0 < threads
   pub few : threads ≤ MAX_THREADS
   pub calls : call_parts ≡ threads
-  pub lines : line_parts ≡ threads
+  pub live : live_parts ≡ threads
   pub unsent : sent to ≡ []
   pub untaken : received from ≡ []
   pub one_ring : consumer_ring from ≡ producer_ring to
 
--- the kit has these names and parts of ledgers, and this ring
+-- the parts has these names and parts of ledgers, and this ring
 pub record IsNamed
-    (kit : KitOf) (calls call_parts lines line_parts : ℕ) (ring : RingOf) : Type 0 where
-  pub calls_are : kit.calls ≡ calls
-  pub call_parts_are : kit.threads ≡ call_parts
-  pub lines_are : kit.lines ≡ lines
-  pub line_parts_are : kit.threads ≡ line_parts
-  pub ring_is : kit.ring ≡ ring
+    (board_parts : BoardPartsOf) (calls call_parts live live_parts : ℕ) (ring : RingOf) : Type 0
+  where
+    pub calls_are : board_parts.calls ≡ calls
+    pub call_parts_are : board_parts.threads ≡ call_parts
+    pub live_are : board_parts.live ≡ live
+    pub live_parts_are : board_parts.threads ≡ live_parts
+    pub ring_is : board_parts.ring ≡ ring
 
 -- Desks as contracts see them: a program's code, a setup, the history that was sent, and the number
 -- of places of the ring that the desk knows to be free.
@@ -113,14 +114,14 @@ pub record IsLegalDesk (d : DeskOf) : Type 0 where
   pub legal : IsLegal d.code.tree d.setup d.history
   pub seeded : HasSeededBits d.setup d.history
 
--- The session stands after the history, and the books count the calls of the history and the lines
--- that are open after it.
-pub record IsInBooks (x : SessionOf) (h : List Call) (made lines : ℕ) : Type 0 where
+-- The session stands after the history, and the books count the calls of the history and the
+-- threads that are live after it.
+pub record IsInBooks (x : SessionOf) (h : List Call) (made live : ℕ) : Type 0 where
   pub fits : Fits x.code.tree x.setup
   pub has_seed : is_some x.setup.seed ≡ true
   pub stands : Stands x.code.tree x h
   pub made_is : made ≡ length h
-  pub lines_are : lines ≡ open_lines x.setup h
+  pub live_are : live ≡ live_threads x.setup h
 
 -- a desk of this code and setup that has sent nothing, and knows this number of places to be free
 pub record IsNewDesk (code : Flat) (setup : SetupOf) (free : ℕ) (d : DeskOf) : Type 0 where
@@ -150,16 +151,16 @@ pub record SeatOf : Type 0 where
 abbrev pub seat_of : ℕ → ℕ → Bool → SeatOf
 seat_of thread calls is_open = record { thread = thread; calls = calls; is_open = is_open }
 
--- the number of open lines that a seat counts as
+-- the number of live threads that a seat counts as
 abbrev pub open_amount : Bool → ℕ
 open_amount is_open = if is_open then 1 else 0
 
--- a seat has one part of each ledger: the first counts its calls, the second its open line
-pub record HasShares (call_parts made line_parts line : ℕ) (seat : SeatOf) : Type 0 where
+-- a seat has one part of each ledger: the first counts its calls, the second its live thread
+pub record HasShares (call_parts made live_parts own_live : ℕ) (seat : SeatOf) : Type 0 where
   pub one_of_calls : call_parts ≡ 1
   pub made_is : made ≡ seat.calls
-  pub one_of_lines : line_parts ≡ 1
-  pub line_is : line ≡ open_amount seat.is_open
+  pub one_of_live : live_parts ≡ 1
+  pub own_live_is : own_live ≡ open_amount seat.is_open
 
 abbrev pub new_seat : ℕ → SeatOf
 new_seat thread = seat_of thread 0 true

@@ -3,15 +3,15 @@ use Rattle.std.specs.Prelude.{⊤, ◌≡◌, ◌<◌, ℕ, Bool, true, false, L
 use Rattle.std.specs.List.{sum_by, count_by, All}
 use Rattle.bp_language.specs.Ast.{Program}
 use Rattle.bp_flat.specs.Moves.{Frame, is_call}
-use Rattle.bp_machine.specs.declared.calls.AskFault.{AskFault}
-use Rattle.bp_machine.specs.declared.calls.AskFault.TheVariants as fault
+use Rattle.bp_machine.specs.declared.calls.AskError.{AskError}
+use Rattle.bp_machine.specs.declared.calls.AskError.TheVariants as error
 use Rattle.bp_machine.specs.declared.calls.Call.{Call}
-use Rattle.bp_machine.specs.Histories.{stack_of, configuration_after, is_finished, IsLegal, HasSeededBits, calls_of_thread, IsReport}
+use Rattle.bp_machine.specs.Histories.{stack_of, configuration_after, is_terminated, IsLegal, HasSeededBits, calls_of_thread, IsReport}
 use Rattle.bp_machine.specs.Setups.{SetupOf, threads}
 use Rattle.bp_machine.specs.declared.calls.Report.{Report}
 use Rattle.bp_run.specs.Desks.{SeatOf, open_amount, TapOf}
 
--- When a run has stopped: the open lines are before calls.
+-- When a run has stopped: the live threads are before calls.
 
 -- the next step of a thread with this stack is a call
 abbrev pub goes_on_with_call : List Frame → Bool
@@ -22,15 +22,15 @@ goes_on_with_call (f ∷ fs) = is_call f.left
 abbrev pub is_at_call : Program → SetupOf → List Call → ℕ → Bool
 is_at_call t s h i = goes_on_with_call (stack_of (configuration_after t s h) i)
 
--- each thread whose line is open has a call as its next step: memory is refused only there
+-- each thread that is live has a call as its next step: memory is refused only there
 abbrev pub HaveStopped : Program → SetupOf → List Call → Type 0
 HaveStopped t s h =
-    (i : ℕ) → i < threads s → is_finished s h i ≡ false → is_at_call t s h i ≡ true
+    (i : ℕ) → i < threads s → is_terminated s h i ≡ false → is_at_call t s h i ≡ true
 
--- the line of thread i is open, although its next step is not a call
+-- thread i is live, although its next step is not a call
 pub record StoppedEarly (t : Program) (s : SetupOf) (h : List Call) (i : ℕ) : Type 0 where
   pub own : i < threads s
-  pub line : is_finished s h i ≡ false
+  pub own_live : is_terminated s h i ≡ false
   pub next : is_at_call t s h i ≡ false
 
 -- no thread stopped early, or this one did
@@ -45,12 +45,12 @@ pub record HasBeen (t : Program) (s : SetupOf) (Holds : List Call → Type 0) : 
   pub seeded : HasSeededBits s history
   pub held : Holds history
 
--- the histories in which a refused call of thread i has its reason: for memory the line is open and
--- the next step is a call; otherwise the line is finished already
-abbrev pub TellsOfRefusal : Program → SetupOf → ℕ → AskFault → Type 0
-TellsOfRefusal t s i fault.Memory =
-    HasBeen t s (λ h. (is_finished s h i ≡ false) × (is_at_call t s h i ≡ true))
-TellsOfRefusal t s i fault.Finished = HasBeen t s (λ h. is_finished s h i ≡ true)
+-- the histories in which a refused call of thread i has its reason: for memory the thread is live
+-- and the next step is a call; otherwise the thread has terminated already
+abbrev pub TellsOfRefusal : Program → SetupOf → ℕ → AskError → Type 0
+TellsOfRefusal t s i error.Memory =
+    HasBeen t s (λ h. (is_terminated s h i ≡ false) × (is_at_call t s h i ≡ true))
+TellsOfRefusal t s i error.Terminated = HasBeen t s (λ h. is_terminated s h i ≡ true)
 TellsOfRefusal t s i f = ⊤
 
 -- The result of gathering a board.
@@ -70,7 +70,7 @@ pub record AreOnePerThread (n : ℕ) (seats : List SeatOf) : Type 0 where
 -- thread's line is not finished
 pub record IsSeatOf (s : SetupOf) (h : List Call) (seat : SeatOf) : Type 0 where
   pub calls : seat.calls ≡ length (calls_of_thread seat.thread h)
-  pub line : seat.is_open ≡ not (is_finished s h seat.thread)
+  pub own_live : seat.is_open ≡ not (is_terminated s h seat.thread)
 
 -- each of the seats agrees with the history
 abbrev pub AreSeatsOf : SetupOf → List Call → List SeatOf → Type 0
@@ -78,7 +78,7 @@ AreSeatsOf s h seats = All (IsSeatOf s h) seats
 
 -- The calls taken and left are one legal history, with the bits of the seed, and the report is of
 -- it; the tap gives those that are left. The seats are one for each thread, and together they have
--- its calls and its open lines. The result also tells which thread stopped early, if any, and
+-- its calls and its live threads. The result also tells which thread stopped early, if any, and
 -- whether each seat agrees with the history.
 pub record IsGathered
     (t : Program) (s : SetupOf) (taken : List Call) (seats : List SeatOf) (tap : TapOf) (r : Report)
@@ -92,6 +92,6 @@ pub record IsGathered
   pub report : IsReport s (taken ++ left) r
   pub one_each : AreOnePerThread (threads s) seats
   pub calls : calls_of_seats seats ≡ length (taken ++ left)
-  pub open_are : open_seats seats ≡ r.left_open
+  pub open_are : open_seats seats ≡ r.left_live
   pub stops : TellsEarly t s (taken ++ left) early
   pub agreement : IsTrue agree ↔ AreSeatsOf s (taken ++ left) seats

@@ -1,5 +1,5 @@
 pub mod Runs
-pub mod Faults
+pub mod Errors
 pub mod Options
 pub mod Works
 pub mod Turns

@@ -4,10 +4,10 @@ use Rattle.std.specs.List.{AllByRecursion}
 use Rattle.bp_language.specs.Ast.{Program}
 use Rattle.bp_machine.specs.declared.calls.Call.{Call}
 use Rattle.bp_machine.specs.declared.calls.Reply.{Reply}
-use Rattle.bp_machine.specs.declared.calls.AskFault.{AskFault}
-use Rattle.bp_machine.specs.declared.calls.AskFault.TheVariants as fault
-use Rattle.bp_machine.specs.Histories.{is_finished, is_last}
-use Rattle.bp_machine.specs.Sessions.{HasOpenLine, IsNextCall, IsAskRefusal}
+use Rattle.bp_machine.specs.declared.calls.AskError.{AskError}
+use Rattle.bp_machine.specs.declared.calls.AskError.TheVariants as error
+use Rattle.bp_machine.specs.Histories.{is_terminated, is_last}
+use Rattle.bp_machine.specs.Sessions.{IsLiveThread, IsNextCall, IsAskRefusal}
 use Rattle.bp_machine.specs.Setups.{SetupOf}
 use Rattle.bp_machine.specs.declared.calls.Reply.TheVariants.{Stepped}
 use Rattle.bp_run.specs.Desks.{DeskOf, SeatOf}
@@ -15,9 +15,9 @@ use Rattle.bp_run.specs.Desks.{DeskOf, SeatOf}
 -- The result of a call at a desk.
 
 -- Why a call of thread i is not made and sent after the history h: the machine refuses it, or the
--- ring is full although the thread's line is open.
-abbrev pub IsSendRefusal : Program → SetupOf → List Call → ℕ → AskFault → Type 0
-IsSendRefusal t s h i fault.Busy = HasOpenLine s h i
+-- ring is full although the thread is live.
+abbrev pub IsSendRefusal : Program → SetupOf → List Call → ℕ → AskError → Type 0
+IsSendRefusal t s h i error.Busy = IsLiveThread s h i
 IsSendRefusal t s h i f = IsAskRefusal t s h i None f
 
 -- nothing is changed, but more places may be known to be free
@@ -37,27 +37,27 @@ pub record IsAsked (old new : DeskOf) (seat after : SeatOf) (reply : Reply) : Ty
   pub own : after.thread ≡ seat.thread
   pub counted : after.calls ≡ seat.calls + 1
   pub within : after.calls ≤ length new.history
-  pub line : after.is_open ≡ not (is_finished new.setup new.history seat.thread)
+  pub own_live : after.is_open ≡ not (is_terminated new.setup new.history seat.thread)
 
--- the line of the seat's thread is finished, or the seat is shut
+-- the seat's thread has terminated, or the seat is shut
 abbrev pub IsShut : DeskOf → SeatOf → Type 0
-IsShut d seat = (seat.is_open ≡ false) ⊎ (is_finished d.setup d.history seat.thread ≡ true)
+IsShut d seat = (seat.is_open ≡ false) ⊎ (is_terminated d.setup d.history seat.thread ≡ true)
 
--- the line of the seat's thread is open, and so is the seat
+-- the seat's thread is live, and so is the seat
 abbrev pub IsOpen : DeskOf → SeatOf → Type 0
-IsOpen d seat = (seat.is_open ≡ true) × (is_finished d.setup d.history seat.thread ≡ false)
+IsOpen d seat = (seat.is_open ≡ true) × (is_terminated d.setup d.history seat.thread ≡ false)
 
 -- the next step of the seat's thread may need memory
 abbrev pub MayLackMemory : DeskOf → SeatOf → Type 0
 MayLackMemory d seat =
-    IsAskRefusal d.code.tree d.setup d.history seat.thread None fault.Memory
+    IsAskRefusal d.code.tree d.setup d.history seat.thread None error.Memory
 
--- Why a call is refused: the line is finished, or the seat is shut; else memory may be refused if
--- its step is a call; and the ring may be full if no place is known to be free.
-abbrev pub IsDeskRefusal : DeskOf → SeatOf → AskFault → Type 0
-IsDeskRefusal d seat fault.Finished = IsShut d seat
-IsDeskRefusal d seat fault.Memory = IsOpen d seat × MayLackMemory d seat
-IsDeskRefusal d seat fault.Busy = IsOpen d seat × (d.free ≡ 0)
+-- Why a call is refused: the thread has terminated, or the seat is shut; else memory may be refused
+-- if its step is a call; and the ring may be full if no place is known to be free.
+abbrev pub IsDeskRefusal : DeskOf → SeatOf → AskError → Type 0
+IsDeskRefusal d seat error.Terminated = IsShut d seat
+IsDeskRefusal d seat error.Memory = IsOpen d seat × MayLackMemory d seat
+IsDeskRefusal d seat error.Busy = IsOpen d seat × (d.free ≡ 0)
 IsDeskRefusal d seat f = ⊥
 
 -- The result of a turn at a desk: the calls that it appends.
@@ -67,7 +67,7 @@ abbrev pub AreSteps : ℕ → List Call → Type 0
 AreSteps i cs = AllByRecursion (λ x. (x.thread ≡ i) × (x.reply ≡ Stepped)) cs
 
 -- The turn ended with this reply: after n calls, or because the reply is not Stepped, or because
--- the line is finished. The calls before the last are steps.
+-- the thread has terminated. The calls before the last are steps.
 pub record IsTurn (old new : DeskOf) (seat after : SeatOf) (n : ℕ) (reply : Reply)
     : Type 0 where
   pub steps : List Call
@@ -80,20 +80,20 @@ pub record IsTurn (old new : DeskOf) (seat after : SeatOf) (n : ℕ) (reply : Re
   pub most : length steps + 1 ≤ n
   pub ended :
       (length steps + 1 ≡ n)
-      ⊎ ((reply ≢ Stepped) ⊎ (is_finished new.setup new.history seat.thread ≡ true))
+      ⊎ ((reply ≢ Stepped) ⊎ (is_terminated new.setup new.history seat.thread ≡ true))
   pub own : after.thread ≡ seat.thread
   pub counted : after.calls ≡ seat.calls + (length steps + 1)
-  pub line : after.is_open ≡ not (is_finished new.setup new.history seat.thread)
+  pub own_live : after.is_open ≡ not (is_terminated new.setup new.history seat.thread)
 
 -- The turn was cut short by this refusal; the steps before it are kept.
-pub record IsCutTurn (old new : DeskOf) (seat after : SeatOf) (n : ℕ) (f : AskFault)
+pub record IsCutTurn (old new : DeskOf) (seat after : SeatOf) (n : ℕ) (f : AskError)
     : Type 0 where
   pub steps : List Call
   pub sent : new.history ≡ old.history ++ steps
   pub room : old.free ≤ new.free + length steps
   pub stepped : AreSteps seat.thread steps
   pub fewer : length steps < n
-  pub none : f ≡ fault.Finished → after ≡ seat
+  pub none : f ≡ error.Terminated → after ≡ seat
   pub refused : IsDeskRefusal new after f
   pub own : after.thread ≡ seat.thread
   pub counted : after.calls ≡ seat.calls + length steps
@@ -101,11 +101,11 @@ pub record IsCutTurn (old new : DeskOf) (seat after : SeatOf) (n : ℕ) (f : Ask
 -- The seat after a turn, whatever others do at the desk.
 
 -- a desk refuses a call only for these reasons
-abbrev pub IsDeskFault : AskFault → Type 0
-IsDeskFault fault.Finished = ⊤
-IsDeskFault fault.Memory = ⊤
-IsDeskFault fault.Busy = ⊤
-IsDeskFault f = ⊥
+abbrev pub IsDeskError : AskError → Type 0
+IsDeskError error.Terminated = ⊤
+IsDeskError error.Memory = ⊤
+IsDeskError error.Busy = ⊤
+IsDeskError f = ⊥
 
 -- At least one and at most n calls were made. The seat is not open after a last reply; it is open
 -- after a step only if all n calls were made.
@@ -116,12 +116,12 @@ pub record IsSeatTurn (seat after : SeatOf) (n : ℕ) (reply : Reply) : Type 0 w
   pub last : is_last reply ≡ true → after.is_open ≡ false
   pub whole : reply ≡ Stepped → after.is_open ≡ true → after.calls ≡ seat.calls + n
 
--- Fewer than n calls were made before the refusal, and none if the line was finished; else the seat
--- is still open.
-pub record IsCutSeatTurn (seat after : SeatOf) (n : ℕ) (f : AskFault) : Type 0 where
+-- Fewer than n calls were made before the refusal, and none if the thread had terminated; else the
+-- seat is still open.
+pub record IsCutSeatTurn (seat after : SeatOf) (n : ℕ) (f : AskError) : Type 0 where
   pub own : after.thread ≡ seat.thread
   pub some : seat.calls ≤ after.calls
   pub fewer : after.calls < seat.calls + n
-  pub none : f ≡ fault.Finished → after ≡ seat
-  pub stays : f ≢ fault.Finished → after.is_open ≡ true
-  pub why : IsDeskFault f
+  pub none : f ≡ error.Terminated → after ≡ seat
+  pub stays : f ≢ error.Terminated → after.is_open ≡ true
+  pub why : IsDeskError f

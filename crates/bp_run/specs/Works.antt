@@ -1,4 +1,4 @@
--- A worker's results, and why it stops before its line is finished.
+-- A worker's results, and why it stops before its thread has terminated.
 use Rattle.std.specs.Prelude.{◌≡◌, ℕ, Bool, true, false, List, ◌++◌, Option, None, Some, length, flat_map, ⊤, ◌↔◌, IsTrue, Result, IfErr, MatchResult}
 use Rattle.std.specs.List.{All}
 use Rattle.bp_text.specs.declared.sinks.Sink.{Sink}
@@ -7,22 +7,22 @@ use Rattle.bp_language.specs.Ast.{Program}
 use Rattle.bp_flat.specs.Flat.{Flat}
 use Rattle.bp_machine.specs.declared.calls.Call.{Call}
 use Rattle.bp_machine.specs.Setups.{SetupOf}
-use Rattle.bp_machine.specs.declared.calls.AskFault.TheVariants as fault
+use Rattle.bp_machine.specs.declared.calls.AskError.TheVariants as error
 use Rattle.bp_run.specs.Desks.{SeatOf}
 use Rattle.bp_run.specs.Gatherings.{TellsOfRefusal}
 use Rattle.bp_trace.specs.declared.traces.Version.TheVariants.{One}
 use Rattle.bp_trace.specs.TraceText.{head_text, call_line}
 use Rattle.bp_run.specs.declared.workers.Unfinished.{Unfinished}
-use Rattle.bp_run.specs.declared.workers.Unfinished.TheVariants.{Memory, Finished, Halted}
+use Rattle.bp_run.specs.declared.workers.Unfinished.TheVariants.{Memory, Terminated, Halted}
 
--- The calls that a scribe has taken, and the text given to its sink.
+-- The calls that a writer thread has taken, and the text given to its sink.
 
 -- a line for each call
 abbrev pub lines_of : List Call → List ℕ
 lines_of cs = flat_map call_line cs
 
 -- the sink was given the lines of the calls that were taken
-pub record IsScribed
+pub record AreCallsWritten
     {W : Type 0} (contents : W → Option (List ℕ)) (old new : Sink W) (taken taken_now : List Call)
     : Type 0 where
   pub more : List Call
@@ -42,7 +42,7 @@ rest_length None = 0
 rest_length (Some cs) = length cs
 
 -- the sink was given the first of the calls that were left, and these are left
-pub record IsRestScribed
+pub record IsRestWritten
     {W : Type 0} (contents : W → Option (List ℕ)) (old new : Sink W)
     (rest rest_now : Option (List Call))
     : Type 0 where
@@ -53,10 +53,10 @@ pub record IsRestScribed
   pub given : Given contents old new (lines_of more)
 
 -- why the worker of thread i may stop though its seat is open, unless it was told to: memory is
--- refused only before a call of a procedure, or the line is finished, in some legal history
+-- refused only before a call of a procedure, or the thread has terminated, in some legal history
 abbrev pub TellsOfStop : Program → SetupOf → ℕ → Unfinished → Type 0
-TellsOfStop t s i Memory = TellsOfRefusal t s i fault.Memory
-TellsOfStop t s i Finished = TellsOfRefusal t s i fault.Finished
+TellsOfStop t s i Memory = TellsOfRefusal t s i error.Memory
+TellsOfStop t s i Terminated = TellsOfRefusal t s i error.Terminated
 TellsOfStop t s i Halted = ⊤
 
 -- The worker of this thread has left its seat: shut if its work is done, else open, with the

@@ -8,16 +8,16 @@ ghost use Rattle.bp_run.specs.Options.{setup_under, IsOptionsRefusal, IsSetupUnd
 use crate::boards::Calls;
 use crate::limits::{MAX_RING, MAX_TURN};
 use crate::seats::Seat;
-use bp_code::{CodeFault, ProgramFault};
+use bp_code::{CodeError, ProgramError};
 use bp_flat::Code;
-use bp_machine::{Report, Setup, SetupFault};
+use bp_machine::{Report, Setup, SetupError};
 use bp_tasks::RunOptions;
 use std::alloc::{AllocError, Global};
 use std::sync::ledger::Ledger;
 use thiserror::Error;
 
-/// The number of calls that the worker of a thread made, by its own count, and whether the thread's
-/// line is still open.
+/// The number of calls that the worker of a thread made, by its own count, and whether the thread
+/// is still live.
 #[derive(Clone, Copy, Debug, PartialEq, Eq)]
 pub struct WorkerCount {
     pub thread: u32,
@@ -65,18 +65,18 @@ pub(crate) fn counts_of<C: Calls, O: Ledger>(
 
 /// Why a run gives no report: the first reason that applies, `Memory` aside.
 #[derive(Debug, Drop, PartialEq, Eq, Error)]
-pub enum RunFault {
+pub enum RunError {
     /// The program text is refused. Nothing is written.
     #[error("{0}")]
-    Program(ProgramFault),
+    Program(ProgramError),
     /// The options are refused for the program. Nothing is written.
     #[error("{0}")]
-    Setup(SetupFault),
+    Setup(SetupError),
     /// A worker could not be started; those that were started have ended. Nothing is written.
     #[error("a worker could not be started")]
     Start,
-    /// The worker of this thread ended although the line is open and the next step needs no memory.
-    /// The trace is written.
+    /// The worker of this thread ended although the thread is live and the next step needs no
+    /// memory. The trace is written.
     #[error("the worker of thread {0} stopped before the thread was finished")]
     Early(u32),
     /// A write or a flush failed, and the workers stopped. A proper prefix of the trace of a
@@ -88,38 +88,38 @@ pub enum RunFault {
     Memory,
 }
 
-impl From<AllocError> for RunFault {
+impl From<AllocError> for RunError {
     ghost use Rattle.std.specs.Prelude.{◌≡◌};
-    ghost use Rattle.bp_run.specs.declared.answers.RunFault.{RunFault};
+    ghost use Rattle.bp_run.specs.declared.answers.RunError.{RunError};
 
-    ghost from_gives = { λ _ e. e ≡ RunFault.Memory };
+    ghost from_gives = { λ _ e. e ≡ RunError.Memory };
 
-    fn from(_: AllocError) -> RunFault {
-        RunFault::Memory
+    fn from(_: AllocError) -> RunError {
+        RunError::Memory
     }
 }
 
-impl From<SetupFault> for RunFault {
+impl From<SetupError> for RunError {
     ghost use Rattle.std.specs.Prelude.{◌≡◌};
-    ghost use Rattle.bp_run.specs.declared.answers.RunFault.{RunFault};
+    ghost use Rattle.bp_run.specs.declared.answers.RunError.{RunError};
 
-    ghost from_gives = { λ f e. e ≡ RunFault.Setup f };
+    ghost from_gives = { λ f e. e ≡ RunError.Setup f };
 
-    fn from(fault: SetupFault) -> RunFault {
-        RunFault::Setup(fault)
+    fn from(error: SetupError) -> RunError {
+        RunError::Setup(error)
     }
 }
 
-impl From<CodeFault> for RunFault {
+impl From<CodeError> for RunError {
     ghost use Rattle.std.specs.Prelude.{◌≡◌};
-    ghost use Rattle.bp_run.specs.Faults.{run_fault_of_code};
+    ghost use Rattle.bp_run.specs.Errors.{run_error_of_code};
 
-    ghost from_gives = { λ f e. e ≡ run_fault_of_code f };
+    ghost from_gives = { λ f e. e ≡ run_error_of_code f };
 
-    fn from(fault: CodeFault) -> RunFault {
-        match fault {
-            CodeFault::Program(fault) => RunFault::Program(fault),
-            CodeFault::Memory => RunFault::Memory,
+    fn from(error: CodeError) -> RunError {
+        match error {
+            CodeError::Program(error) => RunError::Program(error),
+            CodeError::Memory => RunError::Memory,
         }
     }
 }
@@ -132,13 +132,13 @@ pub fn has_bad_turn_or_ring(options: &RunOptions) -> bool
     turn == 0 || turn > MAX_TURN || ring == 0 || ring > MAX_RING
 }
 
-/// Returns the setup of a program under these options, with their seed. The faults of the setup
+/// Returns the setup of a program under these options, with their seed. The errors of the setup
 /// come before those of the turn and the ring.
 pub(crate) fn setup_under(
     alloc: Global,
     options: &RunOptions,
     code: &Code,
-) -> Result<Setup, SetupFault>
+) -> Result<Setup, SetupError>
     ensures answer { let t = code.now.tree in
         MatchResult result (IsSetupUnder options.now t) (IsOptionsRefusal options.now t) }
     ensures taken { IfOk result (FitsOptions options.now code.now) }
@@ -147,9 +147,9 @@ pub(crate) fn setup_under(
     if !has_bad_turn_or_ring(options) {
         return made;
     }
-    // A setup that is refused for memory has no other fault.
+    // A setup that is refused for memory has no other error.
     match made {
-        Ok(_) | Err(SetupFault::Memory) => Err(SetupFault::OutOfRange),
-        Err(fault) => Err(fault),
+        Ok(_) | Err(SetupError::Memory) => Err(SetupError::OutOfRange),
+        Err(error) => Err(error),
     }
 }

@@ -11,7 +11,7 @@ ghost use Rattle.bp_run.specs.Gatherings.{TellsOfRefusal};
 use crate::desks::Desk;
 use crate::seats::{Seat, Tap};
 use bp_flat::Code;
-use bp_machine::{AskFault, Call, Reply, Setup};
+use bp_machine::{AskError, Call, Reply, Setup};
 use rtrb::{Consumer, Producer, RingBuffer};
 use std::alloc::{AllocError, Global};
 use std::marker::{Brand, Model};
@@ -29,31 +29,31 @@ impl<C: Calls, O: Ledger> Board<C, O> {
     /// order, and the tap.
     pub fn open(
         alloc: Global,
-        kit: Kit,
+        board_parts: BoardParts,
         code: &Code,
         setup: &Setup,
     ) -> Result<(Board<C, O>, Vec<Seat<C, O>>, Tap<C>), AllocError>
-        requires named { IsNamed kit C.name C.parts O.name O.parts C.ring }
+        requires named { IsNamed board_parts C.name C.parts O.name O.parts C.ring }
         requires code { code.now ≡ C.code }
         requires setup { setup.now ≡ C.setup }
-        requires threads { kit.threads ≡ threads setup.now }
+        requires threads { board_parts.threads ≡ threads setup.now }
         requires fits { Fits code.now.tree setup.now }
         requires seeded { is_some setup.now.seed ≡ true }
         ensures seats { IfOk result (λ r. AreNewSeats (threads setup.now) r.1.items) }
         ensures tap { IfOk result (λ r. (r.2.taken ≡ []) × (r.2.rest ≡ None)) }
     {
-        let (desk, seats, tap) = Desk::open(alloc, kit, code, setup)?;
+        let (desk, seats, tap) = Desk::open(alloc, board_parts, code, setup)?;
         let desk = Mutex::new(desk);
         Ok((Board { desk }, seats, tap))
     }
 
     /// Takes the lock once, for one turn of the seat's thread at the desk, and may wait for it. A
     /// refusal has a reason in a legal history of the setup.
-    pub fn turn<R: Wait>(&self, rt: &R, seat: &mut Seat<C, O>, n: u32) -> Result<Reply, AskFault>
+    pub fn turn<R: Wait>(&self, rt: &R, seat: &mut Seat<C, O>, n: u32) -> Result<Reply, AskError>
         requires some { 0 < n }
         requires few { n ≤ MAX_TURN }
         ensures shut { seat.old.is_open ≡ false
-            → (result ≡ Err AskFault.Finished) × (seat.new ≡ seat.old) }
+            → (result ≡ Err AskError.Terminated) × (seat.new ≡ seat.old) }
         ensures answer { MatchResult result
             (IsSeatTurn seat.old seat.new n)
             (IsCutSeatTurn seat.old seat.new n) }
@@ -68,29 +68,29 @@ impl<C: Calls, O: Ledger> Board<C, O> {
 }
 
 /// The parts from which a board is opened: the two ends of a new ring, and the blanks of two
-/// ledgers, one of the calls that are made and one of the open lines.
+/// ledgers, one of the calls that are made and one of the live threads.
 #[derive(Drop)]
-pub struct Kit {
+pub struct BoardParts {
     pub(crate) threads: u32,
     pub(crate) calls: Blank,
-    pub(crate) lines: Blank,
+    pub(crate) live: Blank,
     pub(crate) to: Producer<Call>,
     pub(crate) from: Consumer<Call>,
 }
 
-impl Model for Kit {
-    ghost use Rattle.bp_run.specs.Desks.{KitOf, kit_of, IsNewKit};
+impl Model for BoardParts {
+    ghost use Rattle.bp_run.specs.Desks.{BoardPartsOf, board_parts_of, AreNewBoardParts};
 
-    ghost Value = { KitOf };
+    ghost Value = { BoardPartsOf };
 
-    ghost view = { λ k. kit_of k.threads k.calls.name k.lines.name k.to };
+    ghost view = { λ k. board_parts_of k.threads k.calls.name k.live.name k.to };
 
-    ghost invariant = { λ k. IsNewKit k.threads k.calls.parts k.lines.parts k.to k.from };
+    ghost invariant = { λ k. AreNewBoardParts k.threads k.calls.parts k.live.parts k.to k.from };
 }
 
-impl Kit {
-    /// Makes a kit for `threads` guest threads, with a ring that holds `ring` calls.
-    pub fn new(alloc: Global, threads: u32, ring: u32) -> Result<Kit, AllocError>
+impl BoardParts {
+    /// Makes parts for `threads` guest threads, with a ring that holds `ring` calls.
+    pub fn new(alloc: Global, threads: u32, ring: u32) -> Result<BoardParts, AllocError>
         requires some { 0 < threads }
         requires few { threads ≤ MAX_THREADS }
         requires room { 0 < ring }
@@ -99,10 +99,10 @@ impl Kit {
         ensures free { IfOk result (λ k. k.free ≡ ring) }
     {
         let (to, from) = RingBuffer::new(alloc, ring as usize)?;
-        Ok(Kit {
+        Ok(BoardParts {
             threads,
             calls: Blank::new(u64::from(threads)),
-            lines: Blank::new(u64::from(threads)),
+            live: Blank::new(u64::from(threads)),
             to,
             from,
         })

@@ -1,5 +1,5 @@
 //! The desk: the machine, and the end of the ring to which its history is sent. A call is made and
-//! sent, or neither. Whether a session has stopped: its open lines are before calls.
+//! sent, or neither. Whether a session has stopped: its live threads are before calls.
 ghost use Rattle.std.specs.Prelude.{◌≡◌, ◌≤◌, ◌<◌, ◌↔◌, [], true, None, is_some, IfOk, OnErr, MatchResult, ◌+◌, ◌∷◌, ◌++◌};
 ghost use Rattle.rtrb.specs.Ring.{sent, known_free, SameProducer};
 ghost use Rattle.bp_machine.specs.Setups.{threads, Fits};
@@ -9,10 +9,10 @@ ghost use Rattle.bp_run.specs.Turns.{IsAsked, IsShut, IsDeskRefusal, IsUnchanged
 ghost use Rattle.bp_run.specs.Desks.{IsLegalDesk, IsNewDesk, IsNamed, AreNewSeats};
 ghost use Rattle.bp_run.specs.Gatherings.{is_at_call, TellsEarly};
 
-use crate::boards::{Calls, Kit};
+use crate::boards::{BoardParts, Calls};
 use crate::seats::{Seat, Tap, new_seats};
 use bp_flat::{Code, Kind};
-use bp_machine::{AskFault, Call, Reply, Session, Setup};
+use bp_machine::{AskError, Call, Reply, Session, Setup};
 use rtrb::Producer;
 use std::alloc::{AllocError, Global};
 use std::marker::Model;
@@ -27,7 +27,7 @@ pub struct Desk<C: Calls, O: Ledger> {
     pub(crate) session: Session,
     pub(crate) to: Producer<Call>,
     pub(crate) made: Book<C>,
-    pub(crate) lines: Book<O>,
+    pub(crate) live: Book<O>,
 }
 
 impl<C: Calls, O: Ledger> Model for Desk<C, O> {
@@ -43,7 +43,7 @@ impl<C: Calls, O: Ledger> Model for Desk<C, O> {
     ghost view = { λ d. desk_of d.session (sent d.to) (known_free d.to) };
 
     ghost invariant = { λ d.
-        IsInBooks d.session (sent d.to) d.made.total d.lines.total
+        IsInBooks d.session (sent d.to) d.made.total d.live.total
         × (producer_ring d.to ≡ C.ring)
         × (threads d.session.setup ≡ C.parts)
         × (threads d.session.setup ≡ O.parts)
@@ -56,38 +56,38 @@ impl<C: Calls, O: Ledger> Desk<C, O> {
     /// and the tap.
     pub fn open(
         alloc: Global,
-        kit: Kit,
+        board_parts: BoardParts,
         code: &Code,
         setup: &Setup,
     ) -> Result<(Desk<C, O>, Vec<Seat<C, O>>, Tap<C>), AllocError>
-        requires named { IsNamed kit C.name C.parts O.name O.parts C.ring }
+        requires named { IsNamed board_parts C.name C.parts O.name O.parts C.ring }
         requires code { code.now ≡ C.code }
         requires setup { setup.now ≡ C.setup }
-        requires threads { kit.threads ≡ threads setup.now }
+        requires threads { board_parts.threads ≡ threads setup.now }
         requires fits { Fits code.now.tree setup.now }
         requires seeded { is_some setup.now.seed ≡ true }
-        ensures desk { IfOk result (λ r. IsNewDesk code.now setup.now kit.free r.0) }
+        ensures desk { IfOk result (λ r. IsNewDesk code.now setup.now board_parts.free r.0) }
         ensures seats { IfOk result (λ r. AreNewSeats (threads setup.now) r.1.items) }
         ensures tap { IfOk result (λ r. (r.2.taken ≡ []) × (r.2.rest ≡ None)) }
     {
         setup.is_in_range();
         let session = Session::new(alloc, code, setup)?;
-        let Kit {
+        let BoardParts {
             threads,
             calls,
-            lines,
+            live,
             to,
             from,
-        } = kit;
+        } = board_parts;
         let (made, all_made) = calls.open::<C>();
-        let (mut lines, mut all_lines) = lines.open::<O>();
-        lines.add(&mut all_lines, u64::from(threads));
-        let seats = new_seats(alloc, threads, all_made, all_lines)?;
+        let (mut live, mut all_live) = live.open::<O>();
+        live.add(&mut all_live, u64::from(threads));
+        let seats = new_seats(alloc, threads, all_made, all_live)?;
         let desk = Desk {
             session,
             to,
             made,
-            lines,
+            live,
         };
         Ok((desk, seats, Tap::new(from)))
     }
@@ -102,41 +102,41 @@ impl<C: Calls, O: Ledger> Desk<C, O> {
     }
 
     /// Makes one call of the seat's thread, and sends it. At a refusal nothing is changed, and no
-    /// choice bit is used. It is refused if the thread's line is finished, if the ring is full,
+    /// choice bit is used. It is refused if the thread has terminated, if the ring is full,
     /// which it is not while a place is known to be free, or if memory is refused.
-    pub fn ask(&mut self, seat: &mut Seat<C, O>) -> Result<Reply, AskFault>
+    pub fn ask(&mut self, seat: &mut Seat<C, O>) -> Result<Reply, AskError>
         ensures answer { MatchResult result
             (IsAsked self.old self.new seat.old seat.new)
             (IsDeskRefusal self.new seat.new) }
-        ensures finished { (result ≡ Err AskFault.Finished) ↔ IsShut self.old seat.old }
+        ensures terminated { (result ≡ Err AskError.Terminated) ↔ IsShut self.old seat.old }
         ensures same { OnErr result (IsUnchanged self.old self.new × (seat.new ≡ seat.old)) }
         ensures kept { (self.new.code ≡ self.old.code) × (self.new.setup ≡ self.old.setup) }
     {
         self.session.setup().is_in_range();
         if !seat.is_open {
-            return Err(AskFault::Finished);
+            return Err(AskError::Terminated);
         }
         let call = send(&mut self.session, &mut self.to, seat.thread)?;
         self.made.add(&mut seat.made, 1);
         self.made.audit(&mut seat.made);
         seat.calls += 1;
-        if self.session.is_finished(seat.thread) {
-            self.lines.sub(&mut seat.line, 1);
+        if self.session.is_terminated(seat.thread) {
+            self.live.sub(&mut seat.own_live, 1);
             seat.is_open = false;
         }
         Ok(call.reply)
     }
 
     /// Makes calls of the seat's thread until there were `n`, one had another reply than Stepped,
-    /// its line is finished, or one is refused. Returns the last reply, or the refusal; the calls
-    /// before a refusal are kept.
-    pub fn turn(&mut self, seat: &mut Seat<C, O>, n: u32) -> Result<Reply, AskFault>
+    /// its thread has terminated, or one is refused. Returns the last reply, or the refusal; the
+    /// calls before a refusal are kept.
+    pub fn turn(&mut self, seat: &mut Seat<C, O>, n: u32) -> Result<Reply, AskError>
         requires some { 0 < n }
         requires few { n ≤ MAX_TURN }
         ensures answer { MatchResult result
             (IsTurn self.old self.new seat.old seat.new n)
             (IsCutTurn self.old self.new seat.old seat.new n) }
-        ensures finished { (result ≡ Err AskFault.Finished) ↔ IsShut self.old seat.old }
+        ensures terminated { (result ≡ Err AskError.Terminated) ↔ IsShut self.old seat.old }
         ensures kept { (self.new.code ≡ self.old.code) × (self.new.setup ≡ self.old.setup) }
     {
         let mut last = self.ask(seat)?;
@@ -157,7 +157,7 @@ pub(crate) fn send(
     session: &mut Session,
     to: &mut Producer<Call>,
     thread: u32,
-) -> Result<Call, AskFault>
+) -> Result<Call, AskError>
     requires { thread < threads session.old.setup }
     ensures answer { let t = session.old.code.tree in Stands t session.old (sent to.old)
         → MatchResult result
@@ -174,14 +174,14 @@ pub(crate) fn send(
     ensures unsent { OnErr result
         ((sent to.new ≡ sent to.old) × (known_free to.old ≤ known_free to.new)) }
     ensures full { let t = session.old.code.tree in Stands t session.old (sent to.old)
-        → result ≡ Err AskFault.Busy
+        → result ≡ Err AskError.Busy
         → known_free to.new ≡ 0 }
 {
     if to.is_full() {
-        return Err(if session.is_finished(thread) {
-            AskFault::Finished
+        return Err(if session.is_terminated(thread) {
+            AskError::Terminated
         } else {
-            AskFault::Busy
+            AskError::Busy
         });
     }
     let call = session.ask(thread)?;
@@ -207,12 +207,12 @@ fn is_at_call(session: &Session, thread: u32) -> bool
     }
 }
 
-/// Returns the first thread whose line is open although its next step is not a call, if any.
+/// Returns the first thread that is live although its next step is not a call, if any.
 pub(crate) fn stopped_early(session: &Session) -> Option<u32>
     ensures { AfterEach session.now (λ t h. TellsEarly t session.now.setup h result) }
 {
     for thread in 0..session.setup().threads() {
-        if !session.is_finished(thread) && !is_at_call(session, thread) {
+        if !session.is_terminated(thread) && !is_at_call(session, thread) {
             return Some(thread);
         }
     }

@@ -1,31 +1,31 @@
-//! Runs: one worker for each guest thread makes its calls at a board, and a scribe writes the trace
-//! while they run.
+//! Runs: one worker for each guest thread makes its calls at a board, and a writer thread writes
+//! the trace while they run.
 #![tactic(auto)]
 
 mod answers;
 mod boards;
 mod desks;
 mod gates;
-mod gathering;
+mod gatherings;
 pub mod limits;
-mod playing;
+mod plays;
+mod random_turns;
 mod runner;
-mod scribes;
 mod seats;
 mod signals;
-mod spreads;
 mod stages;
+mod trace_writers;
 mod workers;
 
-pub use answers::{RunFault, RunReport, WorkerCount, has_bad_turn_or_ring};
-pub use boards::{Board, Calls, Kit};
+pub use answers::{RunError, RunReport, WorkerCount, has_bad_turn_or_ring};
+pub use boards::{Board, BoardParts, Calls};
 pub use bp_tasks::RunOptions;
 pub use desks::Desk;
 pub use gates::{Gate, Open, Turns};
-pub use gathering::{Gathered, gather};
-pub use playing::{OpenedBoard, PlayedBoard, play};
+pub use gatherings::{Gathered, gather};
+pub use plays::{OpenedBoard, PlayedBoard, play};
+pub use random_turns::RandomTurns;
 pub use runner::{run, run_code};
 pub use seats::{Seat, Tap};
 pub use signals::Signals;
-pub use spreads::Spread;
 pub use workers::{Unfinished, work};

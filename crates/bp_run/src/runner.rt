@@ -5,10 +5,10 @@ ghost use Rattle.bp_run.specs.declared.limits.TheConstants.{MAX_TURN, MAX_RING};
 ghost use Rattle.bp_run.specs.Desks.{IsNamed};
 ghost use Rattle.bp_run.specs.Runs.{IsPlayedBy, IsPlayRefusal, IsTracedRun, IsRunRefusal};
 
-use crate::answers::{RunFault, RunReport, counts_of, setup_under};
-use crate::boards::{Board, Calls, Kit};
+use crate::answers::{RunError, RunReport, counts_of, setup_under};
+use crate::boards::{Board, BoardParts, Calls};
 use crate::gates::{Gate, Turns};
-use crate::playing::{OpenedBoard, play};
+use crate::plays::{OpenedBoard, play};
 use bp_code::code_of;
 use bp_flat::Code;
 use bp_machine::Setup;
@@ -21,7 +21,7 @@ use std::sync::ledger::Ledger;
 use std::thread::Threads;
 use std::time::Clock;
 
-/// Opens a board of this kit, and plays it.
+/// Opens a board of these parts, and plays it.
 fn open_and_play<
     C: Calls + Send + Sync,
     O: Ledger + Send + Sync,
@@ -31,16 +31,16 @@ fn open_and_play<
 >(
     rt: &R,
     alloc: Global,
-    kit: Kit,
+    board_parts: BoardParts,
     code: &Code,
     setup: &Setup,
     turns: Turns<'_, G>,
     out: &mut W,
-) -> Result<RunReport, RunFault>
-    requires named { IsNamed kit C.name C.parts O.name O.parts C.ring }
+) -> Result<RunReport, RunError>
+    requires named { IsNamed board_parts C.name C.parts O.name O.parts C.ring }
     requires code { code.now ≡ C.code }
     requires setup { setup.now ≡ C.setup }
-    requires threads { kit.threads ≡ threads setup.now }
+    requires threads { board_parts.threads ≡ threads setup.now }
     requires fits { Fits code.now.tree setup.now }
     requires seeded { is_some setup.now.seed ≡ true }
     requires turn { (0 < turns.calls) × (turns.calls ≤ MAX_TURN) }
@@ -51,7 +51,7 @@ fn open_and_play<
         (IsPlayRefusal t setup.now old new) }
 {
     let room = Vec::with_capacity(alloc, setup.threads() as usize)?;
-    let (board, seats, tap) = Board::<C, O>::open(alloc, kit, code, setup)?;
+    let (board, seats, tap) = Board::<C, O>::open(alloc, board_parts, code, setup)?;
     let opened = OpenedBoard {
         code,
         setup,
@@ -75,7 +75,7 @@ fn open_and_play<
 ///
 /// Nothing is written before all workers were started. If a write or a flush fails the workers
 /// stop, and a proper prefix of the trace of a history is written. A worker that is refused memory
-/// ends, and its line stays open: that is not a refusal of the run.
+/// ends, and its thread stays live: that is not a refusal of the run.
 pub fn run_code<G: Gate, W: Write, R: Threads + Wait + Clock + Sync>(
     rt: &R,
     alloc: Global,
@@ -84,7 +84,7 @@ pub fn run_code<G: Gate, W: Write, R: Threads + Wait + Clock + Sync>(
     turns: Turns<'_, G>,
     ring: u32,
     out: &mut W,
-) -> Result<RunReport, RunFault>
+) -> Result<RunReport, RunError>
     requires fits { Fits code.now.tree setup.now }
     requires seeded { is_some setup.now.seed ≡ true }
     requires turn { (0 < turns.calls) × (turns.calls ≤ MAX_TURN) }
@@ -96,12 +96,12 @@ pub fn run_code<G: Gate, W: Write, R: Threads + Wait + Clock + Sync>(
         (IsPlayRefusal t setup.now old new) }
 {
     setup.is_in_range();
-    let kit = Kit::new(alloc, setup.threads(), ring)?;
-    open_and_play::<Brand, Brand, G, W, R>(rt, alloc, kit, code, setup, turns, out)
+    let board_parts = BoardParts::new(alloc, setup.threads(), ring)?;
+    open_and_play::<Brand, Brand, G, W, R>(rt, alloc, board_parts, code, setup, turns, out)
 }
 
 /// Runs the program of a text under these options, as `run_code` does. The refusals come in the
-/// order of `RunFault`.
+/// order of `RunError`.
 pub fn run<G: Gate, W: Write, R: Threads + Wait + Clock + Sync>(
     rt: &R,
     alloc: Global,
@@ -109,7 +109,7 @@ pub fn run<G: Gate, W: Write, R: Threads + Wait + Clock + Sync>(
     options: &RunOptions,
     gate: &G,
     out: &mut W,
-) -> Result<RunReport, RunFault>
+) -> Result<RunReport, RunError>
     ensures { let old = W.contents out.old in
         let new = W.contents out.new in
         MatchResult result

@@ -19,7 +19,7 @@ pub struct Seat<C: Calls, O: Ledger> {
     pub(crate) calls: u64,
     pub(crate) is_open: bool,
     pub(crate) made: Share<C>,
-    pub(crate) line: Share<O>,
+    pub(crate) own_live: Share<O>,
 }
 
 impl<C: Calls, O: Ledger> Model for Seat<C, O> {
@@ -33,7 +33,7 @@ impl<C: Calls, O: Ledger> Model for Seat<C, O> {
     ghost invariant = { λ s.
         let seat = seat_of s.thread s.calls s.is_open in
         (s.thread < C.parts)
-        × HasShares s.made.parts s.made.amount s.line.parts s.line.amount seat };
+        × HasShares s.made.parts s.made.amount s.own_live.parts s.own_live.amount seat };
 }
 
 /// Makes an open seat for each thread, in order, with a part of the calls and a line of its own.
@@ -41,11 +41,11 @@ pub(crate) fn new_seats<C: Calls, O: Ledger>(
     alloc: Global,
     threads: u32,
     mut made: Share<C>,
-    mut lines: Share<O>,
+    mut live: Share<O>,
 ) -> Result<Vec<Seat<C, O>>, AllocError>
     requires threads { threads ≡ C.parts }
     requires made { (made.parts ≡ threads) × (made.amount ≡ 0) }
-    requires lines { (lines.parts ≡ threads) × (lines.amount ≡ threads) }
+    requires live { (live.parts ≡ threads) × (live.amount ≡ threads) }
     ensures { IfOk result (λ v. AreNewSeats threads v.items) }
 {
     let mut seats = Vec::new(alloc);
@@ -55,7 +55,7 @@ pub(crate) fn new_seats<C: Calls, O: Ledger>(
             calls: 0,
             is_open: true,
             made: made.split_off(1, 0),
-            line: lines.split_off(1, 1),
+            own_live: live.split_off(1, 1),
         })?;
     }
     Ok(seats)

@@ -1,5 +1,5 @@
-//! Signals between the workers and the scribe of a run outside the board. Bells: a thread that has
-//! nothing to do sleeps at one, until another thread rings it.
+//! Signals between the workers and the writer thread of a run outside the board. `Notify`: a thread
+//! that has nothing to do sleeps at one, until another thread rings it.
 use std::hint;
 use std::sync::Wait;
 use std::sync::atomic::{AtomicBool, AtomicU64, Ordering};
@@ -15,11 +15,11 @@ const DOZE: u64 = 50;
 /// The longest sleep of a thread before it looks again by itself, in milliseconds.
 const NAP: u64 = 100;
 
-/// A bell at which threads sleep until they are woken. A thread that rings it makes its change
+/// A `Notify` at which threads sleep until they are woken. A thread that rings it makes its change
 /// before, so that each thread that sleeps either sees the change or is woken. One that dozes looks
 /// again soon by itself, so it is woken only if others wait for it.
 #[derive(Drop)]
-pub(crate) struct Bell {
+pub(crate) struct Notify {
     /// The number of times that a sleeper was woken.
     rings: AtomicU64,
     /// The number of threads that sleep, or are about to.
@@ -28,9 +28,9 @@ pub(crate) struct Bell {
     dozers: AtomicU64,
 }
 
-impl Bell {
-    pub fn new() -> Bell {
-        Bell {
+impl Notify {
+    pub fn new() -> Notify {
+        Notify {
             rings: AtomicU64::new(0),
             sleepers: AtomicU64::new(0),
             dozers: AtomicU64::new(0),
@@ -68,7 +68,7 @@ impl Bell {
         self.sleepers.fetch_sub(1, Ordering::SeqCst);
     }
 
-    /// Sleeps for `most` at most, unless the bell has rung since it had rung `rings` times.
+    /// Sleeps for `most` at most, unless the `Notify` has rung since it had rung `rings` times.
     fn sleep<R: Wait>(&self, rt: &R, rings: u64, most: Duration) {
         let seen = (rings & 0xffff_ffff) as u32;
         self.rings.park_timeout(rt, seen, most);
@@ -84,7 +84,7 @@ impl Bell {
 
 /// The time for which a thread has found nothing to do.
 pub(crate) struct Idle<'a> {
-    bell: &'a Bell,
+    notify: &'a Notify,
     /// The number of times that it has looked again.
     looks: u32,
     /// The number of times that it dozes before it sleeps.
@@ -95,18 +95,18 @@ pub(crate) struct Idle<'a> {
 
 impl<'a> Idle<'a> {
     /// Makes the state of a thread that was just busy, and dozes `dozes` times before it sleeps.
-    pub fn new(bell: &'a Bell, dozes: u32) -> Idle<'a> {
+    pub fn new(notify: &'a Notify, dozes: u32) -> Idle<'a> {
         Idle {
-            bell,
+            notify,
             looks: 0,
             dozes,
             heard: None,
         }
     }
 
-    /// Pauses, each time for longer, then dozes, and then sleeps until the bell rings. The thread
-    /// has to look for something to do after each rest, even once it has registered as about to
-    /// sleep.
+    /// Pauses, each time for longer, then dozes, and then sleeps until the `Notify` rings. The
+    /// thread has to look for something to do after each rest, even once it has registered as about
+    /// to sleep.
     pub fn rest<R: Wait>(&mut self, rt: &R) {
         if self.looks < LOOKS_AWAKE {
             for _ in 0..1u32 << self.looks {
@@ -117,14 +117,14 @@ impl<'a> Idle<'a> {
         }
         if self.dozes > 0 {
             self.dozes -= 1;
-            self.bell.doze(rt);
+            self.notify.doze(rt);
             return;
         }
         match self.heard.take() {
-            None => self.heard = Some(self.bell.enter()),
+            None => self.heard = Some(self.notify.enter()),
             Some(rings) => {
-                self.bell.sleep(rt, rings, Duration::from_millis(NAP));
-                self.bell.leave();
+                self.notify.sleep(rt, rings, Duration::from_millis(NAP));
+                self.notify.leave();
             }
         }
     }
@@ -133,27 +133,28 @@ impl<'a> Idle<'a> {
 impl Drop for Idle<'_> {
     fn drop(self) {
         let Self {
-            bell,
+            notify,
             looks: _,
             dozes: _,
             heard,
         } = self;
         if heard.is_some() {
-            bell.leave();
+            notify.leave();
         }
     }
 }
 
 /// The state that the threads of a run share outside the board: the number of workers that have
-/// ended, whether they must stop, and the bells at which they wait for each other.
+/// ended, whether they must stop, and the `Notify`s at which they wait for each other.
 #[derive(Drop)]
 pub struct Signals {
     ended: AtomicU64,
     is_halted: AtomicBool,
-    /// The bell at which workers wait for room in the ring.
-    pub(crate) room: Bell,
-    /// The bell at which the scribe waits for calls in the ring, and for the end of the workers.
-    pub(crate) calls: Bell,
+    /// The `Notify` at which workers wait for room in the ring.
+    pub(crate) room: Notify,
+    /// The `Notify` at which the writer thread waits for calls in the ring, and for the end of the
+    /// workers.
+    pub(crate) calls: Notify,
 }
 
 impl Signals {
@@ -162,8 +163,8 @@ impl Signals {
         Signals {
             ended: AtomicU64::new(0),
             is_halted: AtomicBool::new(false),
-            room: Bell::new(),
-            calls: Bell::new(),
+            room: Notify::new(),
+            calls: Notify::new(),
         }
     }
 

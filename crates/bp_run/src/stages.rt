@@ -1,4 +1,4 @@
-//! The stage of a run: a worker for each seat, and the scribe, at one board.
+//! The stage of a run: a worker for each seat, and the writer thread, at one board.
 ghost use Rattle.std.specs.Prelude.{◌≡◌, ◌≤◌, ◌<◌, ◌+◌, ◌∷◌, [], false, true, map, vec_len, vec_capacity};
 ghost use Rattle.std.specs.Thread.{IsSync};
 ghost use Rattle.bp_run.specs.declared.limits.TheConstants.{MAX_TURN};
@@ -7,9 +7,9 @@ ghost use Rattle.bp_run.specs.Works.{IsStaged, IsWorked, TellsShut};
 
 use crate::boards::{Board, Calls};
 use crate::gates::{Gate, Turns};
-use crate::scribes::{Pen, write_running};
 use crate::seats::{Seat, Tap};
 use crate::signals::Signals;
+use crate::trace_writers::{TraceWriter, write_running};
 use crate::workers::{Worked, worker};
 use bp_machine::Setup;
 use std::io::Write;
@@ -36,11 +36,11 @@ impl<C: Calls, O: Ledger> Promise<Worked<C, O>> for OfThread {
 /// A worker that is to be joined.
 pub(crate) type Handle<C, O> = PromisedHandle<Worked<C, O>, OfThread>;
 
-/// The results of the scribe and the workers: also whether all workers were started, and whether
-/// all that were have done their work.
+/// The results of the writer thread and the workers: also whether all workers were started, and
+/// whether all that were have done their work.
 #[derive(Drop)]
 pub(crate) struct Staged<'a, W, C: Calls, O: Ledger> {
-    pub pen: Pen<'a, W>,
+    pub writer: TraceWriter<'a, W>,
     pub tap: Tap<C>,
     pub seats: Vec<Seat<C, O>>,
     pub all_started: bool,
@@ -126,7 +126,7 @@ fn join_workers<C: Calls + Send, O: Ledger + Send, R: Threads>(
 /// The seats of the workers that are to be started, and room for their handles and for the seats
 /// that they return.
 #[derive(Drop)]
-pub(crate) struct Crew<C: Calls, O: Ledger> {
+pub(crate) struct Workers<C: Calls, O: Ledger> {
     pub seats: Vec<Seat<C, O>>,
     pub back: Vec<Seat<C, O>>,
     pub handles: Vec<Handle<C, O>>,
@@ -144,30 +144,30 @@ pub(crate) fn stage<
     rt: &R,
     setup: &Setup,
     board: &Board<C, O>,
-    crew: Crew<C, O>,
+    workers: Workers<C, O>,
     tap: Tap<C>,
-    pen: Pen<'a, W>,
+    writer: TraceWriter<'a, W>,
     turns: Turns<'_, G>,
 ) -> Staged<'a, W, C, O>
     requires some { 0 < turns.calls }
     requires few { turns.calls ≤ MAX_TURN }
-    requires threads { vec_len crew.seats ≤ MAX_THREADS }
-    requires no_seat { vec_len crew.back ≡ 0 }
-    requires no_handle { vec_len crew.handles ≡ 0 }
-    requires room_back { vec_len crew.seats ≤ vec_capacity crew.back }
-    requires room_handles { vec_len crew.seats ≤ vec_capacity crew.handles }
+    requires threads { vec_len workers.seats ≤ MAX_THREADS }
+    requires no_seat { vec_len workers.back ≡ 0 }
+    requires no_handle { vec_len workers.handles ≡ 0 }
+    requires room_back { vec_len workers.seats ≤ vec_capacity workers.back }
+    requires room_handles { vec_len workers.seats ≤ vec_capacity workers.handles }
     requires untaken { tap.taken ≡ [] }
-    ensures written { IsStaged W.contents setup.now pen.entry.sink result.pen.sink
+    ensures written { IsStaged W.contents setup.now writer.entry.sink result.writer.sink
         result.tap.taken result.all_started }
     ensures seats { result.all_started ≡ true
-        → map (λ s. s.thread) result.seats.items ≡ map (λ s. s.thread) crew.seats.items }
+        → map (λ s. s.thread) result.seats.items ≡ map (λ s. s.thread) workers.seats.items }
     ensures done { TellsShut result.all_done result.seats.items }
 {
-    let Crew {
+    let Workers {
         seats,
         back,
         handles,
-    } = crew;
+    } = workers;
     let signals = Signals::new();
     let signals = &signals;
     thread::scope(
@@ -183,22 +183,30 @@ pub(crate) fn stage<
             requires room_back { vec_len seats ≤ vec_capacity back }
             requires room_handles { vec_len seats ≤ vec_capacity handles }
             requires untaken { tap.taken ≡ [] }
-            ensures written { IsStaged W.contents setup.entry.now pen.entry.sink result.pen.sink
-                result.tap.taken result.all_started }
+            ensures written { IsStaged W.contents setup.entry.now writer.entry.sink
+                result.writer.sink result.tap.taken result.all_started }
             ensures seats { result.all_started ≡ true
                 → map (λ s. s.thread) result.seats.items
                 ≡ map (λ s. s.thread) seats.items }
             ensures done { TellsShut result.all_done result.seats.items }
         {
             let mut handles = handles;
-            let mut pen = pen;
+            let mut writer = writer;
             let mut tap = tap;
             let all_started = start_workers(scope, rt, board, signals, seats, &mut handles, turns);
             let started = handles.len() as u32;
-            write_running(rt, setup, &mut pen, &mut tap, signals, started, all_started);
+            write_running(
+                rt,
+                setup,
+                &mut writer,
+                &mut tap,
+                signals,
+                started,
+                all_started,
+            );
             let (seats, all_done) = join_workers(rt, handles, back);
             Staged {
-                pen,
+                writer,
                 tap,
                 seats,
                 all_started,

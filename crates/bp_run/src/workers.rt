@@ -7,7 +7,7 @@ use crate::boards::{Board, Calls};
 use crate::gates::Gate;
 use crate::seats::Seat;
 use crate::signals::{Idle, Signals};
-use bp_machine::AskFault;
+use bp_machine::AskError;
 use std::sync::Wait;
 use std::sync::ledger::Ledger;
 use std::time::Clock;
@@ -17,15 +17,16 @@ use std::time::Clock;
 pub enum Unfinished {
     /// Memory was refused, before a call of a procedure.
     Memory,
-    /// The line of its thread was finished already.
-    Finished,
+    /// Its thread had terminated already.
+    Terminated,
     /// It was told to stop.
     Halted,
 }
 
-/// Takes turns of at most `turn` calls from this seat, until its line is finished, and tells the
-/// gate. If the ring is full it waits for room, and takes a turn again. Stops if memory is refused,
-/// if the line was finished already though the seat is open, or if the signals tell it to.
+/// Takes turns of at most `turn` calls from this seat, until its thread has terminated, and tells
+/// the gate. If the ring is full it waits for room, and takes a turn again. Stops if memory is
+/// refused, if the thread had terminated already though the seat is open, or if the signals tell it
+/// to.
 pub fn work<C: Calls, O: Ledger, G: Gate, R: Wait + Clock>(
     rt: &R,
     board: &Board<C, O>,
@@ -59,16 +60,16 @@ pub fn work<C: Calls, O: Ledger, G: Gate, R: Wait + Clock>(
                 idle = Idle::new(&signals.room, 0);
                 gate.after(seat.thread(), reply);
             }
-            Err(AskFault::Busy) => {
+            Err(AskError::Busy) => {
                 signals.calls.ring_loudly();
                 idle.rest(rt);
             }
-            Err(AskFault::Memory) => {
+            Err(AskError::Memory) => {
                 done = Err(Unfinished::Memory);
                 break;
             }
             Err(_) => {
-                done = Err(Unfinished::Finished);
+                done = Err(Unfinished::Terminated);
                 break;
             }
         }

@@ -8,7 +8,7 @@ pub use Rattle.bp_language.specs.Depth.{depth, statement_depth}
 pub use Rattle.bp_source.specs.Listings.{IsSourced, heading_item, instruction_object, instruction_objects, line, line_with, name_item, name_list, nothing, procedure_item, statements_after}
 pub use Rattle.bp_source.specs.Names.{block_decisions, decision_in, inner_decisions, is_among, is_braced_after, is_named, next_decision, piece_size, pieces, qualified, reading_of}
 pub use Rattle.bp_source.specs.SourceStatements.{AreSourceStatementsAt, AreStatements, HasLexemes, IsAtEnd, IsSourceStatement, IsStatement, IsStatementAt, Lexeme, Takes, ending, is_choice, is_ending, is_gap, lexeme_text, lexemes_text, more, none_left}
-pub use Rattle.bp_source.specs.StatementLines.{position_of, said_of}
+pub use Rattle.bp_source.specs.StatementLines.{position_of, rendering_of}
 pub use Rattle.bp_source.specs.declared.source_statements.SourceStatement.{SourceStatement}
 pub use Rattle.bp_text.proofs.PartsOfTexts.{all_added, one_more, regrouped, rest_left}
 pub use Rattle.bp_text.specs.Lines.{IsOneLine, first_line, position_at}

@@ -9,8 +9,8 @@ use Rattle.bp_flat.specs.StandsFor.{Place, places_of, start_of_block}
 use Rattle.bp_source.specs.declared.source_statements.SourceStatement.{SourceStatement}
 use Rattle.bp_source.specs.SourceStatements.{AreSourceStatements}
 use Rattle.bp_source.specs.Listings.{column_of, line_of}
-use Rattle.bp_source.specs.declared.statements.Said.{Said}
-use Rattle.bp_source.specs.declared.statements.Said.TheVariants.{Line, Unreached, Text}
+use Rattle.bp_source.specs.declared.statements.Rendering.{Rendering}
+use Rattle.bp_source.specs.declared.statements.Rendering.TheVariants.{Line, Unreached, Text}
 
 -- the file, the place and the text of a statement with a start; nothing without one
 abbrev pub statement_line : Option ℕ → (file place shown : List ℕ) → List ℕ
@@ -66,14 +66,14 @@ pub record AreUnreachedObjects (file text : List ℕ) (t : Program) (objects : L
 -- A device: the rendering of each statement of a program: its line, its object, or its text.
 
 -- the rendering of a statement of the source
-abbrev pub said_of : Said → SourceStatement → List ℕ
-said_of (Line file) statement = line_of_statement file.now statement
-said_of (Unreached file) statement = object_of_statement file.now statement
-said_of Text statement = statement.excerpt.text.items
+abbrev pub rendering_of : Rendering → SourceStatement → List ℕ
+rendering_of (Line file) statement = line_of_statement file.now statement
+rendering_of (Unreached file) statement = object_of_statement file.now statement
+rendering_of Text statement = statement.excerpt.text.items
 
 -- the rendering for each instruction of the program
-pub record AreSaid (said : Said) (text : List ℕ) (t : Program) (texts : List (List ℕ))
-    : Type 0 where
+pub record AreRenderings (rendering : Rendering) (text : List ℕ) (t : Program)
+    (texts : List (List ℕ)) : Type 0 where
   pub statements : List SourceStatement
   pub are : AreSourceStatements text t statements
-  pub texts_are : texts ≡ map (said_of said) statements
+  pub texts_are : texts ≡ map (rendering_of rendering) statements

@@ -63,7 +63,7 @@ fn decision_in<'a>(form: &'a Form) -> Option<&'a Decider>
 
 /// Appends the decider of each of these statements, and of those inside them.
 #[cycle(note_deciders)]
-fn note_block<'a>(
+fn record_block<'a>(
     deciders: &mut Vec<Option<&'a Decider>>,
     stmts: &'a [Stmt],
 ) -> Result<(), AllocError>
@@ -74,14 +74,14 @@ fn note_block<'a>(
     for stmt in stmts {
         let form = stmt.form();
         deciders.push(decision_in(form))?;
-        note_inside(deciders, form)?;
+        record_inside(deciders, form)?;
     }
     Ok(())
 }
 
 /// Appends the decider of each of the statements inside a statement.
 #[cycle(note_deciders)]
-fn note_inside<'a>(
+fn record_inside<'a>(
     deciders: &mut Vec<Option<&'a Decider>>,
     form: &'a Form,
 ) -> Result<(), AllocError>
@@ -91,10 +91,10 @@ fn note_inside<'a>(
 {
     match form {
         Form::If(_, a, b) => {
-            note_block(deciders, a.as_slice())?;
-            note_block(deciders, b.as_slice())
+            record_block(deciders, a.as_slice())?;
+            record_block(deciders, b.as_slice())
         }
-        Form::While(_, body) => note_block(deciders, body.as_slice()),
+        Form::While(_, body) => record_block(deciders, body.as_slice()),
         _ => Ok(()),
     }
 }
@@ -107,7 +107,7 @@ fn deciders_in<'a>(alloc: Global, procs: &'a [Proc]) -> Result<Vec<Option<&'a De
 {
     let mut deciders = Vec::new(alloc);
     for proc in procs {
-        note_block(&mut deciders, proc.body())?;
+        record_block(&mut deciders, proc.body())?;
         deciders.push(None)?;
     }
     Ok(deciders)

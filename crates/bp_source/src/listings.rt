@@ -79,8 +79,8 @@ fn push_listed(
     push_sourced(out, instruction, statement)
 }
 
-/// Returns the listing of the code of a lawful program, and after each instruction the place and
-/// the statement that `show` prints of it. `listing` is that listing.
+/// Returns the listing of the code of a well-formed program, and after each instruction the place
+/// and the statement that `show` prints of it. `listing` is that listing.
 pub fn sourced_listing(
     alloc: Global,
     text: &[u8],
@@ -228,8 +228,9 @@ fn push_instructions(
     Ok(())
 }
 
-/// Returns the code of a lawful program, an object a line: that of the code with its procedures,
-/// and one for each instruction, with the place and the statement that `show` prints of it.
+/// Returns the code of a well-formed program, an object a line: that of the code with its
+/// procedures, and one for each instruction, with the place and the statement that `show` prints of
+/// it.
 pub fn code_objects(alloc: Global, text: &[u8], code: &Code) -> Result<Vec<u8>, AllocError>
     ensures { IfOk result (λ v. IsCodeInJson text.now code.now.tree code.now v.items) }
 {

@@ -60,7 +60,7 @@ fn push_procedures(
     Ok(())
 }
 
-/// Returns the object of a lawful program: its procedures, each with its formals and declared
+/// Returns the object of a well-formed program: its procedures, each with its formals and declared
 /// locals, and its globals.
 pub fn program_object(alloc: Global, checked: &Checked) -> Result<Vec<u8>, AllocError>
     ensures { IfOk result (λ v. v.items ≡ program_object checked.now) }

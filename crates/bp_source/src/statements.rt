@@ -2,7 +2,7 @@
 //! name the statements of a program that no run reached.
 ghost use Rattle.std.specs.Prelude.{◌≡◌, ◌++◌, map, IfOk, OnOk};
 ghost use Rattle.bp_flat.specs.StandsFor.{places_of};
-ghost use Rattle.bp_source.specs.StatementLines.{said_of, AreSaid, line_of_statement, positions_of, AreStatementLines, object_of_statement, AreUnreachedObjects};
+ghost use Rattle.bp_source.specs.StatementLines.{rendering_of, AreRenderings, line_of_statement, positions_of, AreStatementLines, object_of_statement, AreUnreachedObjects};
 ghost use Rattle.bp_source.specs.SourceStatements.{AreStatements};
 
 use crate::listings::{column_of, line_of};
@@ -14,7 +14,7 @@ use std::alloc::{AllocError, Global};
 
 /// The rendering of each statement.
 #[derive(Clone, Copy)]
-pub(crate) enum Said<'a> {
+pub(crate) enum Rendering<'a> {
     /// Its line, in the file of this name.
     Line(&'a str),
     /// Its object if no run reached it, in the file of this name.
@@ -50,36 +50,37 @@ fn push_line<'a>(
 }
 
 /// Adds the rendering of an instruction's statement.
-fn push_said(
+fn push_rendering(
     text: &mut Vec<u8>,
-    said: Said<'_>,
+    rendering: Rendering<'_>,
     statement: &SourceStatement,
 ) -> Result<(), AllocError>
-    ensures { OnOk result (text.new.items ≡ text.old.items ++ said_of said.entry statement.now) }
+    ensures { OnOk result (text.new.items ≡ text.old.items ++ rendering_of rendering.entry
+        statement.now) }
 {
-    match said {
-        Said::Line(file) => push_line(text, file, statement),
-        Said::Unreached(file) => push_object(text, file, statement),
-        Said::Text => push_bytes(text, &statement.excerpt.text),
+    match rendering {
+        Rendering::Line(file) => push_line(text, file, statement),
+        Rendering::Unreached(file) => push_object(text, file, statement),
+        Rendering::Text => push_bytes(text, &statement.excerpt.text),
     }
 }
 
 /// Returns for each instruction of the program of a text the rendering of its statement, in order.
-pub(crate) fn all_said(
+pub(crate) fn all_renderings(
     alloc: Global,
-    said: Said<'_>,
+    rendering: Rendering<'_>,
     text: &[u8],
     checked: &Checked,
 ) -> Result<Vec<Vec<u8>>, AllocError>
     ensures { IfOk result (λ v.
-        let texts = map (λ said. said.items) v.items in
-        AreSaid said.entry text.now checked.now texts) }
+        let texts = map (λ rendering. rendering.items) v.items in
+        AreRenderings rendering.entry text.now checked.now texts) }
 {
     let statements = source_statements_of(alloc, text, checked)?;
     let mut texts = Vec::with_capacity(alloc, statements.len())?;
     for statement in statements.iter() {
         let mut written = Vec::new(alloc);
-        push_said(&mut written, said, statement)?;
+        push_rendering(&mut written, rendering, statement)?;
         texts.push(written)?;
     }
     Ok(texts)
@@ -97,7 +98,7 @@ pub fn statement_lines(
         let lines = map (λ line. line.items) v.items in
         AreStatementLines file.now text.now checked.now lines) }
 {
-    all_said(alloc, Said::Line(file), text, checked)
+    all_renderings(alloc, Rendering::Line(file), text, checked)
 }
 
 /// Returns the position of the statement of each instruction in the program of a text. The end of a
@@ -128,7 +129,7 @@ pub fn statement_texts(
         let texts = map (λ v. v.items) v.items in
         AreStatements text.now (places_of checked.now.procedures) texts) }
 {
-    all_said(alloc, Said::Text, text, checked)
+    all_renderings(alloc, Rendering::Text, text, checked)
 }
 
 /// Adds the object of an instruction's statement: the file's name, the place and the statement's
@@ -173,5 +174,5 @@ pub fn unreached_objects(
         let objects = map (λ line. line.items) v.items in
         AreUnreachedObjects file.now text.now checked.now objects) }
 {
-    all_said(alloc, Said::Unreached(file), text, checked)
+    all_renderings(alloc, Rendering::Unreached(file), text, checked)
 }

@@ -9,6 +9,6 @@ pub mod OneAnswer
 pub mod OneCut
 pub mod ProgramsAreRead
 pub mod ResultAfterToken
-pub mod StopIsSyntaxFault
+pub mod StopIsSyntaxError
 pub mod TreesCross
 pub mod WantedPhrases

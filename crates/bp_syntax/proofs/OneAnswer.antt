@@ -1,10 +1,10 @@
--- A text has one result: its tree, or its first fault.
-use Rattle.bp_syntax.proofs.Common.{◌≡◌, ℕ, ◌≤◌, List, [], ◌∷◌, ◌++◌, length, Some, None, Result, Ok, Err, refl, sym, ap, subst, ◌∙◌, ⊎_elim, arith, ◌≢◌, ◌⊎◌, ◌<◌, inl, inr, MatchResult, IsErrAnd, rules, cases_lt, Program, regrouped, TEXT_LIMIT, Token, tokens_of, HasTokens, HasBadByte, HasOpenName, AllReal, Derives, IsShallow, IsSparse, IsTextOf, all_real, IsScanFault, first_too_deep, first_too_many, Opens, BreaksAt, HasSyntaxFault, IsRefusal, read_fault_number, whole_program, parse_result, Got, place_or, IsParseFault, ReadFault}
-use Rattle.bp_syntax.specs.declared.faults.ReadFault.TheVariants as fault
+-- A text has one result: its tree, or its first error.
+use Rattle.bp_syntax.proofs.Common.{◌≡◌, ℕ, ◌≤◌, List, [], ◌∷◌, ◌++◌, length, Some, None, Result, Ok, Err, refl, sym, ap, subst, ◌∙◌, ⊎_elim, arith, ◌≢◌, ◌⊎◌, ◌<◌, inl, inr, MatchResult, IsErrAnd, rules, cases_lt, Program, regrouped, TEXT_LIMIT, Token, tokens_of, HasTokens, HasBadByte, HasOpenName, AllReal, Derives, IsShallow, IsSparse, IsTextOf, all_real, IsScanError, first_too_deep, first_too_many, Opens, BreaksAt, HasSyntaxError, IsRefusal, read_error_number, whole_program, parse_result, Got, place_or, IsParseError, ReadError}
+use Rattle.bp_syntax.specs.declared.errors.ReadError.TheVariants as error
 use Rattle.bp_syntax.proofs.OneCut.{one_cut}
 use Rattle.bp_syntax.proofs.FirstTooMany.{none_is_sparse, some_is_crowded, none_is_shallow, some_is_deep, shallow_front}
 use Rattle.bp_syntax.proofs.ProgramsAreRead.{one_tree}
-use Rattle.bp_syntax.proofs.StopIsSyntaxFault.{read_is_derived, stops_at_fault}
+use Rattle.bp_syntax.proofs.StopIsSyntaxError.{read_is_derived, stops_at_error}
 
 -- a text has one list of tokens
 pub same_tokens : (text : List ℕ) (ts us : List Token) → HasTokens text ts → HasTokens text us → ts ≡ us
@@ -31,8 +31,8 @@ derived_opens front rest x p real d = record {
   derives = simp regrouped d;
 }
 
-no_syntax_fault : (text : List ℕ) (ts : List Token) (at : ℕ) (p : Program) → AllReal ts → Derives ts p → HasSyntaxFault text ts at → ⊥
-no_syntax_fault text ts at p given1 given2 given3 = search (rules, ⊎_elim, derived_opens)
+no_syntax_error : (text : List ℕ) (ts : List Token) (at : ℕ) (p : Program) → AllReal ts → Derives ts p → HasSyntaxError text ts at → ⊥
+no_syntax_error text ts at p given1 given2 given3 = search (rules, ⊎_elim, derived_opens)
 
 pub shallow_or_nested : (ts : List Token) (at : ℕ) → IsShallow ts → BreaksAt IsShallow ts at → ⊥
 shallow_or_nested ts at all b =
@@ -44,20 +44,20 @@ sparse_or_crowded ts at all b =
     let here : IsSparse (b.front ++ b.token ∷ b.rest) = subst IsSparse b.parts all in
     b.after (sparse_front (b.front ++ b.token ∷ []) b.rest (simp regrouped here))
 
--- a program's text has no fault
-pub only_memory : (text : List ℕ) (p : Program) (e : ReadFault) → IsTextOf text p → IsRefusal text e → e ≡ fault.Memory
-only_memory text p fault.TooLong t f = let s = t.short in absurd (omega arith)
-only_memory text p (fault.BadByte at) t f = absurd (good_or_bad text t.tokens at t.scanned f.1)
-only_memory text p (fault.OpenName at) t f = absurd (closed_or_open text t.tokens at t.scanned f.1)
-only_memory text p (fault.TooNested at) t f =
+-- a program's text has no error
+pub only_memory : (text : List ℕ) (p : Program) (e : ReadError) → IsTextOf text p → IsRefusal text e → e ≡ error.Memory
+only_memory text p error.TooLong t f = let s = t.short in absurd (omega arith)
+only_memory text p (error.BadByte at) t f = absurd (good_or_bad text t.tokens at t.scanned f.1)
+only_memory text p (error.OpenName at) t f = absurd (closed_or_open text t.tokens at t.scanned f.1)
+only_memory text p (error.TooNested at) t f =
     absurd (shallow_or_nested f.1 at (subst IsShallow (same_tokens text t.tokens f.1 t.scanned f.2) t.shallow) f.3)
-only_memory text p (fault.TooManyTokens at) t f =
+only_memory text p (error.TooManyTokens at) t f =
     absurd (sparse_or_crowded f.1 at (subst IsSparse (same_tokens text t.tokens f.1 t.scanned f.2) t.sparse) f.4)
-only_memory text p (fault.Syntax at) t f =
+only_memory text p (error.Syntax at) t f =
     let real : AllReal t.tokens = subst AllReal t.scanned.tokens (all_real t.scanned.cut) in
     let same = same_tokens text f.1 t.tokens f.2 t.scanned in
-    absurd (no_syntax_fault text t.tokens at p real t.derives (subst (λ l. HasSyntaxFault text l at) same f.5))
-only_memory text p fault.Memory t f = refl
+    absurd (no_syntax_error text t.tokens at p real t.derives (subst (λ l. HasSyntaxError text l at) same f.5))
+only_memory text p error.Memory t f = refl
 
 -- a program's text has one tree
 pub one_program : (text : List ℕ) (p q : Program) → IsTextOf text p → IsTextOf text q → p ≡ q
@@ -65,13 +65,13 @@ one_program text p q a b =
     one_tree a.tokens p q a.derives (subst (λ l. Derives l q) (same_tokens text b.tokens a.tokens b.scanned a.scanned) b.derives)
 
 -- an answer that is right is the only one but for memory
-pub only_answer : (text : List ℕ) (r : Result Program ReadFault) → MatchResult r (IsTextOf text) (IsRefusal text)
-    → (p : Program) → IsTextOf text p → MatchResult r (λ t. t ≡ p) (λ e. e ≡ fault.Memory)
+pub only_answer : (text : List ℕ) (r : Result Program ReadError) → MatchResult r (IsTextOf text) (IsRefusal text)
+    → (p : Program) → IsTextOf text p → MatchResult r (λ t. t ≡ p) (λ e. e ≡ error.Memory)
 only_answer text (Ok q) a p t = one_program text q p a t
 only_answer text (Err e) a p t = only_memory text p e t a
 
-pub scan_fault : (text : List ℕ) (e : ReadFault) → length text ≤ TEXT_LIMIT → IsScanFault text e → IsRefusal text e
-scan_fault text e given1 given2 = grind (arith)
+pub scan_error : (text : List ℕ) (e : ReadError) → length text ≤ TEXT_LIMIT → IsScanError text e → IsRefusal text e
+scan_error text e given1 given2 = grind (arith)
 
 place_is : (end : ℕ) (left : List Token) (x : Token) (r : List Token) → left ≡ x ∷ r → place_or end left ≡ x.at
 place_is end left x r given1 = grind (arith)
@@ -79,40 +79,40 @@ place_is end left x r given1 = grind (arith)
 end_is : (end : ℕ) (left : List Token) → left ≡ [] → place_or end left ≡ end
 end_is end left given1 = grind (arith)
 
-pub parse_fault : (text : List ℕ) (ts : List Token) (e : ReadFault) → length text ≤ TEXT_LIMIT → HasTokens text ts
-    → IsShallow ts → IsSparse ts → IsParseFault ts (length text) e → IsRefusal text e
-parse_fault text ts (fault.Syntax at) le has shallow sparse f = (
+pub parse_error : (text : List ℕ) (ts : List Token) (e : ReadError) → length text ≤ TEXT_LIMIT → HasTokens text ts
+    → IsShallow ts → IsSparse ts → IsParseError ts (length text) e → IsRefusal text e
+parse_error text ts (error.Syntax at) le has shallow sparse f = (
   le,
   ts,
   has,
   shallow,
   sparse,
-  stops_at_fault text ts f.0 at f.1 (λ x r e. sym (place_is (length text) f.0 x r e) ∙ sym f.2)
+  stops_at_error text ts f.0 at f.1 (λ x r e. sym (place_is (length text) f.0 x r e) ∙ sym f.2)
       (λ e. f.2 ∙ end_is (length text) f.0 e),
 )
-parse_fault text ts fault.Memory le has shallow sparse f = le
-parse_fault text ts fault.TooLong le has shallow sparse f = absurd f
-parse_fault text ts (fault.BadByte at) le has shallow sparse f = absurd f
-parse_fault text ts (fault.OpenName at) le has shallow sparse f = absurd f
-parse_fault text ts (fault.TooNested at) le has shallow sparse f = absurd f
-parse_fault text ts (fault.TooManyTokens at) le has shallow sparse f = absurd f
+parse_error text ts error.Memory le has shallow sparse f = le
+parse_error text ts error.TooLong le has shallow sparse f = absurd f
+parse_error text ts (error.BadByte at) le has shallow sparse f = absurd f
+parse_error text ts (error.OpenName at) le has shallow sparse f = absurd f
+parse_error text ts (error.TooNested at) le has shallow sparse f = absurd f
+parse_error text ts (error.TooManyTokens at) le has shallow sparse f = absurd f
 
-pub nested_fault : (text : List ℕ) (ts : List Token) (at : ℕ) → length text ≤ TEXT_LIMIT → HasTokens text ts
-    → first_too_deep 0 ts ≡ Some at → IsRefusal text (fault.TooNested at)
-nested_fault text ts at le has e = (le, ts, has, some_is_deep ts at e)
+pub nested_error : (text : List ℕ) (ts : List Token) (at : ℕ) → length text ≤ TEXT_LIMIT → HasTokens text ts
+    → first_too_deep 0 ts ≡ Some at → IsRefusal text (error.TooNested at)
+nested_error text ts at le has e = (le, ts, has, some_is_deep ts at e)
 
-pub crowd_fault : (text : List ℕ) (ts : List Token) (at : ℕ) → length text ≤ TEXT_LIMIT → HasTokens text ts
-    → first_too_deep 0 ts ≡ None → first_too_many 0 ts ≡ Some at → IsRefusal text (fault.TooManyTokens at)
-crowd_fault text ts at le has flat e = (le, ts, has, none_is_shallow ts flat, some_is_crowded ts at e)
+pub crowd_error : (text : List ℕ) (ts : List Token) (at : ℕ) → length text ≤ TEXT_LIMIT → HasTokens text ts
+    → first_too_deep 0 ts ≡ None → first_too_many 0 ts ≡ Some at → IsRefusal text (error.TooManyTokens at)
+crowd_error text ts at le has flat e = (le, ts, has, none_is_shallow ts flat, some_is_crowded ts at e)
 
 pub parsed : (text : List ℕ) (ts : List Token) (p : Program) → length text ≤ TEXT_LIMIT → HasTokens text ts
     → first_too_deep 0 ts ≡ None → first_too_many 0 ts ≡ None → parse_result whole_program ts ≡ Got p → IsTextOf text p
 parsed text ts p given1 given2 given3 given4 given5 = search (rules, none_is_shallow, none_is_sparse, read_is_derived)
 
 -- a refusal that is passed on
-pub fault_passed_on : (text : List ℕ) (r : Result Program ReadFault) (e : ReadFault) → IsErrAnd r (λ d. d ≡ e)
+pub error_passed_on : (text : List ℕ) (r : Result Program ReadError) (e : ReadError) → IsErrAnd r (λ d. d ≡ e)
     → IsRefusal text e → MatchResult r (IsTextOf text) (IsRefusal text)
-fault_passed_on text r e given1 given2 = grind (arith)
+error_passed_on text r e given1 given2 = grind (arith)
 
 -- A text has at most one refusal, memory aside.
 
@@ -163,12 +163,12 @@ opens_or_breaks ts at real o b =
     let parts : ts ≡ (b.front ++ b.token ∷ []) ++ b.rest = b.parts ∙ simp regrouped in
     b.after (opens_front (b.front ++ b.token ∷ []) b.rest (subst AllReal parts real) (subst Opens parts o))
 
--- a syntax fault has one place
-one_syntax_fault : (text : List ℕ) (ts : List Token) (at place : ℕ) → AllReal ts → HasSyntaxFault text ts at → HasSyntaxFault text ts place → at ≡ place
-one_syntax_fault text ts at place real (inl a) (inl b) = one_break Opens ts at place opens_front real a b
-one_syntax_fault text ts at place real (inl a) (inr b) = absurd (opens_or_breaks ts at real b.0 a)
-one_syntax_fault text ts at place real (inr a) (inl b) = absurd (opens_or_breaks ts place real a.0 b)
-one_syntax_fault text ts at place real (inr a) (inr b) = a.2 ∙ sym b.2
+-- a syntax error has one place
+one_syntax_error : (text : List ℕ) (ts : List Token) (at place : ℕ) → AllReal ts → HasSyntaxError text ts at → HasSyntaxError text ts place → at ≡ place
+one_syntax_error text ts at place real (inl a) (inl b) = one_break Opens ts at place opens_front real a b
+one_syntax_error text ts at place real (inl a) (inr b) = absurd (opens_or_breaks ts at real b.0 a)
+one_syntax_error text ts at place real (inr a) (inl b) = absurd (opens_or_breaks ts place real a.0 b)
+one_syntax_error text ts at place real (inr a) (inr b) = a.2 ∙ sym b.2
 
 bad_or_open : (text : List ℕ) (at place : ℕ) → HasBadByte text at → HasOpenName text place → ⊥
 bad_or_open text at place given1 given2 = search (rules, one_cut)
@@ -183,52 +183,52 @@ real_tokens : (text : List ℕ) (ts : List Token) → HasTokens text ts → AllR
 real_tokens text ts h = subst AllReal h.tokens (all_real h.cut)
 
 module _ (text : List ℕ) where
-  -- if an earlier fault applies, no later one does
-  apart : (e f : ReadFault) → read_fault_number e < read_fault_number f → f ≢ fault.Memory → IsRefusal text e → IsRefusal text f → ⊥
-  apart fault.TooLong (fault.BadByte n) less other a b = let short = b.0 in omega arith
-  apart fault.TooLong (fault.OpenName n) less other a b = let short = b.0 in omega arith
-  apart fault.TooLong (fault.TooNested n) less other a b = let short = b.0 in omega arith
-  apart fault.TooLong (fault.TooManyTokens n) less other a b = let short = b.0 in omega arith
-  apart fault.TooLong (fault.Syntax n) less other a b = let short = b.0 in omega arith
-  apart (fault.BadByte m) (fault.OpenName n) less other a b = bad_or_open text m n a.1 b.1
-  apart (fault.BadByte m) (fault.TooNested n) less other a b = good_or_bad text b.1 m b.2 a.1
-  apart (fault.BadByte m) (fault.TooManyTokens n) less other a b = good_or_bad text b.1 m b.2 a.1
-  apart (fault.BadByte m) (fault.Syntax n) less other a b = good_or_bad text b.1 m b.2 a.1
-  apart (fault.OpenName m) (fault.TooNested n) less other a b = closed_or_open text b.1 m b.2 a.1
-  apart (fault.OpenName m) (fault.TooManyTokens n) less other a b = closed_or_open text b.1 m b.2 a.1
-  apart (fault.OpenName m) (fault.Syntax n) less other a b = closed_or_open text b.1 m b.2 a.1
-  apart (fault.TooNested m) (fault.TooManyTokens n) less other a b =
+  -- if an earlier error applies, no later one does
+  apart : (e f : ReadError) → read_error_number e < read_error_number f → f ≢ error.Memory → IsRefusal text e → IsRefusal text f → ⊥
+  apart error.TooLong (error.BadByte n) less other a b = let short = b.0 in omega arith
+  apart error.TooLong (error.OpenName n) less other a b = let short = b.0 in omega arith
+  apart error.TooLong (error.TooNested n) less other a b = let short = b.0 in omega arith
+  apart error.TooLong (error.TooManyTokens n) less other a b = let short = b.0 in omega arith
+  apart error.TooLong (error.Syntax n) less other a b = let short = b.0 in omega arith
+  apart (error.BadByte m) (error.OpenName n) less other a b = bad_or_open text m n a.1 b.1
+  apart (error.BadByte m) (error.TooNested n) less other a b = good_or_bad text b.1 m b.2 a.1
+  apart (error.BadByte m) (error.TooManyTokens n) less other a b = good_or_bad text b.1 m b.2 a.1
+  apart (error.BadByte m) (error.Syntax n) less other a b = good_or_bad text b.1 m b.2 a.1
+  apart (error.OpenName m) (error.TooNested n) less other a b = closed_or_open text b.1 m b.2 a.1
+  apart (error.OpenName m) (error.TooManyTokens n) less other a b = closed_or_open text b.1 m b.2 a.1
+  apart (error.OpenName m) (error.Syntax n) less other a b = closed_or_open text b.1 m b.2 a.1
+  apart (error.TooNested m) (error.TooManyTokens n) less other a b =
       shallow_or_nested a.1 m (subst IsShallow (same_tokens text b.1 a.1 b.2 a.2) b.3) a.3
-  apart (fault.TooNested m) (fault.Syntax n) less other a b =
+  apart (error.TooNested m) (error.Syntax n) less other a b =
       shallow_or_nested a.1 m (subst IsShallow (same_tokens text b.1 a.1 b.2 a.2) b.3) a.3
-  apart (fault.TooManyTokens m) (fault.Syntax n) less other a b =
+  apart (error.TooManyTokens m) (error.Syntax n) less other a b =
       sparse_or_crowded a.1 m (subst IsSparse (same_tokens text b.1 a.1 b.2 a.2) b.4) a.4
-  apart _ fault.Memory less other a b = other refl
+  apart _ error.Memory less other a b = other refl
   apart _ _ less other a b = omega arith
 
-  -- a fault applies at one place
-  at_one_place : (e f : ReadFault) → read_fault_number e ≡ read_fault_number f → IsRefusal text e → IsRefusal text f → e ≡ f
-  at_one_place fault.TooLong fault.TooLong same a b = refl
-  at_one_place (fault.BadByte m) (fault.BadByte n) same a b = ap fault.BadByte (one_bad_byte text m n a.1 b.1)
-  at_one_place (fault.OpenName m) (fault.OpenName n) same a b = ap fault.OpenName (one_open_name text m n a.1 b.1)
-  at_one_place (fault.TooNested m) (fault.TooNested n) same a b =
-      ap fault.TooNested (one_break IsShallow a.1 m n (λ front rest real. shallow_front front rest) (real_tokens text a.1 a.2) a.3
+  -- an error applies at one place
+  at_one_place : (e f : ReadError) → read_error_number e ≡ read_error_number f → IsRefusal text e → IsRefusal text f → e ≡ f
+  at_one_place error.TooLong error.TooLong same a b = refl
+  at_one_place (error.BadByte m) (error.BadByte n) same a b = ap error.BadByte (one_bad_byte text m n a.1 b.1)
+  at_one_place (error.OpenName m) (error.OpenName n) same a b = ap error.OpenName (one_open_name text m n a.1 b.1)
+  at_one_place (error.TooNested m) (error.TooNested n) same a b =
+      ap error.TooNested (one_break IsShallow a.1 m n (λ front rest real. shallow_front front rest) (real_tokens text a.1 a.2) a.3
       (subst (λ ts. BreaksAt IsShallow ts n) (same_tokens text b.1 a.1 b.2 a.2) b.3))
-  at_one_place (fault.TooManyTokens m) (fault.TooManyTokens n) same a b =
-      ap fault.TooManyTokens (one_break IsSparse a.1 m n (λ front rest real. sparse_front front rest) (real_tokens text a.1 a.2) a.4
+  at_one_place (error.TooManyTokens m) (error.TooManyTokens n) same a b =
+      ap error.TooManyTokens (one_break IsSparse a.1 m n (λ front rest real. sparse_front front rest) (real_tokens text a.1 a.2) a.4
       (subst (λ ts. BreaksAt IsSparse ts n) (same_tokens text b.1 a.1 b.2 a.2) b.4))
-  at_one_place (fault.Syntax m) (fault.Syntax n) same a b =
-      ap fault.Syntax (one_syntax_fault text a.1 m n (real_tokens text a.1 a.2) a.5
-      (subst (λ ts. HasSyntaxFault text ts n) (same_tokens text b.1 a.1 b.2 a.2) b.5))
-  at_one_place fault.Memory fault.Memory same a b = refl
+  at_one_place (error.Syntax m) (error.Syntax n) same a b =
+      ap error.Syntax (one_syntax_error text a.1 m n (real_tokens text a.1 a.2) a.5
+      (subst (λ ts. HasSyntaxError text ts n) (same_tokens text b.1 a.1 b.2 a.2) b.5))
+  at_one_place error.Memory error.Memory same a b = refl
   at_one_place _ _ same a b = absurd (omega (arith, same))
 
-  pub one_refusal : (e f : ReadFault) → e ≢ fault.Memory → f ≢ fault.Memory → IsRefusal text e → IsRefusal text f → e ≡ f
+  pub one_refusal : (e f : ReadError) → e ≢ error.Memory → f ≢ error.Memory → IsRefusal text e → IsRefusal text f → e ≡ f
   one_refusal e f one other a b =
-      elim (cases_lt (read_fault_number e) (read_fault_number f)) [
+      elim (cases_lt (read_error_number e) (read_error_number f)) [
         | inl less ↦ absurd (apart e f less other a b)
         | inr le ↦
-            elim (cases_lt (read_fault_number f) (read_fault_number e)) [
+            elim (cases_lt (read_error_number f) (read_error_number e)) [
               | inl less ↦ absurd (apart f e less one b a)
               | inr ge ↦ at_one_place e f (omega arith) a b
             ]

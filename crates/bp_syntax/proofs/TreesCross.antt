@@ -1,4 +1,4 @@
--- Lawful trees may be sent to other threads and shared among them.
+-- Well-formed trees may be sent to other threads and shared among them.
 use denote.Param.Send.{IsSend, IsSync, sendable}
 use Rattle.std.proofs.Crossing.{crosses}
 use Rattle.bp_language.proofs.exprs.Sub.TheLaws.TheKnot.{send-Sub, send-Expr, sync-Sub, sync-Expr}
@@ -7,7 +7,7 @@ use Rattle.bp_language.specs.contracts.names.Names as Names
 use Rattle.bp_language.specs.contracts.stmts.Block as Block
 use Rattle.bp_language.specs.contracts.procs.Proc as Proc
 use Rattle.bp_syntax.specs.contracts.trees.Parts as Parts
-use Rattle.bp_syntax.specs.contracts.checked.Checked as Checked
+use Rattle.bp_syntax.specs.contracts.checked_trees.Checked as Checked
 
 names_send : IsSend Names.the_row
 names_send = search (sendable, crosses) depth 40

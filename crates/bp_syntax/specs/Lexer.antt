@@ -5,8 +5,8 @@ use Rattle.bp_language.specs.declared.tokens.LexemeKind.{LexemeKind}
 use Rattle.bp_language.specs.declared.tokens.LexemeKind.TheVariants as lexeme
 use Rattle.bp_language.specs.declared.limits.TheConstants.{SUCCESSION_LIMIT, NESTING_LIMIT}
 use Rattle.bp_language.specs.Texts.{is_separator, depth_after}
-use Rattle.bp_syntax.specs.declared.faults.ReadFault.{ReadFault}
-use Rattle.bp_syntax.specs.declared.faults.ReadFault.TheVariants as fault
+use Rattle.bp_syntax.specs.declared.errors.ReadError.{ReadError}
+use Rattle.bp_syntax.specs.declared.errors.ReadError.TheVariants as error
 use Rattle.bp_syntax.specs.declared.lexemes.FirstLexeme.{FirstLexeme}
 use Rattle.bp_syntax.specs.declared.lexemes.FirstLexeme.TheVariants as first
 use Rattle.bp_syntax.specs.declared.tokens.Token.{Token as BorrowedToken}
@@ -87,11 +87,11 @@ IsFirstLexeme s (first.OpenBrace n) =
 IsFirstLexeme s first.BadByte = NoneFits s × (slice_get s 0 ≢ Some 123)
 
 -- how the scan is refused
-abbrev pub IsScanFault : List ℕ → ReadFault → Type 0
-IsScanFault text (fault.BadByte at) = HasBadByte text at
-IsScanFault text (fault.OpenName at) = HasOpenName text at
-IsScanFault text fault.Memory = Unit {0}
-IsScanFault text _ = ⊥
+abbrev pub IsScanError : List ℕ → ReadError → Type 0
+IsScanError text (error.BadByte at) = HasBadByte text at
+IsScanError text (error.OpenName at) = HasOpenName text at
+IsScanError text error.Memory = Unit {0}
+IsScanError text _ = ⊥
 
 -- A device: the count of tokens in succession as the code does it. No public contract names it.
 

@@ -10,8 +10,8 @@ use Rattle.bp_language.specs.Grammar.{name_of}
 use Rattle.bp_language.specs.declared.tokens.TokenKind.{TokenKind}
 use Rattle.bp_language.specs.declared.tokens.TokenKind.TheVariants as kind
 use Rattle.bp_language.specs.contracts.tokens.TokenKind.{the_type}
-use Rattle.bp_syntax.specs.declared.faults.ReadFault.{ReadFault}
-use Rattle.bp_syntax.specs.declared.faults.ReadFault.TheVariants as fault
+use Rattle.bp_syntax.specs.declared.errors.ReadError.{ReadError}
+use Rattle.bp_syntax.specs.declared.errors.ReadError.TheVariants as error
 use Rattle.bp_syntax.specs.declared.parser.operators.Precedence.{Precedence}
 use Rattle.bp_syntax.specs.declared.parser.operators.Precedence.TheVariants.{Equality, Conjunction, Exclusion, Disjunction}
 use Rattle.bp_syntax.specs.declared.parser.Stop.{Stop}
@@ -391,8 +391,8 @@ place_or end [] = end
 place_or end (x ∷ r) = x.at
 
 -- reading stops at a place
-abbrev pub IsParseFault : List Token → ℕ → ReadFault → Type 0
-IsParseFault ts end (fault.Syntax at) =
+abbrev pub IsParseError : List Token → ℕ → ReadError → Type 0
+IsParseError ts end (error.Syntax at) =
     (left : List Token) × (parse_result whole_program ts ≡ Stops left) × (at ≡ place_or end left)
-IsParseFault ts end fault.Memory = Unit {0}
-IsParseFault ts end _ = ⊥
+IsParseError ts end error.Memory = Unit {0}
+IsParseError ts end _ = ⊥

@@ -5,31 +5,31 @@ use Rattle.bp_language.specs.Tokens.{Token, AllReal, HasTokens, HasBadByte, HasO
 use Rattle.bp_language.specs.Grammar.{Derives}
 use Rattle.bp_language.specs.declared.limits.TheConstants.{TEXT_LIMIT}
 use Rattle.bp_language.specs.Texts.{IsShallow, IsSparse, IsTextOf}
-use Rattle.bp_syntax.specs.declared.faults.ReadFault.{ReadFault}
-use Rattle.bp_syntax.specs.declared.faults.ReadFault.TheVariants as fault
-use Rattle.bp_syntax.specs.declared.faults.ReadFault.TheVariants.{Memory}
+use Rattle.bp_syntax.specs.declared.errors.ReadError.{ReadError}
+use Rattle.bp_syntax.specs.declared.errors.ReadError.TheVariants as error
+use Rattle.bp_syntax.specs.declared.errors.ReadError.TheVariants.{Memory}
 
--- The numbers of the faults of a text, and the places that they name.
+-- The numbers of the errors of a text, and the places that they name.
 
--- the number by which users know the fault
-abbrev pub read_fault_number : ReadFault → ℕ
-read_fault_number fault.TooLong = 1
-read_fault_number (fault.BadByte at) = 2
-read_fault_number (fault.OpenName at) = 3
-read_fault_number (fault.TooNested at) = 4
-read_fault_number (fault.TooManyTokens at) = 5
-read_fault_number (fault.Syntax at) = 6
-read_fault_number fault.Memory = 7
+-- the number by which users know the error
+abbrev pub read_error_number : ReadError → ℕ
+read_error_number error.TooLong = 1
+read_error_number (error.BadByte at) = 2
+read_error_number (error.OpenName at) = 3
+read_error_number (error.TooNested at) = 4
+read_error_number (error.TooManyTokens at) = 5
+read_error_number (error.Syntax at) = 6
+read_error_number error.Memory = 7
 
--- the byte of the text that the fault names, if any
-abbrev pub read_fault_place : ReadFault → Option ℕ
-read_fault_place fault.TooLong = None
-read_fault_place (fault.BadByte at) = Some at
-read_fault_place (fault.OpenName at) = Some at
-read_fault_place (fault.TooNested at) = Some at
-read_fault_place (fault.TooManyTokens at) = Some at
-read_fault_place (fault.Syntax at) = Some at
-read_fault_place fault.Memory = None
+-- the byte of the text that the error names, if any
+abbrev pub read_error_place : ReadError → Option ℕ
+read_error_place error.TooLong = None
+read_error_place (error.BadByte at) = Some at
+read_error_place (error.OpenName at) = Some at
+read_error_place (error.TooNested at) = Some at
+read_error_place (error.TooManyTokens at) = Some at
+read_error_place (error.Syntax at) = Some at
+read_error_place error.Memory = None
 
 -- Tokens that begin a program, and the first token that cannot continue one.
 
@@ -52,36 +52,36 @@ pub record BreaksAt (P : List Token → Type 0) (ts : List Token) (at : ℕ) : T
 
 -- the first token after which no program can continue is at this place; or the text ends too early,
 -- and this is its length
-abbrev pub HasSyntaxFault : List ℕ → List Token → ℕ → Type 0
-HasSyntaxFault text ts at =
+abbrev pub HasSyntaxError : List ℕ → List Token → ℕ → Type 0
+HasSyntaxError text ts at =
     BreaksAt Opens ts at ⊎ (Opens ts × ((p : Program) → Derives ts p → ⊥) × (at ≡ length text))
 
 -- How texts are refused that are not those of a program.
 
--- how a text is refused: for its first fault; for memory only if it is not too long
-abbrev pub IsRefusal : List ℕ → ReadFault → Type 0
-IsRefusal text fault.TooLong = TEXT_LIMIT < length text
-IsRefusal text (fault.BadByte at) = (length text ≤ TEXT_LIMIT) × HasBadByte text at
-IsRefusal text (fault.OpenName at) = (length text ≤ TEXT_LIMIT) × HasOpenName text at
-IsRefusal text (fault.TooNested at) =
+-- how a text is refused: for its first error; for memory only if it is not too long
+abbrev pub IsRefusal : List ℕ → ReadError → Type 0
+IsRefusal text error.TooLong = TEXT_LIMIT < length text
+IsRefusal text (error.BadByte at) = (length text ≤ TEXT_LIMIT) × HasBadByte text at
+IsRefusal text (error.OpenName at) = (length text ≤ TEXT_LIMIT) × HasOpenName text at
+IsRefusal text (error.TooNested at) =
     (length text ≤ TEXT_LIMIT)
     × (tokens : List Token)
     × HasTokens text tokens
     × BreaksAt IsShallow tokens at
-IsRefusal text (fault.TooManyTokens at) =
+IsRefusal text (error.TooManyTokens at) =
     (length text ≤ TEXT_LIMIT)
     × (tokens : List Token)
     × HasTokens text tokens
     × IsShallow tokens
     × BreaksAt IsSparse tokens at
-IsRefusal text (fault.Syntax at) =
+IsRefusal text (error.Syntax at) =
     (length text ≤ TEXT_LIMIT)
     × (tokens : List Token)
     × HasTokens text tokens
     × IsShallow tokens
     × IsSparse tokens
-    × HasSyntaxFault text tokens at
-IsRefusal text fault.Memory = length text ≤ TEXT_LIMIT
+    × HasSyntaxError text tokens at
+IsRefusal text error.Memory = length text ≤ TEXT_LIMIT
 
 -- Laws of texts, of the scan and of the grammar.
 
@@ -100,7 +100,7 @@ OneTree = (tokens : List Token) (p q : Program) → Derives tokens p → Derives
 -- a text has at most one refusal, memory aside
 abbrev pub OneRefusal : Type 0
 OneRefusal =
-    (text : List ℕ) (e f : ReadFault)
+    (text : List ℕ) (e f : ReadError)
     → e ≢ Memory
     → f ≢ Memory
     → IsRefusal text e
@@ -110,7 +110,7 @@ OneRefusal =
 -- the text of a program has no refusal, memory aside
 abbrev pub NoRefusalOfPrograms : Type 0
 NoRefusalOfPrograms =
-    (text : List ℕ) (p : Program) (e : ReadFault)
+    (text : List ℕ) (p : Program) (e : ReadError)
     → IsTextOf text p
     → IsRefusal text e
     → e ≡ Memory

@@ -6,11 +6,11 @@ ghost use Rattle.bp_language.specs.Tokens as spelling;
 ghost use Rattle.bp_language.specs.Tokens.{HasTokens, with_token};
 ghost use Rattle.bp_language.specs.Texts as rule;
 ghost use Rattle.bp_language.specs.Texts.{IsTextOf};
-ghost use Rattle.bp_syntax.specs.Lexer.{IsScanFault, token_list, first_too_many, first_too_deep};
+ghost use Rattle.bp_syntax.specs.Lexer.{IsScanError, token_list, first_too_many, first_too_deep};
 ghost use Rattle.bp_syntax.specs.Refusals.{IsRefusal};
-ghost use Rattle.bp_syntax.specs.declared.faults.ReadFault.TheVariants.{Memory};
+ghost use Rattle.bp_syntax.specs.declared.errors.ReadError.TheVariants.{Memory};
 
-use crate::faults::ReadFault;
+use crate::errors::ReadError;
 use crate::lexemes::{FirstLexeme, first_lexeme};
 use crate::parser::parse;
 use crate::tokens::{Token, kind_of};
@@ -20,11 +20,11 @@ use bp_language::{LexemeKind, TokenKind};
 use std::alloc::{AllocError, Global};
 
 /// Returns the tokens of a text, or its first bad byte, or its first open brace.
-pub(crate) fn scan<'a>(alloc: Global, text: &'a [u8]) -> Result<Vec<Token<'a>>, ReadFault>
+pub(crate) fn scan<'a>(alloc: Global, text: &'a [u8]) -> Result<Vec<Token<'a>>, ReadError>
     requires { length text.now ≤ TEXT_LIMIT }
     ensures { MatchResult result
         (λ ts. HasTokens text.now (token_list ts.items))
-        (IsScanFault text.now) }
+        (IsScanError text.now) }
 {
     let mut tokens = Vec::new(alloc);
     let mut first_open = None;
@@ -43,14 +43,14 @@ pub(crate) fn scan<'a>(alloc: Global, text: &'a [u8]) -> Result<Vec<Token<'a>>, 
                 nameless = count;
                 1
             }
-            FirstLexeme::BadByte => return Err(ReadFault::BadByte(at as u32)),
+            FirstLexeme::BadByte => return Err(ReadError::BadByte(at as u32)),
         };
         at += len;
         rest = rest.split_at(len).1;
         nameless = nameless.saturating_sub(len);
     }
     match first_open {
-        Some(at) => Err(ReadFault::OpenName(at)),
+        Some(at) => Err(ReadError::OpenName(at)),
         None => Ok(tokens),
     }
 }
@@ -136,24 +136,24 @@ pub(crate) fn first_too_deep(tokens: &[Token]) -> Option<u32>
     None
 }
 
-/// Reads a program text. It is refused for the first fault that applies, each searched for in the
+/// Reads a program text. It is refused for the first error that applies, each searched for in the
 /// whole text before the next: `TooLong`, `BadByte`, `OpenName`, `TooNested`, `TooManyTokens`,
 /// `Syntax`. `Memory` may come only once the text is known to be not too long.
-pub fn read(alloc: Global, text: &[u8]) -> Result<Tree, ReadFault>
+pub fn read(alloc: Global, text: &[u8]) -> Result<Tree, ReadError>
     ensures answer { MatchResult result (IsTextOf text.now) (IsRefusal text.now) }
     ensures whole { (p : Program) → IsTextOf text.now p
         → MatchResult result (λ t. t ≡ p) (λ e. e ≡ Memory) }
 {
     if text.len() > TEXT_LIMIT {
-        return Err(ReadFault::TooLong);
+        return Err(ReadError::TooLong);
     }
     let scanned = scan(alloc, text)?;
     let tokens = scanned.as_slice();
     if let Some(at) = first_too_deep(tokens) {
-        return Err(ReadFault::TooNested(at));
+        return Err(ReadError::TooNested(at));
     }
     if let Some(at) = first_too_many(tokens) {
-        return Err(ReadFault::TooManyTokens(at));
+        return Err(ReadError::TooManyTokens(at));
     }
     let (globals, procs) = parse(alloc, tokens, text.len() as u32)?;
     let tree = Tree::new(alloc, globals, procs)?;

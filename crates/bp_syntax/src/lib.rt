@@ -1,8 +1,8 @@
 //! Reads program texts: the lexer cuts a text into tokens, and the parser makes a tree of them.
 #![tactic(auto)]
 
-mod checked;
-mod faults;
+mod checked_trees;
+mod errors;
 mod laws;
 mod lexemes;
 mod lexer;
@@ -14,8 +14,8 @@ pub use bp_language::{
     Block, Decider, Expr, Exprs, Form, LexemeKind, Name, Names, Op, Proc, Procs, Stmt, Sub,
     TokenKind, limits,
 };
-pub use checked::Checked;
-pub use faults::ReadFault;
+pub use checked_trees::Checked;
+pub use errors::ReadError;
 pub use laws::{has_names_on_one_line, has_one_cut, has_one_refusal, has_one_tree};
 pub use lexemes::{Lexeme, take_lexeme};
 pub use lexer::read;

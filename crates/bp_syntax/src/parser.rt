@@ -1,5 +1,5 @@
 //! The parser: a recursive descent over the tokens that are left. Those left when a function stops
-//! begin at the text's syntax fault.
+//! begin at the text's syntax error.
 ghost use Rattle.std.specs.Prelude.{◌≡◌, ◌<◌, ◌≤◌, [], length, drop, OnOk, if◌then◌else◌};
 ghost use Rattle.bp_syntax.specs.ParserState.{Wanted, WordThen, NameThen, NamesThen, AnyNamesThen, ReadsBy, ReadsPhrase, kind_ahead, place_ahead, is_at, place_or};
 

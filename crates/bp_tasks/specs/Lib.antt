@@ -1,3 +1,3 @@
-pub mod FaultFormats
+pub mod ErrorFormats
 pub mod RunOptions
 pub mod NamedBits

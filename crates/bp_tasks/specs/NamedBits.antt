@@ -2,7 +2,7 @@
 use Rattle.std.specs.Prelude.{ℕ, Bool, List, map, ◌≡◌, ◌&&◌, suc, true, false, Some, bytes_eq, is_some, slice_get, take, ◌==◌, ◌-◌, ◌||◌, not, [], ◌∷◌, codes, length, drop}
 use Rattle.std.specs.List.{list_all, list_any}
 use Rattle.bp_language.specs.Ast.{Name, Program}
-use Rattle.bp_language.specs.Faults.{first_index}
+use Rattle.bp_language.specs.Errors.{first_index}
 use Rattle.bp_machine.specs.Setups.{StartOf, start_with}
 use Rattle.bp_source.specs.Names.{pieces}
 use Rattle.bp_tasks.specs.declared.names.NamedBit.{NamedBit}

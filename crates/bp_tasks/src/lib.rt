@@ -10,6 +10,6 @@ mod tasks;
 pub use names::{NamedBit, NamedBits, NamedStart, are_named_bits, gives_names, named_bits};
 pub use options::{ExploreOptions, RunOptions, TestOptions, ViewFormat, ViewOptions};
 pub use tasks::{
-    CheckTask, CodeTask, ConfirmTask, ContextBound, DriveTask, Explaining, ExploreTask,
-    FaultFormat, ListingForm, RunTask, ShowTask, Task, TestTask, TraceTask, Verdict,
+    CheckTask, CodeTask, ConfirmTask, ContextBound, DriveTask, ErrorFormat, Explaining,
+    ExploreTask, ListingForm, RunTask, ShowTask, Task, TestTask, TraceTask, Verdict,
 };

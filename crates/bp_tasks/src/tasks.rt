@@ -1,8 +1,8 @@
 //! The request of a user: a task, its files and its options. The form of a listing. The bound on
-//! contexts. The end of a run of confirmed steps. The form of a refusal on standard error. When a
-//! fault is explained.
+//! contexts. The end of a run of confirmed steps. The form of a refusal on standard error. When an
+//! error is explained.
 ghost use Rattle.std.specs.Prelude.{◌≡◌};
-ghost use Rattle.bp_tasks.specs.FaultFormats.{fault_format, reporting, is_explained, explains};
+ghost use Rattle.bp_tasks.specs.ErrorFormats.{error_format, json_and_explaining, is_explained, explains};
 
 use crate::names::NamedBits;
 use crate::options::{ExploreOptions, RunOptions, TestOptions, ViewFormat, ViewOptions};
@@ -13,7 +13,7 @@ use bp_machine::Start;
 pub struct CheckTask<'a> {
     /// The path of the program's text.
     pub program: &'a str,
-    /// Whether the output is a JSON object, and a fault too.
+    /// Whether the output is a JSON object, and an error too.
     pub json: bool,
     pub explain: Explaining,
 }
@@ -23,7 +23,7 @@ pub struct CheckTask<'a> {
 pub struct CodeTask<'a> {
     /// The path of the program's text.
     pub program: &'a str,
-    /// In JSON a fault is an object too.
+    /// In JSON an error is an object too.
     pub form: ListingForm,
     pub explain: Explaining,
 }
@@ -54,7 +54,7 @@ pub struct ConfirmTask<'a> {
     pub bound: ContextBound,
     /// The expected end of the run, if the exit status has to tell whether it is met.
     pub expected: Option<Verdict>,
-    /// Whether the verdict is a JSON object, and a fault too.
+    /// Whether the verdict is a JSON object, and an error too.
     pub json: bool,
     pub explain: Explaining,
 }
@@ -84,7 +84,7 @@ pub struct TestTask<'a> {
     pub options: TestOptions,
     /// Whether the statements that no run reached are listed.
     pub unreached: bool,
-    /// Whether the summary is JSON objects, and a fault too.
+    /// Whether the summary is JSON objects, and an error too.
     pub json: bool,
     pub explain: Explaining,
 }
@@ -101,7 +101,7 @@ pub struct ExploreTask<'a> {
     /// The path of the steps that a run has to make in their order, if any.
     pub through: Option<&'a str>,
     pub options: ExploreOptions,
-    /// Whether the summary is a JSON object, and a fault too.
+    /// Whether the summary is a JSON object, and an error too.
     pub json: bool,
     pub explain: Explaining,
 }
@@ -132,7 +132,7 @@ pub struct ShowTask<'a> {
     pub steps: bool,
     /// Whether the accepted calls are shown of a trace that is refused.
     pub valid: bool,
-    /// The calls that are shown, and their form. In JSON a fault is an object too.
+    /// The calls that are shown, and their form. In JSON an error is an object too.
     pub options: ViewOptions<'a>,
     pub explain: Explaining,
 }
@@ -173,9 +173,9 @@ const ON_TERMINALS: Explaining = Explaining {
 };
 
 impl Task<'_> {
-    /// Returns whether the task reports its faults as JSON, and when it explains them.
-    fn reporting(&self) -> (bool, Explaining)
-        ensures { result ≡ reporting self.now }
+    /// Returns whether the task reports its errors as JSON, and when it explains them.
+    fn json_and_explaining(&self) -> (bool, Explaining)
+        ensures { result ≡ json_and_explaining self.now }
     {
         match self {
             Task::Bundle => (false, ON_TERMINALS),
@@ -194,18 +194,18 @@ impl Task<'_> {
         }
     }
 
-    /// Returns the form in which the task reports faults on a standard error that may be a
+    /// Returns the form in which the task reports errors on a standard error that may be a
     /// terminal.
-    pub fn fault_format(&self, on_terminal: bool) -> FaultFormat
-        ensures { result ≡ fault_format self.now on_terminal }
+    pub fn error_format(&self, on_terminal: bool) -> ErrorFormat
+        ensures { result ≡ error_format self.now on_terminal }
     {
-        let (json, explain) = self.reporting();
+        let (json, explain) = self.json_and_explaining();
         if json {
-            FaultFormat::Json
+            ErrorFormat::Json
         } else if explain.explains(on_terminal) {
-            FaultFormat::Explained
+            ErrorFormat::Explained
         } else {
-            FaultFormat::Line
+            ErrorFormat::Line
         }
     }
 }
@@ -243,36 +243,36 @@ pub enum Verdict {
 
 /// The form in which a refusal is reported on standard error.
 #[derive(Clone, Copy, Debug, PartialEq, Eq)]
-pub enum FaultFormat {
-    /// The line of the fault.
+pub enum ErrorFormat {
+    /// The line of the error.
     Line,
-    /// The line of the fault, and lines that explain it.
+    /// The line of the error, and lines that explain it.
     Explained,
     /// One JSON object on a line.
     Json,
 }
 
-impl FaultFormat {
-    /// Returns whether lines that explain the fault follow.
+impl ErrorFormat {
+    /// Returns whether lines that explain the error follow.
     pub fn is_explained(self) -> bool
         ensures { result ≡ is_explained self }
     {
-        matches!(self, FaultFormat::Explained)
+        matches!(self, ErrorFormat::Explained)
     }
 }
 
-/// When lines that explain a fault follow its line. If neither is asked for, they do on a standard
+/// When lines that explain an error follow its line. If neither is asked for, they do on a standard
 /// error that is a terminal.
 #[derive(Clone, Copy, Debug, PartialEq, Eq)]
 pub struct Explaining {
-    /// Whether each fault is to be explained.
+    /// Whether each error is to be explained.
     pub always: bool,
     /// Whether none is. It is not asked for with the other.
     pub never: bool,
 }
 
 impl Explaining {
-    /// Returns whether a fault is explained on a standard error that is a terminal or not.
+    /// Returns whether an error is explained on a standard error that is a terminal or not.
     pub fn explains(self, on_terminal: bool) -> bool
         ensures { result ≡ explains self on_terminal }
     {

@@ -6,9 +6,9 @@ use Rattle.bp_text.specs.Writing.{AppendsAll, AppendsPart}
 use Rattle.bp_text.proofs.PartsOfTexts.{regrouped}
 use Rattle.bp_trace.specs.TraceText.{trace_text}
 use Rattle.bp_tasks.specs.declared.options.TestOptions.{TestOptions}
-use Rattle.bp_test.specs.declared.waves.FoundRun.{FoundRun}
+use Rattle.bp_test.specs.declared.batches.FoundRun.{FoundRun}
 use Rattle.bp_test.specs.Tests.{IsEnd}
-use Rattle.bp_test.specs.declared.waves.Block.{Block}
+use Rattle.bp_test.specs.declared.batches.Block.{Block}
 
 module _ (t : Program) (s : SetupOf) (with_deadlock : Bool) (seed : ℕ) where
   -- runs and those after them
@@ -120,7 +120,7 @@ module _ (t : Program) (s : SetupOf) (x : TestOptions) (f : FoundRun) (runs : Li
     written = subst (λ y. AppendsPart old new (trace_text y f.history.items)) setup written;
   }
 
--- The results of the blocks of a wave, one after the other.
+-- The results of the blocks of a batch, one after the other.
 
 starts_rise : (from size a b runs : ℕ) → a ≤ b → start_of_block from size a runs ≤ start_of_block from size b runs
 starts_rise from size a b runs le = let more = mul-le-mul_right size le in omega (arith, more)
@@ -161,7 +161,7 @@ module _ {E : Type 0} (c : Flat) (t : Program) (program : t ≡ c.tree) (s : Set
     tallied = subst (λ rs. IsTally t s rs tally) (sym (append-nil earlier)) tallied;
   }
 
-  -- the runs before some blocks are those of the wave, as far as they were made
+  -- the runs before some blocks are those of the batch, as far as they were made
   pub after_made : (all rest : List (Result Block E)) (end : ℕ) (tally : Tally) → IsBefore all rest end tally
       → IsTalliedAfter earlier t s p.with_deadlock p.seed (start_of_block from size 0 runs) end None tally
   after_made all rest end tally given1 = grind (arith)
@@ -218,7 +218,7 @@ module _ {E : Type 0} (c : Flat) (t : Program) (program : t ≡ c.tree) (s : Set
           found_later t s p.with_deadlock p.seed (start_of_block from size 0 runs) end block.end was.made was.number was.clean
           below block.found tallied.runs tallied.first
 
-      -- the end of the wave, if this block is the last of it
+      -- the end of the batch, if this block is the last of it
       ends_here : (n : ℕ) → start_of_block from size (was.before + 1) runs ≤ start_of_block from size n runs
           → (o : Option FoundRun)
           → (p.deadline ≡ None → o ≡ None → block.end ≡ max (start_of_block from size 0 runs) (start_of_block from size n runs))
@@ -257,13 +257,13 @@ module _ {E : Type 0} (c : Flat) (t : Program) (program : t ≡ c.tree) (s : Set
       pub found_any : IsTalliedAfter earlier t s p.with_deadlock p.seed (start_of_block from size 0 runs) block.end block.found new
       found_any = record { runs = both; first = both_first; tallied = tallied_both }
 
--- a wave after runs that are not looked for
-pub after_wave : (t : Program) (s : SetupOf) (with_deadlock : Bool) (seed from end : ℕ) → from ≤ end
+-- a batch after runs that are not looked for
+pub after_batch : (t : Program) (s : SetupOf) (with_deadlock : Bool) (seed from end : ℕ) → from ≤ end
     → (before : List MadeRun) → length before ≡ from - 0 → AreCleanRuns t s with_deadlock seed 0 before
     → (o : Option FoundRun) (tally : Tally)
     → IsTalliedAfter before t s with_deadlock seed from end o tally → IsTallied t s with_deadlock seed 0 end o tally
-after_wave t s with_deadlock seed from end le before count clean o tally wave = record {
-  runs = before ++ wave.runs;
-  first = found_later t s with_deadlock seed 0 from end before (omega (arith, count)) clean le o wave.runs wave.first;
-  tallied = wave.tallied;
+after_batch t s with_deadlock seed from end le before count clean o tally batch = record {
+  runs = before ++ batch.runs;
+  first = found_later t s with_deadlock seed 0 from end before (omega (arith, count)) clean le o batch.runs batch.first;
+  tallied = batch.tallied;
 }

@@ -3,7 +3,7 @@ pub mod FirstFound
 pub mod CodesShared
 pub mod ContextLemmas
 pub mod DistinctKeys
-pub mod Playing
+pub mod Plays
 pub mod TallyLemmas
 pub mod MarkLemmas
 pub mod ReachedPlaces

@@ -1,14 +1,14 @@
 -- The result of a search for a smaller history.
-use Rattle.bp_test.proofs.Common.{◌≡◌, ◌≤◌, ◌==◌, ℕ, false, length, refl, arith, Bool, true, cond, List, [], ◌∷◌, ap, sym, ◌∙◌, subst, ◌&&◌, zero, suc, ◌+◌, ◌++◌, None, map, rules, Program, Flat, SetupOf, setup_fault, Fits, IsInRange, Call, Reply, IsBoundedRun, IsHistoryOfSteps, HasBoundedRun, IsWithin, configuration_after, granted_threads, granted_calls, IsLegal, is_granted, outcome_or, outcome_of, IsReport, is_finished, open_below, IsLegalAfter, RunsAreHistories, HistoriesAreRuns, Report, Waiting, Wait, IsEnd, budgeted, DeadlocksAt, unseeded, IsDriven, IsNoMore, IsShrunk, IsShrunkOf, IsSearch, GoesOn}
+use Rattle.bp_test.proofs.Common.{◌≡◌, ◌≤◌, ◌==◌, ℕ, false, length, refl, arith, Bool, true, cond, List, [], ◌∷◌, ap, sym, ◌∙◌, subst, ◌&&◌, zero, suc, ◌+◌, ◌++◌, None, map, rules, Program, Flat, SetupOf, setup_error, Fits, IsInRange, Call, Reply, IsBoundedRun, IsHistoryOfSteps, HasBoundedRun, IsWithin, configuration_after, granted_threads, granted_calls, IsLegal, is_granted, outcome_or, outcome_of, IsReport, is_terminated, live_below, IsLegalAfter, RunsAreHistories, HistoriesAreRuns, Report, Waiting, Wait, IsEnd, with_contexts, DeadlocksAt, unseeded, IsDriven, IsNoMore, IsShrunk, IsShrunkOf, IsSearch, GoesOn}
 use Rattle.std.specs.Bool.{Decides}
-use Rattle.bp_test.specs.declared.shrinking.HistoryEnd.{HistoryEnd}
+use Rattle.bp_test.specs.declared.shrinks.HistoryEnd.{HistoryEnd}
 use Rattle.bp_test.specs.declared.searches.Search.{Search}
-use Rattle.bp_test.specs.declared.shrinking.Shrunk.{Shrunk}
+use Rattle.bp_test.specs.declared.shrinks.Shrunk.{Shrunk}
 
--- A setup that fits its program has no fault if its numbers are within their limits.
+-- A setup that fits its program has no error if its numbers are within their limits.
 
-pub no_fault : (t : Program) (s : SetupOf) → Fits t s → IsInRange s → setup_fault t s ≡ None
-no_fault t s given1 given2 = grind (arith)
+pub no_error : (t : Program) (s : SetupOf) → Fits t s → IsInRange s → setup_error t s ≡ None
+no_error t s given1 given2 = grind (arith)
 
 -- The granted calls of a legal history are one as well, within as many contexts as they use.
 
@@ -58,16 +58,16 @@ module _ (t : Program) (s : SetupOf) (k : ℕ) (h : List Call) (each : RunsAreHi
   own = back t s h legal
 
   module _ (within : IsWithin k (granted_threads h)) where
-    bounded : IsBoundedRun t (budgeted s k) (granted_calls h) (configuration_after t s h)
+    bounded : IsBoundedRun t (with_contexts s k) (granted_calls h) (configuration_after t s h)
     bounded = search (rules, own, threads_of)
 
-    made : IsHistoryOfSteps t (budgeted s k) (granted_calls h) (configuration_after t s h)
+    made : IsHistoryOfSteps t (with_contexts s k) (granted_calls h) (configuration_after t s h)
     made = search (rules, own, bounded)
 
-    pub granted_legal : IsLegal t (budgeted s k) (granted_calls h)
+    pub granted_legal : IsLegal t (with_contexts s k) (granted_calls h)
     granted_legal = made.legal
 
-    pub granted_end : (end : HistoryEnd) → IsEnd t s h end → IsEnd t (budgeted s k) (granted_calls h) end
+    pub granted_end : (end : HistoryEnd) → IsEnd t s h end → IsEnd t (with_contexts s k) (granted_calls h) end
     granted_end end given1 = search (rules, same_outcome, made)
 
     pub granted_same : granted_threads (granted_calls h) ≡ granted_threads h
@@ -114,12 +114,12 @@ legal_after t s p (x ∷ xs) legal = search (rules, (legal_after t s (p ++ x ∷
 pub legal_unseeded : (t : Program) (s : SetupOf) (h : List Call) → IsLegal t s h → IsLegal t (unseeded s) h
 legal_unseeded t s h legal = legal_after t s [] h legal
 
-same_open : (s : SetupOf) (h : List Call) (n : ℕ) → open_below n s h ≡ open_below n (unseeded s) h
-same_open s h zero = refl
-same_open s h (suc n) = ap (λ m. cond (is_finished s h n) m (m + 1)) (same_open s h n)
+same_live : (s : SetupOf) (h : List Call) (n : ℕ) → live_below n s h ≡ live_below n (unseeded s) h
+same_live s h zero = refl
+same_live s h (suc n) = ap (λ m. cond (is_terminated s h n) m (m + 1)) (same_live s h n)
 
 pub report_unseeded : (s : SetupOf) (h : List Call) (r : Report) → IsReport s h r → IsReport (unseeded s) h r
-report_unseeded s h r given1 = search (rules, same_open)
+report_unseeded s h r given1 = search (rules, same_live)
 
 pub end_unseeded : (t : Program) (s : SetupOf) (h : List Call) (end : HistoryEnd) → IsEnd t s h end → IsEnd t (unseeded s) h end
 end_unseeded t s h end given1 = grind (arith)

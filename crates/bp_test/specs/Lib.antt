@@ -1,4 +1,4 @@
 pub mod Tests
 pub mod Tallies
-pub mod Reached
+pub mod Reach
 pub mod Shrinks

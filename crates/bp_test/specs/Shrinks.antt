@@ -6,15 +6,15 @@ use Rattle.bp_machine.specs.declared.calls.Outcome.TheVariants.{Clean}
 use Rattle.bp_machine.specs.Runs.{IsDeadlocked}
 use Rattle.bp_machine.specs.Histories.{configuration_after, outcome_of, IsLeastWithin, granted_calls, granted_threads, IsLegal, IsReport}
 use Rattle.bp_machine.specs.Sessions.{SessionOf, Stands}
-use Rattle.bp_machine.specs.Setups.{SetupOf, setup_fault, Fits}
+use Rattle.bp_machine.specs.Setups.{SetupOf, setup_error, Fits}
 use Rattle.bp_machine.specs.declared.calls.Report.{Report}
-use Rattle.bp_test.specs.declared.waiting.Waiting.{Waiting}
+use Rattle.bp_test.specs.declared.waits.Waiting.{Waiting}
 use Rattle.bp_test.specs.Tests.{FailsAt, IsDeadlock, Wait}
-use Rattle.bp_test.specs.declared.shrinking.HistoryEnd.{HistoryEnd}
-use Rattle.bp_test.specs.declared.shrinking.HistoryEnd.TheVariants.{Failure, Deadlock, Other}
+use Rattle.bp_test.specs.declared.shrinks.HistoryEnd.{HistoryEnd}
+use Rattle.bp_test.specs.declared.shrinks.HistoryEnd.TheVariants.{Failure, Deadlock, Other}
 use Rattle.bp_test.specs.declared.searches.Driven.{Driven}
 use Rattle.bp_test.specs.declared.searches.Search.{Search}
-use Rattle.bp_test.specs.declared.shrinking.Shrunk.{Shrunk}
+use Rattle.bp_test.specs.declared.shrinks.Shrunk.{Shrunk}
 
 -- How histories end.
 
@@ -43,15 +43,15 @@ abbrev pub unseeded : SetupOf → SetupOf
 unseeded s = record s { seed = None }
 
 -- the setup without a seed, and with this number of contexts
-abbrev pub budgeted : SetupOf → ℕ → SetupOf
-budgeted s k = record s { contexts = k; seed = None }
+abbrev pub with_contexts : SetupOf → ℕ → SetupOf
+with_contexts s k = record s { contexts = k; seed = None }
 
 -- g is a legal history, in the setup of the contexts that it uses, each of whose calls made a step.
 -- It has the outcome of h and this end, by no more calls and no more contexts.
 pub record IsShrunk (t : Program) (s : SetupOf) (h : List Call) (end : HistoryEnd) (g : Shrunk)
     : Type 0 where
-  pub setup : g.setup ≡ budgeted s g.report.contexts
-  pub fine : setup_fault t g.setup ≡ None
+  pub setup : g.setup ≡ with_contexts s g.report.contexts
+  pub fine : setup_error t g.setup ≡ None
   pub legal : IsLegal t g.setup g.history.items
   pub report : IsReport g.setup g.history.items g.report
   pub steps : granted_calls g.history.items ≡ g.history.items

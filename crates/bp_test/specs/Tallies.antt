@@ -13,7 +13,7 @@ use Rattle.bp_machine.specs.Setups.{SetupOf, threads}
 use Rattle.bp_test.specs.declared.tallies.Ends.{Ends}
 use Rattle.bp_test.specs.declared.tallies.Tally.{Tally}
 use Rattle.bp_test.specs.declared.limits.TheConstants.{MAX_KEYS}
-use Rattle.bp_test.specs.Reached.{IsRunKey, has_refusal, place_of, AreMarks, HasStep, Reaches}
+use Rattle.bp_test.specs.Reach.{IsRunKey, has_refusal, place_of, AreMarks, HasStep, Reaches}
 use Rattle.bp_test.specs.declared.counts.Counts.{Counts}
 use Rattle.bp_test.specs.declared.counts.Share.{Share}
 use Rattle.bp_test.specs.declared.tallies.ContextsUsed.{ContextsUsed}
@@ -36,13 +36,13 @@ abbrev pub capped : ℕ → ℕ
 capped n = min n (2 ^ 64 - 1)
 
 -- Each run ended in one of these ways, the first that applies: an assertion failed; its threads are
--- deadlocked; some lines are open; a thread was refused a context; each thread reached its end;
+-- deadlocked; some threads are live; a thread was refused a context; each thread reached its end;
 -- none of these.
 abbrev pub fails : MadeRun → Bool
 fails r = is_failure r.report.outcome
 
-abbrev pub leaves_open : MadeRun → Bool
-leaves_open r = nat_le 1 r.report.left_open
+abbrev pub leaves_live : MadeRun → Bool
+leaves_live r = nat_le 1 r.report.left_live
 
 abbrev pub lacks_contexts : MadeRun → Bool
 lacks_contexts r = has_refusal r.history
@@ -55,18 +55,18 @@ abbrev pub lives : MadeRun → Bool
 lives r = not (fails r) && not r.deadlocked
 
 abbrev pub is_starved : MadeRun → Bool
-is_starved r = lives r && leaves_open r
+is_starved r = lives r && leaves_live r
 
 abbrev pub is_out_of_contexts : MadeRun → Bool
-is_out_of_contexts r = lives r && (not (leaves_open r) && lacks_contexts r)
+is_out_of_contexts r = lives r && (not (leaves_live r) && lacks_contexts r)
 
 abbrev pub is_finished_run : MadeRun → Bool
 is_finished_run r =
-    lives r && (not (leaves_open r) && (not (lacks_contexts r) && r.returned))
+    lives r && (not (leaves_live r) && (not (lacks_contexts r) && r.returned))
 
 abbrev pub is_cut_off : MadeRun → Bool
 is_cut_off r =
-    lives r && (not (leaves_open r) && (not (lacks_contexts r) && not r.returned))
+    lives r && (not (leaves_live r) && (not (lacks_contexts r) && not r.returned))
 
 -- the stack of a thread was full
 abbrev pub is_full : Reply → Bool

@@ -7,7 +7,7 @@ use Rattle.bp_flat.specs.Flat.{Flat}
 use Rattle.bp_machine.specs.declared.calls.Call.{Call}
 use Rattle.bp_machine.specs.declared.calls.Outcome.TheVariants.{Failed, Clean}
 use Rattle.bp_machine.specs.declared.tops.Top.{Top}
-use Rattle.bp_machine.specs.Histories.{configuration_after, outcome_of, stack_of, is_finished, is_failure, IsWithin, granted_threads, IsLegal, IsReport, HasSeededBits}
+use Rattle.bp_machine.specs.Histories.{configuration_after, outcome_of, stack_of, is_terminated, is_failure, IsWithin, granted_threads, IsLegal, IsReport, HasSeededBits}
 use Rattle.bp_machine.specs.Setups.{SetupOf, threads}
 use Rattle.bp_machine.specs.Runs.{IsTop, waits, IsDeadlocked}
 use Rattle.bp_machine.specs.Sessions.{SessionOf, Stands}
@@ -16,17 +16,17 @@ use Rattle.bp_machine.specs.declared.calls.Report.{Report}
 use Rattle.bp_trace.specs.TraceText.{trace_text}
 use Rattle.bp_tasks.specs.declared.limits.TheConstants.{MAX_JOBS}
 use Rattle.bp_tasks.specs.declared.options.TestOptions.{TestOptions}
-use Rattle.bp_test.specs.declared.waves.FoundRun.{FoundRun}
-use Rattle.bp_test.specs.declared.testing.TestFault.{TestFault}
-use Rattle.bp_test.specs.declared.testing.TestFault.TheVariants as fault
+use Rattle.bp_test.specs.declared.batches.FoundRun.{FoundRun}
+use Rattle.bp_test.specs.declared.tests.TestError.{TestError}
+use Rattle.bp_test.specs.declared.tests.TestError.TheVariants as error
 use Rattle.bp_test.specs.declared.tallies.Tally.{Tally}
-use Rattle.bp_test.specs.declared.testing.Found.{Found}
-use Rattle.bp_test.specs.declared.testing.Found.TheVariants as found
-use Rattle.bp_test.specs.declared.testing.Tested.{Tested}
-use Rattle.bp_test.specs.declared.waiting.Waiting.{Waiting}
+use Rattle.bp_test.specs.declared.tests.Found.{Found}
+use Rattle.bp_test.specs.declared.tests.Found.TheVariants as found
+use Rattle.bp_test.specs.declared.tests.Tested.{Tested}
+use Rattle.bp_test.specs.declared.waits.Waiting.{Waiting}
 use Rattle.bp_test.specs.Tallies.{MadeRun, made, IsTally}
-use Rattle.bp_test.specs.Reached.{AreWaiting}
-use Rattle.bp_test.specs.declared.waves.Block.{Block}
+use Rattle.bp_test.specs.Reach.{AreWaiting}
+use Rattle.bp_test.specs.declared.batches.Block.{Block}
 use Rattle.bp_test.specs.declared.plans.Plan.{Plan}
 
 -- The place at which an assertion failed.
@@ -45,9 +45,9 @@ pub record FailsAt (t : Program) (s : SetupOf) (h : List Call) (number : ℕ) : 
 abbrev pub HaveReturned : Configuration → ℕ → Type 0
 HaveReturned c n = (i : ℕ) → i < n → stack_of c i ≡ []
 
--- the line of thread i is finished, or the thread waits
+-- thread i has terminated, or the thread waits
 abbrev pub Rests : Program → SetupOf → List Call → ℕ → Type 0
-Rests t s h i = (is_finished s h i ≡ true) ⊎ (waits t (configuration_after t s h) i ≡ true)
+Rests t s h i = (is_terminated s h i ≡ true) ⊎ (waits t (configuration_after t s h) i ≡ true)
 
 abbrev pub EachRests : Program → SetupOf → List Call → Type 0
 EachRests t s h = (i : ℕ) → i < threads s → Rests t s h i
@@ -230,9 +230,9 @@ module _ (t : Program) (s : SetupOf) (x : TestOptions) (old new : Option (List �
         IsSoughtRun t (setup_of_run s x.seed run) x.with_deadlock made_run
     pub written : AppendsPart old new (trace_text (setup_of_run s x.seed run) history)
 
-  abbrev pub IsTestRefusal : TestFault → Type 0
-  IsTestRefusal fault.Memory = new ≡ old
-  IsTestRefusal fault.Write = IsCutRun
+  abbrev pub IsTestRefusal : TestError → Type 0
+  IsTestRefusal error.Memory = new ≡ old
+  IsTestRefusal error.Write = IsCutRun
 
 -- Blocks of runs that are made side by side.
 
@@ -240,7 +240,7 @@ module _ (t : Program) (s : SetupOf) (x : TestOptions) (old new : Option (List �
 abbrev pub is_sought : Bool → Report → Bool → Bool
 is_sought with_deadlock r deadlocked = is_failure r.outcome || (with_deadlock && deadlocked)
 
--- the start of block n of a wave with blocks of this size, in a test of this number of runs
+-- the start of block n of a batch with blocks of this size, in a test of this number of runs
 abbrev pub start_of_block : (from size n runs : ℕ) → ℕ
 start_of_block from size n runs = min (from + n * size) runs
 
@@ -254,7 +254,7 @@ IsEnd deadline from to found end =
     × IfSome found (λ f. end ≡ f.run + 1)
 
 module _ {E : Type 0} (c : Flat) (s : SetupOf) (p : Plan) (from size runs : ℕ) where
-  -- the result of block n of a wave
+  -- the result of block n of a batch
   abbrev pub IsBlock : ℕ → Result Block E → Type 0
   IsBlock n r =
       let start = start_of_block from size n runs in
@@ -266,7 +266,7 @@ module _ {E : Type 0} (c : Flat) (s : SetupOf) (p : Plan) (from size runs : ℕ)
       → t ≡ c.tree
       → IsTallied t s p.with_deadlock p.seed start block.end block.found block.tally))
 
-  -- the blocks of a wave, from block m on
+  -- the blocks of a batch, from block m on
   abbrev pub AreBlocks : ℕ → List (Result Block E) → Type 0
   AreBlocks m rs =
       (n : ℕ) (d : Result Block E) → n < length rs → IsBlock (m + n) (slice_index_or rs n d)

@@ -4,7 +4,7 @@ ghost use Rattle.std.specs.Prelude.{◌≡◌, IfOk};
 ghost use Rattle.bp_machine.specs.Setups.{Fits};
 ghost use Rattle.bp_test.specs.Shrinks.{unseeded};
 
-use bp_machine::{AskFault, Call, Reply, Session, Top};
+use bp_machine::{AskError, Call, Reply, Session, Top};
 use std::alloc::AllocError;
 
 /// The calls of a history from one place to before another.
@@ -160,7 +160,7 @@ fn make(session: &mut Session, call: &Call) -> Result<(), AllocError>
     ensures { (session.new.code ≡ session.old.code) × (session.new.setup ≡ session.old.setup) }
 {
     match session.ask_with(call.thread, call.bit) {
-        Err(AskFault::Memory) => Err(AllocError),
+        Err(AskError::Memory) => Err(AllocError),
         _ => Ok(()),
     }
 }

@@ -2,6 +2,7 @@
 //! shrinking: a smaller history with the same end as one that fails or ends in a deadlock.
 #![tactic(auto)]
 
+mod batches;
 mod candidates;
 mod changes;
 mod counts;
@@ -10,19 +11,18 @@ mod plans;
 mod runs;
 mod schedulers;
 mod searches;
-mod shrinking;
+mod shrinks;
 mod tallies;
-mod testing;
+mod tests;
 mod visible_steps;
-mod waiting;
-mod waves;
+mod waits;
 
+pub use batches::{Block, FoundRun, first_found};
 pub use bp_tasks::TestOptions;
 pub use counts::{Counts, Distinct, Share, distinct_of};
 pub use plans::Plan;
-pub use shrinking::{HistoryEnd, Shrunk, history_end, shrink};
+pub use shrinks::{HistoryEnd, Shrunk, history_end, shrink};
 pub use tallies::{ContextsUsed, Ends, Tally};
-pub use testing::{Found, Progress, Runtimes, TestFault, Tested, Untold, test};
+pub use tests::{Found, Progress, Runtimes, TestError, Tested, Untold, test};
 pub use visible_steps::VisibleSteps;
-pub use waiting::{Waiting, failed_instruction, waiting_threads};
-pub use waves::{Block, FoundRun, first_found};
+pub use waits::{Waiting, failed_instruction, waiting_threads};

@@ -1,13 +1,13 @@
 //! The limits of tests and of shrinking.
 
-/// The number of runs of a block of the first wave.
+/// The number of runs of a block of the first batch.
 pub const FIRST_BLOCK: u64 = 500;
 
 /// The most runs of a block.
 pub const LONGEST_BLOCK: u64 = 64_000;
 
-/// A wave is quick if it takes fewer milliseconds than these.
-pub const QUICK_WAVE: u64 = 250;
+/// A batch is quick if it takes fewer milliseconds than these.
+pub const QUICK_BATCH: u64 = 250;
 
 /// The most runs of a test that are compared: the first ones.
 pub const MAX_KEYS: usize = 1 << 20;

@@ -4,7 +4,7 @@ ghost use Rattle.bp_machine.specs.Setups.{Fits};
 
 use crate::runs::{next_number, run_once};
 use crate::tallies::is_step;
-use crate::testing::is_over;
+use crate::tests::is_over;
 use crate::visible_steps::VisibleSteps;
 use bp_flat::Code;
 use bp_machine::{Call, Session, Setup};

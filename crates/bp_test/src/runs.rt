@@ -5,7 +5,7 @@ ghost use Rattle.bp_machine.specs.declared.calls.Call.{Call as Answered};
 ghost use Rattle.bp_machine.specs.Histories.{configuration_after, outcome_of, is_failure};
 ghost use Rattle.bp_machine.specs.Sessions.{Stands, AfterEach};
 ghost use Rattle.bp_machine.specs.Setups.{threads, Fits};
-ghost use Rattle.bp_test.specs.Reached.{IsEndKey, IsKey, IsRunKey, has_refusal, is_marked, next_place, marks_after, place_of, refuses_context, IsNumberOf, IsReachedByCall, IsWaiting, MarksGrow, Reaches, key_after, key_at_end, key_with};
+ghost use Rattle.bp_test.specs.Reach.{IsEndKey, IsKey, IsRunKey, has_refusal, is_marked, next_place, marks_after, place_of, refuses_context, IsNumberOf, IsReachedByCall, IsWaiting, MarksGrow, Reaches, key_after, key_at_end, key_with};
 ghost use Rattle.bp_test.specs.Tests.{IsOver};
 ghost use Rattle.bp_test.specs.declared.limits.TheConstants.{MAX_KEYS};
 

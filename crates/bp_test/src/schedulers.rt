@@ -5,7 +5,7 @@ ghost use Rattle.bp_test.specs.Tests.{RestsIn};
 
 use crate::runs::next_number;
 use crate::visible_steps::{VisibleSteps, bit};
-use crate::waiting::{may_step, may_step_at};
+use crate::waits::{may_step, may_step_at};
 use bp_machine::Session;
 use rand_core::utils::NextWord;
 use rand_pcg::Lcg64Xsh32;
@@ -278,10 +278,10 @@ impl<'a> Scheduler<'a> {
         None
     }
 
-    /// Records that the current thread may not step: it has to wait, unless its line has ended.
+    /// Records that the current thread may not step: it has to wait, unless it has terminated.
     fn note_wait(&mut self, session: &Session) {
         let current = self.current;
-        if current >= session.setup().threads() || session.is_finished(current) {
+        if current >= session.setup().threads() || session.is_terminated(current) {
             return;
         }
         if self.is_resuming {

@@ -5,7 +5,7 @@ ghost use Rattle.bp_test.specs.Shrinks.{EndsIn, IsNoMore, IsSearch, GoesOn};
 
 use crate::candidates::{Candidates, Next};
 use crate::changes::{Change, without_loops, write_changed};
-use crate::shrinking::{HistoryEnd, drive_again, has_end};
+use crate::shrinks::{HistoryEnd, drive_again, has_end};
 use bp_machine::{Call, Report, Session};
 use std::alloc::{AllocError, Global};
 

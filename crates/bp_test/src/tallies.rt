@@ -5,7 +5,7 @@ ghost use Rattle.bp_machine.specs.Histories.{is_granted};
 ghost use Rattle.bp_machine.specs.Setups.{SetupOf};
 ghost use Rattle.bp_test.specs.Tallies.{contexts_with, AreContextsUsed, MadeRun, made, ends_of, ends_sum, count_with, has_full_stack, with_lack, IsCounted, IsTally};
 ghost use Rattle.bp_test.specs.declared.limits.TheConstants.{MAX_KEYS};
-ghost use Rattle.bp_test.specs.Reached.{has_refusal, is_marked, HasStep, MarksGrow};
+ghost use Rattle.bp_test.specs.Reach.{has_refusal, is_marked, HasStep, MarksGrow};
 
 use crate::runs::{FollowedRun, push_key, push_keys};
 use bp_flat::Code;
@@ -22,7 +22,7 @@ pub struct Ends {
     pub out_of_contexts: u64,
     /// A thread made all calls that it may make, or its stack was full.
     pub cut_off: u64,
-    /// Some threads were open, and each of them waits for one that could step, but was refused a
+    /// Some threads were live, and each of them waits for one that could step, but was refused a
     /// context, made all its calls or has a full stack.
     pub starved: u64,
     /// Some threads had not ended, and each of those waits for ever.
@@ -203,7 +203,7 @@ impl Ends {
         }
         if is_deadlocked {
             self.deadlocked = self.deadlocked.saturating_add(1);
-        } else if report.left_open > 0 {
+        } else if report.left_live > 0 {
             self.starved = self.starved.saturating_add(1);
             self.add_lack(history, was_refused);
         } else if was_refused {

@@ -5,7 +5,7 @@ use Rattle.std.proofs.lemmas.List.{append-nil, append_assoc}
 use Rattle.std.proofs.KnownBytes.{Appends-trans, Appends-nil, Keeps-refl}
 use Rattle.std.specs.Borrow.{MutBor}
 use Rattle.std.specs.Result.{is_err}
-use Rattle.bp_text.specs.declared.sinks.WriteFault.{WriteFault}
+use Rattle.bp_text.specs.declared.sinks.WriteError.{WriteError}
 use Rattle.bp_text.specs.declared.sinks.Sink.{Sink}
 use Rattle.bp_text.proofs.PartsOfTexts.{regrouped, no_parts, parts_go_on, parts_then}
 
@@ -102,7 +102,7 @@ taken_since contents a b text fine p =
     p.takes old [] (subst (λ x. HasTaken old old x []) (sym fine) (record { grown = Appends-nil old }))
 
 -- the text given to a new sink is that which was written, as its writer is seen after it
-pub written_at_end : {W : Type 0} (contents : W → Option (List ℕ)) (out : MutBor W) (a b : Sink W) (text : List ℕ) (r : Result (Unit {0}) WriteFault)
+pub written_at_end : {W : Type 0} (contents : W → Option (List ℕ)) (out : MutBor W) (a b : Sink W) (text : List ℕ) (r : Result (Unit {0}) WriteError)
     (last : (v : W) × (out.ghost_name ≡ b.out.ghost_name → v ≡ b.out.now))
     → IsFresh a out → Given contents a b text → r ≡ result_of b.refused → Writes (contents out.now) (contents last.0) text r
 written_at_end contents out a b text r last fresh p is =

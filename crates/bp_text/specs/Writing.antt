@@ -2,8 +2,8 @@
 use Rattle.std.specs.Prelude.{ℕ, ◌<◌, List, Option, Result, MatchResult, length, take, ◌++◌, ◌≡◌, Bool, true, false, Ok, Err}
 use Rattle.std.specs.Io.KnownBytes.{Appends}
 use Rattle.std.specs.Borrow.{MutBor}
-use Rattle.bp_text.specs.declared.sinks.WriteFault.{WriteFault}
-use Rattle.bp_text.specs.declared.sinks.WriteFault.TheVariants.{Write}
+use Rattle.bp_text.specs.declared.sinks.WriteError.{WriteError}
+use Rattle.bp_text.specs.declared.sinks.WriteError.TheVariants.{Write}
 use Rattle.bp_text.specs.declared.sinks.Sink.{Sink}
 
 -- The text that a writing call leaves in its writer, if the writer's bytes are known.
@@ -68,6 +68,6 @@ pub record IsFresh {W : Type 0} (new : Sink W) (out : MutBor W) : Type 0 where
   pub now : new.out.now ≡ out.now
   pub fine : new.refused ≡ false
 
-abbrev pub result_of : Bool → Result (Unit {0}) WriteFault
+abbrev pub result_of : Bool → Result (Unit {0}) WriteError
 result_of true = Err Write
 result_of false = Ok tt

@@ -71,7 +71,7 @@ pub fn push_place(out: &mut Vec<u8>, text: &[u8], at: usize) -> Result<(), Alloc
     push_with_caret(out, front.as_slice(), after)
 }
 
-/// Returns the excerpt for a fault that names this byte of the text, or none.
+/// Returns the excerpt for an error that names this byte of the text, or none.
 pub fn excerpt_of(alloc: Global, text: &[u8], place: Option<u32>) -> Result<Vec<u8>, AllocError> {
     let mut excerpt = Vec::new(alloc);
     let Some(at) = place else {

@@ -3,7 +3,7 @@
 #![tactic(auto)]
 
 mod decimals;
-mod displayed;
+mod displayed_texts;
 mod excerpts;
 mod formats;
 mod lines;
@@ -11,7 +11,7 @@ mod pieces;
 mod sinks;
 
 pub use decimals::{digits, number_of};
-pub use displayed::{no_control_is_displayed, push_displayed, strings_are_read_back};
+pub use displayed_texts::{no_control_is_displayed, push_displayed, strings_are_read_back};
 pub use excerpts::{excerpt_of, push_line, push_place};
 pub use formats::{
     Machine, after, after_word, bit_at, long_number_at, number_at, short_number_at, span_at,
@@ -23,4 +23,4 @@ pub use lines::{
 pub use pieces::{
     Piece, push_bytes, push_left, push_piece, push_pieces, push_right, push_spaces, put_pieces,
 };
-pub use sinks::{Sink, WriteFault, put};
+pub use sinks::{Sink, WriteError, put};

@@ -4,9 +4,9 @@ ghost use Rattle.std.specs.Prelude.{◌≡◌, ◌++◌, decimal, flat_map, OnOk
 ghost use Rattle.bp_text.specs.Pieces.{bit_text, key_text, list_text, piece_text, truth_text, spaces, at_left, at_right};
 ghost use Rattle.bp_text.specs.Writing.{Given, Writes};
 
-use crate::displayed::{push_displayed, push_string, put_displayed, put_string};
+use crate::displayed_texts::{push_displayed, push_string, put_displayed, put_string};
 use crate::lines::part_from;
-use crate::sinks::{Sink, WriteFault};
+use crate::sinks::{Sink, WriteError};
 use itoa::Buffer;
 use std::alloc::AllocError;
 use std::io::Write;
@@ -118,7 +118,7 @@ pub(crate) fn put_piece<W: Write>(piece: Piece<'_>, sink: &mut Sink<'_, W>)
 }
 
 /// Writes the pieces one after the other, without memory.
-pub fn put_pieces<W: Write>(out: &mut W, pieces: &[Piece<'_>]) -> Result<(), WriteFault>
+pub fn put_pieces<W: Write>(out: &mut W, pieces: &[Piece<'_>]) -> Result<(), WriteError>
     ensures { let text = flat_map piece_text pieces.now in
         Writes (W.contents out.old) (W.contents out.new) text result }
 {

@@ -73,11 +73,11 @@ impl<'a, W: Write> Sink<'a, W> {
     }
 
     /// Returns whether the writer took all that it was given.
-    pub fn finish(&self) -> Result<(), WriteFault>
+    pub fn finish(&self) -> Result<(), WriteError>
         ensures { result ≡ result_of self.now.refused }
     {
         if self.refused {
-            Err(WriteFault::Write)
+            Err(WriteError::Write)
         } else {
             Ok(())
         }
@@ -86,7 +86,7 @@ impl<'a, W: Write> Sink<'a, W> {
 
 /// Why a text was not written whole.
 #[derive(Clone, Copy, Debug, PartialEq, Eq, Error)]
-pub enum WriteFault {
+pub enum WriteError {
     /// A write returned an error, or `Ok(0)`.
     #[error("the output could not be written")]
     Write,
@@ -94,13 +94,13 @@ pub enum WriteFault {
 
 /// Writes all the bytes. Stops at the first write that returns an error or `Ok(0)`: the writer then
 /// has the bytes that the earlier writes took, which are not all of them.
-pub fn put<W: Write>(out: &mut W, bytes: &[u8]) -> Result<(), WriteFault>
+pub fn put<W: Write>(out: &mut W, bytes: &[u8]) -> Result<(), WriteError>
     ensures { Writes (W.contents out.old) (W.contents out.new) bytes.now result }
 {
     let mut done = 0;
     while done < bytes.len() {
         match out.write(&bytes[done..]) {
-            Ok(0) | Err(_) => return Err(WriteFault::Write),
+            Ok(0) | Err(_) => return Err(WriteError::Write),
             Ok(n) => done += n,
         }
     }

@@ -4,10 +4,10 @@ pub use Rattle.bp_language.specs.Ast.{Program}
 pub use Rattle.bp_language.specs.declared.limits.TheConstants.{TEXT_LIMIT}
 pub use Rattle.bp_machine.proofs.HistoriesAreRuns.{AllBelow, all_below, legal_length}
 pub use Rattle.bp_machine.proofs.SetupInRange.{entries_are_names, few_calls, few_threads, fits, range_of}
-pub use Rattle.bp_machine.specs.Histories.{Answers, IsAllowed, IsBitOfCall, IsLeastWithin, IsLegal, IsLegalAfter, IsReport, calls_of_thread, choice_bit, configuration_after, configuration_after_call, configuration_after_calls, granted_threads, is_finished, letter_of, open_below, open_lines, reply_of}
+pub use Rattle.bp_machine.specs.Histories.{Answers, IsAllowed, IsBitOfCall, IsLeastWithin, IsLegal, IsLegalAfter, IsReport, calls_of_thread, choice_bit, configuration_after, configuration_after_call, configuration_after_calls, granted_threads, is_terminated, letter_of, live_below, live_threads, reply_of}
 pub use Rattle.bp_machine.specs.Runs.{PrintedRow, history_of_run, printed_rows, rows_after, rows_of_call}
 pub use Rattle.bp_machine.specs.Sessions.{IsAskRefusal, IsNextCall, SessionOf, Stands, contexts_opened, given_bit, last_thread}
-pub use Rattle.bp_machine.specs.Setups.{IsInRange, SetupOf, setup_fault, setup_of, start, threads}
+pub use Rattle.bp_machine.specs.Setups.{IsInRange, SetupOf, setup_error, setup_of, start, threads}
 pub use Rattle.bp_machine.specs.declared.calls.Call.{Call}
 pub use Rattle.bp_machine.specs.declared.calls.Reply.{Reply}
 pub use Rattle.bp_machine.specs.declared.limits.TheConstants.{MAX_CALLS, MAX_THREADS}
@@ -20,16 +20,16 @@ pub use Rattle.bp_text.proofs.WholeTexts.{AreReadTo, all_read, few_values}
 pub use Rattle.bp_text.specs.Formats.{BreaksAt, EachFits, Fits, Format, HasNone, IsAt, SpanFits, bit, lines_of}
 pub use Rattle.bp_text.specs.Formats.Format.{After, As, Line, Many, Span, Then}
 pub use Rattle.bp_text.specs.Writing.{Given}
-pub use Rattle.bp_trace.specs.Drives.{DrivesUpTo, IsAfterFinish, IsDriven, IsLineRefusal, IsRefusal, IsScheduleRefusal, drive_fault_of}
+pub use Rattle.bp_trace.specs.Drives.{DrivesUpTo, IsAfterFinish, IsDriven, IsLineRefusal, IsRefusal, IsScheduleRefusal, drive_error_of}
 pub use Rattle.bp_trace.specs.HeadFormat.{after_byte, bits, entry, head, last_limits, limits, may_end, seed, seed_value, settings, version_word}
-pub use Rattle.bp_trace.specs.Judging.{ArePlayed, FitsText, HasRefusedBody, IsBody, IsBodyRefusal, IsCallRefusal, IsLineRefused, IsOpened, IsRefusedAfter, Watches, WatchesAll}
+pub use Rattle.bp_trace.specs.Judgements.{ArePlayed, FitsText, HasRefusedBody, IsBody, IsBodyRefusal, IsCallRefusal, IsLineRefused, IsOpened, IsRefusedAfter, Watches, WatchesAll}
 pub use Rattle.bp_trace.specs.Laws.{DrivesTo, LinesDriveAgain, OneRefusal, OneScheduleRefusal, RefusedDrivesNowhere, RefusedIsNoTrace, RunsDriveToHistories}
-pub use Rattle.bp_trace.specs.Reading.{HasNoBodyLine, HasNoCall, HasNoEnd, HasNoSymbol, HasNoTail, HasSymbols, IsBodyLineAt, IsEndAt, IsEndRefusal, IsHeadOf, IsSymbolAt, after_digit, end_numbers, is_whole, more_digits, schedule_line, setup_of_head, symbols_after, thread_field}
-pub use Rattle.bp_trace.specs.Replays.{HasMoreAfter, HasNoNextLine, HasOtherEnd, HasRefusedCall, HasRefusedRest, HasRefusedSetup, IsAccepted, IsBodyLine, IsCallFault, IsDecimal, IsDue, IsEndLine, IsLongestAccepted, IsPlayable, IsRefusedAmong, IsReplayRefusal, IsRestRefused, IsTrace, Reaches, counts_of, line_count}
+pub use Rattle.bp_trace.specs.Readings.{HasNoBodyLine, HasNoCall, HasNoEnd, HasNoSymbol, HasNoTail, HasSymbols, IsBodyLineAt, IsEndAt, IsEndRefusal, IsHeadOf, IsSymbolAt, after_digit, end_numbers, is_whole, more_digits, schedule_line, setup_of_head, symbols_after, thread_field}
+pub use Rattle.bp_trace.specs.Replays.{HasMoreAfter, HasNoNextLine, HasOtherEnd, HasRefusedCall, HasRefusedRest, HasRefusedSetup, IsAccepted, IsBodyLine, IsCallError, IsDecimal, IsDue, IsEndLine, IsLongestAccepted, IsPlayable, IsRefusedAmong, IsReplayRefusal, IsRestRefused, IsTrace, Reaches, counts_of, line_count}
 pub use Rattle.bp_trace.specs.TraceText.{HasHead, HasNoLine, IsEntryName, IsLineAt, IsWritable, Piece, Symbol, Without, bit_digit, call_line, call_of, calls_of_piece, calls_of_pieces, calls_text, end_line, entry_line, field_line, head_lines, head_text, init_digits, init_line, limit_lines, line_of_call, line_text, lines_of_history, piece_line, piece_of, pieces_of, schedule_text, seed_word, setting_lines, symbol_of, symbol_text, text_of, version_line, with_call}
-pub use Rattle.bp_trace.specs.declared.driving.ScheduleLine.{ScheduleLine}
-pub use Rattle.bp_trace.specs.declared.faults.DriveFault.{DriveFault}
-pub use Rattle.bp_trace.specs.declared.faults.ReplayFault.{ReplayFault}
+pub use Rattle.bp_trace.specs.declared.drives.ScheduleLine.{ScheduleLine}
+pub use Rattle.bp_trace.specs.declared.errors.DriveError.{DriveError}
+pub use Rattle.bp_trace.specs.declared.errors.ReplayError.{ReplayError}
 pub use Rattle.bp_trace.specs.declared.heads.Head.{Head}
 pub use Rattle.bp_trace.specs.declared.limits.TheConstants.{MAX_SCHEDULE, MAX_TRACE}
 pub use Rattle.bp_trace.specs.declared.traces.Version.{Version}

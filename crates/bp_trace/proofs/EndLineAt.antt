@@ -111,11 +111,11 @@ decimal_of (d ∷ ds) rest (t, on, fits) = by_zero (d == 48) refl
 
 -- ---- the end line
 
-end_there : (line more text : List ℕ) (e : IsEndLine line) → text ≡ line ++ more → IsAt end_numbers text (e.calls, e.left_open) more
+end_there : (line more text : List ℕ) (e : IsEndLine line) → text ≡ line ++ more → IsAt end_numbers text (e.calls, e.left_live) more
 end_there line more text e given1 = search (rules, decimal_fits, regrouped)
 
 pub no_end : {text : List ℕ} → HasNone end_numbers text → HasNoEnd text
-no_end {text} lacks = λ line more e begins. let at = end_there line more text e begins in lacks.none (e.calls, e.left_open) more at.fits at.parts
+no_end {text} lacks = λ line more e begins. let at = end_there line more text e begins in lacks.none (e.calls, e.left_live) more at.fits at.parts
 
 pub has_end : {text rest : List ℕ} {x : List ℕ × List ℕ} → IsAt end_numbers text x rest → IsEndAt text (length text - length rest)
 has_end {text} {rest} {x} at =
@@ -124,7 +124,7 @@ has_end {text} {rest} {x} at =
     record {
       line = line;
       more = rest;
-      is_end = record { calls = x.0; left_open = x.1; first = decimal_of x.0 _ at.fits.0; second = decimal_of x.1 _ at.fits.1; is = refl };
+      is_end = record { calls = x.0; left_live = x.1; first = decimal_of x.0 _ at.fits.0; second = decimal_of x.1 _ at.fits.1; is = refl };
       begins = begins;
       size_is = let size = ap length begins ∙ length-append line rest in omega (arith, size);
     }

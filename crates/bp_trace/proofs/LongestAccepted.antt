@@ -1,6 +1,6 @@
 -- The calls before the first refused line, and those before the refused call on it, are the longest
 -- accepted beginning.
-use Rattle.bp_trace.proofs.Common.{◌≡◌, ℕ, zero, suc, ◌+◌, ◌-◌, ◌<◌, ◌≤◌, List, [], ◌∷◌, ◌++◌, length, take, drop, map, get_or, Some, ap, sym, ◌∙◌, subst, arith, inl, inr, length-append, length-drop, None, refl, ◌⊎◌, slice_get, take_more, take-append-drop, drop-drop, drop_at, AllByRecursion, both_added, regrouped, Program, Configuration, Call, configuration_after_call, configuration_after, configuration_after_calls, last_thread, SessionOf, Stands, PrintedRow, rows_of_call, rows_after, printed_rows, SetupOf, threads, start, setup_fault, MAX_THREADS, few_threads, ReplayFault, Version, IsBodyLineAt, HasNoBodyLine, IsRefusedAfter, IsCallRefusal, IsLineRefused, IsBodyRefusal, calls_text, HasHead, head_text, IsPlayable, IsBodyLine, IsCallFault, line_count, IsAccepted, IsLongestAccepted, HasRefusedCall}
+use Rattle.bp_trace.proofs.Common.{◌≡◌, ℕ, zero, suc, ◌+◌, ◌-◌, ◌<◌, ◌≤◌, List, [], ◌∷◌, ◌++◌, length, take, drop, map, get_or, Some, ap, sym, ◌∙◌, subst, arith, inl, inr, length-append, length-drop, None, refl, ◌⊎◌, slice_get, take_more, take-append-drop, drop-drop, drop_at, AllByRecursion, both_added, regrouped, Program, Configuration, Call, configuration_after_call, configuration_after, configuration_after_calls, last_thread, SessionOf, Stands, PrintedRow, rows_of_call, rows_after, printed_rows, SetupOf, threads, start, setup_error, MAX_THREADS, few_threads, ReplayError, Version, IsBodyLineAt, HasNoBodyLine, IsRefusedAfter, IsCallRefusal, IsLineRefused, IsBodyRefusal, calls_text, HasHead, head_text, IsPlayable, IsBodyLine, IsCallError, line_count, IsAccepted, IsLongestAccepted, HasRefusedCall}
 use Rattle.std.proofs.lemmas.List.{append-nil}
 use Rattle.std.proofs.Math.Seq.{drop-cons}
 use Rattle.bp_trace.proofs.PiecesAreFewest.{text_grows, count_grows, some_line, line_below, thread_of}
@@ -46,7 +46,7 @@ module _ (t : Program) (s : SetupOf) (h own calls : List Call) (i : ℕ) (d : Ca
   whole : calls ≡ take i calls ++ get_or calls i d ∷ drop (suc i) calls
   whole = sym (take-append-drop i calls) ∙ ap (λ cs. take i calls ++ cs) (drop-cons calls i d within)
 
-  pub line_refused : (n : ℕ) (f : ReplayFault) → IsPlayable t s own → IsCallRefusal t s own n (get_or calls i d) f → IsLineRefused t s h n calls own f
+  pub line_refused : (n : ℕ) (f : ReplayError) → IsPlayable t s own → IsCallRefusal t s own n (get_or calls i d) f → IsLineRefused t s h n calls own f
   line_refused n f playable (inl memory) = inl memory
   line_refused n f playable (inr refused) = inr (record {
     among = record {
@@ -55,7 +55,7 @@ module _ (t : Program) (s : SetupOf) (h own calls : List Call) (i : ℕ) (d : Ca
       others = drop (suc i) calls;
       parts = whole;
       playable = subst (IsPlayable t s) parts playable;
-      refused = subst (λ k. IsCallFault t s k n (get_or calls i d) f) parts refused;
+      refused = subst (λ k. IsCallError t s k n (get_or calls i d) f) parts refused;
     };
     are = parts;
   })
@@ -81,7 +81,7 @@ module _ (v : Version) (n first : ℕ) (text : List ℕ) (h : List Call) (size l
 
   module _ (t : Program) (s : SetupOf) (many : n ≡ threads s) (playable : IsPlayable t s h) (calls : List Call) (more : ℕ)
       (at : IsBodyLineAt v n (last_thread (map (λ (x : Call). x.thread) h)) (drop size text) calls more) where
-    pub body_refused : (played : List Call) (f : ReplayFault) → IsLineRefused t s h line calls played f → IsBodyRefusal t v s text first played f
+    pub body_refused : (played : List Call) (f : ReplayError) → IsLineRefused t s h line calls played f → IsBodyRefusal t v s text first played f
     body_refused played f (inl memory) = inl memory
     body_refused played f (inr after) = let moved = subst (λ k. IsRefusedAfter t s h k calls played f) number after in inr (record {
       history = h;
@@ -116,7 +116,7 @@ fronts g (x ∷ k) h c z e = elim (one_place g h k z x c e) [
   | inr other ↦ elim other [ inl before ↦ inl (x ∷ before.0, before.1) | inr after ↦ inr after ]
 ]
 
-module _ (t : Program) (text : List ℕ) (v : Version) (s : SetupOf) (has : HasHead s) (fine : setup_fault t s ≡ None)
+module _ (t : Program) (text : List ℕ) (v : Version) (s : SetupOf) (has : HasHead s) (fine : setup_error t s ≡ None)
     (h : List Call) (playable : IsPlayable t s h) (rest : List ℕ) (parts : text ≡ head_text v s ++ (calls_text v h ++ rest)) where
   abbrev few : threads s ≤ MAX_THREADS
   few = few_threads t s fine
@@ -160,7 +160,7 @@ module _ (t : Program) (text : List ℕ) (v : Version) (s : SetupOf) (has : HasH
     }
 
   -- a line of calls begins it, of which one is refused
-  module _ (n : ℕ) (f : ReplayFault) (r : HasRefusedCall t v s h n rest f) where
+  module _ (n : ℕ) (f : ReplayError) (r : HasRefusedCall t v s h n rest f) where
     abbrev good : List Call
     good = h ++ r.among.good
 

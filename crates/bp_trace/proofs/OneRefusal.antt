@@ -1,18 +1,18 @@
 -- Two histories that may be played, each followed by text that no line of calls continues, have two
 -- texts; so a text has at most one refusal.
-use Rattle.bp_trace.proofs.Common.{◌≡◌, ℕ, ◌<◌, List, [], ◌∷◌, ◌++◌, map, flat_map, refl, ap, sym, ◌∙◌, subst, ◌≢◌, ◌≤◌, ◌+◌, length, ◌⊎◌, inl, inr, length-append, arith, append-nil, None, Some, rules, AllByRecursion, regrouped, Program, Call, last_thread, MAX_THREADS, IsLegalAfter, open_lines, SetupOf, threads, setup_fault, Version, One, Two, Piece, calls_of_piece, calls_of_pieces, pieces_of, call_line, piece_line, calls_text, end_line, HasHead, head_lines, head_text, IsBodyLine, IsPlayable, counts_of, IsEndLine, HasOtherEnd, HasMoreAfter, IsRefusedAmong, HasNoNextLine, HasRefusedCall, IsRestRefused, IsTrace, line_count, Reaches, HasRefusedSetup, HasRefusedRest, IsReplayRefusal, ReplayFault, TEXT_LIMIT, entries_are_names, fits, few_threads, few_calls, range_of, MAX_TRACE, OneRefusal, RefusedIsNoTrace, BreaksAt, one_break, head}
+use Rattle.bp_trace.proofs.Common.{◌≡◌, ℕ, ◌<◌, List, [], ◌∷◌, ◌++◌, map, flat_map, refl, ap, sym, ◌∙◌, subst, ◌≢◌, ◌≤◌, ◌+◌, length, ◌⊎◌, inl, inr, length-append, arith, append-nil, None, Some, rules, AllByRecursion, regrouped, Program, Call, last_thread, MAX_THREADS, IsLegalAfter, live_threads, SetupOf, threads, setup_error, Version, One, Two, Piece, calls_of_piece, calls_of_pieces, pieces_of, call_line, piece_line, calls_text, end_line, HasHead, head_lines, head_text, IsBodyLine, IsPlayable, counts_of, IsEndLine, HasOtherEnd, HasMoreAfter, IsRefusedAmong, HasNoNextLine, HasRefusedCall, IsRestRefused, IsTrace, line_count, Reaches, HasRefusedSetup, HasRefusedRest, IsReplayRefusal, ReplayError, TEXT_LIMIT, entries_are_names, fits, few_threads, few_calls, range_of, MAX_TRACE, OneRefusal, RefusedIsNoTrace, BreaksAt, one_break, head}
 use Rattle.bp_trace.proofs.PiecesAreFewest.{piece_thread, last_is_thread, Alternate, pieces_alternate, pieces_threads, thread_of, pieces_whole, some_line}
 use Rattle.bp_trace.proofs.EndLineAt.{one_body_line, one_end_line, not_both}
 use Rattle.bp_trace.proofs.PlayableFronts.{front, one_among, not_refused}
 use Rattle.bp_trace.proofs.Walks.{Walk, Stays, Goes, IsSingle, compared}
 use Rattle.bp_language.specs.Texts.{HasText}
 use Rattle.bp_language.proofs.NamesOfTokens.{short_names}
-use Rattle.bp_language.specs.Faults.{IsLawful}
-use Rattle.bp_machine.specs.declared.setup_faults.SetupFault.{SetupFault}
+use Rattle.bp_language.specs.Errors.{IsWellFormed}
+use Rattle.bp_machine.specs.declared.setup_errors.SetupError.{SetupError}
 use Rattle.bp_trace.proofs.HeadsRead.{no_break, one_head}
 use Rattle.bp_trace.proofs.OneText.{front_cut}
 use Rattle.bp_trace.proofs.TraceLength.{own_end, trace_short}
-use Rattle.bp_trace.specs.declared.faults.ReplayFault.TheVariants as fault
+use Rattle.bp_trace.specs.declared.errors.ReplayError.TheVariants as error
 
 -- The text of a history is that of its lines, each of which may follow the calls before it.
 
@@ -107,9 +107,9 @@ module _ (t : Program) (v : Version) (s : SetupOf) (few : threads s ≤ MAX_THRE
 -- The text after the calls of a history is refused once, or is its end.
 
 module _ (t : Program) (v : Version) (s : SetupOf) (few : threads s ≤ MAX_THREADS) (h : List Call)
-    (own_is : IsEndLine (end_line (length h) (open_lines s h))) (n : ℕ) (x : List ℕ) where
+    (own_is : IsEndLine (end_line (length h) (live_threads s h))) (n : ℕ) (x : List ℕ) where
   abbrev own : List ℕ
-  own = end_line (length h) (open_lines s h)
+  own = end_line (length h) (live_threads s h)
 
   abbrev Next : List ℕ → List Call → Type 0
   Next line calls = IsBodyLine (threads s) (last_thread (map thread_of h)) line calls v
@@ -117,7 +117,7 @@ module _ (t : Program) (v : Version) (s : SetupOf) (few : threads s ≤ MAX_THRE
   end_or_line : (line end : List ℕ) (calls : List Call) (a b : List ℕ) → Next line calls → IsEndLine end → x ≡ line ++ a → x ≡ end ++ b → ⊥
   end_or_line line end calls a b next is_end e f = not_both (threads s) few (last_thread (map thread_of h)) v line end calls a b next is_end (sym e ∙ f)
 
-  call_stops : (f : ReplayFault) → HasRefusedCall t v s h n x f → Stops t v s few h x
+  call_stops : (f : ReplayError) → HasRefusedCall t v s h n x f → Stops t v s few h x
   call_stops f r line calls more next playable e =
       let (same, held, rest) = one_body_line (threads s) few (last_thread (map thread_of h)) v line r.line calls r.calls
       more r.more next r.is_line (sym e ∙ r.begins) in
@@ -125,18 +125,18 @@ module _ (t : Program) (v : Version) (s : SetupOf) (few : threads s ≤ MAX_THRE
       not_refused t s (h ++ r.among.good) r.among.call r.among.others (simp regrouped (rw parts at playable)) n f r.among.refused
 
   -- why it is refused
-  abbrev pub Refused : ReplayFault → Type 0
+  abbrev pub Refused : ReplayError → Type 0
   Refused f =
-      ((f ≡ fault.NoEnd (counts_of s h)) × (x ≡ []))
-      ⊎ (((f ≡ fault.EndCount n (counts_of s h)) × HasOtherEnd own x)
-      ⊎ (((f ≡ fault.Line n) × HasNoNextLine t v s h n x)
-      ⊎ (((f ≡ fault.Line (n + 1)) × HasMoreAfter own x)
+      ((f ≡ error.NoEnd (counts_of s h)) × (x ≡ []))
+      ⊎ (((f ≡ error.EndCount n (counts_of s h)) × HasOtherEnd own x)
+      ⊎ (((f ≡ error.Line n) × HasNoNextLine t v s h n x)
+      ⊎ (((f ≡ error.Line (n + 1)) × HasMoreAfter own x)
       ⊎ HasRefusedCall t v s h n x f)))
 
-  pub refused : (f : ReplayFault) → IsRestRefused t v s h n x f → Refused f
+  pub refused : (f : ReplayError) → IsRestRefused t v s h n x f → Refused f
   refused f given1 = grind (arith)
 
-  pub stops : (f : ReplayFault) → Refused f → Stops t v s few h x
+  pub stops : (f : ReplayError) → Refused f → Stops t v s few h x
   stops f (inl r) line calls more next playable e =
       omega (arith, some_line v (threads s) (last_thread (map thread_of h)) line calls next, ap length (sym r.1 ∙ e), length-append line more)
   stops f (inr (inl r)) line calls more next playable e = end_or_line line r.1.line calls more r.1.more next r.1.is_end e r.1.begins
@@ -155,7 +155,7 @@ module _ (t : Program) (v : Version) (s : SetupOf) (few : threads s ≤ MAX_THRE
   other_and_own : HasOtherEnd own x → HasMoreAfter own x → ⊥
   other_and_own p q = p.other (one_end_line p.line own p.more q.more p.is_end own_is (sym p.begins ∙ q.begins)).0
 
-  pub one_rest : (f g : ReplayFault) → Refused f → Refused g → f ≡ g
+  pub one_rest : (f g : ReplayError) → Refused f → Refused g → f ≡ g
   one_rest f g (inl p) (inl q) = p.0 ∙ sym q.0
   one_rest f g (inl p) (inr (inl q)) = absurd (nothing_ends q.1.line q.1.more q.1.is_end p.1 q.1.begins)
   one_rest f g (inl p) (inr (inr (inl q))) = absurd (q.1.some p.1)
@@ -191,7 +191,7 @@ module _ (t : Program) (v : Version) (s : SetupOf) (few : threads s ≤ MAX_THRE
   pub end_stops : x ≡ own → Stops t v s few h x
   end_stops e line calls more next playable f = end_or_line line own calls more [] next own_is f (e ∙ sym (append-nil own))
 
-  pub end_not_refused : (f : ReplayFault) → x ≡ own → Refused f → ⊥
+  pub end_not_refused : (f : ReplayError) → x ≡ own → Refused f → ⊥
   end_not_refused f e (inl r) = nothing_ends own [] own_is r.1 (e ∙ sym (append-nil own))
   end_not_refused f e (inr (inl r)) =
       r.1.other (one_end_line r.1.line own r.1.more [] r.1.is_end own_is (sym r.1.begins ∙ e ∙ sym (append-nil own))).0
@@ -208,16 +208,16 @@ module _ (t : Program) (text : List ℕ) where
     abbrev few : threads s ≤ MAX_THREADS
     few = few_threads t s p.fine
 
-    own_h : IsEndLine (end_line (length h) (open_lines s h))
+    own_h : IsEndLine (end_line (length h) (live_threads s h))
     own_h = own_end t s h few (few_calls t s p.fine) p.playable.legal
 
-    own_g : IsEndLine (end_line (length g) (open_lines s g))
+    own_g : IsEndLine (end_line (length g) (live_threads s g))
     own_g = own_end t s g few (few_calls t s p.fine) q.playable.legal
 
     alike : calls_text v h ++ x ≡ calls_text v g ++ y
     alike = front_cut (head_text v s) (calls_text v h ++ x) (calls_text v g ++ y) (sym p.parts ∙ q.parts)
 
-    one_of_rests : (f k : ReplayFault) → IsRestRefused t v s h n x f → IsRestRefused t v s g m y k → f ≡ k
+    one_of_rests : (f k : ReplayError) → IsRestRefused t v s h n x f → IsRestRefused t v s g m y k → f ≡ k
     one_of_rests f k a b =
         let here = refused t v s few h own_h n x f a in
         let there = refused t v s few g own_g m y k b in
@@ -229,7 +229,7 @@ module _ (t : Program) (text : List ℕ) where
         one_rest t v s few h own_h n x f k here (refused t v s few h own_h n x k moved)
 
     -- if the rest after the first is its end
-    ended_not_refused : (k : ReplayFault) → x ≡ end_line (length h) (open_lines s h) → IsRestRefused t v s g m y k → ⊥
+    ended_not_refused : (k : ReplayError) → x ≡ end_line (length h) (live_threads s h) → IsRestRefused t v s g m y k → ⊥
     ended_not_refused k end b =
         let there = refused t v s few g own_g m y k b in
         let (calls, after) = one_history t v s few h g x y p.playable q.playable (end_stops t v s few h own_h n x end)
@@ -240,45 +240,45 @@ module _ (t : Program) (text : List ℕ) where
   no_stop : (v : Version) (s : SetupOf) (rest : List ℕ) (k : ℕ) → HasHead s → text ≡ head_text v s ++ rest → BreaksAt head text k → ⊥
   no_stop v s rest k has parts breaks = no_break v s text rest k has parts breaks
 
-  -- of a setup that has a fault and one that has none, one is not that of the text
-  not_fine : (v w : Version) (s r : SetupOf) (x y : List ℕ) (g : SetupFault) → HasHead s → HasHead r → text ≡ head_text v s ++ x → text ≡ head_text w r ++ y
-      → setup_fault t s ≡ Some g → setup_fault t r ≡ None → ⊥
+  -- of a setup that has an error and one that has none, one is not that of the text
+  not_fine : (v w : Version) (s r : SetupOf) (x y : List ℕ) (g : SetupError) → HasHead s → HasHead r → text ≡ head_text v s ++ x → text ≡ head_text w r ++ y
+      → setup_error t s ≡ Some g → setup_error t r ≡ None → ⊥
   not_fine v w s r x y g p q a b some none =
       let same = one_head v w s r x y p q (sym a ∙ b) in
-      let fault = ap (setup_fault t) same.1 in
-      let found : Some g ≡ None = sym some ∙ fault ∙ none in
+      let error = ap (setup_error t) same.1 in
+      let found : Some g ≡ None = sym some ∙ error ∙ none in
       absurd cc
 
   -- why it is refused
-  abbrev Cause : ReplayFault → Type 0
+  abbrev Cause : ReplayError → Type 0
   Cause f =
-      ((k : ℕ) × (f ≡ fault.Head k) × BreaksAt head text k)
-      ⊎ (((g : SetupFault) × (f ≡ fault.Setup g) × HasRefusedSetup t text g)
+      ((k : ℕ) × (f ≡ error.Head k) × BreaksAt head text k)
+      ⊎ (((g : SetupError) × (f ≡ error.Setup g) × HasRefusedSetup t text g)
       ⊎ HasRefusedRest t text f)
 
-  abbrev Refusal : ReplayFault → Type 0
-  Refusal f = ((f ≡ fault.TooLong) × (MAX_TRACE < length text)) ⊎ ((length text ≤ MAX_TRACE) × Cause f)
+  abbrev Refusal : ReplayError → Type 0
+  Refusal f = ((f ≡ error.TooLong) × (MAX_TRACE < length text)) ⊎ ((length text ≤ MAX_TRACE) × Cause f)
 
-  refusal : (f : ReplayFault) → f ≢ fault.Memory → IsReplayRefusal t text f → Refusal f
+  refusal : (f : ReplayError) → f ≢ error.Memory → IsReplayRefusal t text f → Refusal f
   refusal f given1 given2 = grind (arith)
 
   moved_to : (v w : Version) (s r : SetupOf) (g : List Call) (m : ℕ) (y : List ℕ) → v ≡ w → s ≡ r → Reaches t text w r g m y → Reaches t text v s g m y
   moved_to v w s r g m y a b q = subst (λ z. Reaches t text v z g m y) (sym b) (subst (λ z. Reaches t text z r g m y) (sym a) q)
 
-  rest_moved_to : (v w : Version) (s r : SetupOf) (g : List Call) (m : ℕ) (y : List ℕ) (f : ReplayFault) → v ≡ w → s ≡ r
+  rest_moved_to : (v w : Version) (s r : SetupOf) (g : List Call) (m : ℕ) (y : List ℕ) (f : ReplayError) → v ≡ w → s ≡ r
       → IsRestRefused t w r g m y f → IsRestRefused t v s g m y f
   rest_moved_to v w s r g m y f a b q = subst (λ z. IsRestRefused t v z g m y f) (sym b) (subst (λ z. IsRestRefused t z r g m y f) (sym a) q)
 
-  one_cause : (f g : ReplayFault) → Cause f → Cause g → f ≡ g
-  one_cause f g (inl p) (inl q) = p.1 ∙ ap fault.Head (one_break head text p.0 q.0 p.2 q.2) ∙ sym q.1
+  one_cause : (f g : ReplayError) → Cause f → Cause g → f ≡ g
+  one_cause f g (inl p) (inl q) = p.1 ∙ ap error.Head (one_break head text p.0 q.0 p.2 q.2) ∙ sym q.1
   one_cause f g (inl p) (inr (inl q)) = absurd (no_stop q.2.version q.2.setup q.2.rest p.0 q.2.head q.2.parts p.2)
   one_cause f g (inl p) (inr (inr q)) = absurd (no_stop q.version q.setup _ p.0 q.reached.head q.reached.parts p.2)
   one_cause f g (inr (inl p)) (inl q) = absurd (no_stop p.2.version p.2.setup p.2.rest q.0 p.2.head p.2.parts q.2)
   one_cause f g (inr (inl p)) (inr (inl q)) =
       let same = one_head p.2.version q.2.version p.2.setup q.2.setup p.2.rest q.2.rest p.2.head q.2.head (sym p.2.parts ∙ q.2.parts) in
-      let found : Some p.0 ≡ Some q.0 = sym p.2.fault ∙ ap (setup_fault t) same.1 ∙ q.2.fault in
+      let found : Some p.0 ≡ Some q.0 = sym p.2.error ∙ ap (setup_error t) same.1 ∙ q.2.error in
       let alike : p.0 ≡ q.0 = cc in
-      p.1 ∙ ap fault.Setup alike ∙ sym q.1
+      p.1 ∙ ap error.Setup alike ∙ sym q.1
   one_cause f g (inr (inl p)) (inr (inr q)) = search (rules, not_fine)
   one_cause f g (inr (inr p)) (inl q) = absurd (no_stop p.version p.setup _ q.0 p.reached.head p.reached.parts q.2)
   one_cause f g (inr (inr p)) (inr (inl q)) = search (rules, not_fine)
@@ -288,7 +288,7 @@ module _ (t : Program) (text : List ℕ) where
       one_of_rests p.version p.setup p.history q.history p.number q.number p.rest q.rest p.reached other f g p.refused
       (rest_moved_to p.version q.version p.setup q.setup q.history q.number q.rest g same.0 same.1 q.refused)
 
-  one_refusal_of : (f g : ReplayFault) → Refusal f → Refusal g → f ≡ g
+  one_refusal_of : (f g : ReplayError) → Refusal f → Refusal g → f ≡ g
   one_refusal_of f g (inl p) (inl q) = p.0 ∙ sym q.0
   one_refusal_of f g (inl p) (inr q) = absurd (omega (arith, p.1, q.0))
   one_refusal_of f g (inr p) (inl q) = absurd (omega (arith, p.0, q.1))
@@ -299,18 +299,18 @@ one_refusal t text f g other another p q = one_refusal_of t text f g (refusal t 
 
 -- ---- a trace
 
-module _ (t : Program) (v : Version) (s : SetupOf) (h : List Call) (text : List ℕ) (lawful : IsLawful t)
+module _ (t : Program) (v : Version) (s : SetupOf) (h : List Call) (text : List ℕ) (well_formed : IsWellFormed t)
     (of_text : HasText t) (trace : IsTrace t v s h text) where
   names : AllByRecursion (λ e. length e ≤ TEXT_LIMIT) s.entries
   names = entries_are_names (λ e. length e ≤ TEXT_LIMIT) t 0 s.entries (short_names t of_text).1 (fits t s trace.fine).entries
 
   short : length text < MAX_TRACE
-  short = subst (λ z. length z < MAX_TRACE) (sym trace.is) (trace_short t v s h (range_of t s trace.fine lawful) trace.playable.legal names trace.head.seed)
+  short = subst (λ z. length z < MAX_TRACE) (sym trace.is) (trace_short t v s h (range_of t s trace.fine well_formed) trace.playable.legal names trace.head.seed)
 
-  reached : Reaches t text v s h (length (head_lines v s) + line_count v h + 1) (end_line (length h) (open_lines s h))
+  reached : Reaches t text v s h (length (head_lines v s) + line_count v h + 1) (end_line (length h) (live_threads s h))
   reached = record { head = trace.head; fine = trace.fine; playable = trace.playable; parts = trace.is; number = refl }
 
-  no_refusal : (f : ReplayFault) → Refusal t text f → ⊥
+  no_refusal : (f : ReplayError) → Refusal t text f → ⊥
   no_refusal f (inl r) = omega (arith, short, r.1)
   no_refusal f (inr (within, inl r)) = no_stop t text v s _ r.0 trace.head trace.is r.2
   no_refusal f (inr (within, inr (inl r))) = search (rules, not_fine)
@@ -321,4 +321,4 @@ module _ (t : Program) (v : Version) (s : SetupOf) (h : List Call) (text : List 
       (rest_moved_to t text v r.version s r.setup r.history r.number r.rest f same.0 same.1 r.refused)
 
 pub refused_is_no_trace : RefusedIsNoTrace
-refused_is_no_trace t v s h text f lawful of_text other refused trace = no_refusal t v s h text lawful of_text trace f (refusal t text f other refused)
+refused_is_no_trace t v s h text f well_formed of_text other refused trace = no_refusal t v s h text well_formed of_text trace f (refusal t text f other refused)

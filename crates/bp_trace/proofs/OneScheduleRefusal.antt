@@ -1,7 +1,7 @@
 -- A schedule drives its program to one history or has one refusal, and the lines of a legal history drive its program to it.
-use Rattle.bp_trace.proofs.Common.{◌≡◌, ◌≢◌, ℕ, ◌+◌, ◌<◌, ◌≤◌, List, [], ◌∷◌, ◌++◌, length, Bool, true, Option, None, Some, ◌⊎◌, inl, inr, refl, ap, sym, ◌∙◌, subst, arith, append-nil, false≢true, regrouped, Program, Call, MAX_THREADS, SetupOf, threads, is_finished, IsAllowed, IsLegalAfter, history_of_run, DriveFault, MAX_SCHEDULE, ScheduleLine, line_text, line_of_call, lines_of_history, schedule_text, IsLineAt, HasNoLine, DrivesUpTo, IsDriven, IsScheduleRefusal, DrivesTo, LinesDriveAgain, OneScheduleRefusal, RefusedDrivesNowhere, RunsDriveToHistories}
+use Rattle.bp_trace.proofs.Common.{◌≡◌, ◌≢◌, ℕ, ◌+◌, ◌<◌, ◌≤◌, List, [], ◌∷◌, ◌++◌, length, Bool, true, Option, None, Some, ◌⊎◌, inl, inr, refl, ap, sym, ◌∙◌, subst, arith, append-nil, false≢true, regrouped, Program, Call, MAX_THREADS, SetupOf, threads, is_terminated, IsAllowed, IsLegalAfter, history_of_run, DriveError, MAX_SCHEDULE, ScheduleLine, line_text, line_of_call, lines_of_history, schedule_text, IsLineAt, HasNoLine, DrivesUpTo, IsDriven, IsScheduleRefusal, DrivesTo, LinesDriveAgain, OneScheduleRefusal, RefusedDrivesNowhere, RunsDriveToHistories}
 use Rattle.bp_machine.proofs.RunsAreHistories.{run_is_history}
-use Rattle.bp_trace.specs.declared.faults.DriveFault.TheVariants as drive
+use Rattle.bp_trace.specs.declared.errors.DriveError.TheVariants as drive
 use Rattle.bp_trace.proofs.ScheduleLines.{same_call, not_empty, schedule_short, one_line}
 use Rattle.bp_trace.proofs.Walks.{Walk, Stays, Goes, IsSingle, Stops, one_end}
 
@@ -35,14 +35,14 @@ module _ (t : Program) (s : SetupOf) (few : threads s ≤ MAX_THREADS) where
       Goes next (subst (λ q. Walk IsNext (p ++ c ∷ [], lines h ++ x) (q, x)) (simp regrouped) (walk (p ++ c ∷ []) h x legal))
 
   -- how the schedule ends there: with the history, or refused
-  abbrev Ends : Option DriveFault → State → Type 0
+  abbrev Ends : Option DriveError → State → Type 0
   Ends None a = a.1 ≡ []
   Ends (Some (drive.Line n)) a = (n ≡ length a.0 + 1) × (a.1 ≢ []) × HasNoLine (threads s) a.1
   Ends (Some (drive.AfterFinish n)) a =
-      (n ≡ length a.0 + 1) × (line : ScheduleLine) × IsLineAt (threads s) a.1 line × (is_finished s a.0 line.thread ≡ true)
+      (n ≡ length a.0 + 1) × (line : ScheduleLine) × IsLineAt (threads s) a.1 line × (is_terminated s a.0 line.thread ≡ true)
   Ends (Some f) a = ⊥
 
-  ends_stop : (f : Option DriveFault) (a : State) → Ends f a → Stops IsNext a
+  ends_stop : (f : Option DriveError) (a : State) → Ends f a → Stops IsNext a
   ends_stop None a end b next = not_empty (line_of_call next.call) b.1 (sym end ∙ next.line)
   ends_stop (Some (drive.Line n)) a end b next = end.2 (line_of_call next.call) b.1 next.allowed.thread next.line
   ends_stop (Some (drive.AfterFinish n)) a (number, line, begins, finished) b next =
@@ -50,32 +50,32 @@ module _ (t : Program) (s : SetupOf) (few : threads s ≤ MAX_THREADS) where
       let below_late = begins.1 in
       let same = one_line (line_of_call next.call) line b.1 begins.0 (omega arith) (omega arith) (sym next.line ∙ begins.2) in
       let thread : next.call.thread ≡ line.thread = ap (λ (z : ScheduleLine). z.thread) same.0 in
-      false≢true (sym next.allowed.unfinished ∙ ap (λ i. is_finished s a.0 i) thread ∙ finished)
+      false≢true (sym next.allowed.still_live ∙ ap (λ i. is_terminated s a.0 i) thread ∙ finished)
   ends_stop (Some f) a end b next = absurd end
 
-  one_fault : (f g : Option DriveFault) (a : State) → Ends f a → Ends g a → f ≡ g
-  one_fault None None a p q = refl
-  one_fault None (Some (drive.Line m)) a p q = absurd (q.1 p)
-  one_fault None (Some (drive.AfterFinish m)) a p (number, line, begins, finished) = absurd (not_empty line begins.0 (sym p ∙ begins.2))
-  one_fault (Some (drive.Line n)) None a p q = absurd (p.1 q)
-  one_fault (Some (drive.Line n)) (Some (drive.Line m)) a p q = ap (λ k. Some (drive.Line k)) (p.0 ∙ sym q.0)
-  one_fault (Some (drive.Line n)) (Some (drive.AfterFinish m)) a p (number, line, begins, finished) = absurd (p.2 line begins.0 begins.1 begins.2)
-  one_fault (Some (drive.AfterFinish n)) None a (number, line, begins, finished) q = absurd (not_empty line begins.0 (sym q ∙ begins.2))
-  one_fault (Some (drive.AfterFinish n)) (Some (drive.Line m)) a (number, line, begins, finished) q = absurd (q.2 line begins.0 begins.1 begins.2)
-  one_fault (Some (drive.AfterFinish n)) (Some (drive.AfterFinish m)) a p q = ap (λ k. Some (drive.AfterFinish k)) (p.0 ∙ sym q.0)
-  one_fault f g a p q = absurd (assumption (p, q))
+  one_error : (f g : Option DriveError) (a : State) → Ends f a → Ends g a → f ≡ g
+  one_error None None a p q = refl
+  one_error None (Some (drive.Line m)) a p q = absurd (q.1 p)
+  one_error None (Some (drive.AfterFinish m)) a p (number, line, begins, finished) = absurd (not_empty line begins.0 (sym p ∙ begins.2))
+  one_error (Some (drive.Line n)) None a p q = absurd (p.1 q)
+  one_error (Some (drive.Line n)) (Some (drive.Line m)) a p q = ap (λ k. Some (drive.Line k)) (p.0 ∙ sym q.0)
+  one_error (Some (drive.Line n)) (Some (drive.AfterFinish m)) a p (number, line, begins, finished) = absurd (p.2 line begins.0 begins.1 begins.2)
+  one_error (Some (drive.AfterFinish n)) None a (number, line, begins, finished) q = absurd (not_empty line begins.0 (sym q ∙ begins.2))
+  one_error (Some (drive.AfterFinish n)) (Some (drive.Line m)) a (number, line, begins, finished) q = absurd (q.2 line begins.0 begins.1 begins.2)
+  one_error (Some (drive.AfterFinish n)) (Some (drive.AfterFinish m)) a p q = ap (λ k. Some (drive.AfterFinish k)) (p.0 ∙ sym q.0)
+  one_error f g a p q = absurd (assumption (p, q))
 
   module _ (schedule : List ℕ) where
-    record EndsAs (f : Option DriveFault) : Type 0 where
+    record EndsAs (f : Option DriveError) : Type 0 where
       state : State
       walk : Walk IsNext ([], schedule) state
       end : Ends f state
 
-    one_state : (f g : Option DriveFault) (p : EndsAs f) (q : EndsAs g) → p.state ≡ q.state
+    one_state : (f g : Option DriveError) (p : EndsAs f) (q : EndsAs g) → p.state ≡ q.state
     one_state f g p q = one_end IsNext single _ p.state q.state p.walk q.walk (ends_stop f p.state p.end) (ends_stop g q.state q.end)
 
-    one : (f g : Option DriveFault) → EndsAs f → EndsAs g → f ≡ g
-    one f g p q = one_fault f g q.state (subst (Ends f) (one_state f g p q) p.end) q.end
+    one : (f g : Option DriveError) → EndsAs f → EndsAs g → f ≡ g
+    one f g p q = one_error f g q.state (subst (Ends f) (one_state f g p q) p.end) q.end
 
     driven_ends : (h : List Call) → IsDriven t s schedule h → EndsAs None
     driven_ends h driven = record {
@@ -88,10 +88,10 @@ module _ (t : Program) (s : SetupOf) (few : threads s ≤ MAX_THREADS) where
     reached n rest r = subst (λ z. Walk IsNext ([], z) (r.history, rest)) (sym r.whole) (walk [] r.history rest r.legal)
 
     -- too long, or refused at its end
-    abbrev Refused : DriveFault → Type 0
+    abbrev Refused : DriveError → Type 0
     Refused f = ((f ≡ drive.TooLong) × (MAX_SCHEDULE < length schedule)) ⊎ ((length schedule ≤ MAX_SCHEDULE) × EndsAs (Some f))
 
-    refused : (f : DriveFault) → f ≢ drive.Memory → IsScheduleRefusal t s schedule f → Refused f
+    refused : (f : DriveError) → f ≢ drive.Memory → IsScheduleRefusal t s schedule f → Refused f
     refused drive.TooLong other r = inl (refl, r)
     refused (drive.Line n) other (short, bad) =
         inr (short, record { state = _; walk = reached n bad.rest bad.reached; end = (bad.reached.number, bad.some, bad.bad) })

@@ -1,5 +1,5 @@
 -- No two triples of version, setup and history have one text.
-use Rattle.bp_trace.proofs.Common.{inl, ◌≡◌, ℕ, ◌<◌, ◌^◌, List, [], ◌∷◌, ◌++◌, length, refl, sym, arith, decimal, Bool, flat_map, ap, ◌≤◌, ◌==◌, ◌∙◌, if◌then◌else◌, rules, AllDigits, digit_from_value, digits_decimal, decimal_nonempty, AllByRecursion, ends_at, numerals, regrouped, SetupOf, Call, Reply, letter_of, open_lines, bit_digit, Symbol, Piece, pieces_of, calls_of_pieces, call_line, symbol_text, piece_line, calls_text, end_line, text_of, IsWritable, Version, One, Two, HasNoSymbol}
+use Rattle.bp_trace.proofs.Common.{inl, ◌≡◌, ℕ, ◌<◌, ◌^◌, List, [], ◌∷◌, ◌++◌, length, refl, sym, arith, decimal, Bool, flat_map, ap, ◌≤◌, ◌==◌, ◌∙◌, if◌then◌else◌, rules, AllDigits, digit_from_value, digits_decimal, decimal_nonempty, AllByRecursion, ends_at, numerals, regrouped, SetupOf, Call, Reply, letter_of, live_threads, bit_digit, Symbol, Piece, pieces_of, calls_of_pieces, call_line, symbol_text, piece_line, calls_text, end_line, text_of, IsWritable, Version, One, Two, HasNoSymbol}
 use Rattle.bp_text.proofs.NumbersInTurn as numbers
 use Rattle.bp_machine.specs.declared.calls.Reply.TheVariants.{Stopped, Ended, NoContexts, Full, Blocked, Failed, Stepped}
 use Rattle.bp_trace.proofs.PiecesAreFewest.{pieces_threads, pieces_whole}
@@ -132,7 +132,7 @@ histories_alike Two h g x y p q e =
 
 module _ (v w : Version) (s r : SetupOf) (h g : List Call) (p : IsWritable s h) (q : IsWritable r g) (e : text_of v s h ≡ text_of w r g) where
   abbrev end : SetupOf → List Call → List ℕ
-  end z k = end_line (length k) (open_lines z k)
+  end z k = end_line (length k) (live_threads z k)
 
   heads : (v ≡ w) × (s ≡ r) × (calls_text v h ++ end s h ≡ calls_text w g ++ end r g)
   heads = heads_alike v w s r h g (calls_text v h ++ end s h) (calls_text w g ++ end r g) p q e

@@ -1,8 +1,8 @@
 -- A history that may be played is played call by call: its prefixes may be, and the call after a
 -- prefix is not refused.
-use Rattle.bp_trace.proofs.Common.{◌≡◌, ℕ, ◌==◌, zero, suc, Bool, true, false, cond, List, [], ◌∷◌, ◌++◌, length, Option, None, Some, is_some, refl, ap, sym, ◌∙◌, ◌⊎◌, inl, inr, subst, arith, slice_get, append-nil, false≢true, nat_tests, regrouped, Program, Call, Answers, choice_bit, calls_of_thread, is_finished, configuration_after, granted_threads, IsAllowed, IsLegalAfter, IsBitOfCall, IsNextCall, given_bit, SetupOf, ReplayFault, IsPlayable, IsDue, IsCallFault, IsRefusedAmong}
-use Rattle.bp_trace.specs.declared.faults.Due.{Due}
-use Rattle.bp_trace.specs.declared.faults.ReplayFault.TheVariants as fault
+use Rattle.bp_trace.proofs.Common.{◌≡◌, ℕ, ◌==◌, zero, suc, Bool, true, false, cond, List, [], ◌∷◌, ◌++◌, length, Option, None, Some, is_some, refl, ap, sym, ◌∙◌, ◌⊎◌, inl, inr, subst, arith, slice_get, append-nil, false≢true, nat_tests, regrouped, Program, Call, Answers, choice_bit, calls_of_thread, is_terminated, configuration_after, granted_threads, IsAllowed, IsLegalAfter, IsBitOfCall, IsNextCall, given_bit, SetupOf, ReplayError, IsPlayable, IsDue, IsCallError, IsRefusedAmong}
+use Rattle.bp_trace.specs.declared.errors.Due.{Due}
+use Rattle.bp_trace.specs.declared.errors.ReplayError.TheVariants as error
 use Rattle.bp_trace.proofs.ScheduleLines.{same_answer}
 
 calls_after : (i : ℕ) (h g : List Call) → calls_of_thread i (h ++ g) ≡ calls_of_thread i h ++ calls_of_thread i g
@@ -96,37 +96,37 @@ module _ (t : Program) (s : SetupOf) where
     own_is own next = one_own h x own x next is_next
 
     -- so the call is not refused
-    pub not_refused : (n : ℕ) (f : ReplayFault) → IsCallFault t s h n x f → ⊥
-    not_refused n (fault.AfterFinish m made) r = false≢true (sym next_allowed.unfinished ∙ r.2)
-    not_refused n (fault.Bit m due) r = r.2 (ap (λ (y : Call). y.bit) (own_is due.call r.1.own))
-    not_refused n (fault.Reply m due) r = r.3 (ap (λ (y : Call). y.reply) (own_is due.call r.1.own))
+    pub not_refused : (n : ℕ) (f : ReplayError) → IsCallError t s h n x f → ⊥
+    not_refused n (error.AfterFinish m made) r = false≢true (sym next_allowed.still_live ∙ r.2)
+    not_refused n (error.Bit m due) r = r.2 (ap (λ (y : Call). y.bit) (own_is due.call r.1.own))
+    not_refused n (error.Reply m due) r = r.3 (ap (λ (y : Call). y.reply) (own_is due.call r.1.own))
     not_refused n f r = r
 
   -- one call has one refusal
   module _ (h : List Call) (n : ℕ) (x : Call) where
-    finished_or_not : is_finished s h x.thread ≡ true → is_finished s h x.thread ≡ false → ⊥
-    finished_or_not a b = false≢true (sym b ∙ a)
+    terminated_or_not : is_terminated s h x.thread ≡ true → is_terminated s h x.thread ≡ false → ⊥
+    terminated_or_not a b = false≢true (sym b ∙ a)
 
     one_due : (a b : Due) → IsDue t s h n x a → IsDue t s h n x b → a ≡ b
     one_due a b p q = λ i. record { calls = (p.calls ∙ sym q.calls) i; call = one_own h x a.call b.call p.own q.own i }
 
-    due_is_open : (d : Due) → IsDue t s h n x d → is_finished s h x.thread ≡ false
-    due_is_open d p = subst (λ i. is_finished s h i ≡ false) p.own.thread p.own.allowed.unfinished
+    due_is_live : (d : Due) → IsDue t s h n x d → is_terminated s h x.thread ≡ false
+    due_is_live d p = subst (λ i. is_terminated s h i ≡ false) p.own.thread p.own.allowed.still_live
 
     same_bit : (a b : Due) → IsDue t s h n x a → IsDue t s h n x b → a.call.bit ≡ b.call.bit
     same_bit a b p q = ap (λ (d : Due). d.call.bit) (one_due a b p q)
 
-    pub one_call_fault : (f g : ReplayFault) → IsCallFault t s h n x f → IsCallFault t s h n x g → f ≡ g
-    one_call_fault (fault.AfterFinish m made) (fault.AfterFinish k also) p q = λ i. fault.AfterFinish ((p.0 ∙ sym q.0) i) ((p.1 ∙ sym q.1) i)
-    one_call_fault (fault.AfterFinish m made) (fault.Bit k e) p q = absurd (finished_or_not p.2 (due_is_open e q.1))
-    one_call_fault (fault.AfterFinish m made) (fault.Reply k e) p q = absurd (finished_or_not p.2 (due_is_open e q.1))
-    one_call_fault (fault.Bit m d) (fault.AfterFinish k also) p q = absurd (finished_or_not q.2 (due_is_open d p.1))
-    one_call_fault (fault.Bit m d) (fault.Bit k e) p q = λ i. fault.Bit ((p.0 ∙ sym q.0) i) (one_due d e p.1 q.1 i)
-    one_call_fault (fault.Bit m d) (fault.Reply k e) p q = absurd (p.2 (same_bit d e p.1 q.1 ∙ q.2))
-    one_call_fault (fault.Reply m d) (fault.AfterFinish k also) p q = absurd (finished_or_not q.2 (due_is_open d p.1))
-    one_call_fault (fault.Reply m d) (fault.Bit k e) p q = absurd (q.2 (same_bit e d q.1 p.1 ∙ p.2))
-    one_call_fault (fault.Reply m d) (fault.Reply k e) p q = λ i. fault.Reply ((p.0 ∙ sym q.0) i) (one_due d e p.1 q.1 i)
-    one_call_fault f g p q = absurd (assumption (p, q))
+    pub one_call_error : (f g : ReplayError) → IsCallError t s h n x f → IsCallError t s h n x g → f ≡ g
+    one_call_error (error.AfterFinish m made) (error.AfterFinish k also) p q = λ i. error.AfterFinish ((p.0 ∙ sym q.0) i) ((p.1 ∙ sym q.1) i)
+    one_call_error (error.AfterFinish m made) (error.Bit k e) p q = absurd (terminated_or_not p.2 (due_is_live e q.1))
+    one_call_error (error.AfterFinish m made) (error.Reply k e) p q = absurd (terminated_or_not p.2 (due_is_live e q.1))
+    one_call_error (error.Bit m d) (error.AfterFinish k also) p q = absurd (terminated_or_not q.2 (due_is_live d p.1))
+    one_call_error (error.Bit m d) (error.Bit k e) p q = λ i. error.Bit ((p.0 ∙ sym q.0) i) (one_due d e p.1 q.1 i)
+    one_call_error (error.Bit m d) (error.Reply k e) p q = absurd (p.2 (same_bit d e p.1 q.1 ∙ q.2))
+    one_call_error (error.Reply m d) (error.AfterFinish k also) p q = absurd (terminated_or_not q.2 (due_is_live d p.1))
+    one_call_error (error.Reply m d) (error.Bit k e) p q = absurd (q.2 (same_bit e d q.1 p.1 ∙ p.2))
+    one_call_error (error.Reply m d) (error.Reply k e) p q = λ i. error.Reply ((p.0 ∙ sym q.0) i) (one_due d e p.1 q.1 i)
+    one_call_error f g p q = absurd (assumption (p, q))
 
 -- Of the calls of a line at most one is refused, and with one refusal.
 
@@ -149,15 +149,15 @@ one_place (c ∷ a) (d ∷ b) after others x y e =
     go same (inr (inr p)) = inr (inr (p.0, ap (λ z. z ∷ a) same ∙ ap (λ z. d ∷ z) p.1))
 
 module _ (t : Program) (s : SetupOf) (h : List Call) (n : ℕ) (calls : List Call) where
-  not_before : (f g : ReplayFault) (p : IsRefusedAmong t s h n calls f) (q : IsRefusedAmong t s h n calls g) (k : List Call) → q.good ≡ p.good ++ p.call ∷ k → ⊥
+  not_before : (f g : ReplayError) (p : IsRefusedAmong t s h n calls f) (q : IsRefusedAmong t s h n calls g) (k : List Call) → q.good ≡ p.good ++ p.call ∷ k → ⊥
   not_before f g p q k e =
       not_refused t s (h ++ p.good) p.call k (simp regrouped (rw e at q.playable)) n f p.refused
 
-  pub one_among : (f g : ReplayFault) → IsRefusedAmong t s h n calls f → IsRefusedAmong t s h n calls g → f ≡ g
+  pub one_among : (f g : ReplayError) → IsRefusedAmong t s h n calls f → IsRefusedAmong t s h n calls g → f ≡ g
   one_among f g p q = elim (one_place p.good q.good p.others q.others p.call q.call (sym p.parts ∙ q.parts)) [
     | inl same ↦
-        let refused = subst (λ z. IsCallFault t s (h ++ z) n p.call f) same.0 p.refused in
-        one_call_fault t s (h ++ q.good) n q.call f g (subst (λ x. IsCallFault t s (h ++ q.good) n x f) same.1 refused) q.refused
+        let refused = subst (λ z. IsCallError t s (h ++ z) n p.call f) same.0 p.refused in
+        one_call_error t s (h ++ q.good) n q.call f g (subst (λ x. IsCallError t s (h ++ q.good) n x f) same.1 refused) q.refused
     | inr other ↦ elim other [
       | inl before ↦ absurd (not_before f g p q before.0 before.1)
       | inr after ↦ absurd (not_before g f q p after.0 after.1)

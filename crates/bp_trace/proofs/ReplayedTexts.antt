@@ -1,10 +1,10 @@
 -- A text whose head and lines of calls were read is a trace, or is refused.
-use Rattle.bp_trace.proofs.Common.{◌≡◌, ◌⊎◌, ℕ, ◌+◌, ◌≤◌, List, [], ◌∷◌, ◌++◌, length, flat_map, drop, None, ap, sym, ◌∙◌, subst, arith, inl, inr, length-append, rules, Program, Call, IsReport, SetupOf, setup_fault, MAX_TRACE, ReplayFault, Version, IsEndRefusal, setup_of_head, IsHeadOf, Head, HasHead, version_line, entry_line, init_line, head_lines, head_text, calls_text, IsLongestAccepted, IsPlayable, line_count, Reaches, IsRestRefused, HasRefusedRest, IsReplayRefusal, IsBody, IsBodyRefusal, HasRefusedBody, FitsText, IsOpened}
+use Rattle.bp_trace.proofs.Common.{◌≡◌, ◌⊎◌, ℕ, ◌+◌, ◌≤◌, List, [], ◌∷◌, ◌++◌, length, flat_map, drop, None, ap, sym, ◌∙◌, subst, arith, inl, inr, length-append, rules, Program, Call, IsReport, SetupOf, setup_error, MAX_TRACE, ReplayError, Version, IsEndRefusal, setup_of_head, IsHeadOf, Head, HasHead, version_line, entry_line, init_line, head_lines, head_text, calls_text, IsLongestAccepted, IsPlayable, line_count, Reaches, IsRestRefused, HasRefusedRest, IsReplayRefusal, IsBody, IsBodyRefusal, HasRefusedBody, FitsText, IsOpened}
 use Rattle.std.proofs.Common.{drop_at}
 use Rattle.bp_machine.specs.declared.calls.Report.{Report}
-use Rattle.bp_trace.specs.declared.playing.Body.{Body}
-use Rattle.bp_trace.specs.declared.faults.ReplayFault.TheVariants as fault
-use Rattle.bp_trace.specs.declared.replaying.Opened.{Opened}
+use Rattle.bp_trace.specs.declared.plays.Body.{Body}
+use Rattle.bp_trace.specs.declared.errors.ReplayError.TheVariants as error
+use Rattle.bp_trace.specs.declared.replays.Opened.{Opened}
 use Rattle.bp_trace.proofs.HeadsRead.{limits_text, setup_text, head_joined}
 use Rattle.bp_trace.proofs.LongestAccepted.{longest_before_no_line, longest_before_refused}
 use Rattle.bp_trace.proofs.HeadsRead.{line_total}
@@ -43,28 +43,28 @@ module _ (text : List ℕ) (head : Head) (o : Opened) (at : IsHeadOf text head) 
 
 module _ (t : Program) (text : List ℕ) (short : length text ≤ MAX_TRACE) (v : Version) (s : SetupOf) (rest : List ℕ)
     (has : HasHead s) (parts : text ≡ head_text v s ++ rest) where
-  module _ (fine : setup_fault t s ≡ None) (first : ℕ) (first_is : first ≡ length (head_lines v s) + 1) where
+  module _ (fine : setup_error t s ≡ None) (first : ℕ) (first_is : first ≡ length (head_lines v s) + 1) where
     module _ (h : List Call) (after : List ℕ) (playable : IsPlayable t s h) (body : rest ≡ calls_text v h ++ after) where
       reaches : Reaches t text v s h (first + line_count v h) after
       reaches = grind (arith)
 
-      refused_rest : (f : ReplayFault) → IsRestRefused t v s h (first + line_count v h) after f → HasRefusedRest t text f
+      refused_rest : (f : ReplayError) → IsRestRefused t v s h (first + line_count v h) after f → HasRefusedRest t text f
       refused_rest f r = record { version = v; setup = s; history = h; number = first + line_count v h; rest = after; reached = reaches; refused = r }
 
     -- a call is refused
-    call_refused : (played : List Call) (f : ReplayFault) (r : HasRefusedBody t v s rest first played f) → IsReplayRefusal t text f
-    call_refused played (fault.AfterFinish m made) r = (short, refused_rest r.history r.rest r.playable r.parts (fault.AfterFinish m made) r.refused)
-    call_refused played (fault.Bit m d) r = (short, refused_rest r.history r.rest r.playable r.parts (fault.Bit m d) r.refused)
-    call_refused played (fault.Reply m d) r = (short, refused_rest r.history r.rest r.playable r.parts (fault.Reply m d) r.refused)
+    call_refused : (played : List Call) (f : ReplayError) (r : HasRefusedBody t v s rest first played f) → IsReplayRefusal t text f
+    call_refused played (error.AfterFinish m made) r = (short, refused_rest r.history r.rest r.playable r.parts (error.AfterFinish m made) r.refused)
+    call_refused played (error.Bit m d) r = (short, refused_rest r.history r.rest r.playable r.parts (error.Bit m d) r.refused)
+    call_refused played (error.Reply m d) r = (short, refused_rest r.history r.rest r.playable r.parts (error.Reply m d) r.refused)
     call_refused played f r = absurd r.refused.among.refused
 
-    pub body_refuses : (played : List Call) (f : ReplayFault) → IsBodyRefusal t v s rest first played f → IsReplayRefusal t text f
+    pub body_refuses : (played : List Call) (f : ReplayError) → IsBodyRefusal t v s rest first played f → IsReplayRefusal t text f
     body_refuses played f (inl memory) = subst (IsReplayRefusal t text) (sym memory) short
     body_refuses played f (inr r) = call_refused played f r
 
     -- those before it are the longest that are accepted
-    pub body_keeps : (played : List Call) (f : ReplayFault) → IsBodyRefusal t v s rest first played f
-        → (f ≡ fault.Memory) ⊎ IsLongestAccepted t text v s played
+    pub body_keeps : (played : List Call) (f : ReplayError) → IsBodyRefusal t v s rest first played f
+        → (f ≡ error.Memory) ⊎ IsLongestAccepted t text v s played
     body_keeps played f (inl memory) = inl memory
     body_keeps played f (inr r) =
         let whole = parts ∙ ap (λ z. head_text v s ++ z) r.parts in
@@ -82,7 +82,7 @@ module _ (t : Program) (text : List ℕ) (short : length text ≤ MAX_TRACE) (v 
       after = drop b.size rest
 
       -- the text after the calls is refused
-      pub end_refuses : (f : ReplayFault) → IsEndRefusal after r.calls r.left_open b.line f → IsReplayRefusal t text f
+      pub end_refuses : (f : ReplayError) → IsEndRefusal after r.calls r.left_live b.line f → IsReplayRefusal t text f
       end_refuses f given1 = grind (arith)
 
       -- all calls of the lines are the longest that are accepted

@@ -1,9 +1,9 @@
 -- Lines of schedules: their beginnings, their lengths, their calls, and a session that stands after
 -- them.
-use Rattle.bp_trace.proofs.Common.{◌≡◌, ℕ, ◌+◌, ◌/◌, ◌%◌, ◌<◌, ◌≤◌, ◌^◌, List, [], ◌∷◌, ◌++◌, length, refl, ap, sym, ◌∙◌, arith, decimal, append_assoc, ◌*◌, length-append, ◌≢◌, ◌↔◌, IsTrue, Bool, true, Some, subst, Option, None, rules, decimal_digit, decimal_step, HasNone, IsAt, ends_at, regrouped, one_at, ScheduleLine, schedule_line, thread_field, line_text, bit_digit, IsLineAt, HasNoLine, schedule_text, line_of_call, lines_of_history, mul-le-mul_left, mul-le-mul_right, cases_lt, Program, Configuration, MAX_THREADS, Call, SetupOf, threads, IsInRange, IsLegal, Answers, reply_of, configuration_after, granted_threads, is_finished, IsAllowed, Reply, SessionOf, Stands, IsAskRefusal, AllBelow, all_below, legal_length, MAX_SCHEDULE, IsAfterFinish, IsRefusal, drive_fault_of, IsLineRefusal, DriveFault}
-use Rattle.bp_machine.specs.declared.calls.AskFault.{AskFault}
-use Rattle.bp_machine.specs.declared.calls.AskFault.TheVariants.{Memory}
-use Rattle.bp_trace.specs.declared.faults.DriveFault.TheVariants as fault
+use Rattle.bp_trace.proofs.Common.{◌≡◌, ℕ, ◌+◌, ◌/◌, ◌%◌, ◌<◌, ◌≤◌, ◌^◌, List, [], ◌∷◌, ◌++◌, length, refl, ap, sym, ◌∙◌, arith, decimal, append_assoc, ◌*◌, length-append, ◌≢◌, ◌↔◌, IsTrue, Bool, true, Some, subst, Option, None, rules, decimal_digit, decimal_step, HasNone, IsAt, ends_at, regrouped, one_at, ScheduleLine, schedule_line, thread_field, line_text, bit_digit, IsLineAt, HasNoLine, schedule_text, line_of_call, lines_of_history, mul-le-mul_left, mul-le-mul_right, cases_lt, Program, Configuration, MAX_THREADS, Call, SetupOf, threads, IsInRange, IsLegal, Answers, reply_of, configuration_after, granted_threads, is_terminated, IsAllowed, Reply, SessionOf, Stands, IsAskRefusal, AllBelow, all_below, legal_length, MAX_SCHEDULE, IsAfterFinish, IsRefusal, drive_error_of, IsLineRefusal, DriveError}
+use Rattle.bp_machine.specs.declared.calls.AskError.{AskError}
+use Rattle.bp_machine.specs.declared.calls.AskError.TheVariants.{Memory}
+use Rattle.bp_trace.specs.declared.errors.DriveError.TheVariants as error
 
 pub two_text : (t : ℕ) → 10 ≤ t → t < 100 → decimal t ≡ (48 + t / 10) ∷ (48 + t % 10) ∷ []
 two_text t h k = decimal_step t h (omega arith) ∙ ap (λ x. x ++ (48 + t % 10) ∷ []) (decimal_digit (t / 10) (omega arith))
@@ -81,18 +81,18 @@ module _ (t : Program) (s : SetupOf) where
       λ i. record { thread = thread i; bit = bit i; reply = reply i }
 
 -- a refused call of an existing thread, if the setup has no seed
-pub ask_refused : (t : Program) (s : SetupOf) (h : List Call) (i : ℕ) (bit : Bool) (f : AskFault) → i < threads s
+pub ask_refused : (t : Program) (s : SetupOf) (h : List Call) (i : ℕ) (bit : Bool) (f : AskError) → i < threads s
     → s.seed ≡ None → IsAskRefusal t s h i (Some bit) f
-    → (f ≡ Memory → ⊥) → is_finished s h i ≡ true
+    → (f ≡ Memory → ⊥) → is_terminated s h i ≡ true
 ask_refused t s h i bit f given1 given2 given3 given4 = grind (arith)
 
 -- The calls of all lines, by a session that stands after them.
 
 module _ (x : SessionOf) (h : List Call) (stands : Stands x.code.tree x h) where
   -- the refusal of a call of a thread that is there
-  pub refused_line : (line : ScheduleLine) (n : ℕ) (f : AskFault) → line.thread < threads x.setup → x.setup.seed ≡ None
+  pub refused_line : (line : ScheduleLine) (n : ℕ) (f : AskError) → line.thread < threads x.setup → x.setup.seed ≡ None
       → ((g : List Call) → Stands x.code.tree x g
-      → IsAskRefusal x.code.tree x.setup g line.thread (Some line.bit) f) → IsLineRefusal x.setup h line n (drive_fault_of f n)
+      → IsAskRefusal x.code.tree x.setup g line.thread (Some line.bit) f) → IsLineRefusal x.setup h line n (drive_error_of f n)
   refused_line line n Memory within unseeded refused = tt
   refused_line line n f within unseeded refused = (
     refl,
@@ -106,19 +106,19 @@ module _ (x : SessionOf) (t : Program) (s : SetupOf) (h : List Call) (setup : x.
   legal_of = subst (λ z. IsLegal t z h) setup stands.state.legal
 
   pub bad_line : (n many : ℕ) → n ≡ length h + 1 → many ≡ threads s → rest ≢ [] → HasNoLine many rest → (bytes : Option (List ℕ))
-      → IsRefusal t s schedule bytes bytes (fault.Line n)
+      → IsRefusal t s schedule bytes bytes (error.Line n)
   bad_line n many given1 given2 given3 given4 bytes = grind (arith)
 
   module _ (line : ScheduleLine) (n many : ℕ) (number : n ≡ length h + 1) (all : many ≡ threads s) (begins : IsLineAt many rest line) where
-    pub line_refused : (f : DriveFault) → IsLineRefusal x.setup h line n f → (bytes : Option (List ℕ)) → IsRefusal t s schedule bytes bytes f
-    line_refused (fault.AfterFinish m) r bytes =
+    pub line_refused : (f : DriveError) → IsLineRefusal x.setup h line n f → (bytes : Option (List ℕ)) → IsRefusal t s schedule bytes bytes f
+    line_refused (error.AfterFinish m) r bytes =
         let after : IsAfterFinish t s schedule m = record {
           rest = rest;
           reached = record { history = h; legal = legal_of; whole = whole; number = r.0 ∙ number };
           line = line;
           begins = subst (λ k. IsLineAt k rest line) all begins;
-          finished = ap (λ z. is_finished z h line.thread) (sym setup) ∙ r.1;
+          finished = ap (λ z. is_terminated z h line.thread) (sym setup) ∙ r.1;
         } in
         (refl, (short, after))
-    line_refused fault.Memory r bytes = (refl, short)
+    line_refused error.Memory r bytes = (refl, short)
     line_refused f r bytes = absurd r

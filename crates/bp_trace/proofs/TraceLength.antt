@@ -1,5 +1,5 @@
 -- The trace of a legal history is short enough to be replayed.
-use Rattle.bp_trace.proofs.Common.{◌≡◌, ◌∙◌, ℕ, zero, suc, ◌+◌, ◌*◌, ◌<◌, ◌≤◌, ◌^◌, Bool, true, false, cond, List, [], ◌∷◌, ◌++◌, length, flat_map, Option, Some, refl, ap, arith, length-append, codes, decimal, rules, AllByRecursion, mul-le-mul_left, mul-le-mul_right, length-map, length-decimal-le, digits_decimal, decimal_nonempty, first_decimal, decimal_digit, cases_lt, numerals, Program, TEXT_LIMIT, MAX_THREADS, MAX_CALLS, Call, SetupOf, threads, IsInRange, is_finished, open_below, open_lines, IsLegal, AllBelow, all_below, legal_length, MAX_TRACE, Version, One, Two, Symbol, Piece, calls_of_pieces, pieces_of, version_line, entry_line, init_digits, seed_word, head_text, call_line, symbol_text, piece_line, calls_text, end_line, text_of, IsDecimal, IsEndLine}
+use Rattle.bp_trace.proofs.Common.{◌≡◌, ◌∙◌, ℕ, zero, suc, ◌+◌, ◌*◌, ◌<◌, ◌≤◌, ◌^◌, Bool, true, false, cond, List, [], ◌∷◌, ◌++◌, length, flat_map, Option, Some, refl, ap, arith, length-append, codes, decimal, rules, AllByRecursion, mul-le-mul_left, mul-le-mul_right, length-map, length-decimal-le, digits_decimal, decimal_nonempty, first_decimal, decimal_digit, cases_lt, numerals, Program, TEXT_LIMIT, MAX_THREADS, MAX_CALLS, Call, SetupOf, threads, IsInRange, is_terminated, live_below, live_threads, IsLegal, AllBelow, all_below, legal_length, MAX_TRACE, Version, One, Two, Symbol, Piece, calls_of_pieces, pieces_of, version_line, entry_line, init_digits, seed_word, head_text, call_line, symbol_text, piece_line, calls_text, end_line, text_of, IsDecimal, IsEndLine}
 use Rattle.bp_trace.proofs.HeadsRead.{limits_text, setup_text, head_joined}
 use Rattle.bp_trace.proofs.PiecesAreFewest.{pieces_threads, pieces_whole}
 use Rattle.bp_trace.proofs.ScheduleLines.{few_digits}
@@ -42,11 +42,11 @@ history_short Two n h few all =
 version_short : (v : Version) → length (version_line v) ≤ 9
 version_short v = grind (arith)
 
-pub open_few : (n : ℕ) (s : SetupOf) (h : List Call) → open_below n s h ≤ n
-open_few zero s h = omega arith
-open_few (suc n) s h = go (is_finished s h n) (open_few n s h)
+pub live_few : (n : ℕ) (s : SetupOf) (h : List Call) → live_below n s h ≤ n
+live_few zero s h = omega arith
+live_few (suc n) s h = go (is_terminated s h n) (live_few n s h)
   where
-    go : (b : Bool) → open_below n s h ≤ n → cond b (open_below n s h) (open_below n s h + 1) ≤ suc n
+    go : (b : Bool) → live_below n s h ≤ n → cond b (live_below n s h) (live_below n s h + 1) ≤ suc n
     go true few = omega (arith, few)
     go false few = omega (arith, few)
 
@@ -61,14 +61,14 @@ module _ (t : Program) (v : Version) (s : SetupOf) (h : List Call) (range : IsIn
   setup_short : length (setup_text s) ≤ 4200000
   setup_short = search (rules, entries_short, mul-le-mul_right, init_short, length-append, codes, limits_text, limits_short)
 
-  end_short : length (end_line (length h) (open_lines s h)) ≤ 50
-  end_short = search (rules, number_short, few_calls, open_few, length-append, decimal, codes)
+  end_short : length (end_line (length h) (live_threads s h)) ≤ 50
+  end_short = search (rules, number_short, few_calls, live_few, length-append, decimal, codes)
 
   pub trace_short : length (text_of v s h) < MAX_TRACE
   trace_short =
       let head = ap length (head_joined v s) ∙ length-append (version_line v) (setup_text s) in
-      let body = length-append (calls_text v h) (end_line (length h) (open_lines s h)) in
-      let whole = length-append (head_text v s) (calls_text v h ++ end_line (length h) (open_lines s h)) in
+      let body = length-append (calls_text v h) (end_line (length h) (live_threads s h)) in
+      let whole = length-append (head_text v s) (calls_text v h ++ end_line (length h) (live_threads s h)) in
       omega (arith, version_short v, head, body, whole, setup_short, end_short, history_short v (threads s) h range.few (all_below t s h legal), few_calls)
 
 -- The end of a history is an end line.
@@ -78,17 +78,17 @@ decimal_is n given1 = search (rules, decimal_nonempty, digits_decimal, numerals,
 
 -- the numbers of an end have 64 bits
 pub counts_fit : (t : Program) (s : SetupOf) (h : List Call) → threads s ≤ MAX_THREADS → s.calls ≤ MAX_CALLS
-    → IsLegal t s h → (length h < 2 ^ 64) × (open_lines s h < 2 ^ 64)
-counts_fit t s h given1 given2 given3 = search (rules, legal_length, mul-le-mul_right, mul-le-mul_left, open_few)
+    → IsLegal t s h → (length h < 2 ^ 64) × (live_threads s h < 2 ^ 64)
+counts_fit t s h given1 given2 given3 = search (rules, legal_length, mul-le-mul_right, mul-le-mul_left, live_few)
 
 pub own_end : (t : Program) (s : SetupOf) (h : List Call) → threads s ≤ MAX_THREADS → s.calls ≤ MAX_CALLS
-    → IsLegal t s h → IsEndLine (end_line (length h) (open_lines s h))
+    → IsLegal t s h → IsEndLine (end_line (length h) (live_threads s h))
 own_end t s h few calls legal =
     let fit = counts_fit t s h few calls legal in
     record {
       calls = decimal (length h);
-      left_open = decimal (open_lines s h);
+      left_live = decimal (live_threads s h);
       first = decimal_is (length h) fit.0;
-      second = decimal_is (open_lines s h) fit.1;
+      second = decimal_is (live_threads s h) fit.1;
       is = refl;
     }

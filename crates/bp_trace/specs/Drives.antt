@@ -5,13 +5,13 @@ use Rattle.bp_language.specs.Ast.{Program}
 use Rattle.bp_machine.specs.declared.calls.Call.{Call}
 use Rattle.bp_machine.specs.declared.calls.Report.{Report}
 use Rattle.bp_machine.specs.Setups.{SetupOf, threads}
-use Rattle.bp_machine.specs.Histories.{IsLegal, is_finished, IsReport}
-use Rattle.bp_machine.specs.declared.calls.AskFault.{AskFault}
-use Rattle.bp_machine.specs.declared.calls.AskFault.TheVariants as refused
-use Rattle.bp_trace.specs.declared.faults.DriveFault.{DriveFault}
-use Rattle.bp_trace.specs.declared.faults.DriveFault.TheVariants.{TooLong, Line, AfterFinish, Memory, Write}
+use Rattle.bp_machine.specs.Histories.{IsLegal, is_terminated, IsReport}
+use Rattle.bp_machine.specs.declared.calls.AskError.{AskError}
+use Rattle.bp_machine.specs.declared.calls.AskError.TheVariants as refused
+use Rattle.bp_trace.specs.declared.errors.DriveError.{DriveError}
+use Rattle.bp_trace.specs.declared.errors.DriveError.TheVariants.{TooLong, Line, AfterFinish, Memory, Write}
 use Rattle.bp_trace.specs.declared.limits.TheConstants.{MAX_SCHEDULE}
-use Rattle.bp_trace.specs.declared.driving.ScheduleLine.{ScheduleLine}
+use Rattle.bp_trace.specs.declared.drives.ScheduleLine.{ScheduleLine}
 use Rattle.bp_trace.specs.TraceText.{schedule_text, lines_of_history, IsLineAt, HasNoLine, trace_text, line_of_call}
 
 -- a legal history makes the calls of the lines before the n-th, which begins the rest
@@ -29,13 +29,13 @@ pub record IsBadLine (t : Program) (s : SetupOf) (schedule : List ℕ) (n : ℕ)
   pub some : rest ≢ []
   pub bad : HasNoLine (threads s) rest
 
--- the n-th line is one of a thread whose line is finished
+-- the n-th line is one of a thread that has terminated
 pub record IsAfterFinish (t : Program) (s : SetupOf) (schedule : List ℕ) (n : ℕ) : Type 0 where
   pub rest : List ℕ
   pub reached : DrivesUpTo t s schedule n rest
   pub line : ScheduleLine
   pub begins : IsLineAt (threads s) rest line
-  pub finished : is_finished s reached.history line.thread ≡ true
+  pub finished : is_terminated s reached.history line.thread ≡ true
 
 -- the schedule is short enough, and its lines are those of a legal history
 pub record IsDriven (t : Program) (s : SetupOf) (schedule : List ℕ) (h : List Call) : Type 0 where
@@ -49,7 +49,7 @@ module _ (t : Program) (s : SetupOf) (schedule : List ℕ) where
   abbrev IsShort : Type 0
   IsShort = length schedule ≤ MAX_SCHEDULE
 
-  abbrev pub IsScheduleRefusal : DriveFault → Type 0
+  abbrev pub IsScheduleRefusal : DriveError → Type 0
   IsScheduleRefusal TooLong = MAX_SCHEDULE < length schedule
   IsScheduleRefusal (Line n) = IsShort × IsBadLine t s schedule n
   IsScheduleRefusal (AfterFinish n) = IsShort × IsAfterFinish t s schedule n
@@ -57,7 +57,7 @@ module _ (t : Program) (s : SetupOf) (schedule : List ℕ) where
   IsScheduleRefusal Write = ⊥
 
   -- the text written then, by the bytes of the writer before and after it
-  abbrev pub IsRefusal : Option (List ℕ) → Option (List ℕ) → DriveFault → Type 0
+  abbrev pub IsRefusal : Option (List ℕ) → Option (List ℕ) → DriveError → Type 0
   IsRefusal old new Write =
       (h : List Call) × IsDriven t s schedule h × AppendsPart old new (trace_text s h)
   IsRefusal old new f = (new ≡ old) × IsScheduleRefusal f
@@ -75,9 +75,9 @@ pub record DrivesTo
 -- names.
 
 -- the refusal of a call on the line n, of an existing thread
-abbrev pub drive_fault_of : AskFault → ℕ → DriveFault
-drive_fault_of refused.Memory n = Memory
-drive_fault_of f n = AfterFinish n
+abbrev pub drive_error_of : AskError → ℕ → DriveError
+drive_error_of refused.Memory n = Memory
+drive_error_of f n = AfterFinish n
 
 -- the call of this line was added
 pub record IsAdded (old new : List Call) (line : ScheduleLine) : Type 0 where
@@ -87,9 +87,9 @@ pub record IsAdded (old new : List Call) (line : ScheduleLine) : Type 0 where
 
 -- when the call of a line is refused, which is the n-th
 module _ (s : SetupOf) (h : List Call) (line : ScheduleLine) (n : ℕ) where
-  abbrev pub IsLineRefusal : DriveFault → Type 0
+  abbrev pub IsLineRefusal : DriveError → Type 0
   IsLineRefusal TooLong = ⊥
   IsLineRefusal (Line m) = ⊥
-  IsLineRefusal (AfterFinish m) = (m ≡ n) × (is_finished s h line.thread ≡ true)
+  IsLineRefusal (AfterFinish m) = (m ≡ n) × (is_terminated s h line.thread ≡ true)
   IsLineRefusal Memory = Unit {0}
   IsLineRefusal Write = ⊥

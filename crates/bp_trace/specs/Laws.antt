@@ -3,18 +3,18 @@ use Rattle.std.specs.Prelude.{◌≡◌, ◌≢◌, ℕ, List, length, map}
 use Rattle.bp_language.specs.Ast.{Program}
 use Rattle.bp_flat.specs.Moves.{Configuration}
 use Rattle.bp_language.specs.Texts.{HasText}
-use Rattle.bp_language.specs.Faults.{IsLawful}
+use Rattle.bp_language.specs.Errors.{IsWellFormed}
 use Rattle.bp_machine.specs.declared.calls.Call.{Call}
 use Rattle.bp_machine.specs.Runs.{IsBoundedRun, history_of_run}
 use Rattle.bp_machine.specs.Histories.{IsLeastWithin, IsLegal}
 use Rattle.bp_machine.specs.Setups.{SetupOf, IsInRange}
 use Rattle.bp_trace.specs.TraceText.{calls_of_pieces, pieces_of, schedule_text, lines_of_history, text_of, IsWritable}
-use Rattle.bp_trace.specs.declared.faults.ReplayFault.{ReplayFault}
-use Rattle.bp_trace.specs.declared.faults.ReplayFault.TheVariants.{Memory}
+use Rattle.bp_trace.specs.declared.errors.ReplayError.{ReplayError}
+use Rattle.bp_trace.specs.declared.errors.ReplayError.TheVariants.{Memory}
 use Rattle.bp_trace.specs.declared.traces.Version.{Version}
 use Rattle.bp_trace.specs.Replays.{IsTrace, IsReplayRefusal}
-use Rattle.bp_trace.specs.declared.faults.DriveFault.{DriveFault}
-use Rattle.bp_trace.specs.declared.faults.DriveFault.TheVariants as drive
+use Rattle.bp_trace.specs.declared.errors.DriveError.{DriveError}
+use Rattle.bp_trace.specs.declared.errors.DriveError.TheVariants as drive
 use Rattle.bp_trace.specs.Drives.{IsDriven, IsBadLine, IsAfterFinish, IsScheduleRefusal}
 
 -- the schedule drives to this history and no other, and no line of it is refused
@@ -44,7 +44,7 @@ RunsDriveToHistories =
 -- a schedule has at most one refusal apart from memory
 abbrev pub OneScheduleRefusal : Type 0
 OneScheduleRefusal =
-    (t : Program) (s : SetupOf) (schedule : List ℕ) (f g : DriveFault)
+    (t : Program) (s : SetupOf) (schedule : List ℕ) (f g : DriveError)
     → IsInRange s
     → f ≢ drive.Memory
     → g ≢ drive.Memory
@@ -55,7 +55,7 @@ OneScheduleRefusal =
 -- a schedule that is refused for anything but memory drives the program to no history
 abbrev pub RefusedDrivesNowhere : Type 0
 RefusedDrivesNowhere =
-    (t : Program) (s : SetupOf) (schedule : List ℕ) (h : List Call) (f : DriveFault)
+    (t : Program) (s : SetupOf) (schedule : List ℕ) (h : List Call) (f : DriveError)
     → IsInRange s
     → f ≢ drive.Memory
     → IsScheduleRefusal t s schedule f
@@ -82,18 +82,19 @@ NoTwoHaveOneText =
 -- a text has at most one refusal apart from memory
 abbrev pub OneRefusal : Type 0
 OneRefusal =
-    (t : Program) (text : List ℕ) (f g : ReplayFault)
+    (t : Program) (text : List ℕ) (f g : ReplayError)
     → f ≢ Memory
     → g ≢ Memory
     → IsReplayRefusal t text f
     → IsReplayRefusal t text g
     → f ≡ g
 
--- a text that is refused for anything but memory is not a trace of the lawful program of a text
+-- a text that is refused for anything but memory is not a trace of the well-formed program of a
+-- text
 abbrev pub RefusedIsNoTrace : Type 0
 RefusedIsNoTrace =
-    (t : Program) (v : Version) (s : SetupOf) (h : List Call) (text : List ℕ) (f : ReplayFault)
-    → IsLawful t
+    (t : Program) (v : Version) (s : SetupOf) (h : List Call) (text : List ℕ) (f : ReplayError)
+    → IsWellFormed t
     → HasText t
     → f ≢ Memory
     → IsReplayRefusal t text f

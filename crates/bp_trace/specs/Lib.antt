@@ -1,7 +1,7 @@
 pub mod Replays
-pub mod Reading
+pub mod Readings
 pub mod Drives
 pub mod TraceText
-pub mod Judging
+pub mod Judgements
 pub mod Laws
 pub mod HeadFormat

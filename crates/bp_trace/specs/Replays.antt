@@ -5,30 +5,30 @@ use Rattle.std.specs.List.{AllByRecursion}
 use Rattle.bp_text.specs.Writing.{AppendsAll, AppendsPart}
 use Rattle.bp_language.specs.Ast.{Program}
 use Rattle.bp_machine.specs.declared.calls.Call.{Call}
-use Rattle.bp_machine.specs.declared.calls.AskFault.{AskFault}
-use Rattle.bp_machine.specs.declared.calls.AskFault.TheVariants.{Memory}
+use Rattle.bp_machine.specs.declared.calls.AskError.{AskError}
+use Rattle.bp_machine.specs.declared.calls.AskError.TheVariants.{Memory}
 use Rattle.bp_machine.specs.Sessions.{IsNextCall, IsAskRefusal, given_bit, last_thread, Stands}
-use Rattle.bp_machine.specs.Setups.{SetupOf, threads, setup_fault}
-use Rattle.bp_machine.specs.declared.setup_faults.SetupFault.{SetupFault}
-use Rattle.bp_machine.specs.Histories.{is_finished, open_lines, IsLegal, HasSeededBits, IsReport}
+use Rattle.bp_machine.specs.Setups.{SetupOf, threads, setup_error}
+use Rattle.bp_machine.specs.declared.setup_errors.SetupError.{SetupError}
+use Rattle.bp_machine.specs.Histories.{is_terminated, live_threads, IsLegal, HasSeededBits, IsReport}
 use Rattle.bp_machine.specs.Runs.{PrintedRow, printed_rows}
 use Rattle.bp_machine.specs.declared.calls.Report.{Report}
 use Rattle.bp_trace.specs.declared.limits.TheConstants.{MAX_TRACE}
-use Rattle.bp_trace.specs.declared.faults.EndCounts.{EndCounts}
-use Rattle.bp_trace.specs.declared.faults.Due.{Due}
-use Rattle.bp_trace.specs.declared.faults.ReplayFault.{ReplayFault}
-use Rattle.bp_trace.specs.declared.faults.ReplayFault.TheVariants as fault
+use Rattle.bp_trace.specs.declared.errors.EndCounts.{EndCounts}
+use Rattle.bp_trace.specs.declared.errors.Due.{Due}
+use Rattle.bp_trace.specs.declared.errors.ReplayError.{ReplayError}
+use Rattle.bp_trace.specs.declared.errors.ReplayError.TheVariants as error
 use Rattle.bp_trace.specs.declared.traces.Version.{Version}
 use Rattle.bp_trace.specs.declared.traces.Version.TheVariants.{One, Two}
 use Rattle.bp_text.specs.Formats.{BreaksAt}
 use Rattle.bp_trace.specs.HeadFormat.{head}
 use Rattle.bp_trace.specs.TraceText.{HasHead, Piece, pieces_of, calls_of_piece, head_lines, head_text, call_line, piece_line, calls_text, end_line, text_of, trace_text_2}
-use Rattle.bp_trace.specs.declared.replaying.AcceptedTrace.{AcceptedTrace}
-use Rattle.bp_trace.specs.declared.judging.Printed.{Printed}
-use Rattle.bp_trace.specs.declared.replaying.Replayed.{Replayed}
-use Rattle.bp_trace.specs.declared.replaying.Watched.{Watched}
-use Rattle.bp_trace.specs.declared.faults.MigrateFault.{MigrateFault}
-use Rattle.bp_trace.specs.declared.faults.MigrateFault.TheVariants as refusal
+use Rattle.bp_trace.specs.declared.replays.AcceptedTrace.{AcceptedTrace}
+use Rattle.bp_trace.specs.declared.judgements.Printed.{Printed}
+use Rattle.bp_trace.specs.declared.replays.Replayed.{Replayed}
+use Rattle.bp_trace.specs.declared.replays.Watched.{Watched}
+use Rattle.bp_trace.specs.declared.errors.MigrateError.{MigrateError}
+use Rattle.bp_trace.specs.declared.errors.MigrateError.TheVariants as refusal
 
 -- The machine's own call for a recorded one.
 
@@ -40,7 +40,7 @@ module _ (t : Program) (s : SetupOf) (h : List Call) (x : Call) where
   IsOwnCall own = IsNextCall t s h x.thread (given_bit s x.bit) own
 
   -- why no call comes next; memory may be refused to the watcher, too
-  abbrev pub IsOwnRefusal : AskFault → Type 0
+  abbrev pub IsOwnRefusal : AskError → Type 0
   IsOwnRefusal Memory = Unit {0}
   IsOwnRefusal f = IsAskRefusal t s h x.thread (given_bit s x.bit) f
 
@@ -53,7 +53,7 @@ pub record IsPlayable (t : Program) (s : SetupOf) (h : List Call) : Type 0 where
 pub record IsTrace
     (t : Program) (v : Version) (s : SetupOf) (h : List Call) (text : List ℕ) : Type 0 where
   pub head : HasHead s
-  pub fine : setup_fault t s ≡ None
+  pub fine : setup_error t s ≡ None
   pub playable : IsPlayable t s h
   pub is : text ≡ text_of v s h
 
@@ -94,10 +94,10 @@ pub record IsDecimal (digits : List ℕ) : Type 0 where
 -- an end line, whatever its numbers
 pub record IsEndLine (line : List ℕ) : Type 0 where
   pub calls : List ℕ
-  pub left_open : List ℕ
+  pub left_live : List ℕ
   pub first : IsDecimal calls
-  pub second : IsDecimal left_open
-  pub is : line ≡ codes "end " ++ (calls ++ (codes " " ++ (left_open ++ codes "\n")))
+  pub second : IsDecimal left_live
+  pub is : line ≡ codes "end " ++ (calls ++ (codes " " ++ (left_live ++ codes "\n")))
 
 -- The text that may be after the calls of a history, other than its own end alone.
 module _ (own rest : List ℕ) where
@@ -124,24 +124,24 @@ module _ (t : Program) (s : SetupOf) (h : List Call) (n : ℕ) (x : Call) where
     pub calls : due.calls ≡ length h
     pub own : IsOwnCall t s h x due.call
 
-  abbrev pub IsCallFault : ReplayFault → Type 0
-  IsCallFault (fault.AfterFinish m made) =
-      (m ≡ n) × (made ≡ length h) × (is_finished s h x.thread ≡ true)
-  IsCallFault (fault.Bit m due) = (m ≡ n) × IsDue due × (due.call.bit ≢ x.bit)
-  IsCallFault (fault.Reply m due) =
+  abbrev pub IsCallError : ReplayError → Type 0
+  IsCallError (error.AfterFinish m made) =
+      (m ≡ n) × (made ≡ length h) × (is_terminated s h x.thread ≡ true)
+  IsCallError (error.Bit m due) = (m ≡ n) × IsDue due × (due.call.bit ≢ x.bit)
+  IsCallError (error.Reply m due) =
       (m ≡ n) × IsDue due × (due.call.bit ≡ x.bit) × (due.call.reply ≢ x.reply)
-  IsCallFault f = ⊥
+  IsCallError f = ⊥
 
 -- one of the calls of line n is refused, after h and those before it
 pub record IsRefusedAmong
-    (t : Program) (s : SetupOf) (h : List Call) (n : ℕ) (calls : List Call) (f : ReplayFault)
+    (t : Program) (s : SetupOf) (h : List Call) (n : ℕ) (calls : List Call) (f : ReplayError)
     : Type 0 where
   pub good : List Call
   pub call : Call
   pub others : List Call
   pub parts : calls ≡ good ++ call ∷ others
   pub playable : IsPlayable t s (h ++ good)
-  pub refused : IsCallFault t s (h ++ good) n call f
+  pub refused : IsCallError t s (h ++ good) n call f
 
 -- The text begins with the head of a setup that the program accepts, and the whole lines of a legal
 -- history; then comes the rest, whose first line has this number.
@@ -150,14 +150,14 @@ pub record Reaches
     (rest : List ℕ)
     : Type 0 where
   pub head : HasHead s
-  pub fine : setup_fault t s ≡ None
+  pub fine : setup_error t s ≡ None
   pub playable : IsPlayable t s h
   pub parts : text ≡ head_text v s ++ (calls_text v h ++ rest)
   pub number : n ≡ length (head_lines v s) + line_count v h + 1
 
 -- the counts of the end of a history
 abbrev pub counts_of : SetupOf → List Call → EndCounts
-counts_of s h = record { calls = length h; left_open = open_lines s h }
+counts_of s h = record { calls = length h; left_live = live_threads s h }
 
 -- Why the rest is refused: it is empty; no line that may follow begins it; it begins with one whose
 -- calls are refused; with the end of another history; or with the end, and more after it.
@@ -177,7 +177,7 @@ module _
     pub ends : (line more : List ℕ) → IsEndLine line → rest ≢ line ++ more
 
   -- a line begins it, one of whose calls is refused after those before it
-  pub record HasRefusedCall (f : ReplayFault) : Type 0 where
+  pub record HasRefusedCall (f : ReplayError) : Type 0 where
     pub line : List ℕ
     pub calls : List Call
     pub more : List ℕ
@@ -186,13 +186,13 @@ module _
     pub among : IsRefusedAmong t s h n calls f
 
   abbrev own_end : List ℕ
-  own_end = end_line (length h) (open_lines s h)
+  own_end = end_line (length h) (live_threads s h)
 
-  abbrev pub IsRestRefused : ReplayFault → Type 0
-  IsRestRefused (fault.NoEnd counts) = (rest ≡ []) × (counts ≡ counts_of s h)
-  IsRestRefused (fault.EndCount m counts) =
+  abbrev pub IsRestRefused : ReplayError → Type 0
+  IsRestRefused (error.NoEnd counts) = (rest ≡ []) × (counts ≡ counts_of s h)
+  IsRestRefused (error.EndCount m counts) =
       (m ≡ n) × (counts ≡ counts_of s h) × HasOtherEnd own_end rest
-  IsRestRefused (fault.Line m) =
+  IsRestRefused (error.Line m) =
       ((m ≡ n) × HasNoNextLine) ⊎ ((m ≡ n + 1) × HasMoreAfter own_end rest)
   IsRestRefused f = HasRefusedCall f
 
@@ -203,15 +203,15 @@ module _ (t : Program) (text : List ℕ) where
   IsShort = length text ≤ MAX_TRACE
 
   -- the head is one, of a setup that is refused
-  pub record HasRefusedSetup (f : SetupFault) : Type 0 where
+  pub record HasRefusedSetup (f : SetupError) : Type 0 where
     pub version : Version
     pub setup : SetupOf
     pub rest : List ℕ
     pub head : HasHead setup
     pub parts : text ≡ head_text version setup ++ rest
-    pub fault : setup_fault t setup ≡ Some f
+    pub error : setup_error t setup ≡ Some f
 
-  pub record HasRefusedRest (f : ReplayFault) : Type 0 where
+  pub record HasRefusedRest (f : ReplayError) : Type 0 where
     pub version : Version
     pub setup : SetupOf
     pub history : List Call
@@ -220,22 +220,22 @@ module _ (t : Program) (text : List ℕ) where
     pub reached : Reaches t text version setup history number rest
     pub refused : IsRestRefused t version setup history number rest f
 
-  abbrev pub IsReplayRefusal : ReplayFault → Type 0
-  IsReplayRefusal fault.TooLong = MAX_TRACE < length text
-  IsReplayRefusal (fault.Head k) = IsShort × BreaksAt head text k
-  IsReplayRefusal (fault.Setup f) = IsShort × HasRefusedSetup f
-  IsReplayRefusal fault.Memory = IsShort
+  abbrev pub IsReplayRefusal : ReplayError → Type 0
+  IsReplayRefusal error.TooLong = MAX_TRACE < length text
+  IsReplayRefusal (error.Head k) = IsShort × BreaksAt head text k
+  IsReplayRefusal (error.Setup f) = IsShort × HasRefusedSetup f
+  IsReplayRefusal error.Memory = IsShort
   IsReplayRefusal f = IsShort × HasRefusedRest f
 
 -- The calls of a text that are accepted even if the whole text is not a trace.
 
--- no calls of a text with this fault are accepted: it has no head, or the setup is refused, or
+-- no calls of a text with this error are accepted: it has no head, or the setup is refused, or
 -- memory was
-abbrev pub HasNoCalls : ReplayFault → Type 0
-HasNoCalls fault.TooLong = Unit {0}
-HasNoCalls (fault.Head k) = Unit {0}
-HasNoCalls (fault.Setup f) = Unit {0}
-HasNoCalls fault.Memory = Unit {0}
+abbrev pub HasNoCalls : ReplayError → Type 0
+HasNoCalls error.TooLong = Unit {0}
+HasNoCalls (error.Head k) = Unit {0}
+HasNoCalls (error.Setup f) = Unit {0}
+HasNoCalls error.Memory = Unit {0}
 HasNoCalls f = ⊥
 
 module _ (t : Program) (text : List ℕ) where
@@ -244,7 +244,7 @@ module _ (t : Program) (text : List ℕ) where
   -- played.
   pub record IsAccepted (v : Version) (s : SetupOf) (h : List Call) : Type 0 where
     pub head : HasHead s
-    pub fine : setup_fault t s ≡ None
+    pub fine : setup_error t s ≡ None
     pub playable : IsPlayable t s h
     pub others : List Call
     pub threads : AllByRecursion (λ x. x.thread < threads s) others
@@ -265,7 +265,7 @@ module _ (t : Program) (text : List ℕ) where
     pub history : List Call
     pub is : IsTrace t version setup history text
 
-  -- the text is refused for this fault, and this is the trace of its accepted calls
+  -- the text is refused for this error, and this is the trace of its accepted calls
   pub record IsAcceptedTrace (x : AcceptedTrace) : Type 0 where
     pub version : Version
     pub setup : SetupOf
@@ -273,7 +273,7 @@ module _ (t : Program) (text : List ℕ) where
     pub longest : IsLongestAccepted version setup history
     pub trace : x.trace.items ≡ text_of version setup history
     pub calls : x.calls ≡ length history
-    pub refused : IsReplayRefusal t text x.fault
+    pub refused : IsReplayRefusal t text x.error
 
 -- The result of a replay: a setup, a history, the values that its steps printed, and its report.
 
@@ -321,6 +321,6 @@ module _ (t : Program) (text : List ℕ) (old new : Option (List ℕ)) where
     pub written : AppendsPart old new (trace_text_2 setup history)
 
   -- each refusal, the first that applies
-  abbrev pub IsMigrateRefusal : MigrateFault → Type 0
+  abbrev pub IsMigrateRefusal : MigrateError → Type 0
   IsMigrateRefusal (refusal.Replay f) = (new ≡ old) × IsReplayRefusal t text f
   IsMigrateRefusal refusal.Write = IsPartlyWritten

@@ -5,8 +5,8 @@ pub use Rattle.bp_text.specs.Formats.{bit_digit}
 use Rattle.bp_machine.specs.declared.calls.Call.{Call}
 use Rattle.bp_machine.specs.declared.calls.Reply.{Reply}
 use Rattle.bp_machine.specs.Setups.{SetupOf}
-use Rattle.bp_machine.specs.Histories.{open_lines, letter_of}
-use Rattle.bp_trace.specs.declared.driving.ScheduleLine.{ScheduleLine}
+use Rattle.bp_machine.specs.Histories.{live_threads, letter_of}
+use Rattle.bp_trace.specs.declared.drives.ScheduleLine.{ScheduleLine}
 use Rattle.bp_trace.specs.declared.traces.Version.{Version}
 use Rattle.bp_trace.specs.declared.traces.Version.TheVariants.{One, Two}
 
@@ -120,11 +120,11 @@ head_text v s = concat (head_lines v s)
 abbrev pub call_line : Call → List ℕ
 call_line x = decimal x.thread ++ 32 ∷ bit_digit x.bit ∷ 32 ∷ letter_of x.reply ∷ 10 ∷ []
 
--- the number of calls, and of the lines that are open
+-- the number of calls, and of the threads that are live
 abbrev pub end_line : ℕ → ℕ → List ℕ
-end_line calls left_open = concat (
+end_line calls left_live = concat (
     codes "end " ∷ decimal calls
-    ∷ codes " " ∷ decimal left_open
+    ∷ codes " " ∷ decimal left_live
     ∷ codes "\n" ∷ [])
 
 -- the choice bit and the letter of the reply
@@ -142,7 +142,7 @@ calls_text One h = flat_map call_line h
 calls_text Two h = flat_map piece_line (pieces_of h)
 
 abbrev pub text_of : Version → SetupOf → List Call → List ℕ
-text_of v s h = head_text v s ++ (calls_text v h ++ end_line (length h) (open_lines s h))
+text_of v s h = head_text v s ++ (calls_text v h ++ end_line (length h) (live_threads s h))
 
 abbrev pub trace_text : SetupOf → List Call → List ℕ
 trace_text s h = text_of One s h

@@ -2,10 +2,10 @@
 ghost use Rattle.std.specs.Prelude.{◌≡◌, ◌↔◌, ◌<◌, ◌-◌, ◌^◌, ◌∷◌, [], ℕ, List, IsTrue, flat_map, MatchOption, MatchResult};
 ghost use Rattle.bp_text.specs.Formats.{HasNone, IsAt};
 ghost use Rattle.bp_text.specs.Formats.Format.{Before};
-ghost use Rattle.bp_trace.specs.Reading.{after_digit, any_decimal, is_whole, more_digits, HasNoEnd, IsEndAt, IsEndRefusal};
+ghost use Rattle.bp_trace.specs.Readings.{after_digit, any_decimal, is_whole, more_digits, HasNoEnd, IsEndAt, IsEndRefusal};
 ghost use Rattle.bp_trace.specs.TraceText.{end_line};
 
-use crate::faults::{EndCounts, ReplayFault};
+use crate::errors::{EndCounts, ReplayError};
 use bp_text::{Machine, after, after_word, span_at};
 use itoa::Buffer;
 
@@ -94,37 +94,37 @@ fn is_joined(text: &[u8], pieces: &[&[u8]]) -> bool
     rest.is_empty()
 }
 
-/// Returns whether the line is the end line of these counts of calls and open lines.
-fn is_end_of(line: &[u8], calls: u64, left_open: u32) -> bool
-    ensures { IsTrue result ↔ (line.now ≡ end_line calls left_open) }
+/// Returns whether the line is the end line of these counts of calls and live threads.
+fn is_end_of(line: &[u8], calls: u64, left_live: u32) -> bool
+    ensures { IsTrue result ↔ (line.now ≡ end_line calls left_live) }
 {
     let mut number = Buffer::new();
     let mut count = Buffer::new();
     let calls = number.format(calls).as_bytes();
-    let left_open = count.format(left_open).as_bytes();
-    is_joined(line, &[b"end ", calls, b" ", left_open, b"\n"])
+    let left_live = count.format(left_live).as_bytes();
+    is_joined(line, &[b"end ", calls, b" ", left_live, b"\n"])
 }
 
 /// Judges the rest of a trace after its calls, at line `n`: it must be the end line of these counts
-/// of calls and open lines, and nothing more.
-pub(crate) fn judge_end(rest: &[u8], calls: u64, left_open: u32, n: u32) -> Result<(), ReplayFault>
+/// of calls and live threads, and nothing more.
+pub(crate) fn judge_end(rest: &[u8], calls: u64, left_live: u32, n: u32) -> Result<(), ReplayError>
     requires { n < 2 ^ 32 - 1 }
     ensures { MatchResult result
-        (λ _. rest.now ≡ end_line calls left_open)
-        (IsEndRefusal rest.now calls left_open n) }
+        (λ _. rest.now ≡ end_line calls left_live)
+        (IsEndRefusal rest.now calls left_live n) }
 {
-    let counts = EndCounts { calls, left_open };
+    let counts = EndCounts { calls, left_live };
     if rest.is_empty() {
-        return Err(ReplayFault::NoEnd(counts));
+        return Err(ReplayError::NoEnd(counts));
     }
     let Some(size) = end_at(rest) else {
-        return Err(ReplayFault::Line(n));
+        return Err(ReplayError::Line(n));
     };
-    if !is_end_of(&rest[..size], calls, left_open) {
-        return Err(ReplayFault::EndCount(n, counts));
+    if !is_end_of(&rest[..size], calls, left_live) {
+        return Err(ReplayError::EndCount(n, counts));
     }
     if size < rest.len() {
-        return Err(ReplayFault::Line(n + 1));
+        return Err(ReplayError::Line(n + 1));
     }
     Ok(())
 }

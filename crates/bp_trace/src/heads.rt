@@ -4,9 +4,9 @@ ghost use Rattle.bp_text.specs.Formats.{bit, Finds, FindsPart, HasNone, IsAt};
 ghost use Rattle.bp_text.specs.Formats.Format.{After, Line, Many, Number};
 ghost use Rattle.bp_trace.specs.declared.limits.TheConstants.{MAX_TRACE};
 ghost use Rattle.bp_trace.specs.HeadFormat.{after_byte, bits, entry, init, may_end, seed, seed_value, version_word};
-ghost use Rattle.bp_trace.specs.Reading.{IsHeadOf, IsHeadRefusal};
+ghost use Rattle.bp_trace.specs.Readings.{IsHeadOf, IsHeadRefusal};
 
-use crate::faults::ReplayFault;
+use crate::errors::ReplayError;
 use crate::traces::Version;
 use bp_text::{Machine, after, after_word, bit_at, long_number_at, span_at};
 use std::alloc::{AllocError, Global};
@@ -204,26 +204,26 @@ fn seed_at(text: &[u8]) -> Option<(Option<u64>, &[u8])>
 }
 
 /// Parses the head that begins the text, which need not be a trace.
-pub fn read_head<'a>(alloc: Global, text: &'a [u8]) -> Result<Head<'a>, ReplayFault>
+pub fn read_head<'a>(alloc: Global, text: &'a [u8]) -> Result<Head<'a>, ReplayError>
     requires { length text.now ≤ MAX_TRACE }
     ensures { MatchResult result (IsHeadOf text.now) (IsHeadRefusal text.now) }
 {
     let Some((version, first)) = version_at(text) else {
-        return Err(ReplayFault::Head(1));
+        return Err(ReplayError::Head(1));
     };
     let (entries, settings) = entries_at(alloc, first)?;
     let line = entries.len() as u32 + 2;
     let Some((init, limits)) = init_at(alloc, settings)? else {
-        return Err(ReplayFault::Head(line));
+        return Err(ReplayError::Head(line));
     };
     let Some((contexts, last_two)) = number_line_at(limits, b"contexts ") else {
-        return Err(ReplayFault::Head(line + 1));
+        return Err(ReplayError::Head(line + 1));
     };
     let Some((calls, last)) = number_line_at(last_two, b"calls ") else {
-        return Err(ReplayFault::Head(line + 2));
+        return Err(ReplayError::Head(line + 2));
     };
     let Some((seed, rest)) = seed_at(last) else {
-        return Err(ReplayFault::Head(line + 3));
+        return Err(ReplayError::Head(line + 3));
     };
     Ok(Head {
         version,

@@ -2,32 +2,32 @@
 //! as a text.
 #![tactic(auto)]
 
-mod driving;
+mod drives;
 mod end_lines;
-mod faults;
+mod errors;
 mod heads;
-mod judging;
+mod judgements;
 mod laws;
 pub mod limits;
-mod playing;
-mod replaying;
+mod plays;
+mod replays;
 mod trace_lines;
 mod traces;
 
-pub use driving::{ScheduleLine, drive};
-pub use faults::{DriveFault, Due, EndCounts, MigrateFault, ReplayFault};
+pub use drives::{ScheduleLine, drive};
+pub use errors::{DriveError, Due, EndCounts, MigrateError, ReplayError};
 pub use heads::{EntryState, Head, read_head};
-pub use judging::Printed;
+pub use judgements::Printed;
 pub use laws::{
     lines_drive_again, no_two_have_one_text, pieces_are_fewest, refusals_are_single,
     runs_drive_to_histories, schedules_have_one_refusal,
 };
-pub use playing::{Unwatched, Watcher};
-pub use replaying::{
+pub use plays::{Unwatched, Watcher};
+pub use replays::{
     AcceptedTrace, Replayed, Watched, accepted_trace, migrate, replay, replay_watched,
 };
 pub use trace_lines::{put_call, write_call};
 pub use traces::{
     Version, put_end, put_head, write_end, write_head, write_trace, write_trace2,
-    write_with_open_lines,
+    write_with_live_threads,
 };

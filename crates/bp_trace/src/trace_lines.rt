@@ -7,13 +7,13 @@ ghost use Rattle.bp_machine.specs.declared.calls.Reply.{Reply as Answer};
 ghost use Rattle.bp_machine.specs.Histories.{letter_of};
 ghost use Rattle.bp_trace.specs.TraceText.{bit_digit, call_line};
 ghost use Rattle.bp_text.specs.Formats.{Finds};
-ghost use Rattle.bp_trace.specs.Reading.{thread_field, IsTailAt, HasNoTail, IsCallAt, HasNoCall, HasNoSymbol, IsSymbolAt, HasSymbols, HasNoBodyLine, IsBodyLineAt};
+ghost use Rattle.bp_trace.specs.Readings.{thread_field, IsTailAt, HasNoTail, IsCallAt, HasNoCall, HasNoSymbol, IsSymbolAt, HasSymbols, HasNoBodyLine, IsBodyLineAt};
 
-use crate::driving::text_from;
+use crate::drives::text_from;
 use crate::traces::{Version, bit_digit};
 use bp_machine::{Call, Reply};
 use bp_text::Piece::{Bytes, Number};
-use bp_text::{Sink, WriteFault, after, short_number_at};
+use bp_text::{Sink, WriteError, after, short_number_at};
 use std::alloc::AllocError;
 use std::io::Write;
 
@@ -138,7 +138,7 @@ pub fn put_call<W: Write>(call: &Call, sink: &mut Sink<'_, W>)
 }
 
 /// Writes the line of a call.
-pub fn write_call<W: Write>(call: &Call, out: &mut W) -> Result<(), WriteFault>
+pub fn write_call<W: Write>(call: &Call, out: &mut W) -> Result<(), WriteError>
     ensures { Writes (W.contents out.old) (W.contents out.new) (call_line call.now) result }
 {
     let mut sink = Sink::new(out);

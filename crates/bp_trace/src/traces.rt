@@ -4,14 +4,14 @@ ghost use Rattle.std.specs.Prelude.{◌≡◌, map, flat_map, string_bytes, None
 ghost use Rattle.std.specs.List.{concat};
 ghost use Rattle.bp_text.specs.Pieces.{piece_text};
 ghost use Rattle.bp_text.specs.Writing.{Given, Writes};
-ghost use Rattle.bp_machine.specs.Histories.{open_lines};
+ghost use Rattle.bp_machine.specs.Histories.{live_threads};
 ghost use Rattle.bp_trace.specs.TraceText.{bit_digit, entry_line, init_digits, init_line, limit_lines, seed_word, version_line, head_text, call_line, end_line, calls_text, text_of, trace_text, trace_text_2, pieces_of, piece_line};
-ghost use Rattle.bp_trace.specs.Reading.{line_start, opening, symbol_after, symbols_after};
+ghost use Rattle.bp_trace.specs.Readings.{line_start, opening, symbol_after, symbols_after};
 
 use crate::trace_lines::put_call;
-use bp_machine::{Call, Setup, open_lines};
+use bp_machine::{Call, Setup, live_threads};
 use bp_text::Piece::{Bytes, Number};
-use bp_text::{Piece, Sink, WriteFault};
+use bp_text::{Piece, Sink, WriteError};
 use std::io::Write;
 
 pub(crate) fn bit_digit(bit: bool) -> u8
@@ -101,7 +101,7 @@ pub fn put_head<W: Write>(setup: &Setup, sink: &mut Sink<'_, W>)
 }
 
 /// Writes the head of a trace: the setup.
-pub fn write_head<W: Write>(setup: &Setup, out: &mut W) -> Result<(), WriteFault>
+pub fn write_head<W: Write>(setup: &Setup, out: &mut W) -> Result<(), WriteError>
     ensures { Writes (W.contents out.old) (W.contents out.new)
         (head_text Version.One setup.now) result }
 {
@@ -110,21 +110,21 @@ pub fn write_head<W: Write>(setup: &Setup, out: &mut W) -> Result<(), WriteFault
     sink.finish()
 }
 
-/// Writes the line that ends a trace of these counts of calls and open lines.
-pub fn put_end<W: Write>(calls: u64, left_open: u32, sink: &mut Sink<'_, W>)
-    ensures { Given W.contents sink.old sink.new (end_line calls left_open) }
+/// Writes the line that ends a trace of these counts of calls and live threads.
+pub fn put_end<W: Write>(calls: u64, left_live: u32, sink: &mut Sink<'_, W>)
+    ensures { Given W.contents sink.old sink.new (end_line calls left_live) }
 {
-    let left_open = Number(u64::from(left_open));
+    let left_live = Number(u64::from(left_live));
     let number = Number(calls);
-    sink.put_pieces(&[Bytes(b"end "), number, Bytes(b" "), left_open, Bytes(b"\n")])
+    sink.put_pieces(&[Bytes(b"end "), number, Bytes(b" "), left_live, Bytes(b"\n")])
 }
 
-/// Writes the line that ends a trace of these counts of calls and open lines.
-pub fn write_end<W: Write>(calls: u64, left_open: u32, out: &mut W) -> Result<(), WriteFault>
-    ensures { Writes (W.contents out.old) (W.contents out.new) (end_line calls left_open) result }
+/// Writes the line that ends a trace of these counts of calls and live threads.
+pub fn write_end<W: Write>(calls: u64, left_live: u32, out: &mut W) -> Result<(), WriteError>
+    ensures { Writes (W.contents out.old) (W.contents out.new) (end_line calls left_live) result }
 {
     let mut sink = Sink::new(out);
-    put_end(calls, left_open, &mut sink);
+    put_end(calls, left_live, &mut sink);
     sink.finish()
 }
 
@@ -147,32 +147,32 @@ fn put_history<W: Write>(version: Version, history: &[Call], sink: &mut Sink<'_,
     }
 }
 
-/// Writes the trace of a history with this number of open lines, in this version.
-pub fn write_with_open_lines<W: Write>(
+/// Writes the trace of a history with this number of live threads, in this version.
+pub fn write_with_live_threads<W: Write>(
     version: Version,
     setup: &Setup,
     history: &[Call],
-    left_open: u32,
+    left_live: u32,
     out: &mut W,
-) -> Result<(), WriteFault>
-    requires { left_open ≡ open_lines setup.now history.now }
+) -> Result<(), WriteError>
+    requires { left_live ≡ live_threads setup.now history.now }
     ensures { Writes (W.contents out.old) (W.contents out.new)
         (text_of version setup.now history.now) result }
 {
     let mut sink = Sink::new(out);
     put_head_of(version, setup, &mut sink);
     put_history(version, history, &mut sink);
-    put_end(history.len() as u64, left_open, &mut sink);
+    put_end(history.len() as u64, left_live, &mut sink);
     sink.finish()
 }
 
 /// Writes the trace of a setup and a history.
-pub fn write_trace<W: Write>(setup: &Setup, history: &[Call], out: &mut W) -> Result<(), WriteFault>
+pub fn write_trace<W: Write>(setup: &Setup, history: &[Call], out: &mut W) -> Result<(), WriteError>
     ensures { Writes (W.contents out.old) (W.contents out.new)
         (trace_text setup.now history.now) result }
 {
-    let left_open = open_lines(setup, history);
-    write_with_open_lines(Version::One, setup, history, left_open, out)
+    let left_live = live_threads(setup, history);
+    write_with_live_threads(Version::One, setup, history, left_live, out)
 }
 
 /// Writes the trace of a setup and a history in version 2.
@@ -180,12 +180,12 @@ pub fn write_trace2<W: Write>(
     setup: &Setup,
     history: &[Call],
     out: &mut W,
-) -> Result<(), WriteFault>
+) -> Result<(), WriteError>
     ensures { Writes (W.contents out.old) (W.contents out.new)
         (trace_text_2 setup.now history.now) result }
 {
-    let left_open = open_lines(setup, history);
-    write_with_open_lines(Version::Two, setup, history, left_open, out)
+    let left_live = live_threads(setup, history);
+    write_with_live_threads(Version::Two, setup, history, left_live, out)
 }
 
 /// The form of the calls of a trace.

@@ -13,4 +13,4 @@ pub mod FailedConditions
 pub mod SpansOfHistories
 pub mod SingleFacts
 pub mod PlacedStacks
-pub mod Growing
+pub mod Growth

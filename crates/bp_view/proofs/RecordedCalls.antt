@@ -1,8 +1,8 @@
 -- A recorded call of a history that may be played is refused only for memory.
 use Rattle.bp_view.proofs.Common.{if◌then◌else◌, ◌≡◌, ◌∙◌, ◌<◌, ℕ, ◌+◌, ◌^◌, List, [], ◌∷◌, ◌++◌, Bool, true, Option, None, Some, is_some, length, arith, sym, refl, take, drop, get_or, subst, take-append-drop, ◌≢◌, ap, length-append, rules, false≢true, take_more, take_all, take-append-le, Program, StandsFor, Call, IsPrintRefusal, IsAskRefusal, given_bit, last_thread, Stands, SetupOf, IsInRange, IsLegal, granted_threads, calls_of_thread, calls_other, calls_of_thread-same, IsOwnRefusal, IsPlayable, next_allowed, front, IsCheckpoint, IsKept, last_reply}
 use Rattle.std.proofs.Math.Nat.{mul-le-mul_left, mul-le-mul_right}
-use Rattle.bp_machine.specs.declared.calls.AskFault.{AskFault}
-use Rattle.bp_machine.specs.declared.calls.AskFault.TheVariants as fault
+use Rattle.bp_machine.specs.declared.calls.AskError.{AskError}
+use Rattle.bp_machine.specs.declared.calls.AskError.TheVariants as error
 use Rattle.bp_machine.proofs.HistoriesAreRuns.{legal_length}
 use Rattle.bp_view.specs.declared.checkpoints.Checkpoint.{Checkpoint}
 
@@ -14,10 +14,10 @@ not_neither : (seed : Option ℕ) (bit : Bool) → (if is_some seed then None el
 not_neither seed bit given1 given2 = grind (arith)
 
 module _ (t : Program) (s : SetupOf) (h : List Call) (x : Call) (playable : IsPlayable t s (h ++ x ∷ [])) where
-  pub own_refused : (f : AskFault) → IsOwnRefusal t s h x f → f ≡ fault.Memory
+  pub own_refused : (f : AskError) → IsOwnRefusal t s h x f → f ≡ error.Memory
   own_refused f given1 = search (rules, false≢true, next_allowed, not_both, not_neither)
 
-  pub print_refused : (printed : Option (List Bool)) (f : AskFault) → IsPrintRefusal s x.thread printed f → f ≡ fault.Memory
+  pub print_refused : (printed : Option (List Bool)) (f : AskError) → IsPrintRefusal s x.thread printed f → f ≡ error.Memory
   print_refused printed f given1 = search (rules, next_allowed)
 
 -- the number of the next call is a number of 64 bits
@@ -36,13 +36,13 @@ module _ (t : Program) (s : SetupOf) (h : List Call) (playable : IsPlayable t s 
 
 -- a recorded call is refused only for memory
 pub asked_refused : (t : Program) (s : SetupOf) (h : List Call) (x : Call) → IsPlayable t s (h ++ x ∷ [])
-    → (f : AskFault) → IsAskRefusal t s h x.thread (given_bit s x.bit) f → f ≡ fault.Memory
-asked_refused t s h x playable fault.Memory is = refl
-asked_refused t s h x playable fault.Finished is = own_refused t s h x playable fault.Finished is
-asked_refused t s h x playable fault.NoThread is = own_refused t s h x playable fault.NoThread is
-asked_refused t s h x playable fault.Seeded is = own_refused t s h x playable fault.Seeded is
-asked_refused t s h x playable fault.Unseeded is = own_refused t s h x playable fault.Unseeded is
-asked_refused t s h x playable fault.Busy is = absurd is
+    → (f : AskError) → IsAskRefusal t s h x.thread (given_bit s x.bit) f → f ≡ error.Memory
+asked_refused t s h x playable error.Memory is = refl
+asked_refused t s h x playable error.Terminated is = own_refused t s h x playable error.Terminated is
+asked_refused t s h x playable error.NoThread is = own_refused t s h x playable error.NoThread is
+asked_refused t s h x playable error.Seeded is = own_refused t s h x playable error.Seeded is
+asked_refused t s h x playable error.Unseeded is = own_refused t s h x playable error.Unseeded is
+asked_refused t s h x playable error.Busy is = absurd is
 
 -- A checkpoint of a history is one of each longer history, and a watcher counts one call more.
 

@@ -1,10 +1,10 @@
 -- The line of a call, if it has one, or nothing.
-use Rattle.bp_view.proofs.Common.{if◌then◌else◌, ◌≡◌, ◌∙◌, ◌+◌, ◌-◌, ◌<◌, ◌++◌, ℕ, suc, true, List, [], ◌∷◌, codes, nat_lt, take, length, ap, ap₂, refl, sym, arith, ◌≤◌, length-append, append-nil, ◌/◌, ◌%◌, ◌^◌, ◌==◌, ◌⊎◌, inl, inr, false, decimal, append_assoc, max, Bool, Option, None, ◌&&◌, subst, slice_set, rules, nat_tests, concat, cases_lt, replicate-append-replicate, spaces, at_right, at_left, regrouped, Program, Configuration, Call, is_granted, configuration_after, SetupOf, ViewFormat, ViewOptions, ShownCall, changes_by, AreCallFacts, IsReplayedCall, CallFilter, calls_at, calls_of, is_asked, is_seen, watched_names, shortened, front_text, tens_digits, tens_text, field_texts, mark_text, Widths, line_in, next_print_in, printed_in, filter_of, has_line, IsShownLine, IsViewLineIf, Gains, Grown, Buffer, ViewContext}
+use Rattle.bp_view.proofs.Common.{if◌then◌else◌, ◌≡◌, ◌∙◌, ◌+◌, ◌-◌, ◌<◌, ◌++◌, ℕ, suc, true, List, [], ◌∷◌, codes, nat_lt, take, length, ap, ap₂, refl, sym, arith, ◌≤◌, length-append, append-nil, ◌/◌, ◌%◌, ◌^◌, ◌==◌, ◌⊎◌, inl, inr, false, decimal, append_assoc, max, Bool, Option, None, ◌&&◌, subst, slice_set, rules, nat_tests, concat, cases_lt, replicate-append-replicate, spaces, at_right, at_left, regrouped, Program, Configuration, Call, is_granted, configuration_after, SetupOf, ViewFormat, ViewOptions, ShownCall, changes_by, AreCallFacts, IsReplayedCall, CallFilter, calls_at, calls_of, is_asked, is_seen, watched_names, shortened, prefix_text, tens_digits, tens_text, field_texts, mark_text, Widths, line_in, next_print_in, printed_in, filter_of, has_line, IsShownLine, IsViewLineIf, Gains, Grown, Buffer, ViewContext}
 use Rattle.std.proofs.lemmas.Fmt.{decimal_digit, decimal_step}
 use Rattle.std.proofs.Math.ListN.{length-replicate}
 use Rattle.bp_view.specs.declared.checkpoints.ReplayedCall.{ReplayedCall}
-use Rattle.bp_view.specs.declared.fronts.FrontKey.{FrontKey}
-use Rattle.bp_view.proofs.Growing.{gains, nothing}
+use Rattle.bp_view.specs.declared.prefixes.PrefixKey.{PrefixKey}
+use Rattle.bp_view.proofs.Growth.{gains, nothing}
 
 -- The first bytes of a line, and a text that is cut.
 
@@ -17,7 +17,7 @@ cut_long room text given1 = grind (arith)
 
 -- The fields of a line before its place, by their parts that are kept.
 
-abbrev pub key_of : Widths → ShownCall → FrontKey
+abbrev pub key_of : Widths → ShownCall → PrefixKey
 key_of w f =
     record {
       tens = f.number / 10;
@@ -54,7 +54,7 @@ number_split width n fits = by_size (cases_lt n 10)
 
 -- the fields of a call
 pub fields_are : (w : Widths) (f : ShownCall) (mark digit : ℕ) → f.number < 2 ^ 64
-    → mark ∷ [] ≡ mark_text f.switch → digit ≡ 48 + f.number % 10 → front_text (key_of w f) mark digit ≡ concat (field_texts w f)
+    → mark ∷ [] ≡ mark_text f.switch → digit ≡ 48 + f.number % 10 → prefix_text (key_of w f) mark digit ≡ concat (field_texts w f)
 fields_are w f mark digit given1 given2 given3 = search (rules, decimal, append_assoc, number_split)
 
 -- another last digit
@@ -63,8 +63,8 @@ digit_put [] d e b = refl
 digit_put (x ∷ a) d e b = ap (λ ys. x ∷ ys) (digit_put a d e b)
 
 -- another sign and another last digit
-pub parts_put : (k : FrontKey) (text : List ℕ) (m d mark digit last : ℕ) → text ≡ front_text k m d → last ≡ suc (length (tens_text k))
-    → slice_set (slice_set text 0 mark) last digit ≡ front_text k mark digit
+pub parts_put : (k : PrefixKey) (text : List ℕ) (m d mark digit last : ℕ) → text ≡ prefix_text k m d → last ≡ suc (length (tens_text k))
+    → slice_set (slice_set text 0 mark) last digit ≡ prefix_text k mark digit
 parts_put k text m d mark digit last given1 given2 = search (rules, digit_put)
 
 -- The place of a call and its statement, with the spaces between them, and how long the place is in its column.

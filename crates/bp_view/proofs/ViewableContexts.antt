@@ -3,8 +3,8 @@
 use Rattle.bp_view.proofs.Common.{◌≡◌, ℕ, List, Option, refl, subst, sym, suc, None, length, arith, rules, IsWritten, Adds, IsInParts, begun_as, cut_as, written_as, Program, Flat, StandsFor, Call, SetupOf, threads, SourceStatement, AreSourceStatements, texts_are, shown_texts, ViewOptions, watched_names, AreDeclared, IsUndeclared, Memory, NoThread, NoVariable, Replay, Write, Span, AreSpans, contexts_head, AreContextLines, IsContextLine, ViewContext, IsViewContextOf, IsShownTrace, IsMissing, IsStopped, IsThere, IsView, IsViewOfTrace, IsViewRefusal, IsViewable, IsViewed, extent_of, AreWidths}
 use Rattle.bp_flat.specs.StandsFor.{IsOfProgram}
 use Rattle.bp_machine.proofs.SetupInRange.{stands_for_own}
-use Rattle.bp_trace.specs.declared.replaying.Replayed.{Replayed}
-use Rattle.bp_view.specs.declared.faults.ViewFault.{ViewFault}
+use Rattle.bp_trace.specs.declared.replays.Replayed.{Replayed}
+use Rattle.bp_view.specs.declared.errors.ViewError.{ViewError}
 use Rattle.bp_view.specs.declared.view_contexts.ShownTrace.{ShownTrace}
 use Rattle.bp_view.proofs.BegunViews.{places_are}
 
@@ -22,7 +22,7 @@ module _ {t : Program} {text trace : List ℕ} {shown : ShownTrace} (is : IsShow
   viewable given1 given2 given3 given4 given5 = grind (arith)
 
   module _ (o : ViewOptions) (file : List ℕ) (a : Option (List ℕ)) where
-    pub missing : (f : ViewFault) → IsMissing o.thread (threads r.setup) f → IsViewRefusal t text trace o file a a f
+    pub missing : (f : ViewError) → IsMissing o.thread (threads r.setup) f → IsViewRefusal t text trace o file a a f
     missing f (i, asked, past, same) =
         subst (IsViewRefusal t text trace o file a a) (sym same) (refl, record { replayed = r; is = is.is; asked = asked; past = past })
 
@@ -47,7 +47,7 @@ module _ {t : Program} {text trace : List ℕ} {shown : ShownTrace} (is : IsShow
     pub viewed : {a b : Option (List ℕ)} → IsWritten (IsView t text s h r.report p named) a b → IsViewed t text trace o file a b r.report
     viewed done = written_as of_trace done
 
-    pub stopped : (a b : Option (List ℕ)) (f : ViewFault) → IsStopped (IsView t text s h r.report p named) a b f → IsViewRefusal t text trace o file a b f
+    pub stopped : (a b : Option (List ℕ)) (f : ViewError) → IsStopped (IsView t text s h r.report p named) a b f → IsViewRefusal t text trace o file a b f
     stopped a b (Replay f) why = absurd why
     stopped a b (NoThread i) why = absurd why
     stopped a b (NoVariable n) why = absurd why

@@ -1,5 +1,5 @@
 -- Each call and each end of a history has facts.
-use Rattle.bp_view.proofs.Common.{◌≡◌, ◌⊎◌, inl, inr, ℕ, zero, suc, ◌≤◌, Bool, true, false, [], length, ap, refl, subst, add-one, if◌then◌else◌, ◌∙◌, ◌+◌, ◌++◌, List, ◌∷◌, Some, slice_get, take, sym, arith, Option, None, drop, IsTrue, ◌↔◌, option_map, rules, cases_lt, get_or_past, map-append, All-push, All-nil, slice_get_within, position_at, Program, Configuration, Frame, frame_store, Flat, StandsFor, place, places_of, start_of_block, has_frames, is_left, IsDeadlocked, waits, Call, SetupOf, threads, Outcome, Clean, Failed, Report, stack_of, configuration_after, granted_threads, IsLegal, is_granted, outcome_of, IsRealFailure, opened, opened_least, real, SourceStatement, variables_read, AreSourceStatements, IsStatementAt, place_text, IsStatement, source_statement_at, SourceStatementAt, waiting, AreStandingFacts, AreWaitsFacts, ShownCondition, named_entries, AreFailureFacts, AreFootFacts, IsAtCondition, ShownFoot, AreFrameFacts, AreStackFacts, AreThreadFacts, AreThreadsFacts, ShownFrame, ShownThread, standing, AreStateFacts, ShownState, changes_by, nothing_next, AreCallFacts, IsNextOf, Next, ShownCall, is_switch, IsContext}
+use Rattle.bp_view.proofs.Common.{◌≡◌, ◌⊎◌, inl, inr, ℕ, zero, suc, ◌≤◌, Bool, true, false, [], length, ap, refl, subst, add-one, if◌then◌else◌, ◌∙◌, ◌+◌, ◌++◌, List, ◌∷◌, Some, slice_get, take, sym, arith, Option, None, drop, IsTrue, ◌↔◌, option_map, rules, cases_lt, get_or_past, map-append, All-push, All-nil, slice_get_within, position_at, Program, Configuration, Frame, frame_store, Flat, StandsFor, place, places_of, start_of_block, has_frames, is_left, IsDeadlocked, waits, Call, SetupOf, threads, Outcome, Clean, Failed, Report, stack_of, configuration_after, granted_threads, IsLegal, is_granted, outcome_of, IsRealFailure, opened, opened_least, real, SourceStatement, variables_read, AreSourceStatements, IsStatementAt, place_text, IsStatement, source_statement_at, SourceStatementAt, waiting, AreStandingFacts, AreWaitsFacts, ShownCondition, named_entries, AreFailureFacts, AreFootFacts, IsAtCondition, ShownFoot, AreFrameFacts, AreStackFacts, AreThreadFacts, AreThreadsFacts, ShownFrame, ShownThread, status, AreStateFacts, ShownState, changes_by, nothing_next, AreCallFacts, IsNextOf, Next, ShownCall, is_switch, IsContext}
 use Rattle.bp_machine.proofs.Deadlocks.{not_waiting, seen_ended, seen_none, seen_waiting, AreSeen}
 use Rattle.bp_view.proofs.FailedConditions.{assertion_facts, at_assertion, at_assumption}
 use Rattle.bp_view.proofs.PlacedStacks.{stack_placed, ArePlaced, IsPlaced, frame_facts, frame_with}
@@ -202,7 +202,7 @@ module _ (c : Flat) (t : Program) (code : StandsFor c t) (text : List ℕ) (stat
     some_thread : (i : ℕ) → (x : ShownThread) × AreThreadFacts t text s h i x
     some_thread i =
         let (frames, frames_are) = some_stack 0 (stack_of (configuration_after t s h) i) (stack_placed c t code s h i) in
-        (record { thread = i; standing = standing t s h i; frames = frames }, record { thread = refl; standing_is = refl; frames = frames_are })
+        (record { thread = i; status = status t s h i; frames = frames }, record { thread = refl; status_is = refl; frames = frames_are })
 
     some_threads : (n i : ℕ) → (xs : List ShownThread) × (length xs ≡ n) × AreThreadsFacts t text s h i xs
     some_threads zero i = ([], refl, tt)

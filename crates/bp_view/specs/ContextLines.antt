@@ -11,7 +11,7 @@ use Rattle.bp_machine.specs.Histories.{IsLeastWithin, granted_threads, stack_of,
 use Rattle.bp_machine.specs.Setups.{SetupOf}
 use Rattle.bp_text.specs.declared.lines.Position.{Position}
 use Rattle.bp_text.specs.Pieces.{at_left, at_right, key_text, list_text, spaces}
-use Rattle.bp_trace.specs.declared.replaying.Replayed.{Replayed}
+use Rattle.bp_trace.specs.declared.replays.Replayed.{Replayed}
 use Rattle.bp_trace.specs.Replays.{IsReplayed}
 use Rattle.bp_text.specs.Lines.{IsInParts}
 use Rattle.bp_source.specs.SourceStatements.{AreStatements, place_text}

@@ -11,12 +11,12 @@ use Rattle.bp_source.specs.Listings.{column_of, line_of}
 use Rattle.bp_tasks.specs.declared.options.ViewFormat.{ViewFormat}
 use Rattle.bp_tasks.specs.declared.options.ViewFormat.TheVariants.{Columns, Json}
 use Rattle.bp_view.specs.CallFacts.{owned, Entry, choice_of, ShownCall}
-use Rattle.bp_view.specs.declared.fronts.Colour.{Colour}
-use Rattle.bp_view.specs.declared.fronts.Colour.TheVariants.{Plain, Red, Yellow}
+use Rattle.bp_view.specs.declared.prefixes.Colour.{Colour}
+use Rattle.bp_view.specs.declared.prefixes.Colour.TheVariants.{Plain, Red, Yellow}
 use Rattle.bp_view.specs.declared.statement_columns.TheConstants.{LEAST_STATEMENT, MAX_STATEMENT, OTHER_COLUMNS}
 use Rattle.bp_view.specs.declared.view_contexts.TheConstants.{MAX_INDENTS}
 use Rattle.bp_view.specs.declared.view_contexts.Widths.{Widths}
-use Rattle.bp_view.specs.declared.fronts.FrontKey.{FrontKey}
+use Rattle.bp_view.specs.declared.prefixes.PrefixKey.{PrefixKey}
 use Rattle.bp_view.specs.declared.view_contexts.ViewContext.{ViewContext}
 
 -- The colours of a view's lines, for a terminal.
@@ -257,19 +257,19 @@ abbrev pub tens_digits : ℕ → List ℕ
 tens_digits tens = if tens == 0 then [] else decimal tens
 
 -- those digits in the column of the number
-abbrev pub tens_text : FrontKey → List ℕ
+abbrev pub tens_text : PrefixKey → List ℕ
 tens_text k = at_right (k.number_width - 1) (tens_digits k.tens)
 
 -- the fields of thread and context, with a space before, between and after them
-abbrev pub turn_texts : FrontKey → List (List ℕ)
+abbrev pub turn_texts : PrefixKey → List (List ℕ)
 turn_texts k =
     codes " "
     ∷ at_right k.thread_width (decimal k.thread) ∷ codes " "
     ∷ at_right k.context_width (context_text k.context) ∷ codes " " ∷ []
 
 -- all of them, with this sign before them, and with this last digit of the number
-abbrev pub front_text : FrontKey → (mark digit : ℕ) → List ℕ
-front_text k mark digit = mark ∷ (tens_text k ++ digit ∷ concat (turn_texts k))
+abbrev pub prefix_text : PrefixKey → (mark digit : ℕ) → List ℕ
+prefix_text k mark digit = mark ∷ (tens_text k ++ digit ∷ concat (turn_texts k))
 
 -- The widths of the columns of a view: one width of each for all its lines.
 

@@ -9,13 +9,13 @@ use Rattle.bp_flat.specs.StandsFor.{valuation_of, variables, start_of_block}
 use Rattle.bp_machine.specs.declared.calls.Call.{Call}
 use Rattle.bp_machine.specs.declared.calls.Reply.{Reply}
 use Rattle.bp_machine.specs.declared.calls.Reply.TheVariants as reply
-use Rattle.bp_machine.specs.Histories.{calls_of_thread, configuration_after, is_finished, stack_of, outcome_of}
+use Rattle.bp_machine.specs.Histories.{calls_of_thread, configuration_after, is_terminated, stack_of, outcome_of}
 use Rattle.bp_machine.specs.Setups.{SetupOf, threads}
 use Rattle.bp_machine.specs.Runs.{waits}
 use Rattle.bp_machine.specs.declared.calls.Outcome.{Outcome}
 use Rattle.bp_source.specs.SourceStatements.{place_text, IsStatementAt}
-use Rattle.bp_view.specs.declared.state_facts.Standing.{Standing}
-use Rattle.bp_view.specs.declared.state_facts.Standing.TheVariants.{Failed, Finished, FullStack, Open, OutOfCalls, OutOfContexts, Stopped, Waiting}
+use Rattle.bp_view.specs.declared.state_facts.Status.{Status}
+use Rattle.bp_view.specs.declared.state_facts.Status.TheVariants.{Failed, Finished, FullStack, Open, OutOfCalls, OutOfContexts, Stopped, Waiting}
 use Rattle.bp_view.specs.declared.state_facts.FrameFacts.{FrameFacts}
 use Rattle.bp_view.specs.declared.state_facts.StateFacts.{StateFacts}
 use Rattle.bp_view.specs.declared.state_facts.ThreadFacts.{ThreadFacts}
@@ -29,23 +29,23 @@ last_reply (x ∷ []) = Some x.reply
 last_reply (x ∷ y ∷ xs) = last_reply (y ∷ xs)
 
 -- why a thread makes no more calls, by the reply to its last one
-abbrev pub standing_after : Option Reply → Standing
-standing_after (Some reply.Ended) = Finished
-standing_after (Some reply.Failed) = Failed
-standing_after (Some reply.NoContexts) = OutOfContexts
-standing_after (Some reply.Full) = FullStack
-standing_after (Some reply.Stopped) = Stopped
-standing_after (Some reply.Blocked) = OutOfCalls
-standing_after (Some reply.Stepped) = OutOfCalls
-standing_after None = OutOfCalls
+abbrev pub status_after : Option Reply → Status
+status_after (Some reply.Ended) = Finished
+status_after (Some reply.Failed) = Failed
+status_after (Some reply.NoContexts) = OutOfContexts
+status_after (Some reply.Full) = FullStack
+status_after (Some reply.Stopped) = Stopped
+status_after (Some reply.Blocked) = OutOfCalls
+status_after (Some reply.Stepped) = OutOfCalls
+status_after None = OutOfCalls
 
 -- The status of thread i after the history h, by the first that applies: it makes no more calls;
 -- its next statement is an assumption of 0, whatever its choice bit is; an assertion failed. If
 -- none does, it continues.
-abbrev pub standing : Program → SetupOf → List Call → ℕ → Standing
-standing t s h i =
+abbrev pub status : Program → SetupOf → List Call → ℕ → Status
+status t s h i =
     let now = configuration_after t s h in
-    if is_finished s h i then standing_after (last_reply (calls_of_thread i h))
+    if is_terminated s h i then status_after (last_reply (calls_of_thread i h))
     else if waits t now i then Waiting
     else if now.failed then Stopped
     else Open
@@ -64,7 +64,7 @@ pub record ShownFrame : Type 0 where
 -- the shown facts of a thread: its number, its status, and the frames of its stack from the top
 pub record ShownThread : Type 0 where
   pub thread : ℕ
-  pub standing : Standing
+  pub status : Status
   pub frames : List ShownFrame
 
 -- The shown facts of a state: the number of calls made, and of the whole history; whether an
@@ -92,7 +92,7 @@ abbrev pub thread_in : ThreadFacts → ShownThread
 thread_in x =
     record {
       thread = x.thread;
-      standing = x.standing;
+      status = x.status;
       frames = map frame_in x.frames.items;
     }
 
@@ -128,7 +128,7 @@ module _ (t : Program) (text : List ℕ) (s : SetupOf) (h : List Call) where
   -- these are the facts of thread i
   pub record AreThreadFacts (i : ℕ) (x : ShownThread) : Type 0 where
     pub thread : x.thread ≡ i
-    pub standing_is : x.standing ≡ standing t s h i
+    pub status_is : x.status ≡ status t s h i
     pub frames : AreStackFacts text 0 (stack_of (configuration_after t s h) i) x.frames
 
   -- these are the facts of the threads from thread i on

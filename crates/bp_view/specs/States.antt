@@ -9,15 +9,15 @@ use Rattle.bp_machine.specs.declared.calls.Outcome.{Outcome}
 use Rattle.bp_machine.specs.declared.calls.Outcome.TheVariants.{Clean, Failed}
 use Rattle.bp_machine.specs.declared.calls.Report.{Report}
 use Rattle.bp_machine.specs.Setups.{SetupOf}
-use Rattle.bp_trace.specs.declared.replaying.Replayed.{Replayed}
+use Rattle.bp_trace.specs.declared.replays.Replayed.{Replayed}
 use Rattle.bp_trace.specs.Replays.{IsReplayed}
 use Rattle.bp_source.specs.Listings.{column_of, line_of}
 use Rattle.bp_tasks.specs.declared.options.ViewFormat.{ViewFormat}
 use Rattle.bp_tasks.specs.declared.options.ViewFormat.TheVariants.{Columns, Json}
 use Rattle.bp_view.specs.FootFacts.{ShownCondition}
 use Rattle.bp_view.specs.StateFacts.{ShownFrame, AreStateFacts, ShownState, ShownThread}
-use Rattle.bp_view.specs.declared.state_facts.Standing.{Standing}
-use Rattle.bp_view.specs.declared.state_facts.Standing.TheVariants as standing
+use Rattle.bp_view.specs.declared.state_facts.Status.{Status}
+use Rattle.bp_view.specs.declared.state_facts.Status.TheVariants as status
 use Rattle.bp_view.specs.Lines.{entries_text, led, variables_text}
 use Rattle.bp_view.specs.SetupLines.{globals_line}
 
@@ -98,40 +98,40 @@ frames_text format xs = flat_map (frame_text format) xs
 -- The text of a state, from its facts: the values of the globals, and the status of each thread.
 
 -- the status of a thread, for people
-abbrev pub standing_text : Standing → List ℕ
-standing_text standing.Finished = codes " is finished"
-standing_text standing.Failed = codes " failed"
-standing_text standing.OutOfContexts = codes " is out of contexts"
-standing_text standing.OutOfCalls = codes " is out of calls"
-standing_text standing.FullStack = codes " has a full stack"
-standing_text standing.Stopped = codes " is stopped"
-standing_text standing.Waiting = codes " waits"
-standing_text standing.Open = codes " goes on"
+abbrev pub status_text : Status → List ℕ
+status_text status.Finished = codes " is finished"
+status_text status.Failed = codes " failed"
+status_text status.OutOfContexts = codes " is out of contexts"
+status_text status.OutOfCalls = codes " is out of calls"
+status_text status.FullStack = codes " has a full stack"
+status_text status.Stopped = codes " is stopped"
+status_text status.Waiting = codes " waits"
+status_text status.Open = codes " goes on"
 
 -- the status of a thread in JSON
-abbrev pub standing_name : Standing → List ℕ
-standing_name standing.Finished = codes "finished"
-standing_name standing.Failed = codes "failed"
-standing_name standing.OutOfContexts = codes "out_of_contexts"
-standing_name standing.OutOfCalls = codes "out_of_calls"
-standing_name standing.FullStack = codes "stack_full"
-standing_name standing.Stopped = codes "stopped"
-standing_name standing.Waiting = codes "waiting"
-standing_name standing.Open = codes "open"
+abbrev pub status_name : Status → List ℕ
+status_name status.Finished = codes "finished"
+status_name status.Failed = codes "failed"
+status_name status.OutOfContexts = codes "out_of_contexts"
+status_name status.OutOfCalls = codes "out_of_calls"
+status_name status.FullStack = codes "stack_full"
+status_name status.Stopped = codes "stopped"
+status_name status.Waiting = codes "waiting"
+status_name status.Open = codes "open"
 
 -- a thread for people, after an empty line, and the frames of its stack
 abbrev pub thread_lines : ShownThread → (frames : List ℕ) → List ℕ
 thread_lines x frames =
     concat (
     codes "\nthread " ∷ decimal x.thread
-    ∷ standing_text x.standing ∷ codes "\n" ∷ frames ∷ [])
+    ∷ status_text x.status ∷ codes "\n" ∷ frames ∷ [])
 
 -- a thread as an object of JSON after a comma
 abbrev pub thread_object : ShownThread → (frames : List ℕ) → List ℕ
 thread_object x frames =
     concat (
     codes ",{\"thread\":" ∷ decimal x.thread
-    ∷ key_text (codes "standing") ∷ string_text (standing_name x.standing)
+    ∷ key_text (codes "standing") ∷ string_text (status_name x.status)
     ∷ key_text (codes "frames") ∷ list_text frames
     ∷ codes "}" ∷ [])
 

@@ -16,7 +16,7 @@ use Rattle.bp_machine.specs.Sessions.{last_thread, Stands}
 use Rattle.bp_machine.specs.Runs.{values_printed}
 use Rattle.bp_trace.specs.declared.limits.TheConstants.{MAX_TRACE}
 use Rattle.bp_trace.specs.Replays.{IsReplayed, IsPlayable, IsReplayRefusal}
-use Rattle.bp_trace.specs.declared.replaying.Replayed.{Replayed}
+use Rattle.bp_trace.specs.declared.replays.Replayed.{Replayed}
 use Rattle.bp_source.specs.SourceStatements.{AreSourceStatements, place_text, AreStatements}
 use Rattle.bp_tasks.specs.declared.options.ViewFormat.{ViewFormat}
 use Rattle.bp_tasks.specs.declared.options.ViewFormat.TheVariants.{Columns, Json}
@@ -25,8 +25,8 @@ use Rattle.bp_view.specs.FootFacts.{AreFootFacts, ShownCondition, ShownFoot}
 use Rattle.bp_view.specs.declared.filters.CallFilter.{CallFilter}
 use Rattle.bp_view.specs.CallFacts.{AreProgramFacts, changes_by, printed_by, AreCallFacts, ShownCall}
 use Rattle.bp_view.specs.Filters.{watched_names, calls_of, is_asked, is_seen, AreDeclared, IsUndeclared}
-use Rattle.bp_view.specs.declared.faults.ViewFault.{ViewFault}
-use Rattle.bp_view.specs.declared.faults.ViewFault.TheVariants.{Memory, NoThread, NoVariable, Replay, Write}
+use Rattle.bp_view.specs.declared.errors.ViewError.{ViewError}
+use Rattle.bp_view.specs.declared.errors.ViewError.TheVariants.{Memory, NoThread, NoVariable, Replay, Write}
 use Rattle.bp_view.specs.States.{condition_object, condition_text, IsStateText}
 use Rattle.bp_view.specs.declared.view_contexts.ShownTrace.{ShownTrace}
 use Rattle.bp_view.specs.declared.view_contexts.ViewContext.{ViewContext}
@@ -76,14 +76,14 @@ foot_in_format Columns r outcome waits =
     concat (
     codes "\n" ∷ decimal r.calls
     ∷ codes " calls, contexts " ∷ decimal r.contexts
-    ∷ codes ", open threads " ∷ decimal r.left_open
+    ∷ codes ", open threads " ∷ decimal r.left_live
     ∷ codes "\n" ∷ outcome ∷ waits ∷ codes "\n" ∷ [])
 foot_in_format Json r outcome waits =
     concat (
     codes "{\"kind\":\"end\""
     ∷ key_text (codes "calls") ∷ decimal r.calls
     ∷ key_text (codes "contexts") ∷ decimal r.contexts
-    ∷ key_text (codes "open") ∷ decimal r.left_open
+    ∷ key_text (codes "open") ∷ decimal r.left_live
     ∷ key_text (codes "failure") ∷ outcome
     ∷ key_text (codes "deadlock") ∷ list_text waits
     ∷ codes "}\n" ∷ [])
@@ -247,7 +247,7 @@ pub record IsViewOfTrace
 
 -- why a text of this kind was not written whole; the bytes of the writer are those before and after
 -- it
-abbrev pub IsStopped : (List ℕ → Type 0) → (old new : Option (List ℕ)) → ViewFault → Type 0
+abbrev pub IsStopped : (List ℕ → Type 0) → (old new : Option (List ℕ)) → ViewError → Type 0
 IsStopped IsText old new Memory = IsBegun IsText old new
 IsStopped IsText old new Write = IsCutShort IsText old new
 IsStopped IsText old new f = ⊥
@@ -276,7 +276,7 @@ module _
 
   -- the trace is refused, or else the thread, or else a name, and nothing is written; or the view
   -- was not written whole
-  abbrev pub IsViewRefusal : ViewFault → Type 0
+  abbrev pub IsViewRefusal : ViewError → Type 0
   IsViewRefusal (Replay f) = (new ≡ old) × IsReplayRefusal t trace f
   IsViewRefusal (NoThread i) = (new ≡ old) × HasNoThread i
   IsViewRefusal (NoVariable n) = (new ≡ old) × HasNoVariable n
@@ -285,7 +285,7 @@ module _
       old new f
 
 -- A device: only thread i is to be shown, and it is none of n threads.
-abbrev pub IsMissing : Option ℕ → (n : ℕ) → ViewFault → Type 0
+abbrev pub IsMissing : Option ℕ → (n : ℕ) → ViewError → Type 0
 IsMissing only n f = (i : ℕ) × (only ≡ Some i) × (n ≤ i) × (f ≡ NoThread i)
 
 -- A device: the printed values that a view of this format shows of a call.

@@ -10,9 +10,9 @@ ghost use Rattle.bp_trace.specs.Replays.{IsReplayed, IsReplayRefusal, IsOwnCall,
 ghost use Rattle.bp_view.specs.CallFacts.{IsCheckpointAfter, HasCounted, is_other, is_switch, IsReplayedCall};
 
 use bp_flat::Code;
-use bp_machine::{AskFault, Call, Reply, Session, Setup, Top};
+use bp_machine::{AskError, Call, Reply, Session, Setup, Top};
 use bp_trace::limits::MAX_TRACE;
-use bp_trace::{ReplayFault, Replayed, Watched, Watcher, replay_watched};
+use bp_trace::{ReplayError, Replayed, Watched, Watcher, replay_watched};
 use std::alloc::{AllocError, Global};
 
 /// The session after the first calls of a history.
@@ -64,7 +64,7 @@ impl Watcher for CheckpointWatcher {
         Ok(())
     }
 
-    fn make(&mut self, session: &mut Session, recorded: &Call) -> Result<Call, AskFault> {
+    fn make(&mut self, session: &mut Session, recorded: &Call) -> Result<Call, AskError> {
         session.setup().is_in_range();
         let call = session.ask_as_recorded(recorded.thread, recorded.bit)?;
         self.last = last_step(self.last, &call);
@@ -119,14 +119,14 @@ pub fn replay_to_checkpoint(
     code: &Code,
     text: &[u8],
     after: u64,
-) -> Result<(Replayed, Checkpoint), ReplayFault>
+) -> Result<(Replayed, Checkpoint), ReplayError>
     ensures { let t = code.now.tree in MatchResult result
         (λ p. IsReplayed t text.now p.0
         × IsCheckpointAfter t p.0.setup p.0.history.items after p.1)
         (IsReplayRefusal t text.now) }
 {
     if text.len() > MAX_TRACE {
-        return Err(ReplayFault::TooLong);
+        return Err(ReplayError::TooLong);
     }
     let watcher = CheckpointWatcher {
         after,
@@ -206,7 +206,7 @@ pub fn replayed_call(
     last: Option<u32>,
     number: u64,
     recorded: &Call,
-) -> Result<ReplayedCall, AskFault>
+) -> Result<ReplayedCall, AskError>
     ensures answer { AfterEach session.old (λ t h. MatchResult result
         (λ m. IsOwnCall t session.old.setup h recorded.now m.call)
         (IsOwnRefusal t session.old.setup h recorded.now)) }

@@ -22,7 +22,7 @@ use bp_machine::Report;
 use bp_tasks::ViewFormat;
 use bp_text::Piece::{Bytes, Key, Left, Number, NumberRight, Spaces};
 use bp_text::Position;
-use bp_trace::ReplayFault;
+use bp_trace::ReplayError;
 use std::alloc::Global;
 
 /// Adds a context for people.
@@ -172,7 +172,7 @@ pub fn contexts_of(
     code: &Code,
     trace: &[u8],
     format: ViewFormat,
-) -> Result<(Vec<u8>, Report), ReplayFault>
+) -> Result<(Vec<u8>, Report), ReplayError>
     ensures { MatchResult result
         (λ p. AreContextsOfTrace format code.now.tree text.now trace.now p.0.items p.1)
         (IsReplayRefusal code.now.tree trace.now) }
@@ -180,7 +180,7 @@ pub fn contexts_of(
     let shown = shown_trace_of(alloc, text, code, trace)?;
     let history = shown.replayed.history.as_slice();
     let Ok(spans) = spans_of(alloc, code, &shown.replayed.setup, history) else {
-        return Err(ReplayFault::Memory);
+        return Err(ReplayError::Memory);
     };
     let context = shown.context(code.checked(), format);
     let mut view = Buffer::new(alloc);
@@ -189,7 +189,7 @@ pub fn contexts_of(
     let mut changes = Vec::new(alloc);
     push_contexts(&mut view, &mut changes, &context, &spans);
     let Ok(lines) = view.into_bytes() else {
-        return Err(ReplayFault::Memory);
+        return Err(ReplayError::Memory);
     };
     Ok((lines, shown.replayed.report))
 }

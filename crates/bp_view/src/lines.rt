@@ -9,7 +9,7 @@ ghost use Rattle.bp_view.specs.Lines.{closing, call_text, choice_text, column_li
 use crate::buffers::Buffer;
 use crate::call_facts::{CallFacts, Next};
 use crate::change_facts::Change;
-use crate::fronts::{Colour, Front, FrontKey};
+use crate::prefixes::{Colour, Prefix, PrefixKey};
 use crate::statement_columns::{cut_after, in_column};
 use crate::variables::push_value;
 use crate::view_contexts::{MAX_INDENTS, Widths};
@@ -40,10 +40,10 @@ fn mark(is_switch: bool) -> u8
 }
 
 /// Adds the fields of a call: its number, its thread and its context.
-fn push_fields(line: &mut Buffer, front: &mut Front, widths: &Widths, facts: &CallFacts<'_>)
+fn push_fields(line: &mut Buffer, prefix: &mut Prefix, widths: &Widths, facts: &CallFacts<'_>)
     ensures { Grown line.old line.new (concat (field_texts widths.now (facts_in facts.now))) }
 {
-    let key = FrontKey {
+    let key = PrefixKey {
         tens: facts.number / 10,
         thread: facts.call.thread,
         context: facts.context,
@@ -52,10 +52,10 @@ fn push_fields(line: &mut Buffer, front: &mut Front, widths: &Widths, facts: &Ca
         context_width: widths.context,
     };
     let digit = b'0' + (facts.number % 10) as u8;
-    let Ok(()) = front.set(key, mark(facts.is_switch), digit) else {
+    let Ok(()) = prefix.set(key, mark(facts.is_switch), digit) else {
         return line.refuse();
     };
-    line.put(Bytes(&front.text))
+    line.put(Bytes(&prefix.text))
 }
 
 /// Adds the place of the statement, and the statement, moved to the right by the depth of the
@@ -139,14 +139,14 @@ fn push_note_after(line: &mut Buffer, room: usize, facts: &CallFacts<'_>, calls:
 /// Adds the fields of a call, its statement, and after the statement's column its note.
 fn push_call(
     line: &mut Buffer,
-    front: &mut Front,
+    prefix: &mut Prefix,
     widths: &Widths,
     facts: &CallFacts<'_>,
     calls: usize,
 )
     ensures { Grown line.old line.new (call_text widths.now (facts_in facts.now) calls) }
 {
-    push_fields(line, front, widths, facts);
+    push_fields(line, prefix, widths, facts);
     let start = line.len();
     push_statement(line, widths, &facts.next);
     let place = widths.place.max(facts.next.place.len());
@@ -158,7 +158,7 @@ fn push_call(
 /// statement as there is room for.
 fn push_narrow_call(
     line: &mut Buffer,
-    front: &mut Front,
+    prefix: &mut Prefix,
     widths: &Widths,
     columns: usize,
     facts: &CallFacts<'_>,
@@ -170,7 +170,7 @@ fn push_narrow_call(
     let mut note = Buffer::new(line.allocator());
     push_note(&mut note, facts, calls);
     let start = line.len();
-    push_fields(line, front, widths, facts);
+    push_fields(line, prefix, widths, facts);
     let fields = line.len();
     push_statement(line, widths, &facts.next);
     let room = columns
@@ -186,7 +186,7 @@ fn push_narrow_call(
 /// Adds a call, narrowed if lines may have fewer columns than it needs.
 fn push_fitted_call(
     line: &mut Buffer,
-    front: &mut Front,
+    prefix: &mut Prefix,
     widths: &Widths,
     facts: &CallFacts<'_>,
     calls: usize,
@@ -196,7 +196,7 @@ fn push_fitted_call(
         Grown line.old line.new text }
 {
     let start = line.len();
-    push_call(line, front, widths, facts, calls);
+    push_call(line, prefix, widths, facts, calls);
     let Some(columns) = widths.line else {
         return;
     };
@@ -204,7 +204,7 @@ fn push_fitted_call(
         return;
     }
     line.truncate(start);
-    push_narrow_call(line, front, widths, columns, facts, calls)
+    push_narrow_call(line, prefix, widths, columns, facts, calls)
 }
 
 /// Ends a line in this colour.
@@ -218,10 +218,10 @@ fn push_end(line: &mut Buffer, colour: Colour)
 }
 
 /// Adds the line of a call, which stands for this number of calls. It is coloured if that is wanted
-/// and the call is a failure or a switch. `front` has the thread and the context of another line.
+/// and the call is a failure or a switch. `prefix` has the thread and the context of another line.
 pub(crate) fn push_line(
     line: &mut Buffer,
-    front: &mut Front,
+    prefix: &mut Prefix,
     widths: &Widths,
     has_colour: bool,
     facts: &CallFacts<'_>,
@@ -232,6 +232,6 @@ pub(crate) fn push_line(
 {
     let colour = Colour::of(has_colour, facts.call.reply, facts.is_switch);
     line.put(Bytes(colour.opening()));
-    push_fitted_call(line, front, widths, facts, calls);
+    push_fitted_call(line, prefix, widths, facts, calls);
     push_end(line, colour)
 }

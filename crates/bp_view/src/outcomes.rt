@@ -137,7 +137,7 @@ fn push_foot_lines(view: &mut Buffer, file: &str, foot: &FootFacts<'_>)
         Bytes(b" calls, contexts "),
         Number(u64::from(report.contexts)),
         Bytes(b", open threads "),
-        Number(u64::from(report.left_open)),
+        Number(u64::from(report.left_live)),
         Bytes(b"\n"),
     ]);
     let format = ViewFormat::Columns;
@@ -158,7 +158,7 @@ fn push_foot_object(view: &mut Buffer, file: &str, foot: &FootFacts<'_>)
         Key(b"contexts"),
         Number(u64::from(report.contexts)),
         Key(b"open"),
-        Number(u64::from(report.left_open)),
+        Number(u64::from(report.left_live)),
         Key(b"failure"),
     ]);
     let format = ViewFormat::Json;

@@ -28,7 +28,7 @@ pub struct ProgramFacts<'a> {
     pub procs: &'a [Proc],
 }
 
-/// Returns the facts of a lawful program that has these source statements.
+/// Returns the facts of a well-formed program that has these source statements.
 pub fn facts_of_program<'a>(
     statements: &'a [SourceStatement],
     checked: &'a Checked,

@@ -7,7 +7,7 @@ ghost use Rattle.bp_view.specs.SetupLines.{globals_line, head_lines, head_object
 ghost use Rattle.bp_view.specs.Lines.{variables_text};
 
 use crate::buffers::Buffer;
-use crate::fronts::push_headings;
+use crate::prefixes::push_headings;
 use crate::variables::push_value;
 use crate::view_contexts::ViewContext;
 use bp_language::Name;

@@ -8,7 +8,7 @@ ghost use Rattle.bp_view.specs.ContextLines.{joined, with_step, AreSpans, IsStan
 
 use crate::checkpoints::is_step;
 use bp_flat::Code;
-use bp_machine::{AskFault, Call, Session, Setup, Top};
+use bp_machine::{AskError, Call, Session, Setup, Top};
 use std::alloc::{AllocError, Global};
 
 /// The place at which a thread continues, and the globals at that time.
@@ -81,12 +81,12 @@ fn play_call(
     spans: &mut Vec<Span>,
     number: u64,
     recorded: &Call,
-) -> Result<(), AskFault>
+) -> Result<(), AskError>
     ensures stands { AfterEach session.old (λ t h.
         IsPlayable t session.old.setup (h ++ recorded.now ∷ [])
         → MatchResult result
         (λ _. Stands t session.new (h ++ recorded.now ∷ []))
-        (λ f. f ≡ AskFault.Memory)) }
+        (λ f. f ≡ AskError.Memory)) }
     ensures spans { AfterEach session.old (λ t h.
         IsPlayable t session.old.setup (h ++ recorded.now ∷ [])
         → number ≡ suc (length h)
@@ -118,12 +118,12 @@ pub fn spans_of(
     code: &Code,
     setup: &Setup,
     history: &[Call],
-) -> Result<Vec<Span>, AskFault>
+) -> Result<Vec<Span>, AskError>
     requires fits { Fits code.now.tree setup.now }
     requires playable { IsPlayable code.now.tree setup.now history.now }
     ensures { let t = code.now.tree in MatchResult result
         (λ v. AreSpans t setup.now history.now v.items)
-        (λ f. f ≡ AskFault.Memory) }
+        (λ f. f ≡ AskError.Memory) }
 {
     let mut session = Session::new(alloc, code, setup)?;
     let mut spans = Vec::new(alloc);

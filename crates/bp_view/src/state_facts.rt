@@ -5,7 +5,7 @@ ghost use Rattle.bp_machine.specs.Histories.{calls_of_thread, stack_of, configur
 ghost use Rattle.bp_machine.specs.Sessions.{Stands, AfterEach};
 ghost use Rattle.bp_machine.specs.Setups.{threads};
 ghost use Rattle.bp_machine.specs.declared.calls.Call.{Call as Answered};
-ghost use Rattle.bp_view.specs.StateFacts.{last_reply, standing, standing_after, frame_in, state_in, thread_in, AreFrameFacts, AreStackFacts, AreStateFacts, AreThreadFacts, AreThreadsFacts};
+ghost use Rattle.bp_view.specs.StateFacts.{last_reply, status, status_after, frame_in, state_in, thread_in, AreFrameFacts, AreStackFacts, AreStateFacts, AreThreadFacts, AreThreadsFacts};
 ghost use Rattle.bp_view.specs.CallFacts.{AreProgramFacts};
 
 use crate::program_facts::{ProgramFacts, source_statement_of};
@@ -17,7 +17,7 @@ use std::alloc::{AllocError, Global};
 
 /// The status of a thread.
 #[derive(Clone, Copy)]
-pub enum Standing {
+pub enum Status {
     /// It has ended.
     Finished,
     /// Its assertion failed.
@@ -50,37 +50,37 @@ fn last_reply(history: &[Call], thread: u32) -> Option<Reply>
     last
 }
 
-impl Standing {
+impl Status {
     /// Returns why a thread makes no more calls, by the reply to its last one.
-    fn after(last: Option<Reply>) -> Standing
-        ensures { result ≡ standing_after last }
+    fn after(last: Option<Reply>) -> Status
+        ensures { result ≡ status_after last }
     {
         match last {
-            Some(Reply::Ended) => Standing::Finished,
-            Some(Reply::Failed) => Standing::Failed,
-            Some(Reply::NoContexts) => Standing::OutOfContexts,
-            Some(Reply::Full) => Standing::FullStack,
-            Some(Reply::Stopped) => Standing::Stopped,
-            Some(Reply::Blocked | Reply::Stepped) | None => Standing::OutOfCalls,
+            Some(Reply::Ended) => Status::Finished,
+            Some(Reply::Failed) => Status::Failed,
+            Some(Reply::NoContexts) => Status::OutOfContexts,
+            Some(Reply::Full) => Status::FullStack,
+            Some(Reply::Stopped) => Status::Stopped,
+            Some(Reply::Blocked | Reply::Stepped) | None => Status::OutOfCalls,
         }
     }
 
     /// Returns the status of a thread of a session, which stands after this history.
-    pub(crate) fn of(session: &Session, history: &[Call], thread: u32) -> Standing
+    pub(crate) fn of(session: &Session, history: &[Call], thread: u32) -> Status
         requires { thread < threads session.now.setup }
         ensures { let t = session.now.code.tree in Stands t session.now history.now
-            → result ≡ standing t session.now.setup history.now thread }
+            → result ≡ status t session.now.setup history.now thread }
     {
-        if session.is_finished(thread) {
-            return Standing::after(last_reply(history, thread));
+        if session.is_terminated(thread) {
+            return Status::after(last_reply(history, thread));
         }
         if session.waits(thread) {
-            return Standing::Waiting;
+            return Status::Waiting;
         }
         if session.is_failed() {
-            return Standing::Stopped;
+            return Status::Stopped;
         }
-        Standing::Open
+        Status::Open
     }
 }
 
@@ -106,7 +106,7 @@ pub struct FrameFacts<'a> {
 pub struct ThreadFacts<'a> {
     /// Its number.
     pub thread: u32,
-    pub standing: Standing,
+    pub status: Status,
     /// The frames of its stack, from the top.
     pub frames: Vec<FrameFacts<'a>>,
 }
@@ -206,7 +206,7 @@ fn facts_of_thread<'a>(
     let frames = frames_of(alloc, program, session, thread)?;
     Ok(ThreadFacts {
         thread,
-        standing: Standing::of(session, history, thread),
+        status: Status::of(session, history, thread),
         frames,
     })
 }

@@ -9,12 +9,12 @@ ghost use Rattle.bp_view.specs.Buffers.{Gains, Grown};
 ghost use Rattle.bp_view.specs.StateFacts.{state_in, thread_in};
 ghost use Rattle.bp_view.specs.SetupLines.{globals_line};
 ghost use Rattle.bp_view.specs.Views.{IsViewContextOf};
-ghost use Rattle.bp_view.specs.States.{failed_line, failed_thread, standing_name, standing_text, state_members, state_text, thread_text, threads_text, IsStateOfTrace, IsStateText};
+ghost use Rattle.bp_view.specs.States.{failed_line, failed_thread, status_name, status_text, state_members, state_text, thread_text, threads_text, IsStateOfTrace, IsStateText};
 
 use crate::buffers::Buffer;
 use crate::filters::calls_to;
 use crate::frames::push_frames;
-use crate::state_facts::{Standing, StateFacts, ThreadFacts, facts_of_state};
+use crate::state_facts::{StateFacts, Status, ThreadFacts, facts_of_state};
 use crate::variables::push_values;
 use crate::view_contexts::{ViewContext, shown_trace_to};
 use bp_code::Checked;
@@ -23,38 +23,38 @@ use bp_language::Name;
 use bp_machine::{Call, Outcome, Report, Session};
 use bp_tasks::ViewFormat;
 use bp_text::Piece::{Bytes, Key, Number, NumberOrNull, Text};
-use bp_trace::ReplayFault;
+use bp_trace::ReplayError;
 use std::alloc::Global;
 
 /// Returns the status of a thread, for people.
-fn standing_text(standing: Standing) -> &'static [u8]
-    ensures { result.now ≡ standing_text standing }
+fn status_text(status: Status) -> &'static [u8]
+    ensures { result.now ≡ status_text status }
 {
-    match standing {
-        Standing::Finished => b" is finished",
-        Standing::Failed => b" failed",
-        Standing::OutOfContexts => b" is out of contexts",
-        Standing::OutOfCalls => b" is out of calls",
-        Standing::FullStack => b" has a full stack",
-        Standing::Stopped => b" is stopped",
-        Standing::Waiting => b" waits",
-        Standing::Open => b" goes on",
+    match status {
+        Status::Finished => b" is finished",
+        Status::Failed => b" failed",
+        Status::OutOfContexts => b" is out of contexts",
+        Status::OutOfCalls => b" is out of calls",
+        Status::FullStack => b" has a full stack",
+        Status::Stopped => b" is stopped",
+        Status::Waiting => b" waits",
+        Status::Open => b" goes on",
     }
 }
 
 /// Returns the status of a thread, in JSON.
-fn standing_name(standing: Standing) -> &'static [u8]
-    ensures { result.now ≡ standing_name standing }
+fn status_name(status: Status) -> &'static [u8]
+    ensures { result.now ≡ status_name status }
 {
-    match standing {
-        Standing::Finished => b"finished",
-        Standing::Failed => b"failed",
-        Standing::OutOfContexts => b"out_of_contexts",
-        Standing::OutOfCalls => b"out_of_calls",
-        Standing::FullStack => b"stack_full",
-        Standing::Stopped => b"stopped",
-        Standing::Waiting => b"waiting",
-        Standing::Open => b"open",
+    match status {
+        Status::Finished => b"finished",
+        Status::Failed => b"failed",
+        Status::OutOfContexts => b"out_of_contexts",
+        Status::OutOfCalls => b"out_of_calls",
+        Status::FullStack => b"stack_full",
+        Status::Stopped => b"stopped",
+        Status::Waiting => b"waiting",
+        Status::Open => b"open",
     }
 }
 
@@ -65,7 +65,7 @@ fn push_thread_lines(view: &mut Buffer, thread: &ThreadFacts<'_>)
     view.put_pieces(&[
         Bytes(b"\nthread "),
         Number(u64::from(thread.thread)),
-        Bytes(standing_text(thread.standing)),
+        Bytes(status_text(thread.status)),
         Bytes(b"\n"),
     ]);
     push_frames(view, ViewFormat::Columns, thread.frames.as_slice())
@@ -79,7 +79,7 @@ fn push_thread_object(view: &mut Buffer, thread: &ThreadFacts<'_>)
         Bytes(b",{\"thread\":"),
         Number(u64::from(thread.thread)),
         Key(b"standing"),
-        Text(standing_name(thread.standing)),
+        Text(status_name(thread.status)),
         Key(b"frames"),
     ]);
     let start = view.len();
@@ -235,7 +235,7 @@ pub fn state_at(
     trace: &[u8],
     format: ViewFormat,
     number: u64,
-) -> Result<(Vec<u8>, Report), ReplayFault>
+) -> Result<(Vec<u8>, Report), ReplayError>
     ensures { MatchResult result
         (λ p. IsStateOfTrace format number code.now.tree text.now trace.now p.0.items p.1)
         (IsReplayRefusal code.now.tree trace.now) }
@@ -254,7 +254,7 @@ pub fn state_at(
         count,
     );
     let Ok(state) = view.into_bytes() else {
-        return Err(ReplayFault::Memory);
+        return Err(ReplayError::Memory);
     };
     Ok((state, shown.replayed.report))
 }

@@ -20,7 +20,7 @@ use bp_source::{SourceStatement, source_statements_of};
 use bp_tasks::{ViewFormat, ViewOptions};
 use bp_text::{digits, last_line, number_of, part_before};
 use bp_trace::limits::MAX_TRACE;
-use bp_trace::{ReplayFault, Replayed, replay};
+use bp_trace::{ReplayError, Replayed, replay};
 use std::alloc::Global;
 
 /// The most frames of the stack for each of which a statement is moved to the right by two columns.
@@ -136,13 +136,13 @@ pub(crate) fn shown_trace_of(
     text: &[u8],
     code: &Code,
     trace: &[u8],
-) -> Result<ShownTrace, ReplayFault>
+) -> Result<ShownTrace, ReplayError>
     ensures { let t = code.now.tree in MatchResult result
         (IsShownTrace t text.now trace.now)
         (IsReplayRefusal t trace.now) }
 {
     if trace.len() > MAX_TRACE {
-        return Err(ReplayFault::TooLong);
+        return Err(ReplayError::TooLong);
     }
     let statements = source_statements_of(alloc, text, code.checked())?;
     let replayed = replay(alloc, code, trace)?;
@@ -160,14 +160,14 @@ pub(crate) fn shown_trace_to(
     code: &Code,
     trace: &[u8],
     after: u64,
-) -> Result<(ShownTrace, Checkpoint), ReplayFault>
+) -> Result<(ShownTrace, Checkpoint), ReplayError>
     ensures { let t = code.now.tree in MatchResult result
         (λ p. IsShownTrace t text.now trace.now p.0
         × IsCheckpointAfter t p.0.replayed.setup p.0.replayed.history.items after p.1)
         (IsReplayRefusal t trace.now) }
 {
     if trace.len() > MAX_TRACE {
-        return Err(ReplayFault::TooLong);
+        return Err(ReplayError::TooLong);
     }
     let statements = source_statements_of(alloc, text, code.checked())?;
     let (replayed, checkpoint) = replay_to_checkpoint(alloc, code, trace, after)?;
@@ -197,7 +197,7 @@ pub(crate) fn shown_trace_before(
     code: &Code,
     trace: &[u8],
     filter: &CallFilter,
-) -> Result<(ShownTrace, Checkpoint), ReplayFault>
+) -> Result<(ShownTrace, Checkpoint), ReplayError>
     ensures { let t = code.now.tree in MatchResult result
         (λ p. let h = p.0.replayed.history.items in
         IsShownTrace t text.now trace.now p.0

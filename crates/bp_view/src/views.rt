@@ -14,9 +14,9 @@ ghost use Rattle.bp_view.specs.SetupLines.{view_head};
 
 use crate::buffers::Buffer;
 use crate::checkpoints::Checkpoint;
-use crate::faults::ViewFault;
-use crate::fronts::Front;
+use crate::errors::ViewError;
 use crate::outcomes::push_foot_of;
+use crate::prefixes::Prefix;
 use crate::program_facts::{undeclared, watched_names};
 use crate::setup_lines::head_of;
 use crate::states::push_state_of;
@@ -28,18 +28,18 @@ use bp_machine::{Report, Session, Setup};
 use bp_tasks::{ViewFormat, ViewOptions};
 use bp_text::Piece::Bytes;
 use bp_text::put;
-use bp_trace::ReplayFault;
+use bp_trace::ReplayError;
 use std::alloc::{AllocError, Global};
 use std::io::Write;
 
 /// Refuses a missing thread, if only the calls of one thread are to be shown.
-fn check_thread(options: ViewOptions<'_>, setup: &Setup) -> Result<(), ViewFault>
+fn check_thread(options: ViewOptions<'_>, setup: &Setup) -> Result<(), ViewError>
     ensures { MatchResult result
         (λ _. IsThere options.entry.thread (threads setup.now))
         (λ f. IsMissing options.entry.thread (threads setup.now) f) }
 {
     match options.thread {
-        Some(thread) if setup.threads() <= thread => Err(ViewFault::NoThread(thread)),
+        Some(thread) if setup.threads() <= thread => Err(ViewError::NoThread(thread)),
         _ => Ok(()),
     }
 }
@@ -52,7 +52,7 @@ fn write_parts<W: Write>(
     head: &[u8],
     report: Report,
     out: &mut W,
-) -> Result<(), ViewFault>
+) -> Result<(), ViewError>
     ensures { (t : Program) (text : List ℕ)
         → let s = writer.old.session.setup in
         let x = writer.old.context in
@@ -72,7 +72,7 @@ fn write_parts<W: Write>(
     for n in writer.made as usize..history.len() {
         // A call of a history that may be played is refused only for memory.
         let Ok(()) = writer.make_line(&history[n]) else {
-            return Err(ViewFault::Memory);
+            return Err(ViewError::Memory);
         };
         put(out, &writer.line.bytes)?;
     }
@@ -93,7 +93,7 @@ fn write_view<W: Write>(
     file: &str,
     names: &[&[u8]],
     out: &mut W,
-) -> Result<(), ViewFault>
+) -> Result<(), ViewError>
     ensures { (text trace : List ℕ)
         → IsShownTrace checked.now text trace shown.now
         → let h = shown.now.replayed.history.items in
@@ -111,7 +111,7 @@ fn write_view<W: Write>(
     start.session.code().is_of_a_program();
     check_thread(options, &shown.replayed.setup)?;
     if let Some(n) = undeclared(checked, names) {
-        return Err(ViewFault::NoVariable(n));
+        return Err(ViewError::NoVariable(n));
     }
     let setup = &shown.replayed.setup;
     let history = shown.replayed.history.as_slice();
@@ -134,7 +134,7 @@ fn write_view<W: Write>(
         context,
         session,
         line: Buffer::new(alloc),
-        front: Front::new(alloc),
+        prefix: Prefix::new(alloc),
         changes: Vec::new(alloc),
         last,
         made,
@@ -159,7 +159,7 @@ pub fn view<W: Write>(
     options: ViewOptions<'_>,
     file: &str,
     out: &mut W,
-) -> Result<Report, ViewFault>
+) -> Result<Report, ViewError>
     ensures { let old = W.contents out.old in
         let new = W.contents out.new in
         let options = options.entry in
@@ -171,7 +171,7 @@ pub fn view<W: Write>(
     let filter = filter_of(&options);
     let (shown, start) = shown_trace_before(alloc, text, code, trace, &filter)?;
     let Ok(names) = watched_names(alloc, options.watch) else {
-        return Err(ViewFault::Replay(ReplayFault::Memory));
+        return Err(ViewError::Replay(ReplayError::Memory));
     };
     write_view(
         alloc,

@@ -17,12 +17,12 @@ use crate::call_facts::{CallFacts, facts_of_call};
 use crate::change_facts::{Change, fill_changes};
 use crate::checkpoints::{ReplayedCall, last_step, printed_by, replayed_call};
 use crate::filters::CallFilter;
-use crate::fronts::Front;
 use crate::lines::push_line;
+use crate::prefixes::Prefix;
 use crate::program_facts::has_watched;
 use crate::variables::push_object;
 use crate::view_contexts::ViewContext;
-use bp_machine::{AskFault, Call, Session};
+use bp_machine::{AskError, Call, Session};
 use bp_tasks::{ViewFormat, ViewOptions};
 
 /// Returns the values that the thread's next statement prints, if a view of this format has them.
@@ -30,7 +30,7 @@ fn next_print(
     session: &Session,
     format: ViewFormat,
     thread: u32,
-) -> Result<Option<Vec<bool>>, AskFault>
+) -> Result<Option<Vec<bool>>, AskError>
     ensures { AfterEach session.now (λ t h. let now = configuration_after t session.now.setup h in
         MatchResult result
         (λ values. option_map (λ v. v.items) values ≡ next_print_in format now thread)
@@ -52,7 +52,7 @@ pub(crate) struct ViewWriter<'a> {
     /// The line of the last of them, or nothing if it is not shown.
     pub(crate) line: Buffer,
     /// The fields that lines have in common with the lines before.
-    pub(crate) front: Front,
+    pub(crate) prefix: Prefix,
     /// Room for the changes of a call.
     pub(crate) changes: Vec<Change<'a>>,
     /// The thread of the last step.
@@ -66,13 +66,13 @@ impl ViewWriter<'_> {
 
     /// Makes the next call of the history, which is the recorded one, and its line. No call of a
     /// history that may be played is refused, unless for memory.
-    pub(crate) fn make_line(&mut self, recorded: &Call) -> Result<(), AskFault>
+    pub(crate) fn make_line(&mut self, recorded: &Call) -> Result<(), AskError>
         ensures made { (t : Program) (h : List Answered)
             → HasMade t h self.old
             → IsPlayable t self.old.session.setup (h ++ recorded.now ∷ [])
             → MatchResult result
             (λ _. HasMade t (h ++ recorded.now ∷ []) self.new)
-            (λ f. f ≡ AskFault.Memory) }
+            (λ f. f ≡ AskError.Memory) }
         ensures line { (t : Program) (text : List ℕ) (h : List Answered)
             → HasMade t h self.old
             → IsPlayable t self.old.session.setup (h ++ recorded.now ∷ [])
@@ -94,7 +94,7 @@ impl ViewWriter<'_> {
         self.line.clear();
         push_shown(
             &mut self.line,
-            &mut self.front,
+            &mut self.prefix,
             &mut self.changes,
             &self.context,
             &replayed,
@@ -108,10 +108,10 @@ impl ViewWriter<'_> {
 }
 
 /// Adds the line of a call in the format of the view, which stands for this number of calls; the
-/// call printed these values, if any. `front` has parts of another line that are kept.
+/// call printed these values, if any. `prefix` has parts of another line that are kept.
 fn push_line_in(
     view: &mut Buffer,
-    front: &mut Front,
+    prefix: &mut Prefix,
     context: &ViewContext<'_>,
     facts: &CallFacts<'_>,
     calls: usize,
@@ -127,18 +127,18 @@ fn push_line_in(
     match options.format {
         ViewFormat::Columns => {
             let widths = context.widths.under_headings();
-            push_line(view, front, &widths, options.has_colour, facts, calls)
+            push_line(view, prefix, &widths, options.has_colour, facts, calls)
         }
         ViewFormat::Json => push_object(view, facts, printed),
     }
 }
 
 /// Adds the line of a call, if it is shown: it is asked for, it changed a watched variable, and its
-/// line stands for a call. `front` has parts of another line that are kept, and `changes` is room
+/// line stands for a call. `prefix` has parts of another line that are kept, and `changes` is room
 /// for the call's changes.
 pub(crate) fn push_shown<'a>(
     view: &mut Buffer,
-    front: &mut Front,
+    prefix: &mut Prefix,
     changes: &mut Vec<Change<'a>>,
     context: &ViewContext<'a>,
     replayed: &ReplayedCall,
@@ -168,7 +168,7 @@ pub(crate) fn push_shown<'a>(
         return;
     }
     let facts = facts_of_call(&context.program, replayed, changes);
-    push_line_in(view, front, context, &facts, calls, printed)
+    push_line_in(view, prefix, context, &facts, calls, printed)
 }
 
 /// Returns options for all calls, without colours.

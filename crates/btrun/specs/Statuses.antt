@@ -5,10 +5,10 @@ use Rattle.std.specs.declared.io.ErrorKind.{ErrorKind as IoErrorKind}
 use Rattle.std.specs.declared.io.ErrorKind.TheVariants as io
 use Rattle.bp_text.specs.Pieces.{string_text, key_text}
 use Rattle.bp_text.specs.Writing.{Writes}
-use Rattle.bp_text.specs.declared.sinks.WriteFault.{WriteFault}
-use Rattle.bp_text.specs.declared.sinks.WriteFault.TheVariants as write
-use Rattle.bp_messages.specs.declared.faults.Fault.TheVariants as fault
-use Rattle.bp_commands.specs.FaultReports.{HasFaultLine}
+use Rattle.bp_text.specs.declared.sinks.WriteError.{WriteError}
+use Rattle.bp_text.specs.declared.sinks.WriteError.TheVariants as write
+use Rattle.bp_messages.specs.declared.errors.Error.TheVariants as error
+use Rattle.bp_commands.specs.ErrorReports.{HasErrorLine}
 use Rattle.bp_commands.specs.Jobs.{Held}
 use Rattle.bp_commands.specs.declared.run_ends.RunEnd.{RunEnd}
 use Rattle.bp_arguments.specs.declared.no_tasks.NoTask.{NoTask}
@@ -22,7 +22,7 @@ use Rattle.bp_arguments.specs.NoTasks.{IsRefused}
 abbrev pub no_member : List ℕ → List ℕ
 no_member key = concat (key_text key ∷ codes "null" ∷ [])
 
--- the object on refused arguments, with this message; the fault has no number and no place
+-- the object on refused arguments, with this message; the error has no number and no place
 abbrev pub refusal_object : (message : List ℕ) → List ℕ
 refusal_object message =
     concat (
@@ -48,13 +48,13 @@ IsUnread _ none = (none ≡ Memory) ⊎ IsRefused none
 -- memory was refused, and a line says so
 pub record IsLackOfMemory (old new : Option (List ℕ)) (end : RunEnd) : Type 0 where
   pub status : end.status ≡ 3
-  pub line : HasFaultLine fault.Memory old new end.told
+  pub line : HasErrorLine error.Memory old new end.told
 
 -- a text was written whole, or a part of it was refused
-abbrev whole : Result (Unit {0}) WriteFault
+abbrev whole : Result (Unit {0}) WriteError
 whole = Ok tt
 
-abbrev in_part : Result (Unit {0}) WriteFault
+abbrev in_part : Result (Unit {0}) WriteError
 in_part = Err write.Write
 
 -- the text was printed, and nothing else
@@ -67,7 +67,7 @@ pub record IsPrintedWhole (text : List ℕ) (before after : Held) (end : RunEnd)
 pub record IsPrintedInPart (text : List ℕ) (before after : Held) (end : RunEnd) : Type 0 where
   pub printed : Writes before.output after.output text in_part
   pub status : end.status ≡ 3
-  pub line : HasFaultLine fault.Write before.errors after.errors end.told
+  pub line : HasErrorLine error.Write before.errors after.errors end.told
 
 abbrev pub IsPrintedEnd : List ℕ → Held → Held → RunEnd → Type 0
 IsPrintedEnd text before after end =

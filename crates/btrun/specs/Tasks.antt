@@ -4,8 +4,8 @@ use Rattle.bp_commands.specs.Programs.{checks, lists}
 use Rattle.bp_commands.specs.Commands.{Command, Pair}
 use Rattle.bp_commands.specs.Traces.{drives, migrates, replays, shrinks}
 use Rattle.bp_commands.specs.declared.explanations.SecondInput.TheVariants.{Schedule, Steps, Trace}
-use Rattle.bp_commands.specs.FaultReports.{done, of_report, of_run}
-use Rattle.bp_tasks.specs.declared.tasks.FaultFormat.{FaultFormat}
+use Rattle.bp_commands.specs.ErrorReports.{done, of_report, of_run}
+use Rattle.bp_tasks.specs.declared.tasks.ErrorFormat.{ErrorFormat}
 use Rattle.bp_commands.specs.Jobs.{on_bundle, on_file, on_files, Job}
 use Rattle.bp_commands.specs.Runs.{runs}
 use Rattle.bp_commands.specs.Tests.{of_test, tests}
@@ -16,14 +16,14 @@ use Rattle.bp_commands.specs.Throughs.{explores_through}
 use Rattle.bp_commands.specs.declared.shows.Screen.{Screen}
 use Rattle.bp_machine.specs.declared.calls.Report.{Report}
 use Rattle.bp_trace.specs.declared.limits.TheConstants.{MAX_SCHEDULE, MAX_TRACE}
-use Rattle.bp_tasks.specs.FaultFormats.{fault_format}
+use Rattle.bp_tasks.specs.ErrorFormats.{error_format}
 use Rattle.bp_tasks.specs.declared.tasks.ExploreTask.{ExploreTask}
 use Rattle.bp_tasks.specs.declared.tasks.Task.{Task}
 use Rattle.bp_tasks.specs.declared.tasks.Task.TheVariants.{Bundle, Check, Code, Drive, Confirm, Run, Test, Explore, Replay, Show, Migrate, Shrink}
 
--- The files have these bytes by their paths. Standard output shows lines on this screen, and faults
+-- The files have these bytes by their paths. Standard output shows lines on this screen, and errors
 -- are reported in this format.
-module _ (bytes : List ℕ → Option (List ℕ)) (screen : Screen) (format : FaultFormat) where
+module _ (bytes : List ℕ → Option (List ℕ)) (screen : Screen) (format : ErrorFormat) where
   -- a command on the program of a file and a trace of it
   abbrev pub on_trace : Command Pair Report → (program trace : List ℕ) → Job
   on_trace command program trace =
@@ -65,4 +65,4 @@ abbrev pub job_of
     : (bytes : List ℕ → Option (List ℕ)) → Screen → (on_terminal : Bool)
     → (input : Option (List ℕ)) → Task → Job
 job_of bytes screen on_terminal input task =
-    job_in bytes screen (fault_format task on_terminal) input task
+    job_in bytes screen (error_format task on_terminal) input task

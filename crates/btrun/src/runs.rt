@@ -6,7 +6,7 @@ use crate::tasks::{Host, carry_out};
 use crate::usage::{end_without_task, refuse_memory, unread};
 use bp_arguments::{NoTask, asks_for_json, read_arguments};
 use bp_commands::{Screen, Streams};
-use bp_tasks::{FaultFormat, Task};
+use bp_tasks::{ErrorFormat, Task};
 use bp_text::{number_of, put};
 use std::env;
 use std::io::{self, BufWriter, IsTerminal};
@@ -56,9 +56,9 @@ fn screen(rt: &HostRuntime) -> Screen {
     }
 }
 
-/// Returns whether faults are explained if no option says so: standard error is a terminal, or
+/// Returns whether errors are explained if no option says so: standard error is a terminal, or
 /// BTRUN_EXPLAIN is set to a text.
-fn explains_faults(rt: &HostRuntime) -> bool {
+fn explains_errors(rt: &HostRuntime) -> bool {
     is_set(rt, "BTRUN_EXPLAIN") || rt.stderr().is_terminal()
 }
 
@@ -73,7 +73,7 @@ fn seconds_of(task: &Task<'_>) -> Option<u64> {
 
 /// Returns the line of progress of a test or an exploration that starts now.
 fn progress_line<'a>(rt: &'a HostRuntime, task: &Task<'_>) -> ProgressLine<'a> {
-    let is_json = matches!(task.fault_format(false), FaultFormat::Json);
+    let is_json = matches!(task.error_format(false), ErrorFormat::Json);
     let is_asked_not_to = is_json || is_set(rt, "NO_PROGRESS");
     ProgressLine {
         rt,
@@ -124,7 +124,7 @@ pub fn run<T: Threads + Wait + Clock + Sync>(rt: &HostRuntime, threads: &T) -> u
         clock: rt,
         progress: &progress_line(rt, &task),
         screen: screen(rt),
-        on_terminal: explains_faults(rt),
+        on_terminal: explains_errors(rt),
     };
     let streams = Streams { output, errors };
     let (end, _) = carry_out(host, rt.stdin(), &task, streams);

@@ -9,7 +9,7 @@ use bp_commands::{
     run_on_bundle, run_on_pair, run_on_program,
 };
 use bp_explore::Watcher;
-use bp_run::Spread;
+use bp_run::RandomTurns;
 use bp_tasks::{RunTask, Task};
 use bp_test::Progress;
 use std::alloc::Global;
@@ -30,17 +30,17 @@ pub struct Host<'a, F, T, P> {
     pub progress: &'a P,
     /// The form of lines on standard output.
     pub screen: Screen,
-    /// Whether faults are explained if no option says so, as on a terminal.
+    /// Whether errors are explained if no option says so, as on a terminal.
     pub on_terminal: bool,
 }
 
 /// Returns the gate that draws the thread of each turn, if that is asked for.
-fn gate_of(task: &RunTask<'_>) -> Option<Spread>
+fn gate_of(task: &RunTask<'_>) -> Option<RandomTurns>
     ensures { is_some result ≡ task.now.spread }
 {
     if task.spread {
         let options = &task.options;
-        Some(Spread::new(options.seed, options.start.entries.len()))
+        Some(RandomTurns::new(options.seed, options.start.entries.len()))
     } else {
         None
     }
@@ -70,7 +70,7 @@ pub fn carry_out<
     let io = Io {
         alloc: host.alloc,
         files: host.files,
-        format: task.fault_format(host.on_terminal),
+        format: task.error_format(host.on_terminal),
     };
     match task {
         Task::Bundle => run_on_bundle(host.alloc, io.format, input, streams),

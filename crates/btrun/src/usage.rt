@@ -7,13 +7,13 @@ ghost use Rattle.btrun.specs.Statuses.{refusal_text, IsEndWithout, IsLackOfMemor
 
 use bp_arguments::{NoTask, Refusal, not_utf8};
 use bp_commands::{Explained, RunEnd, end};
-use bp_messages::Fault;
+use bp_messages::Error;
 use bp_text::Piece::{Bytes, Key, NumberOrNull, Text, TextOrNull};
-use bp_text::{WriteFault, put, put_pieces};
+use bp_text::{WriteError, put, put_pieces};
 use std::alloc::Global;
 use std::io::{self, Write};
 
-/// The exit status of a fault in the use of the program.
+/// The exit status of an error in the use of the program.
 const USAGE_STATUS: u8 = 2;
 
 /// Returns the answer to arguments that were not read: memory was refused, or one is not UTF-8.
@@ -30,7 +30,7 @@ pub fn unread(alloc: Global, error: &io::Error) -> NoTask
 pub fn refuse_memory<E: Write>(errors: &mut E) -> RunEnd
     ensures { IsLackOfMemory (E.contents errors.old) (E.contents errors.new) result }
 {
-    end(&Err::<(), Fault>(Fault::Memory), errors)
+    end(&Err::<(), Error>(Error::Memory), errors)
 }
 
 /// Prints the help or the version.
@@ -40,13 +40,13 @@ fn print_text<W: Write, E: Write>(text: &[u8], out: &mut W, errors: &mut E) -> R
         IsPrintedEnd text.now before after result }
 {
     match put(out, text) {
-        Ok(()) => end(&Ok::<(), Fault>(()), errors),
-        Err(WriteFault::Write) => end(&Err::<(), Fault>(Fault::Write), errors),
+        Ok(()) => end(&Ok::<(), Error>(()), errors),
+        Err(WriteError::Write) => end(&Err::<(), Error>(Error::Write), errors),
     }
 }
 
 /// Tells why arguments are refused, with `json` as an object.
-fn tell_refusal<E: Write>(refusal: &Refusal, json: bool, errors: &mut E) -> Result<(), WriteFault>
+fn tell_refusal<E: Write>(refusal: &Refusal, json: bool, errors: &mut E) -> Result<(), WriteError>
     ensures { Writes (E.contents errors.old) (E.contents errors.new)
         (refusal_text json refusal.now) result }
 {
@@ -84,7 +84,7 @@ pub fn end_without_task<W: Write, E: Write>(
 }
 
 /// Writes the object on refused arguments, with this message.
-pub(crate) fn put_refusal<W: Write>(message: &[u8], out: &mut W) -> Result<(), WriteFault>
+pub(crate) fn put_refusal<W: Write>(message: &[u8], out: &mut W) -> Result<(), WriteError>
     ensures { Writes (W.contents out.old) (W.contents out.new) (refusal_object message.now) result }
 {
     put_pieces(

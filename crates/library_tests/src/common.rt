@@ -3,7 +3,7 @@ use bp_code::Code;
 use std::alloc::{AllocError, Global};
 use std::test::Fail;
 
-/// Returns the code of a lawful program.
+/// Returns the code of a well-formed program.
 pub(crate) fn code_of(alloc: Global, text: &[u8]) -> Result<Code, Fail> {
     match bp_code::code_of(alloc, text) {
         Ok(code) => Ok(code),

@@ -1,2 +1,2 @@
 //! Tests of `bp_trace`: watchers of a replay.
-mod watching;
+mod watches;

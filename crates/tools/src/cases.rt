@@ -26,7 +26,7 @@ pub fn unmeasured(name: &'static str) -> Case {
     }
 }
 
-/// Returns the fault of an impossible result.
+/// Returns the error of an impossible result.
 pub fn unexpected() -> io::Error {
     io::Error::from(io::ErrorKind::InvalidData)
 }

@@ -4,8 +4,8 @@
 //! three bytes, with `tokens` those of up to five tokens, for `.ci/texts`.
 #![tactic(auto)]
 
-mod asking;
-mod calling;
+mod asks;
+mod calls;
 mod cases;
 mod drives;
 mod pieces;
@@ -25,8 +25,8 @@ use std::{env, io};
 
 /// Runs each tool, so that one run takes a second.
 fn run_each<R: Threads + Wait + Clock + Sync>(rt: &HostRuntime, threads: &R) -> io::Result<()> {
-    asking::ask(rt, threads, 1, false)?;
-    calling::call(rt, threads)?;
+    asks::ask(rt, threads, 1, false)?;
+    calls::call(rt, threads)?;
     short_texts::print(rt.stdout(), rt.alloc(), 1, 2)
 }
 
@@ -34,7 +34,7 @@ fn main(rt: HostRuntime) -> io::Result<()> {
     let words: Vec<String> = env::args(&rt)?.collect(rt.alloc())?;
     match words.get(1) {
         None => run_each(&rt, &rt),
-        Some(word) if word.as_str() == "times" => asking::ask(&rt, &rt, 100, true),
+        Some(word) if word.as_str() == "times" => asks::ask(&rt, &rt, 100, true),
         Some(word) if word.as_str() == "bytes" => short_texts::print(rt.stdout(), rt.alloc(), 3, 0),
         Some(word) if word.as_str() == "tokens" => {
             short_texts::print(rt.stdout(), rt.alloc(), 0, 5)

@@ -7,7 +7,7 @@ use crate::cases::{Case, RING, unexpected};
 use bp_code::{Code, code_of};
 use bp_machine::{Reply, Session, Setup};
 use bp_run::limits::MAX_TURN;
-use bp_run::{Board, Calls, Desk, Kit, Seat, Tap};
+use bp_run::{Board, BoardParts, Calls, Desk, Seat, Tap};
 use std::alloc::Global;
 use std::io;
 use std::marker::Brand;
@@ -111,31 +111,31 @@ fn ask_board<C: Calls, O: Ledger, R: Wait + Clock>(
     Ok(())
 }
 
-/// Makes a round at a desk of this kit, or at a board.
+/// Makes a round at a desk of these parts, or at a board.
 fn round_at<C: Calls, O: Ledger, R: Wait + Clock>(
     rt: &R,
     alloc: Global,
-    kit: Kit,
+    board_parts: BoardParts,
     code: &Code,
     setup: &Setup,
     is_board: bool,
     case: &mut Case,
 ) -> io::Result<()>
-    requires named { IsNamed kit C.name C.parts O.name O.parts C.ring }
+    requires named { IsNamed board_parts C.name C.parts O.name O.parts C.ring }
     requires code { code.now ≡ C.code }
     requires setup { setup.now ≡ C.setup }
-    requires threads { kit.threads ≡ threads setup.now }
+    requires threads { board_parts.threads ≡ threads setup.now }
     requires fits { Fits code.now.tree setup.now }
     requires seeded { is_some setup.now.seed ≡ true }
 {
     if is_board {
-        let (board, mut seats, mut tap) = Board::<C, O>::open(alloc, kit, code, setup)?;
+        let (board, mut seats, mut tap) = Board::<C, O>::open(alloc, board_parts, code, setup)?;
         return match seats.get_mut(0) {
             Some(seat) => ask_board(rt, &board, seat, &mut tap, case),
             None => Err(unexpected()),
         };
     }
-    let (mut desk, mut seats, mut tap) = Desk::<C, O>::open(alloc, kit, code, setup)?;
+    let (mut desk, mut seats, mut tap) = Desk::<C, O>::open(alloc, board_parts, code, setup)?;
     match seats.get_mut(0) {
         Some(seat) => ask_desk(rt, &mut desk, seat, &mut tap, case),
         None => Err(unexpected()),
@@ -155,8 +155,8 @@ fn round<R: Wait + Clock>(
     requires seeded { is_some setup.now.seed ≡ true }
 {
     setup.is_in_range();
-    let kit = Kit::new(alloc, setup.threads(), RING)?;
-    round_at::<Brand, Brand, R>(rt, alloc, kit, code, setup, is_board, case)
+    let board_parts = BoardParts::new(alloc, setup.threads(), RING)?;
+    round_at::<Brand, Brand, R>(rt, alloc, board_parts, code, setup, is_board, case)
 }
 
 /// Makes `rounds` rounds of all cases. Each round has all cases, so that a busy moment of the

@@ -2,15 +2,15 @@
 
 use crate::starts::start_of;
 use bp_code::code_of;
-use bp_machine::{AskFault, Report, Session};
+use bp_machine::{AskError, Report, Session};
 use std::alloc::Global;
 
-/// Makes a call of each thread whose line is open.
-fn ask_each(session: &mut Session, threads: u32) -> Result<(), AskFault> {
+/// Makes a call of each thread that is live.
+fn ask_each(session: &mut Session, threads: u32) -> Result<(), AskError> {
     for thread in 0..threads {
         match session.ask_with(thread, false) {
-            Ok(_) | Err(AskFault::Finished) => {}
-            Err(fault) => return Err(fault),
+            Ok(_) | Err(AskError::Terminated) => {}
+            Err(error) => return Err(error),
         }
     }
     Ok(())

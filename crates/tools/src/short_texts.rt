@@ -11,14 +11,14 @@ fn digit(number: u32) -> u8 {
     b'0'.wrapping_add(u8::try_from(number).unwrap_or(0))
 }
 
-/// Returns the number of the fault of a text as a digit, 0 if it is read, and the place as a byte
+/// Returns the number of the error of a text as a digit, 0 if it is read, and the place as a byte
 /// from `0`, or `-`.
 fn answer(alloc: Global, text: &[u8]) -> [u8; 2] {
     match read(alloc, text) {
         Ok(_) => [b'0', b'-'],
-        Err(fault) => match fault.place() {
-            Some(at) => [digit(fault.number()), digit(at)],
-            None => [digit(fault.number()), b'-'],
+        Err(error) => match error.place() {
+            Some(at) => [digit(error.number()), digit(at)],
+            None => [digit(error.number()), b'-'],
         },
     }
 }

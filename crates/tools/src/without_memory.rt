@@ -1,9 +1,9 @@
-//! Lines of results and of faults, and the exit status. The test prints a line once all is ready;
+//! Lines of results and of errors, and the exit status. The test prints a line once all is ready;
 //! `.ci/growths` refuses each growth after it, and none may be asked for.
-use bp_code::{Checked, Code, WriteFault, check, compile};
+use bp_code::{Checked, Code, WriteError, check, compile};
 use bp_commands::show_check;
-use bp_machine::SetupFault;
-use bp_messages::{Fault, exit_status, show_fault, show_replay};
+use bp_machine::SetupError;
+use bp_messages::{Error, exit_status, show_error, show_replay};
 use bp_syntax::read;
 use bp_trace::{Replayed, replay};
 use std::alloc::Global;
@@ -20,10 +20,10 @@ const TRACE: &[u8] = b"btrace 1\nentry main\ninit 10\ncontexts 2\ncalls 9\nseed 
 const LINES: &[u8] = b"ok 1 2\nprint 0 01\noutcome clean\nbtrun: 32 UnknownEntry thread 3\n";
 
 /// Writes the lines.
-fn shows(checked: &Checked, replayed: &Replayed, out: &mut Vec<u8>) -> Result<(), WriteFault> {
+fn shows(checked: &Checked, replayed: &Replayed, out: &mut Vec<u8>) -> Result<(), WriteError> {
     show_check(checked, out)?;
     show_replay(replayed, out)?;
-    show_fault(&Fault::Setup(SetupFault::UnknownEntry(3)), out)
+    show_error(&Error::Setup(SetupError::UnknownEntry(3)), out)
 }
 
 /// Returns the program, checked and compiled.
@@ -37,7 +37,7 @@ fn programs(alloc: Global) -> Result<(Checked, Code), Fail> {
 }
 
 #[test]
-fn lines_of_answers_and_faults(rt: HostRuntime) -> Result<(), Fail> {
+fn lines_of_answers_and_errors(rt: HostRuntime) -> Result<(), Fail> {
     let (checked, code) = programs(rt.alloc())?;
     let replayed = replay(rt.alloc(), &code, TRACE)?;
     let mut out = Vec::with_capacity(rt.alloc(), 4096)?;

@@ -4,27 +4,27 @@ ghost use Rattle.bp_language.specs.Ast.{Program};
 ghost use Rattle.bp_flat.specs.InstrEffects.{bits_of};
 ghost use Rattle.bp_flat.specs.StandsFor.{valuation_of};
 ghost use Rattle.bp_machine.specs.declared.calls.Call.{Call as Answered};
-ghost use Rattle.bp_machine.specs.Histories.{IsLeastWithin, stack_of, calls_of_thread, granted_threads, configuration_after, is_finished, open_lines, IsReport};
+ghost use Rattle.bp_machine.specs.Histories.{IsLeastWithin, stack_of, calls_of_thread, granted_threads, configuration_after, is_terminated, live_threads, IsReport};
 ghost use Rattle.bp_machine.specs.Runs.{values_printed, IsTop, IsTopOf};
 ghost use Rattle.bp_machine.specs.Setups.{threads};
 ghost use Rattle.bp_machine.specs.Sessions.{Stands, IsPrintRefusal, AfterEach};
 
-use crate::calls::{AskFault, Report};
+use crate::calls::{AskError, Report};
 use crate::sessions::Session;
 use crate::tops::Top;
 use bp_flat::{Kind, Store};
 
 impl Session {
     /// Returns whether a thread makes no more calls.
-    pub fn is_finished(&self, thread: u32) -> bool
+    pub fn is_terminated(&self, thread: u32) -> bool
         requires { thread < threads self.now.setup }
         ensures { (t : Program) (h : List Answered)
             → Stands t self.now h
-            → result ≡ is_finished self.now.setup h thread }
+            → result ≡ is_terminated self.now.setup h thread }
     {
         match self.machine.thread(thread) {
             None => true,
-            Some(guest) => guest.is_finished(self.setup.calls()),
+            Some(guest) => guest.is_terminated(self.setup.calls()),
         }
     }
 
@@ -83,12 +83,12 @@ impl Session {
     }
 
     /// Returns the number of threads that may continue.
-    pub fn open_lines(&self) -> u32
+    pub fn live_threads(&self) -> u32
         ensures { (t : Program) (h : List Answered)
             → Stands t self.now h
-            → result ≡ open_lines self.now.setup h }
+            → result ≡ live_threads self.now.setup h }
     {
-        self.machine.open_lines(self.setup.calls())
+        self.machine.live_threads(self.setup.calls())
     }
 
     /// Returns the report of the calls so far.
@@ -100,7 +100,7 @@ impl Session {
         Report {
             outcome: self.machine.outcome(),
             calls: self.machine.calls(),
-            left_open: self.open_lines(),
+            left_live: self.live_threads(),
             contexts: self.contexts_used(),
         }
     }
@@ -124,7 +124,7 @@ impl Session {
     }
 
     /// Returns the values that the next statement of a thread prints, if it is a `print`.
-    pub fn next_print(&self, thread: u32) -> Result<Option<Vec<bool>>, AskFault>
+    pub fn next_print(&self, thread: u32) -> Result<Option<Vec<bool>>, AskError>
         ensures { AfterEach self.now (λ t h. let now = configuration_after t self.now.setup h in
             let printed = values_printed now.globals (stack_of now thread) in
             MatchResult result
@@ -134,7 +134,7 @@ impl Session {
     {
         self.code().is_of_a_program();
         let Some(guest) = self.machine.thread(thread) else {
-            return Err(AskFault::NoThread);
+            return Err(AskError::NoThread);
         };
         let Some(top) = guest.stack().top() else {
             return Ok(None);

@@ -1,9 +1,9 @@
 //! Declarations, procedures and programs.
 ghost use Rattle.std.specs.Prelude.{◌≡◌, ◌<◌, ◌≤◌, [], length, OnOk, MatchResult};
 ghost use Rattle.bp_syntax.specs.Lexer.{token_list};
-ghost use Rattle.bp_syntax.specs.ParserState.{MoreDecls, MoreProcs, FormalsThen, ProcThen, ReadsPhrase, Reads, Parses, whole_program, program_of, IsParseFault};
+ghost use Rattle.bp_syntax.specs.ParserState.{MoreDecls, MoreProcs, FormalsThen, ProcThen, ReadsPhrase, Reads, Parses, whole_program, program_of, IsParseError};
 
-use crate::faults::ReadFault;
+use crate::errors::ReadError;
 use crate::parser::{Parser, Stop};
 use crate::tokens::Token;
 use bp_language::{Names, Proc, Procs, TokenKind};
@@ -72,15 +72,15 @@ impl<'a> Parser<'a> {
 }
 
 /// Parses the globals and procedures of a program. `end` is the length of the text.
-pub(crate) fn parse(alloc: Global, tokens: &[Token], end: u32) -> Result<(Names, Procs), ReadFault>
+pub(crate) fn parse(alloc: Global, tokens: &[Token], end: u32) -> Result<(Names, Procs), ReadError>
     ensures { MatchResult result
         (λ p. Parses (token_list tokens.now) (program_of p.0 p.1))
-        (IsParseFault (token_list tokens.now) end) }
+        (IsParseError (token_list tokens.now) end) }
 {
     let mut parser = Parser { left: tokens };
     match parser.program(alloc) {
         Ok(parts) => Ok(parts),
-        Err(Stop::Memory) => Err(ReadFault::Memory),
-        Err(Stop::Unexpected) => Err(ReadFault::Syntax(parser.place_or(end))),
+        Err(Stop::Memory) => Err(ReadError::Memory),
+        Err(Stop::Unexpected) => Err(ReadError::Syntax(parser.place_or(end))),
     }
 }

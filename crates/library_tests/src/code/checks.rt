@@ -1,14 +1,14 @@
 //! Tests of the check of `bp_code`: a refused tree is returned. The cases of the command `check`
-//! show which trees are lawful, and at which place and how others are refused.
+//! show which trees are well-formed, and at which place and how others are refused.
 
-use bp_code::{CheckFault, CheckRefusal, check};
+use bp_code::{CheckError, CheckRefusal, check};
 use bp_syntax::read;
 use std::alloc::Global;
 use std::test::Fail;
 
 /// Returns whether the refusal is that of the second global of two, at 13, with its tree.
 fn is_of_the_second_global(refusal: &CheckRefusal) -> bool {
-    refusal.fault == CheckFault::TwiceGlobal
+    refusal.error == CheckError::TwiceGlobal
         && refusal.at == 13
         && refusal.number() == 11
         && refusal.place() == Some(13)

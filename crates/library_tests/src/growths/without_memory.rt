@@ -4,7 +4,7 @@ use crate::common::code_of;
 use crate::ready::{begin, calls, program, setup, wants};
 use crate::run::growths::boards::{Way, makes_calls};
 use bp_code::{Code, Kind, list, put};
-use bp_machine::{Call, Choices, Outcome, Reply, Report, Session, Setup, open_lines};
+use bp_machine::{Call, Choices, Outcome, Reply, Report, Session, Setup, live_threads};
 use bp_trace::{write_call, write_end, write_head, write_trace, write_trace2};
 use std::test::Fail;
 
@@ -13,15 +13,15 @@ fn stands_after_a_step(session: &Session) -> bool {
     session.setup().is_in_range();
     let report = Report {
         calls: 1,
-        left_open: 2,
+        left_live: 2,
         contexts: 1,
         outcome: Outcome::Clean,
     };
     session.report() == report
-        && !session.is_finished(0)
+        && !session.is_terminated(0)
         && !session.is_failed()
         && session.contexts_used() == 1
-        && session.open_lines() == 2
+        && session.live_threads() == 2
 }
 
 /// Returns whether the session tells that its threads continue at one frame each, and the globals.
@@ -41,7 +41,7 @@ fn makes(rt: &HostRuntime, session: &mut Session, code: &Code, setup: &Setup) ->
             && session.setup().seed() == setup.seed()
             && stands_after_a_step(session)
             && tells_frames(session)
-            && open_lines(setup, &[call]) == 2,
+            && live_threads(setup, &[call]) == 2,
     )
 }
 
@@ -95,7 +95,7 @@ const WRITTEN: &[u8] = b"proc main 0 0\n0 call 2 1\n1 return\n\
     btrace 2\nentry main\ninit 00\ncontexts 1000\ncalls 20\nseed 42\n0 1s1s\nend 2 1\n";
 
 /// Writes the listing of a code, and the trace of two calls by its parts, whole, and in version 2.
-fn writes(code: &Code, setup: &Setup, out: &mut Vec<u8>) -> Result<(), bp_code::WriteFault> {
+fn writes(code: &Code, setup: &Setup, out: &mut Vec<u8>) -> Result<(), bp_code::WriteError> {
     let call = Call {
         thread: 0,
         bit: true,

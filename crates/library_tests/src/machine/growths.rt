@@ -4,7 +4,7 @@ ghost use Rattle.bp_machine.specs.Setups.{Fits};
 use crate::common::code_of;
 use crate::ready::{begin, calls, program, setup, tell, wants};
 use bp_code::Code;
-use bp_machine::{AskFault, Call, Session, Setup};
+use bp_machine::{AskError, Call, Session, Setup};
 use std::alloc::Global;
 use std::test::Fail;
 
@@ -26,7 +26,7 @@ fn makes_a_session(rt: &HostRuntime, code: &Code, setup: &Setup) -> Result<(), F
         Ok(session) => session,
         Err(_) => Session::new(rt.alloc(), code, setup)?,
     };
-    wants(session.open_lines() == 3 && session.setup().contexts() == setup.contexts())
+    wants(session.live_threads() == 3 && session.setup().contexts() == setup.contexts())
 }
 
 #[test]
@@ -44,7 +44,7 @@ fn session_of(alloc: Global, text: &[u8], seed: Option<u64>) -> Result<Session, 
 }
 
 /// Returns the next call of thread 0.
-fn call(session: &mut Session, way: Way) -> Result<Call, AskFault> {
+fn call(session: &mut Session, way: Way) -> Result<Call, AskError> {
     match way {
         Way::Ask => session.ask(0),
         Way::AskWith => session.ask_with(0, true),
@@ -58,7 +58,7 @@ fn make_calls(session: &mut Session, way: Way, made: &mut [Option<Call>]) -> Res
     for place in made.iter_mut() {
         let before = session.report();
         let mut answer = call(session, way);
-        if answer == Err(AskFault::Memory) {
+        if answer == Err(AskError::Memory) {
             wants(session.report() == before)?;
             was_refused = true;
             answer = call(session, way);
@@ -104,7 +104,7 @@ fn ask_with(rt: HostRuntime) -> Result<(), Fail> {
 }
 
 /// Returns whether two zeros are printed.
-fn are_two_zeros(printed: &Result<Option<Vec<bool>>, AskFault>) -> bool {
+fn are_two_zeros(printed: &Result<Option<Vec<bool>>, AskError>) -> bool {
     match printed {
         Ok(Some(values)) => values.as_slice() == [false, false].as_slice(),
         _ => false,
@@ -115,7 +115,7 @@ fn are_two_zeros(printed: &Result<Option<Vec<bool>>, AskFault>) -> bool {
 fn prints_next(rt: &HostRuntime, session: &Session) -> Result<(), Fail> {
     begin(rt)?;
     let printed = session.next_print(0);
-    let was_refused = matches!(printed, Err(AskFault::Memory));
+    let was_refused = matches!(printed, Err(AskError::Memory));
     tell(rt, was_refused)?;
     if was_refused {
         return wants(are_two_zeros(&session.next_print(0)));

@@ -1,7 +1,7 @@
 //! Sessions by hand, and their refusals. Cases of the commands show what calls do.
 
 use crate::common::{code_of, mains};
-use bp_machine::{AskFault, Call, Reply, Session, Setup, SetupFault};
+use bp_machine::{AskError, Call, Reply, Session, Setup, SetupError};
 use std::alloc::Global;
 use std::test::Fail;
 
@@ -18,17 +18,17 @@ enum Ask {
 }
 
 /// The choice bit of a call, its thread, and the result.
-type Row = (Ask, u32, Result<Call, AskFault>);
+type Row = (Ask, u32, Result<Call, AskError>);
 
 /// A step of thread 0 with the bit 1.
-const ONE: Result<Call, AskFault> = Ok(Call {
+const ONE: Result<Call, AskError> = Ok(Call {
     thread: 0,
     bit: true,
     reply: Reply::Stepped,
 });
 
 /// A step of thread 0 with the bit 0.
-const ZERO: Result<Call, AskFault> = Ok(Call {
+const ZERO: Result<Call, AskError> = Ok(Call {
     thread: 0,
     bit: false,
     reply: Reply::Stepped,
@@ -36,18 +36,18 @@ const ZERO: Result<Call, AskFault> = Ok(Call {
 
 /// The results of a session without a seed, whose thread has one call.
 const UNSEEDED: [Row; 6] = [
-    (Ask::Drawn, 1, Err(AskFault::NoThread)),
-    (Ask::Drawn, 0, Err(AskFault::Unseeded)),
+    (Ask::Drawn, 1, Err(AskError::NoThread)),
+    (Ask::Drawn, 0, Err(AskError::Unseeded)),
     (Ask::Given(true), 0, ONE),
-    (Ask::Drawn, 0, Err(AskFault::Finished)),
-    (Ask::Given(false), 0, Err(AskFault::Finished)),
-    (Ask::Given(false), 1, Err(AskFault::NoThread)),
+    (Ask::Drawn, 0, Err(AskError::Terminated)),
+    (Ask::Given(false), 0, Err(AskError::Terminated)),
+    (Ask::Given(false), 1, Err(AskError::NoThread)),
 ];
 
 /// The results by the seed 42, up to the last of seven calls. Refused calls use no bit.
 const SEEDED: [Row; 10] = [
-    (Ask::Drawn, 1, Err(AskFault::NoThread)),
-    (Ask::Given(true), 0, Err(AskFault::Seeded)),
+    (Ask::Drawn, 1, Err(AskError::NoThread)),
+    (Ask::Given(true), 0, Err(AskError::Seeded)),
     (Ask::Drawn, 0, ONE),
     (Ask::Drawn, 0, ONE),
     (Ask::Drawn, 0, ONE),
@@ -55,10 +55,10 @@ const SEEDED: [Row; 10] = [
     (Ask::Drawn, 0, ONE),
     (Ask::Drawn, 0, ONE),
     (Ask::Drawn, 0, ZERO),
-    (Ask::Drawn, 0, Err(AskFault::Finished)),
+    (Ask::Drawn, 0, Err(AskError::Terminated)),
 ];
 
-fn asked(session: &mut Session, ask: Ask, thread: u32) -> Result<Call, AskFault> {
+fn asked(session: &mut Session, ask: Ask, thread: u32) -> Result<Call, AskError> {
     match ask {
         Ask::Drawn => session.ask(thread),
         Ask::Given(bit) => session.ask_with(thread, bit),
@@ -73,7 +73,7 @@ fn answers(session: &mut Session, rows: &[Row]) -> bool {
             return false;
         }
     }
-    matches!(session.next_print(1), Err(AskFault::NoThread))
+    matches!(session.next_print(1), Err(AskError::NoThread))
 }
 
 /// Returns whether a session of the loop has these results, within these calls and with this seed.
@@ -101,7 +101,7 @@ fn calls_by_a_seed(rt: HostRuntime) -> Result<(), Fail> {
 fn wants_threads(alloc: Global) -> Result<bool, Fail> {
     let code = code_of(alloc, LOOP)?;
     let refused = Setup::new(alloc, &code, &[], &[], 1, 10, None).err();
-    Ok(refused == Some(SetupFault::Threads))
+    Ok(refused == Some(SetupError::Threads))
 }
 
 #[test]

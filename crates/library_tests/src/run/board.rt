@@ -8,7 +8,7 @@ ghost use Rattle.bp_machine.specs.Setups.{threads, Fits};
 use crate::common::mains;
 use bp_code::Code;
 use bp_machine::Setup;
-use bp_run::Kit;
+use bp_run::BoardParts;
 use bp_run::limits::MAX_RING;
 use std::alloc::Global;
 use std::test::Fail;
@@ -34,13 +34,13 @@ fn setup_of(
     Ok(Setup::new(alloc, code, &entries, &[], contexts, calls, Some(42))?)
 }
 
-/// Returns a kit for the threads of the setup.
-fn kit_of(alloc: Global, setup: &Setup, ring: u32) -> Result<Kit, Fail>
+/// Returns parts for the threads of the setup.
+fn board_parts_of(alloc: Global, setup: &Setup, ring: u32) -> Result<BoardParts, Fail>
     ensures { IfOk result (λ k. k.threads ≡ threads setup.now) }
 {
     setup.is_in_range();
     if ring == 0 || ring > MAX_RING {
         return Err(Fail::from("no ring"));
     }
-    Ok(Kit::new(alloc, setup.threads(), ring)?)
+    Ok(BoardParts::new(alloc, setup.threads(), ring)?)
 }

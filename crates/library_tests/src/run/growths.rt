@@ -1,4 +1,4 @@
 //! Boards, desks and workers if memory is refused.
 pub(crate) mod boards;
-mod held;
 mod no_memory;
+mod refused_workers;

@@ -1,6 +1,6 @@
 //! Runs of small programs by real threads, with gates and writers that wait. `.ci/runs` and cases
 //! of the command `run` show traces.
-mod failing;
+mod failures;
 mod meetings;
 mod notes;
 mod traces;
@@ -8,7 +8,7 @@ mod waits;
 
 use crate::common::mains;
 use bp_machine::Start;
-use bp_run::{Gate, RunFault, RunOptions, RunReport, run};
+use bp_run::{Gate, RunError, RunOptions, RunReport, run};
 use std::alloc::{AllocError, Global};
 use std::io::Write;
 use std::sync::Wait;
@@ -62,7 +62,7 @@ fn runs<W: Write, G: Gate, R: Threads + Wait + Clock + Sync>(
     numbers: Numbers,
     gate: &G,
     out: &mut W,
-) -> Result<RunReport, RunFault> {
+) -> Result<RunReport, RunError> {
     let options = options(alloc, numbers)?;
     run(rt, alloc, text, &options, gate, out)
 }
@@ -77,7 +77,7 @@ fn calls<W: Write, G: Gate, R: Threads + Wait + Clock + Sync>(
     out: &mut W,
 ) -> Option<u64> {
     let done = runs(rt, alloc, text, numbers, gate, out).ok()?;
-    (done.report.left_open == 0).then_some(done.report.calls)
+    (done.report.left_live == 0).then_some(done.report.calls)
 }
 
 /// Returns the threads of the calls of a trace, in order, each as its digit. There are at most ten.

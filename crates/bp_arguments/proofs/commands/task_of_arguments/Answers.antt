@@ -1,6 +1,6 @@
 use Rattle.bp_arguments.proofs.Common.{◌∙◌, subst, sym, rules, map, string_bytes, IsOurs}
 use Rattle.bp_arguments.proofs.NoHelpEntered.{named_ours}
-use Rattle.bp_arguments.proofs.ArgumentFaults.{cleared, named, refused, misused, fine_faulty}
+use Rattle.bp_arguments.proofs.ArgumentErrors.{cleared, named, refused, misused, fine_erroneous}
 use Rattle.bp_arguments.proofs.commands.task_of_arguments.Goals as goal
 
 pub returns-in_err-matches-clause-refusal : goal.returns-in_err-matches-clause-refusal
@@ -30,4 +30,4 @@ returns-clause-refusal c =
     let arguments = map string_bytes c.args.arguments.now in
     let clean = cleared _ arguments c.in_ok-command.ensures c.in_ok-matches.ensures.kinds in
     let name = named _ arguments c.in_ok-command.ensures c.in_ok-matches.matches c.in_ok-matches.ensures.matches in
-    fine_faulty arguments _ clean name (sym c.misuse_of.ensures ∙ c.in_default.is)
+    fine_erroneous arguments _ clean name (sym c.misuse_of.ensures ∙ c.in_default.is)

@@ -1,4 +1,4 @@
-use Rattle.bp_code.proofs.FaultsOfParts.{jump_anywhere, sides_anywhere, call_anywhere, ok_then}
+use Rattle.bp_code.proofs.ErrorsOfParts.{jump_anywhere, sides_anywhere, call_anywhere, ok_then}
 use Rattle.bp_code.proofs.forms.misuse.Goals as goal
 
 pub returns-in-Assign : goal.returns-in-Assign

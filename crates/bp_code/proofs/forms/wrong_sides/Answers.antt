@@ -1,5 +1,5 @@
 use Rattle.bp_code.proofs.Common.{map, expression_of}
-use Rattle.bp_code.proofs.FaultsOfParts.{both_sides}
+use Rattle.bp_code.proofs.ErrorsOfParts.{both_sides}
 use Rattle.bp_code.proofs.forms.wrong_sides.Goals as goal
 
 pub returns : goal.returns

@@ -8,11 +8,11 @@ note-overflow_cast-len t c = search (rules, inner_length, length-append)
 pub note-returns-clause-sizes : goal.note-returns-clause-sizes
 note-returns-clause-sizes t c = search (rules, regrouped, length-append, inner_length, set_at)
 
-pub note_block-note-requires : goal.note_block-note-requires
-note_block-note-requires t c = search (rules, item_depth, block_item)
+pub record_block-note-requires : goal.record_block-note-requires
+record_block-note-requires t c = search (rules, item_depth, block_item)
 
-pub note_block-loop-stmt-preserved : goal.note_block-loop-stmt-preserved
-note_block-loop-stmt-preserved t c =
+pub record_block-loop-stmt-preserved : goal.record_block-loop-stmt-preserved
+record_block-loop-stmt-preserved t c =
     let stmts = c.args.stmts.now in
     let i = c.loop-stmt.stmt-index in
     let s = c.stmt-item.result in
@@ -32,8 +32,8 @@ note_block-loop-stmt-preserved t c =
           (index_in c.loop-stmt.labels x) (index_in c.note.new.labels x) _ (noted.labels x) moved (c.loop-stmt.invariant.labels x);
     }
 
-pub note_inside-note_block-requires : goal.note_inside-note_block-requires
-note_inside-note_block-requires t c =
+pub record_inside-record_block-requires : goal.record_inside-record_block-requires
+record_inside-record_block-requires t c =
     let deep = ap (λ f. statement_depth (statement_of f)) c.in-If.is in
     let many = ap (λ f. size (statement_of f)) c.in-If.is in
     let part = ap depth c.as_slice.ensures in
@@ -41,11 +41,11 @@ note_inside-note_block-requires t c =
     let room = c.requires in
     (omega arith, omega arith)
 
-pub note_inside-note_block-requires-in-If : goal.note_inside-note_block-requires-in-If
-note_inside-note_block-requires-in-If t c = search (rules, length-append, sizes_length)
+pub record_inside-record_block-requires-in-If : goal.record_inside-record_block-requires-in-If
+record_inside-record_block-requires-in-If t c = search (rules, length-append, sizes_length)
 
-pub note_inside-note_block-requires-in-While : goal.note_inside-note_block-requires-in-While
-note_inside-note_block-requires-in-While t c =
+pub record_inside-record_block-requires-in-While : goal.record_inside-record_block-requires-in-While
+record_inside-record_block-requires-in-While t c =
     let deep = ap (λ f. statement_depth (statement_of f)) c.in-While.is in
     let many = ap (λ f. size (statement_of f)) c.in-While.is in
     let part = ap depth c.as_slice-in-While.ensures in
@@ -53,19 +53,19 @@ note_inside-note_block-requires-in-While t c =
     let room = c.requires in
     (omega arith, omega arith)
 
-pub note_inside-returns-in_ok-note_block-in-If-clause-labels :
-    goal.note_inside-returns-in_ok-note_block-in-If-clause-labels
-note_inside-returns-in_ok-note_block-in-If-clause-labels t c =
-    let noted = rw c.as_slice.ensures at c.in_ok-note_block-in-If.ensures in
-    let others = rw c.as_slice-in-If.ensures at c.note_block-in-If.ensures.labels in
+pub record_inside-returns-in_ok-record_block-in-If-clause-labels :
+    goal.record_inside-returns-in_ok-record_block-in-If-clause-labels
+record_inside-returns-in_ok-record_block-in-If-clause-labels t c =
+    let noted = rw c.as_slice.ensures at c.in_ok-record_block-in-If.ensures in
+    let others = rw c.as_slice-in-If.ensures at c.record_block-in-If.ensures.labels in
     let long = ap length noted.sizes in
     let counts = length-append c.args.sizes.now.items (block_sizes c.in-If.a) in
     let one = sizes_length c.in-If.a in
-    on_ok_weaker c.note_block-in-If.result (λ labels number x e.
-    let second : number + 1 + block_size c.in-If.a ≡ c.args.start + length c.note_block.new.sizes.items = omega arith in
+    on_ok_weaker c.record_block-in-If.result (λ labels number x e.
+    let second : number + 1 + block_size c.in-If.a ≡ c.args.start + length c.record_block.new.sizes.items = omega arith in
     rw c.in-If.is
     (labels_of_both (decision_of c.in-If.field-0) c.in-If.a c.in-If.b x number _ _ (index_in c.args.labels.now x)
-    (index_in c.note_block.new.labels x) (index_in c.note_block-in-If.new.labels x)
+    (index_in c.record_block.new.labels x) (index_in c.record_block-in-If.new.labels x)
     e second (noted.labels x) (labels x))) others
 
 pub note-returns-clause-labels : goal.note-returns-clause-labels
@@ -77,5 +77,5 @@ note-index_mut-requires t c = grind (arith, common_steps)
 pub note-overflow_sub-len : goal.note-overflow_sub-len
 note-overflow_sub-len t c = grind (arith, common_steps)
 
-pub note_block-returns : goal.note_block-returns
-note_block-returns t c = grind (arith, common_steps)
+pub record_block-returns : goal.record_block-returns
+record_block-returns t c = grind (arith, common_steps)

@@ -1,5 +1,5 @@
 use Rattle.bp_code.proofs.Common.{common_steps, arith, rules, all_labelled}
-use Rattle.bp_code.proofs.FaultsOfParts.{collect_more, inside_depth}
+use Rattle.bp_code.proofs.ErrorsOfParts.{collect_more, inside_depth}
 use Rattle.bp_code.proofs.procedures.+collect.Goals as goal
 
 pub collect-collect_inside-requires : goal.collect-collect_inside-requires

@@ -1,5 +1,5 @@
 use Rattle.bp_code.proofs.Common.{sym, ◌∙◌, length, append-nil, Program, drop_item, dropped_all}
-use Rattle.bp_code.proofs.LawfulIsCompilable.{all_few, all_known}
+use Rattle.bp_code.proofs.WellFormedIsCompilable.{all_few, all_known}
 use Rattle.bp_code.proofs.ListingLines.{names_of_headings}
 use Rattle.bp_code.proofs.CompiledStandsFor.{flat_stands}
 use Rattle.bp_code.proofs.programs.compile_program.Goals as goal
@@ -25,4 +25,4 @@ new-requires c =
     let all = rw (dropped_all c.args.procs.now c.loop-proc.proc-index c.loop-proc-test.false) at c.loop-proc.invariant.code in
     let code = sym (append-nil c.loop-proc.instrs.items) ∙ all in
     rw (c.in_ok-headings.ensures, code, c.requires.parts)
-    (record { lawful = c.requires.lawful; of_text = c.requires.of_text; stands = flat_stands t c.requires.able })
+    (record { well_formed = c.requires.well_formed; of_text = c.requires.of_text; stands = flat_stands t c.requires.able })

@@ -15,7 +15,7 @@ returns-in_err-setup-2-clause-answer c =
     let why = subst (λ s. IsSetupRefusal t (setup_from s None t) f) start c.in_err-setup-2.ensures.answer in
     rw (p.1, p.2) (inr (inr (inl (record {
       program = t;
-      of = record { lawful = c.in_ok-code.ensures; known = rw c.checked-checked.ensures at c.in_default.ensures };
+      of = record { well_formed = c.in_ok-code.ensures; known = rw c.checked-checked.ensures at c.in_default.ensures };
       cause = f;
       why = why;
       is = refl;

@@ -3,7 +3,7 @@ use Rattle.bp_confirm.proofs.OneConfirmed.{decided, plain_confirmed, table_is, t
 use Rattle.bp_confirm.proofs.histories.confirm_lines.Goals as goal
 
 pub returns-then-not-zeroed-clause-confirmed : goal.returns-then-not-zeroed-clause-confirmed
-returns-then-not-zeroed-clause-confirmed c = λ lawful.
+returns-then-not-zeroed-clause-confirmed c = λ well_formed.
     let t = c.args.code.now.tree in
     let s = c.args.setup.now in
     let text = c.args.text.now in
@@ -25,7 +25,7 @@ pub returns-then-not-is_deadlocked-clause-answer : goal.returns-then-not-is_dead
 returns-then-not-is_deadlocked-clause-answer c = search (rules, taken_by_zeros)
 
 pub returns-then-not-is_deadlocked-clause-confirmed : goal.returns-then-not-is_deadlocked-clause-confirmed
-returns-then-not-is_deadlocked-clause-confirmed c = λ lawful.
+returns-then-not-is_deadlocked-clause-confirmed c = λ well_formed.
     let t = c.args.code.now.tree in
     let text = c.args.text.now in
     let are = c.as_slice-points.ensures.value ∙ c.in_ok-points.ensures ∙ ap (source_points_of c.args.text.now) c.checked.ensures in
@@ -64,7 +64,7 @@ returns-clause-answer c =
     (record { last = _; followed = followed; by_zeros = λ none. absurd (none dead) })
 
 pub returns-clause-confirmed : goal.returns-clause-confirmed
-returns-clause-confirmed c = λ lawful.
+returns-clause-confirmed c = λ well_formed.
     let t = c.args.code.now.tree in
     let text = c.args.text.now in
     let are = c.as_slice-points.ensures.value ∙ c.in_ok-points.ensures ∙ ap (source_points_of c.args.text.now) c.checked.ensures in

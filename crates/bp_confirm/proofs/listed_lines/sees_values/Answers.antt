@@ -4,5 +4,5 @@ use Rattle.bp_confirm.proofs.listed_lines.sees_values.Goals as goal
 
 pub returns : goal.returns
 returns c = λ text now i are shown.
-    seen_or_not now i c.first_unseen.result (values_in c.args.values.now) (λ r. r.place) (λ r. r.seen) c.is_none.result c.is_none.ensures
-    (c.first_unseen.ensures.first text now i are shown)
+    seen_or_not now i c.first_mismatch.result (values_in c.args.values.now) (λ r. r.place) (λ r. r.seen) c.is_none.result c.is_none.ensures
+    (c.first_mismatch.ensures.first text now i are shown)

@@ -1,5 +1,5 @@
 use Rattle.std.proofs.Common.{sym, subst, ◌∙◌}
-use Rattle.bp_trace.specs.Reading.{IsHeadRefusal}
+use Rattle.bp_trace.specs.Readings.{IsHeadRefusal}
 use Rattle.bp_trace.proofs.HeadsRead.{no_break, one_head}
 use Rattle.bp_explain.proofs.heads.head_of.Goals as goal
 

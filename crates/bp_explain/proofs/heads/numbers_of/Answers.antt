@@ -2,7 +2,7 @@ use Rattle.std.proofs.Common.{◌≡◌, length, nat_lt, rules, sym, ap, ◌∙�
 use Rattle.std.proofs.lemmas.List.{length-map}
 use Rattle.bp_machine.specs.Setups.{threads}
 use Rattle.bp_machine.specs.declared.limits.TheConstants.{MAX_CONTEXTS}
-use Rattle.bp_trace.specs.Reading.{setup_of_head}
+use Rattle.bp_trace.specs.Readings.{setup_of_head}
 use Rattle.bp_explain.proofs.heads.numbers_of.Goals as goal
 
 pub returns-in-Some-clause-threads : goal.returns-in-Some-clause-threads

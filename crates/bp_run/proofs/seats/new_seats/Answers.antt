@@ -12,8 +12,8 @@ pub loop-thread-preserved : goal.loop-thread-preserved
 loop-thread-preserved g c = record {
   made_parts = omega (arith, c.loop-thread.invariant.made_parts, c.split_off.ensures.parts_left);
   made = omega (arith, c.loop-thread.invariant.made, c.split_off.ensures.amount_left);
-  line_parts = omega (arith, c.loop-thread.invariant.line_parts, c.split_off-in-loop-thread.ensures.parts_left);
-  lines = omega (arith, c.loop-thread.invariant.lines, c.split_off-in-loop-thread.ensures.parts_left, c.split_off-in-loop-thread.ensures.amount_left);
+  live_parts = omega (arith, c.loop-thread.invariant.live_parts, c.split_off-in-loop-thread.ensures.parts_left);
+  live = omega (arith, c.loop-thread.invariant.live, c.split_off-in-loop-thread.ensures.parts_left, c.split_off-in-loop-thread.ensures.amount_left);
   count = search rules;
   seats = seat_pushed g c;
 }

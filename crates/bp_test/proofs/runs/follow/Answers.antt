@@ -1,7 +1,7 @@
 use Rattle.bp_test.proofs.Common.{◌≡◌, [], rules, refl, ap, ◌∙◌, sym, subst, Stands, no_call, IsKey, has_refusal, place_of, IsReachedByCall, MarksGrow}
 use Rattle.bp_test.specs.declared.runs.TheConstants.{FIRST_KEY}
 use Rattle.bp_test.proofs.TallyLemmas.{key_of_call}
-use Rattle.bp_test.proofs.Playing.{smaller, refusal_of_call}
+use Rattle.bp_test.proofs.Plays.{smaller, refusal_of_call}
 use Rattle.bp_test.proofs.ReachedPlaces.{marks_of_call, none_by_call}
 use Rattle.bp_test.proofs.runs.follow.Goals as goal
 

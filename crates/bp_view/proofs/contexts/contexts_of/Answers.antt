@@ -1,6 +1,6 @@
 use Rattle.bp_view.proofs.Common.{◌≡◌, ◌∙◌, ◌++◌, ap, length, refl, rules, subst, sym, vec_len, IsPlayable, AreSpans, AreContextLines}
 use Rattle.bp_machine.proofs.SetupInRange.{fits}
-use Rattle.bp_view.proofs.Growing.{held}
+use Rattle.bp_view.proofs.Growth.{held}
 use Rattle.bp_view.proofs.ViewableContexts.{all_contexts}
 use Rattle.bp_view.proofs.contexts.contexts_of.Goals as goal
 

@@ -1,5 +1,5 @@
 use Rattle.bp_view.proofs.Common.{◌∙◌, List, map, ap, refl, Change, entry_of, context_in}
-use Rattle.bp_view.proofs.Growing.{gains}
+use Rattle.bp_view.proofs.Growth.{gains}
 use Rattle.bp_view.proofs.contexts.push_context.Goals as goal
 
 pub returns : goal.returns

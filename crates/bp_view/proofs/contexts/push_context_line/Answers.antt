@@ -1,4 +1,4 @@
-use Rattle.bp_view.proofs.Growing.{and_then, led_note}
+use Rattle.bp_view.proofs.Growth.{and_then, led_note}
 use Rattle.bp_view.proofs.contexts.push_context_line.Goals as goal
 
 pub returns : goal.returns

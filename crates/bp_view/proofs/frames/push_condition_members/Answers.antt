@@ -1,4 +1,4 @@
-use Rattle.bp_view.proofs.Growing.{ends, listed}
+use Rattle.bp_view.proofs.Growth.{ends, listed}
 use Rattle.bp_view.proofs.frames.push_condition_members.Goals as goal
 
 pub returns : goal.returns

@@ -1,6 +1,6 @@
 use Rattle.bp_view.proofs.Common.{Some, flat_map-append, bits_of}
 use Rattle.bp_view.proofs.ChangedEntries.{from_first, values_both}
-use Rattle.bp_view.proofs.Growing.{and_then}
+use Rattle.bp_view.proofs.Growth.{and_then}
 use Rattle.bp_view.proofs.frames.push_locals.Goals as goal
 
 pub returns : goal.returns

@@ -1,6 +1,6 @@
 use Rattle.bp_view.proofs.Common.{◌≡◌, ◌++◌, ◌-◌, length, length-append, ap, arith, at_left, facts_in, indented}
 use Rattle.bp_view.proofs.ShownLines.{place_length}
-use Rattle.bp_view.proofs.Growing.{and_then, ends, regroup_pair}
+use Rattle.bp_view.proofs.Growth.{and_then, ends, regroup_pair}
 use Rattle.bp_view.proofs.lines.push_call.Goals as goal
 
 pub returns : goal.returns

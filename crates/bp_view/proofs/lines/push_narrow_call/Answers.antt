@@ -1,5 +1,5 @@
 use Rattle.bp_view.proofs.Common.{◌≡◌, ◌∙◌, ◌-◌, ◌++◌, [], ◌∷◌, length, length-append, ap, arith, concat, at_left, regrouped, facts_in, field_texts, note_text, standing_text, shortened}
-use Rattle.bp_view.proofs.Growing.{held}
+use Rattle.bp_view.proofs.Growth.{held}
 use Rattle.bp_view.proofs.lines.push_narrow_call.Goals as goal
 
 pub returns : goal.returns

@@ -1,5 +1,5 @@
 use Rattle.bp_view.proofs.Common.{min, rules, nil_from_length, nat_tests}
-use Rattle.bp_view.proofs.Growing.{nothing}
+use Rattle.bp_view.proofs.Growth.{nothing}
 use Rattle.bp_view.proofs.ShownLines.{statement_is}
 use Rattle.bp_view.proofs.lines.push_statement.Goals as goal
 

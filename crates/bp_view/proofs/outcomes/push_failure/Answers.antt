@@ -1,4 +1,4 @@
-use Rattle.bp_view.proofs.Growing.{ends}
+use Rattle.bp_view.proofs.Growth.{ends}
 use Rattle.bp_view.proofs.outcomes.push_failure.Goals as goal
 
 pub returns-in-Columns : goal.returns-in-Columns

@@ -1,6 +1,6 @@
 use Rattle.bp_view.proofs.Common.{condition_in}
 use Rattle.bp_view.proofs.BegunViews.{copied}
-use Rattle.bp_view.proofs.Growing.{and_then, listed}
+use Rattle.bp_view.proofs.Growth.{and_then, listed}
 use Rattle.bp_view.proofs.outcomes.push_foot_object.Goals as goal
 
 pub returns : goal.returns

@@ -1,5 +1,5 @@
 use Rattle.bp_view.proofs.Common.{refl, foot_in}
-use Rattle.bp_view.proofs.Growing.{gains}
+use Rattle.bp_view.proofs.Growth.{gains}
 use Rattle.bp_view.proofs.outcomes.push_foot_of.Goals as goal
 
 pub returns : goal.returns

@@ -1,4 +1,4 @@
-use Rattle.bp_view.proofs.Growing.{and_then}
+use Rattle.bp_view.proofs.Growth.{and_then}
 use Rattle.bp_view.proofs.setup_lines.push_head_lines.Goals as goal
 
 pub returns : goal.returns

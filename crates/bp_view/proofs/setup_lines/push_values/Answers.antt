@@ -1,6 +1,6 @@
 use Rattle.bp_view.proofs.Common.{◌≡◌, ◌∙◌, ◌<◌, None, length, get_or, ap, add-one, arith, flat_map-append}
 use Rattle.bp_view.proofs.ChangedEntries.{bound_more}
-use Rattle.bp_view.proofs.Growing.{and_then, ends}
+use Rattle.bp_view.proofs.Growth.{and_then, ends}
 use Rattle.bp_view.proofs.setup_lines.push_values.Goals as goal
 
 pub loop-n-preserved : goal.loop-n-preserved

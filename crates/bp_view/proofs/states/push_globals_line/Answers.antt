@@ -1,6 +1,6 @@
 use Rattle.bp_view.proofs.Common.{common_steps, ◌≡◌, ◌++◌, ◌<◌, List, [], ◌∷◌, None, length, codes, refl, arith, Name, Bits, valuation_of, Columns, globals_line, variables_text}
 use Rattle.bp_view.proofs.ChangedEntries.{from_first}
-use Rattle.bp_view.proofs.Growing.{and_then}
+use Rattle.bp_view.proofs.Growth.{and_then}
 use Rattle.bp_view.proofs.states.push_globals_line.Goals as goal
 
 line_of_some : (xs : List Name) (bits : Bits) → 0 < length xs

@@ -1,4 +1,4 @@
-use Rattle.bp_view.proofs.Growing.{and_then, ends}
+use Rattle.bp_view.proofs.Growth.{and_then, ends}
 use Rattle.bp_view.proofs.states.push_state_lines.Goals as goal
 
 pub returns : goal.returns

@@ -1,6 +1,6 @@
 use Rattle.bp_view.proofs.Common.{bits_of}
 use Rattle.bp_view.proofs.ChangedEntries.{from_first}
-use Rattle.bp_view.proofs.Growing.{and_then, listed}
+use Rattle.bp_view.proofs.Growth.{and_then, listed}
 use Rattle.bp_view.proofs.states.push_state_object.Goals as goal
 
 pub returns : goal.returns

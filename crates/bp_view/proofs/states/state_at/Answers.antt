@@ -1,5 +1,5 @@
 use Rattle.bp_view.proofs.Common.{◌∙◌, ap, length, refl, subst, sym, take, take_min, Stands, IsStateText}
-use Rattle.bp_view.proofs.Growing.{gained}
+use Rattle.bp_view.proofs.Growth.{gained}
 use Rattle.bp_view.proofs.states.state_at.Goals as goal
 
 pub returns-in_default : goal.returns-in_default

@@ -1,4 +1,4 @@
-use Rattle.bp_view.proofs.Growing.{nothing}
+use Rattle.bp_view.proofs.Growth.{nothing}
 use Rattle.bp_view.proofs.variables.push_members.Goals as goal
 
 pub returns : goal.returns

@@ -1,6 +1,6 @@
 use Rattle.bp_view.proofs.Common.{◌≡◌, ◌∙◌, ◌+◌, ◌<◌, length, get_or, ap, add-one, arith, option_map, flat_map-append, bits_of, Bits}
 use Rattle.bp_view.proofs.ChangedEntries.{values_more}
-use Rattle.bp_view.proofs.Growing.{and_then, ends}
+use Rattle.bp_view.proofs.Growth.{and_then, ends}
 use Rattle.bp_view.proofs.variables.push_values.Goals as goal
 
 pub loop-n-preserved : goal.loop-n-preserved

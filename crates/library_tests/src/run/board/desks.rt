@@ -4,12 +4,12 @@ ghost use Rattle.std.specs.Prelude.{◌≡◌, true, is_some};
 ghost use Rattle.bp_machine.specs.Setups.{threads, Fits};
 ghost use Rattle.bp_run.specs.Desks.{IsNamed};
 
-use super::{LOOP, WAIT, kit_of, setup_of};
+use super::{LOOP, WAIT, board_parts_of, setup_of};
 use crate::common::code_of;
 use bp_code::Code;
-use bp_machine::{AskFault, Call, Reply, Setup};
+use bp_machine::{AskError, Call, Reply, Setup};
 use bp_run::limits::MAX_TURN;
-use bp_run::{Calls, Desk, Kit, Seat, Tap};
+use bp_run::{BoardParts, Calls, Desk, Seat, Tap};
 use std::alloc::Global;
 use std::marker::Brand;
 use std::sync::ledger::Ledger;
@@ -30,7 +30,7 @@ enum Ask {
 #[derive(Clone, Copy)]
 enum Act {
     /// The seat asks: the result, and its number of calls.
-    Ask(Ask, Result<Reply, AskFault>, u64),
+    Ask(Ask, Result<Reply, AskError>, u64),
     /// A look at the tap: the call that it gives.
     Take(Option<Call>),
 }
@@ -46,7 +46,7 @@ const FIRST: Option<Call> = Some(Call {
 const TURNS: [Act; 3] = [
     Act::Ask(Ask::Three, Ok(Reply::Stepped), 3),
     Act::Ask(Ask::Most, Ok(Reply::Ended), 9),
-    Act::Ask(Ask::Three, Err(AskFault::Finished), 9),
+    Act::Ask(Ask::Three, Err(AskError::Terminated), 9),
 ];
 
 /// Single calls, if four are allowed.
@@ -55,25 +55,25 @@ const CALLS: [Act; 6] = [
     Act::Ask(Ask::Call, Ok(Reply::Stepped), 2),
     Act::Ask(Ask::Call, Ok(Reply::Stepped), 3),
     Act::Ask(Ask::Call, Ok(Reply::Stepped), 4),
-    Act::Ask(Ask::Call, Err(AskFault::Finished), 4),
+    Act::Ask(Ask::Call, Err(AskError::Terminated), 4),
     Act::Take(FIRST),
 ];
 
 /// Turns and calls, if the ring has four places.
 const BUSY: [Act; 7] = [
-    Act::Ask(Ask::Most, Err(AskFault::Busy), 4),
-    Act::Ask(Ask::Call, Err(AskFault::Busy), 4),
+    Act::Ask(Ask::Most, Err(AskError::Busy), 4),
+    Act::Ask(Ask::Call, Err(AskError::Busy), 4),
     Act::Take(FIRST),
     Act::Ask(Ask::Call, Ok(Reply::Stepped), 5),
     Act::Take(FIRST),
-    Act::Ask(Ask::Three, Err(AskFault::Busy), 6),
+    Act::Ask(Ask::Three, Err(AskError::Busy), 6),
     Act::Take(FIRST),
 ];
 
 /// A turn if two calls are allowed, and looks at the tap until it is empty.
 const FEW: [Act; 5] = [
     Act::Ask(Ask::Most, Ok(Reply::Stepped), 2),
-    Act::Ask(Ask::Three, Err(AskFault::Finished), 2),
+    Act::Ask(Ask::Three, Err(AskError::Terminated), 2),
     Act::Take(FIRST),
     Act::Take(FIRST),
     Act::Take(None),
@@ -84,7 +84,7 @@ const WAITS: [Act; 4] = [
     Act::Ask(Ask::Most, Ok(Reply::Blocked), 1),
     Act::Ask(Ask::Most, Ok(Reply::Blocked), 2),
     Act::Ask(Ask::Most, Ok(Reply::Blocked), 3),
-    Act::Ask(Ask::Most, Err(AskFault::Finished), 3),
+    Act::Ask(Ask::Most, Err(AskError::Terminated), 3),
 ];
 
 /// Returns the result of the desk.
@@ -92,7 +92,7 @@ fn turn<C: Calls, O: Ledger>(
     desk: &mut Desk<C, O>,
     seat: &mut Seat<C, O>,
     ask: Ask,
-) -> Result<Reply, AskFault> {
+) -> Result<Reply, AskError> {
     match ask {
         Ask::Call => desk.ask(seat),
         Ask::Three => desk.turn(seat, 3),
@@ -120,22 +120,22 @@ fn is_seen<C: Calls, O: Ledger>(
     true
 }
 
-/// Returns whether they do at a desk of this kit.
+/// Returns whether they do at a desk of these parts.
 fn is_seen_at<C: Calls, O: Ledger>(
     alloc: Global,
-    kit: Kit,
+    board_parts: BoardParts,
     code: &Code,
     setup: &Setup,
     acts: &[Act],
 ) -> Result<bool, Fail>
-    requires named { IsNamed kit C.name C.parts O.name O.parts C.ring }
+    requires named { IsNamed board_parts C.name C.parts O.name O.parts C.ring }
     requires code { code.now ≡ C.code }
     requires setup { setup.now ≡ C.setup }
-    requires threads { kit.threads ≡ threads setup.now }
+    requires threads { board_parts.threads ≡ threads setup.now }
     requires fits { Fits code.now.tree setup.now }
     requires seeded { is_some setup.now.seed ≡ true }
 {
-    let (mut desk, mut seats, mut tap) = Desk::<C, O>::open(alloc, kit, code, setup)?;
+    let (mut desk, mut seats, mut tap) = Desk::<C, O>::open(alloc, board_parts, code, setup)?;
     match seats.get_mut(0) {
         Some(seat) => Ok(is_seen(&mut desk, seat, &mut tap, acts)),
         None => Ok(false),
@@ -146,8 +146,8 @@ fn is_seen_at<C: Calls, O: Ledger>(
 fn plays(alloc: Global, text: &[u8], calls: u32, ring: u32, acts: &[Act]) -> Result<bool, Fail> {
     let code = code_of(alloc, text)?;
     let setup = setup_of(alloc, &code, 1, 1, calls)?;
-    let kit = kit_of(alloc, &setup, ring)?;
-    is_seen_at::<Brand, Brand>(alloc, kit, &code, &setup, acts)
+    let board_parts = board_parts_of(alloc, &setup, ring)?;
+    is_seen_at::<Brand, Brand>(alloc, board_parts, &code, &setup, acts)
 }
 
 #[test]

@@ -5,12 +5,12 @@ ghost use Rattle.bp_machine.specs.Setups.{threads, Fits};
 ghost use Rattle.bp_run.specs.Desks.{IsNamed};
 ghost use Rattle.bp_run.specs.Gatherings.{AreOnePerThread};
 
-use super::{LOOP, WAIT, kit_of, setup_of};
+use super::{LOOP, WAIT, board_parts_of, setup_of};
 use crate::common::code_of;
 use bp_code::Code;
-use bp_machine::{AskFault, Call, Outcome, Reply, Report, Setup};
+use bp_machine::{AskError, Call, Outcome, Reply, Report, Setup};
 use bp_run::limits::MAX_TURN;
-use bp_run::{Board, Calls, Kit, Seat, Tap, gather};
+use bp_run::{Board, BoardParts, Calls, Seat, Tap, gather};
 use std::alloc::Global;
 use std::marker::Brand;
 use std::rt::Runtime;
@@ -19,7 +19,7 @@ use std::sync::ledger::Ledger;
 use std::test::Fail;
 
 /// The calls that a turn may make, and its result.
-type Turn = (u32, Result<Reply, AskFault>);
+type Turn = (u32, Result<Reply, AskError>);
 
 /// Turns of the only thread of a program, and the result of gathering the board after them.
 #[derive(Clone, Copy)]
@@ -45,7 +45,7 @@ const LOOP_BY_TURNS: Play = Play {
     turns: &[
         (3, Ok(Reply::Stepped)),
         (64, Ok(Reply::Ended)),
-        (1, Err(AskFault::Finished)),
+        (1, Err(AskError::Terminated)),
     ],
     taken: 0,
     history: b"1s1s1s0s1s1s0s1s0e",
@@ -68,7 +68,7 @@ const WAITS: Play = Play {
         (64, Ok(Reply::Blocked)),
         (64, Ok(Reply::Blocked)),
         (64, Ok(Reply::Blocked)),
-        (64, Err(AskFault::Finished)),
+        (64, Err(AskError::Terminated)),
     ],
     taken: 3,
     history: b"1b1b1b",
@@ -165,29 +165,29 @@ fn is_gathered<C: Calls, O: Ledger>(
     let report = Report {
         outcome: play.used.1,
         calls: (play.history.len() / 2) as u64,
-        left_open: 0,
+        left_live: 0,
         contexts: play.used.0,
     };
     gathered.report == report && gives(&mut gathered.tap, left) && gathered.tap.next().is_none()
 }
 
-/// Returns whether a play comes out at a board of this kit.
+/// Returns whether a play comes out at a board of these parts.
 fn is_played_at<C: Calls, O: Ledger, R: Wait + Runtime>(
     rt: &R,
     alloc: Global,
-    kit: Kit,
+    board_parts: BoardParts,
     code: &Code,
     setup: &Setup,
     play: Play,
 ) -> Result<bool, Fail>
-    requires named { IsNamed kit C.name C.parts O.name O.parts C.ring }
+    requires named { IsNamed board_parts C.name C.parts O.name O.parts C.ring }
     requires code { code.now ≡ C.code }
     requires setup { setup.now ≡ C.setup }
-    requires threads { kit.threads ≡ threads setup.now }
+    requires threads { board_parts.threads ≡ threads setup.now }
     requires fits { Fits code.now.tree setup.now }
     requires seeded { is_some setup.now.seed ≡ true }
 {
-    let (board, mut seats, tap) = Board::<C, O>::open(alloc, kit, code, setup)?;
+    let (board, mut seats, tap) = Board::<C, O>::open(alloc, board_parts, code, setup)?;
     let Some(mut seat) = seats.pop() else {
         return Ok(false);
     };
@@ -204,8 +204,8 @@ fn is_played_at<C: Calls, O: Ledger, R: Wait + Runtime>(
 fn is_played<R: Wait + Runtime>(rt: &R, alloc: Global, play: Play) -> Result<bool, Fail> {
     let code = code_of(alloc, play.text)?;
     let setup = setup_of(alloc, &code, 1, play.bounds.0, play.bounds.1)?;
-    let kit = kit_of(alloc, &setup, play.ring)?;
-    is_played_at::<Brand, Brand, R>(rt, alloc, kit, &code, &setup, play)
+    let board_parts = board_parts_of(alloc, &setup, play.ring)?;
+    is_played_at::<Brand, Brand, R>(rt, alloc, board_parts, &code, &setup, play)
 }
 
 #[test]

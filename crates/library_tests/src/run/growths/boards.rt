@@ -7,8 +7,8 @@ ghost use Rattle.bp_run.specs.Gatherings.{AreOnePerThread};
 use crate::common::code_of;
 use crate::ready::{begin, calls, setup, tell, wants};
 use bp_code::Code;
-use bp_machine::{AskFault, Session, Setup};
-use bp_run::{Board, Calls, Desk, Kit, Open, Seat, Signals, Tap, Unfinished, gather, work};
+use bp_machine::{AskError, Session, Setup};
+use bp_run::{Board, BoardParts, Calls, Desk, Open, Seat, Signals, Tap, Unfinished, gather, work};
 use std::alloc::{AllocError, Global};
 use std::marker::Brand;
 use std::rt::Runtime;
@@ -34,11 +34,11 @@ pub(crate) enum Way {
 }
 
 #[test]
-fn make_a_kit(rt: HostRuntime) -> Result<(), Fail> {
+fn make_board_parts(rt: HostRuntime) -> Result<(), Fail> {
     begin(&rt)?;
-    let is_refused = Kit::new(rt.alloc(), 3, 64).is_err();
+    let is_refused = BoardParts::new(rt.alloc(), 3, 64).is_err();
     tell(&rt, is_refused)?;
-    wants(!is_refused || Kit::new(rt.alloc(), 3, 64).is_ok())
+    wants(!is_refused || BoardParts::new(rt.alloc(), 3, 64).is_ok())
 }
 
 /// Returns whether a tap gives the first calls of thread 0 of a session, and nothing more.
@@ -64,7 +64,7 @@ fn play_at_desk<C: Calls, O: Ledger>(
             Way::Asks => desk.ask(seat),
             _ => desk.turn(seat, 3),
         };
-        was_refused = was_refused || answer == Err(AskFault::Memory);
+        was_refused = was_refused || answer == Err(AskError::Memory);
     }
     was_refused
 }
@@ -77,7 +77,7 @@ fn is_refused<C: Calls, O: Ledger, R: Wait + Runtime>(
     way: Way,
 ) -> bool {
     match way {
-        Way::BoardTurns => board.turn(rt, seat, 3) == Err(AskFault::Memory),
+        Way::BoardTurns => board.turn(rt, seat, 3) == Err(AskError::Memory),
         _ => work(rt, board, seat, 3, &Open, &Signals::new()) == Err(Unfinished::Memory),
     }
 }
@@ -125,29 +125,29 @@ fn gathers<C: Calls, O: Ledger, R: Wait + Runtime>(
     let mut gathered = gather(board, seats, tap);
     wants(was_turned && gathered.agree)?;
     let taken = (first, gathered.tap.next(), gathered.tap.next());
-    wants(gathered.report.calls == 2 && gathered.report.left_open == 2)?;
+    wants(gathered.report.calls == 2 && gathered.report.left_live == 2)?;
     wants(matches!(taken, (Some(first), Some(_), None) if first.thread == 1))
 }
 
-/// Makes the calls of thread 0 at a board of this kit, which have to be those of the session, or
+/// Makes the calls of thread 0 at a board of these parts, which have to be those of the session, or
 /// gathers the board.
 fn at_a_board<C: Calls, O: Ledger, R: Wait + Runtime>(
     rt: &R,
     alloc: Global,
-    kit: Kit,
+    board_parts: BoardParts,
     code: &Code,
     setup: &Setup,
     way: Way,
     session: &mut Session,
 ) -> Result<(), Fail>
-    requires named { IsNamed kit C.name C.parts O.name O.parts C.ring }
+    requires named { IsNamed board_parts C.name C.parts O.name O.parts C.ring }
     requires code { code.now ≡ C.code }
     requires setup { setup.now ≡ C.setup }
-    requires threads { kit.threads ≡ threads setup.now }
+    requires threads { board_parts.threads ≡ threads setup.now }
     requires fits { Fits code.now.tree setup.now }
     requires seeded { is_some setup.now.seed ≡ true }
 {
-    let (board, mut seats, mut tap) = Board::<C, O>::open(alloc, kit, code, setup)?;
+    let (board, mut seats, mut tap) = Board::<C, O>::open(alloc, board_parts, code, setup)?;
     if way == Way::Gathered {
         return gathers(rt, board, seats, tap);
     }
@@ -157,26 +157,27 @@ fn at_a_board<C: Calls, O: Ledger, R: Wait + Runtime>(
     }
 }
 
-/// Makes the calls of thread 0 at a desk of this kit, which have to be those of the session. The
+/// Makes the calls of thread 0 at a desk of these parts, which have to be those of the session. The
 /// desk itself may be refused.
 fn at_a_desk<C: Calls, O: Ledger, R: Runtime>(
     rt: &R,
     alloc: Global,
-    kit: Kit,
+    board_parts: BoardParts,
     code: &Code,
     setup: &Setup,
     way: Way,
     session: &mut Session,
 ) -> Result<(), Fail>
-    requires named { IsNamed kit C.name C.parts O.name O.parts C.ring }
+    requires named { IsNamed board_parts C.name C.parts O.name O.parts C.ring }
     requires code { code.now ≡ C.code }
     requires setup { setup.now ≡ C.setup }
-    requires threads { kit.threads ≡ threads setup.now }
+    requires threads { board_parts.threads ≡ threads setup.now }
     requires fits { Fits code.now.tree setup.now }
     requires seeded { is_some setup.now.seed ≡ true }
 {
     begin(rt)?;
-    let Ok((mut desk, mut seats, mut tap)) = Desk::<C, O>::open(alloc, kit, code, setup) else {
+    let Ok((mut desk, mut seats, mut tap)) = Desk::<C, O>::open(alloc, board_parts, code, setup)
+    else {
         return Ok(tell(rt, true)?);
     };
     let Some(seat) = seats.get_mut(0) else {
@@ -187,33 +188,38 @@ fn at_a_desk<C: Calls, O: Ledger, R: Runtime>(
     wants(gives_calls_of(&mut tap, session))
 }
 
-/// Returns whether a board of this kit is opened.
-fn is_opened<C: Calls, O: Ledger>(alloc: Global, kit: Kit, code: &Code, setup: &Setup) -> bool
-    requires named { IsNamed kit C.name C.parts O.name O.parts C.ring }
+/// Returns whether a board of these parts is opened.
+fn is_opened<C: Calls, O: Ledger>(
+    alloc: Global,
+    board_parts: BoardParts,
+    code: &Code,
+    setup: &Setup,
+) -> bool
+    requires named { IsNamed board_parts C.name C.parts O.name O.parts C.ring }
     requires code { code.now ≡ C.code }
     requires setup { setup.now ≡ C.setup }
-    requires threads { kit.threads ≡ threads setup.now }
+    requires threads { board_parts.threads ≡ threads setup.now }
     requires fits { Fits code.now.tree setup.now }
     requires seeded { is_some setup.now.seed ≡ true }
 {
-    Board::<C, O>::open(alloc, kit, code, setup).is_ok()
+    Board::<C, O>::open(alloc, board_parts, code, setup).is_ok()
 }
 
 /// Returns whether one is opened under names of its own.
-fn opens(alloc: Global, kit: Kit, code: &Code, setup: &Setup) -> bool
-    requires threads { kit.threads ≡ threads setup.now }
+fn opens(alloc: Global, board_parts: BoardParts, code: &Code, setup: &Setup) -> bool
+    requires threads { board_parts.threads ≡ threads setup.now }
     requires fits { Fits code.now.tree setup.now }
     requires seeded { is_some setup.now.seed ≡ true }
 {
-    is_opened::<Brand, Brand>(alloc, kit, code, setup)
+    is_opened::<Brand, Brand>(alloc, board_parts, code, setup)
 }
 
-/// Returns a kit for the threads of the setup.
-fn kit(alloc: Global, setup: &Setup) -> Result<Kit, AllocError>
+/// Returns parts for the threads of the setup.
+fn board_parts(alloc: Global, setup: &Setup) -> Result<BoardParts, AllocError>
     ensures { IfOk result (λ k. k.threads ≡ threads setup.now) }
 {
     setup.is_in_range();
-    Kit::new(alloc, setup.threads(), 64)
+    BoardParts::new(alloc, setup.threads(), 64)
 }
 
 /// Makes the calls at a desk or a board of the program that calls itself.
@@ -222,12 +228,20 @@ pub(crate) fn makes_calls<R: Wait + Runtime>(rt: &R, alloc: Global, way: Way) ->
     let threads = if way == Way::Gathered { 2 } else { 1 };
     let setup = setup(alloc, &code, threads, Some(42))?;
     let mut session = Session::new(alloc, &code, &setup)?;
-    let kit = kit(alloc, &setup)?;
+    let board_parts = board_parts(alloc, &setup)?;
     match way {
         Way::Asks | Way::DeskTurns => {
-            at_a_desk::<Brand, Brand, R>(rt, alloc, kit, &code, &setup, way, &mut session)
+            at_a_desk::<Brand, Brand, R>(rt, alloc, board_parts, &code, &setup, way, &mut session)
         }
-        _ => at_a_board::<Brand, Brand, R>(rt, alloc, kit, &code, &setup, way, &mut session),
+        _ => at_a_board::<Brand, Brand, R>(
+            rt,
+            alloc,
+            board_parts,
+            &code,
+            &setup,
+            way,
+            &mut session,
+        ),
     }
 }
 
@@ -236,7 +250,7 @@ fn open_a_board(rt: HostRuntime) -> Result<(), Fail> {
     let alloc = rt.alloc();
     let code = code_of(alloc, calls())?;
     let setup = setup(alloc, &code, 2, Some(42))?;
-    let (first, second) = (kit(alloc, &setup)?, kit(alloc, &setup)?);
+    let (first, second) = (board_parts(alloc, &setup)?, board_parts(alloc, &setup)?);
     begin(&rt)?;
     let is_refused = !opens(alloc, first, &code, &setup);
     tell(&rt, is_refused)?;

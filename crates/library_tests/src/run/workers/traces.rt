@@ -54,7 +54,7 @@ fn is_traced(alloc: Global, done: &RunReport, trace: &[u8]) -> Result<bool, Fail
     let replayed = replay(alloc, &code, trace)?;
     let is_whole = done.workers.len() == 3
         && done.counts_agree
-        && done.report.left_open == 0
+        && done.report.left_live == 0
         && done.report.outcome == Outcome::Clean;
     let lines = lines_of_first(alloc, trace)?;
     Ok(is_whole && replayed.report == done.report && lines.as_slice() == FIRST_LINES)

@@ -13,5 +13,5 @@ invariant_of-desk g c =
     let many : c.from.result ≡ threads x.setup = search rules in
     let books = books_at_start x c.open-made.result.0.total c.add.new.self.total (rw (code, setup) c.requires.fits) (rw setup c.requires.seeded)
     (rw (← code) at c.in_ok-session.ensures.stands) (rw setup c.is_in_range.ensures.one) c.open-made.ensures.total
-    (c.add.ensures.total ∙ total_is c.open-lines.result.0.total c.from.result (threads x.setup) c.open-lines.ensures.total many) in
-    (rw c.kit.invariant.unsent books, search rules, search rules, search rules, code ∙ c.requires.code, setup ∙ c.requires.setup)
+    (c.add.ensures.total ∙ total_is c.open-live.result.0.total c.from.result (threads x.setup) c.open-live.ensures.total many) in
+    (rw c.board_parts.invariant.unsent books, search rules, search rules, search rules, code ∙ c.requires.code, setup ∙ c.requires.setup)

@@ -16,7 +16,7 @@ loop-made-init g c =
       answered = asked.answered;
       many = refl;
       counted = asked.counted;
-      line = asked.line;
+      own_live = asked.own_live;
       code = c.in_ok-last.ensures.kept.0;
       setup = c.in_ok-last.ensures.kept.1;
       own = asked.own;
@@ -31,4 +31,4 @@ returns-in_err-last-2-clause-answer g c =
     let is_open : c.loop-made.seat.is_open ≡ true = search rules in
     rw is (cut_after c.args.self.now c.loop-made.self c.ask-in-loop-made.new.self c.args.seat.now c.loop-made.seat c.ask-in-loop-made.new.seat
     c.args.n c.loop-made._made inv.steps inv.last c.in_err-last-2.field-0.0 inv.sent inv.room inv.stepped inv.thread reply inv.many
-    c.loop-made-test.true inv.counted inv.own is_open inv.line refused.same refused.answer)
+    c.loop-made-test.true inv.counted inv.own is_open inv.own_live refused.same refused.answer)

@@ -1,4 +1,4 @@
-use Rattle.bp_view.proofs.Growing.{pieces_then}
+use Rattle.bp_view.proofs.Growth.{pieces_then}
 use Rattle.bp_view.proofs.buffers.Buffer.put_pieces.Goals as goal
 
 pub returns-clause-followed : goal.returns-clause-followed

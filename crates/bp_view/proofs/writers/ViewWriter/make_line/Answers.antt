@@ -1,6 +1,6 @@
 use Rattle.bp_view.proofs.Common.{if◌then◌else◌, None, ap, ◌≡◌, ◌∙◌, ◌++◌, ◌∷◌, [], suc, length, arith, length-append, subst, sym, option_map, rules, err_from_is_err_and, Flat, last_thread, Stands, configuration_after, granted_threads, is_granted, own_is, next_print_in, IsShownLine}
 use Rattle.bp_view.proofs.RecordedCalls.{next_number, own_refused, print_refused}
-use Rattle.bp_view.proofs.Growing.{gained}
+use Rattle.bp_view.proofs.Growth.{gained}
 use Rattle.bp_view.proofs.ShownLines.{printed_of}
 use Rattle.bp_view.proofs.writers.ViewWriter.make_line.Goals as goal
 

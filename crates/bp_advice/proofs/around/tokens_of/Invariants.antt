@@ -1,5 +1,0 @@
-use Rattle.bp_advice.proofs.Common.{length}
-use Rattle.bp_advice.proofs.around.tokens_of.Given as goal
-
-abbrev pub decreases-loop-lexeme : goal.decreases-loop-lexeme
-decreases-loop-lexeme l = length l.rest

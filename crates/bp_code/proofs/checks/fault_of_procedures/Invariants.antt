@@ -1,5 +1,0 @@
-use Rattle.bp_code.proofs.Common.{take, IsFaultOfProcedures, Finds}
-use Rattle.bp_code.proofs.checks.fault_of_procedures.Given as goal
-
-abbrev pub invariant-loop-proc : goal.invariant-loop-proc
-invariant-loop-proc l = Finds (IsFaultOfProcedures l.globals l.callees (take l.proc-index l.procs)) l.best

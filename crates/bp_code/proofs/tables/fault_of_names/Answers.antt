@@ -1,8 +1,0 @@
-use Rattle.bp_code.proofs.Common.{Limit, IsTwice, IsPast, Only}
-use Rattle.bp_code.proofs.FaultsOfParts.{finds_both}
-use Rattle.bp_code.proofs.tables.fault_of_names.Goals as goal
-
-pub returns : goal.returns
-returns c =
-    rw c.least.ensures (finds_both (Only c.args.fault (IsTwice c.args.names.now))
-    (Only Limit (IsPast c.args.limit c.args.names.now)) _ _ c.least_repeat-found.ensures c.first_past.ensures)

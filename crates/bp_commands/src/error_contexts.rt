@@ -1,0 +1,227 @@
+//! The part of an error's sentence on the command line: the file, or the option. The sentence of an
+//! error alone.
+use crate::inputs::Failure;
+use bp_code::ProgramError;
+use bp_explain::{global_sentence, start_sentence, variable_sentence};
+use bp_language::limits::TEXT_LIMIT;
+use bp_machine::limits::{MAX_CALLS, MAX_CONTEXTS};
+use bp_machine::{SetupError, Start};
+use bp_messages::Error;
+use bp_run::limits::{MAX_RING, MAX_TURN};
+use bp_syntax::ReadError;
+use bp_tasks::limits::MAX_JOBS;
+use bp_tasks::{NamedStart, RunOptions, TestOptions};
+use bp_text::push_displayed;
+use bp_view::watched_names;
+use std::alloc::{AllocError, Global};
+
+/// The numbers among the options of a command that have a range, apart from those of its start.
+#[derive(Clone, Copy, PartialEq, Eq)]
+pub struct OptionNumbers {
+    turn: Option<u32>,
+    ring: Option<u32>,
+    jobs: Option<u32>,
+}
+
+impl OptionNumbers {
+    /// There are none.
+    pub(crate) const NONE: OptionNumbers = OptionNumbers {
+        turn: None,
+        ring: None,
+        jobs: None,
+    };
+
+    pub(crate) fn of_run(options: &RunOptions) -> OptionNumbers {
+        OptionNumbers {
+            turn: Some(options.turn),
+            ring: Some(options.ring),
+            jobs: None,
+        }
+    }
+
+    pub(crate) fn of_test(options: &TestOptions) -> OptionNumbers {
+        OptionNumbers {
+            turn: None,
+            ring: None,
+            jobs: Some(options.jobs),
+        }
+    }
+}
+
+/// Returns the sentence on the option whose number is out of its range, with that range.
+fn of_numbers(alloc: Global, start: &Start, numbers: OptionNumbers) -> Option<String> {
+    let (contexts, calls) = (start.contexts, start.calls);
+    let (turn, ring) = (numbers.turn.unwrap_or(1), numbers.ring.unwrap_or(1));
+    let jobs = numbers.jobs.unwrap_or(0);
+    let sentence = if contexts > MAX_CONTEXTS {
+        format!(in alloc; "--contexts {contexts}: at most {MAX_CONTEXTS} are allowed")
+    } else if calls == 0 || calls > MAX_CALLS {
+        format!(in alloc; "--calls {calls}: a thread has 1 to {MAX_CALLS} calls")
+    } else if turn == 0 || turn > MAX_TURN {
+        format!(in alloc; "--turn {turn}: a turn has 1 to {MAX_TURN} calls")
+    } else if ring == 0 || ring > MAX_RING {
+        format!(in alloc; "--ring {ring}: the ring holds 1 to {MAX_RING} calls")
+    } else if jobs > MAX_JOBS {
+        format!(in alloc; "--jobs {jobs}: at most {MAX_JOBS} are allowed")
+    } else {
+        return None;
+    };
+    sentence.ok()
+}
+
+/// A file of a command, and why it could not be opened or read.
+#[derive(Clone, Copy)]
+pub(crate) struct FailedFile<'a> {
+    pub(crate) name: &'a str,
+    pub(crate) failure: Failure,
+}
+
+/// Returns the sentence on the file that could not be opened or read, with the system's reason.
+fn of_file(alloc: Global, unread: Option<FailedFile<'_>>) -> Option<String> {
+    let FailedFile { name, failure } = unread?;
+    let verb = failure.verb();
+    let reason = failure.reason(alloc)?;
+    format!(in alloc; "cannot {verb} '{name}': {reason}").ok()
+}
+
+/// A file and the most bytes that it may have.
+#[derive(Clone, Copy)]
+pub(crate) struct Limited<'a> {
+    pub(crate) name: &'a str,
+    pub(crate) limit: usize,
+}
+
+/// Returns the sentence on a file that has more bytes than its limit, with commas in the number.
+fn of_limit(alloc: Global, file: Limited<'_>) -> Option<String> {
+    let Limited { name, limit } = file;
+    let (millions, thousands, ones) = (limit / 1_000_000, limit / 1_000 % 1_000, limit % 1_000);
+    if millions > 0 {
+        format!(in alloc; "{name} has over {millions},{thousands:03},{ones:03} bytes").ok()
+    } else {
+        format!(in alloc; "{name} has over {thousands},{ones:03} bytes").ok()
+    }
+}
+
+/// The arguments on the program: its text, the start of its run, and the names of watched
+/// variables.
+#[derive(Clone, Copy)]
+pub(crate) struct Asked<'a, 't> {
+    pub(crate) program: &'t [u8],
+    pub(crate) start: Option<NamedStart<'a>>,
+    pub(crate) watch: Option<&'a str>,
+}
+
+/// Returns the sentence on the part of a start that does not fit the program.
+fn of_start(alloc: Global, asked: Asked<'_, '_>, error: SetupError) -> Option<Vec<u8>> {
+    let sentence = start_sentence(alloc, asked.program, asked.start?.start, error).ok()?;
+    if sentence.is_empty() {
+        None
+    } else {
+        Some(sentence)
+    }
+}
+
+/// Returns the sentence on the watched name of this number, from 1. No variable has that name.
+fn of_watch(alloc: Global, asked: Asked<'_, '_>, number: u64) -> Option<Vec<u8>> {
+    let names = watched_names(alloc, asked.watch).ok()?;
+    let name = names.get((number as usize).checked_sub(1)?)?;
+    variable_sentence(alloc, asked.program, name).ok()
+}
+
+/// Returns the sentence on the global of this number, from 1, among those that have their bits by
+/// name. No global has that name.
+fn of_named(alloc: Global, asked: Asked<'_, '_>, number: u64) -> Option<Vec<u8>> {
+    let name = asked.start?.named.name((number as usize).checked_sub(1)?)?;
+    global_sentence(alloc, asked.program, name).ok()
+}
+
+/// Returns the sentence on the name of this number, from 1; a command has them in one option.
+fn of_name(alloc: Global, asked: Asked<'_, '_>, number: u64) -> Option<Vec<u8>> {
+    match asked.watch {
+        Some(_) => of_watch(alloc, asked, number),
+        None => of_named(alloc, asked, number),
+    }
+}
+
+/// The sentence on a bundle without a program.
+const EMPTY_BUNDLE: &str = "standard input has no program; without a command btrun reads a \
+    program, a line '%' and a schedule ('btrun --help' shows the commands)";
+
+/// The known facts of the command line of a run.
+#[derive(Clone, Copy)]
+pub(crate) struct ErrorContext<'a, 't> {
+    pub(crate) unread: Option<FailedFile<'a>>,
+    pub(crate) numbers: OptionNumbers,
+    pub(crate) asked: Asked<'a, 't>,
+    /// The file of the program, and that of the second input.
+    pub(crate) program: &'a str,
+    pub(crate) input: Option<Limited<'a>>,
+    /// Whether the program is that of a bundle.
+    pub(crate) is_bundle: bool,
+}
+
+impl ErrorContext<'_, '_> {
+    /// Returns whether the file of this name could not be opened or read.
+    pub(crate) fn is_unread(&self, name: &str) -> bool {
+        match self.unread {
+            Some(unread) => unread.name == name,
+            None => false,
+        }
+    }
+
+    /// Returns the sentence on an error of a file or of a number, if there is more to say.
+    fn of_files(&self, alloc: Global, error: &Error) -> Option<String> {
+        match error {
+            Error::Device => of_file(alloc, self.unread),
+            Error::Program(ProgramError::Read(ReadError::TooLong)) => {
+                let (name, limit) = (self.program, TEXT_LIMIT);
+                of_limit(alloc, Limited { name, limit })
+            }
+            Error::TooLong => of_limit(alloc, self.input?),
+            Error::Setup(SetupError::OutOfRange) => {
+                of_numbers(alloc, self.asked.start?.start, self.numbers)
+            }
+            _ => None,
+        }
+    }
+
+    /// Returns the sentence that replaces the error's own, if there is more to say.
+    pub(crate) fn sentence(&self, alloc: Global, error: &Error) -> Option<Vec<u8>> {
+        if let Some(sentence) = self.of_files(alloc, error) {
+            return Some(sentence.into_bytes());
+        }
+        match error {
+            Error::Setup(_) if self.is_bundle && self.asked.program.is_empty() => {
+                Some(String::from_str(alloc, EMPTY_BUNDLE).ok()?.into_bytes())
+            }
+            Error::Setup(error) => of_start(alloc, self.asked, *error),
+            Error::NoVariable(number) => of_name(alloc, self.asked, *number),
+            _ => None,
+        }
+    }
+}
+
+/// Returns the error in a sentence, with the known facts of the command line.
+pub(crate) fn sentence(
+    alloc: Global,
+    error: &Error,
+    context: ErrorContext<'_, '_>,
+) -> Result<Vec<u8>, AllocError> {
+    if let Some(sentence) = context.sentence(alloc, error) {
+        return Ok(sentence);
+    }
+    let sentence = format!(in alloc; "{error}")?;
+    Ok(sentence.into_bytes())
+}
+
+/// Returns that sentence for a terminal, with `?` for each byte of a control character.
+pub(crate) fn shown_sentence(
+    alloc: Global,
+    error: &Error,
+    context: ErrorContext<'_, '_>,
+) -> Result<Vec<u8>, AllocError> {
+    let sentence = sentence(alloc, error, context)?;
+    let mut shown = Vec::new(alloc);
+    push_displayed(&mut shown, sentence.as_slice())?;
+    Ok(shown)
+}

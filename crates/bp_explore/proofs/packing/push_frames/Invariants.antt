@@ -1,6 +1,0 @@
-use Rattle.bp_explore.proofs.Common.{take, IsPacked, take_times, take_frame}
-use Rattle.bp_explore.proofs.packing.push_frames.Given as goal
-
-abbrev pub invariant-loop-frame : goal.invariant-loop-frame
-invariant-loop-frame l =
-    IsPacked (take_times take_frame l.frame-index) l.fn.cells.items l.cells.items (take l.frame-index l.frames)

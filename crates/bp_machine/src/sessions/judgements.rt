@@ -1,0 +1,78 @@
+//! How a session judges a call before it makes it.
+ghost use Rattle.std.specs.Prelude.{◌≡◌, ◌++◌, ◌∷◌, [], Option, None, Some, IfOk, OnErr, MatchResult};
+ghost use Rattle.bp_machine.specs.Sessions.{Stands, IsNextCall, IsAskRefusal, given_bit, AfterEach};
+ghost use Rattle.bp_machine.specs.Transitions.{IsKeptBit, IsBitRefusal, IsGiven, IsJudged, IsKeptRefusal};
+
+use crate::calls::{AskError, Call};
+use crate::sessions::{Judged, Session, draw};
+use bp_flat::steps_alike;
+
+impl Session {
+    /// Returns the choice bit of the next call of a thread, with this given bit or none.
+    fn bit_of_call(&self, thread: u32, given: Option<bool>) -> Result<bool, AskError>
+        ensures { MatchResult result
+            (IsKeptBit self.now.choices thread given)
+            (IsBitRefusal self.now.choices thread given) }
+    {
+        match (self.choices.get(thread as usize), given) {
+            (Some(choices), None) => Ok(choices.peek()),
+            (None, Some(bit)) => Ok(bit),
+            (Some(_), Some(_)) => Err(AskError::Seeded),
+            (None, None) => Err(AskError::Unseeded),
+        }
+    }
+
+    /// Returns the bit to give for a recorded call with this bit.
+    pub(super) fn given_bit(&self, bit: bool) -> Option<bool>
+        ensures { result ≡ given_bit self.now.setup bit }
+    {
+        if self.setup.seed().is_some() {
+            None
+        } else {
+            Some(bit)
+        }
+    }
+
+    /// Returns the transition for a call of the thread, with this given bit or none.
+    #[inline(always)]
+    pub(super) fn judged(&self, thread: u32, given: Option<bool>) -> Result<Judged, AskError>
+        ensures { MatchResult result
+            (IsJudged self.now thread given)
+            (IsKeptRefusal self.now thread given) }
+    {
+        let Some(guest) = self.machine.thread(thread) else {
+            return Err(AskError::NoThread);
+        };
+        if guest.is_terminated(self.setup.calls()) {
+            return Err(AskError::Terminated);
+        }
+        let bit = self.bit_of_call(thread, given)?;
+        let contexts = self.setup.contexts();
+        let transition = self.machine.judge(&self.code, contexts, thread, guest, bit);
+        let reply = transition.reply();
+        Ok(Judged {
+            call: Call { thread, bit, reply },
+            transition,
+        })
+    }
+
+    /// Makes a call of the thread, with this given bit or none.
+    #[inline(always)]
+    pub(super) fn make_given(&mut self, thread: u32, given: Option<bool>) -> Result<Call, AskError>
+        ensures answer { AfterEach self.old (λ t h. MatchResult result
+            (IsNextCall t self.old.setup h thread given)
+            (IsAskRefusal t self.old.setup h thread given)) }
+        ensures asked { IfOk result (λ c. (c.thread ≡ thread) × IsGiven given c.bit) }
+        ensures stands { AfterEach self.old (λ t h.
+            IfOk result (λ c. Stands t self.new (h ++ c ∷ []))) }
+        ensures kept { (self.new.code ≡ self.old.code) × (self.new.setup ≡ self.old.setup) }
+        ensures same { OnErr result (self.new ≡ self.old) }
+    {
+        steps_alike(&self.code);
+        let made = self.judged(thread, given)?;
+        self.machine.reserve(thread, made.transition)?;
+        self.machine.make(thread, made.transition);
+        draw(&mut self.choices, thread as usize);
+        Ok(made.call)
+    }
+}

@@ -1,5 +1,0 @@
-use Rattle.bp_text.proofs.DisplayedTexts.{none_displayed}
-use Rattle.bp_text.proofs.displayed.no_control_is_displayed.Goals as goal
-
-pub returns : goal.returns
-returns c = none_displayed 0

@@ -1,5 +1,0 @@
-use Rattle.bp_text.proofs.DisplayedTexts.{read_back}
-use Rattle.bp_text.proofs.displayed.strings_are_read_back.Goals as goal
-
-pub returns : goal.returns
-returns c = read_back

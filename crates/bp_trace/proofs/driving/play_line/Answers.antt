@@ -1,8 +1,0 @@
-use Rattle.bp_trace.proofs.ScheduleLines.{refused_line}
-use Rattle.bp_trace.proofs.driving.play_line.Goals as goal
-
-pub returns-in-Err-clause-refused : goal.returns-in-Err-clause-refused
-returns-in-Err-clause-refused c =
-    rw c.drive_fault_of.ensures (refused_line c.args.session.now c.args.calls.now.items
-    c.requires.stands c.args.line c.args.n c.in-Err.fault c.requires.thread c.requires.unseeded
-    c.in-Err.ensures.answer)
