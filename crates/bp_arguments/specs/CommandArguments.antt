@@ -83,7 +83,7 @@ abbrev pub IsViewFormatOf : List Row → ViewFormat → Type 0
 IsViewFormatOf rows Json = IsFlagOf (one_of (codes "json") rows) true
 IsViewFormatOf rows Columns = IsFlagOf (one_of (codes "json") rows) false
 
--- the calls to show are those of the arguments, without colours and in lines of any width
+-- the attempts to show are those of the arguments, without colours and in lines of any width
 pub record IsViewOf (rows : List Row) (options : ViewOptions) : Type 0 where
   pub thread : options.thread ≡ given_number 32 (codes "thread") rows
   pub last : options.last ≡ given_number 64 (codes "last") rows
@@ -139,7 +139,7 @@ pub record IsTraceArgumentsOf (rows : List Row) (task : TraceTask) : Type 0 wher
   pub trace : task.trace.now ≡ value_of (codes "TRACE") rows
   pub explain : IsExplainingOf rows task.explain
 
--- the file and the options of `explore` are those of its arguments; the calls are not bounded
+-- the file and the options of `explore` are those of its arguments; the attempts are not bounded
 pub record IsExploreOf (rows : List Row) (task : ExploreTask) : Type 0 where
   pub program : task.program.now ≡ value_of (codes "FILE") rows
   pub start :

@@ -47,7 +47,7 @@ is_on_line rows o =
 abbrev pub are_on_line : List Row → OptionName × OptionName → Bool
 are_on_line rows pair = is_on_line rows pair.0 && is_on_line rows pair.1
 
--- the options that choose calls, or that change their lines
+-- the options that choose attempts, or that change their lines
 abbrev pub on_calls : List OptionName
 on_calls =
     option.Thread
@@ -63,9 +63,9 @@ on_calls =
 abbrev pub pairs_of : OptionName → List OptionName → List (OptionName × OptionName)
 pairs_of first others = map (λ other. (first, other)) others
 
--- With the first option of a pair, the second has no effect. A view in place of the calls clashes
--- with other views, and with the options on calls. Steps have no line that says that a trace is
--- refused. A run through steps need not end in a deadlock.
+-- With the first option of a pair, the second has no effect. A view in place of the attempts
+-- clashes with other views, and with the options on attempts. Steps have no line that says that a
+-- trace is refused. A run through steps need not end in a deadlock.
 abbrev pub clashes : List (OptionName × OptionName)
 clashes =
     pairs_of option.At (option.Contexts ∷ option.Steps ∷ on_calls)
@@ -90,7 +90,7 @@ abbrev pub backwards_in : List Row → Option (ℕ × ℕ)
 backwards_in rows =
     descending (given_number 64 (codes "from") rows) (given_number 64 (codes "to") rows)
 
--- the error in two options, or in the calls from one to another
+-- the error in two options, or in the attempts from one to another
 abbrev pub pair_misuse : Option (OptionName × OptionName) → Option (ℕ × ℕ) → Option Misuse
 pair_misuse (Some pair) backwards = Some (Together pair.0 pair.1)
 pair_misuse None (Some calls) = Some (Backwards calls.0 calls.1)

@@ -40,7 +40,7 @@ pub record IsViewText
   pub declared : AreDeclared t (watched_names o.watch)
   pub is : IsView t text s h report o file written
 
--- the state after the first n calls of a history, or after all if there are fewer
+-- the state after the first n attempts of a history, or after all if there are fewer
 abbrev pub IsStateOf : ViewFormat → ℕ → TextRule
 IsStateOf format n text t s h written = IsStateText format t text s (take n h) (length h) written
 
@@ -52,7 +52,7 @@ AreContextsOf format text t s h written = AreContextLines format t text s h writ
 abbrev pub AreStepsOf : TextRule
 AreStepsOf text t s h written = written ≡ own_steps_text (own_steps text t s h)
 
--- only the calls of one thread are to be shown, which the trace does not have
+-- only the attempts of one thread are to be shown, which the trace does not have
 pub record HasNoThread (o : ViewOptions) (given : Pair) (f : Error) : Type 0 where
   pub program : Program
   pub setup : SetupOf
@@ -85,7 +85,7 @@ shows o file = record {
   Spoils = IsBegun (IsViewText o file);
 }
 
--- the command writes the state after n calls of the history
+-- the command writes the state after n attempts of the history
 abbrev pub states : ViewFormat → ℕ → Command Pair Report
 states format n = on_trace (IsStateOf format n)
 
@@ -97,8 +97,8 @@ lists_contexts format = on_trace (AreContextsOf format)
 abbrev pub lists_steps : Command Pair Report
 lists_steps = on_trace AreStepsOf
 
--- The first of these that is asked for: the state after a number of calls, the contexts, the steps.
--- If none is, the calls.
+-- The first of these that is asked for: the state after a number of attempts, the contexts, the
+-- steps. If none is, the attempts.
 abbrev pub shows_as
     : ViewOptions → (file : List ℕ) → (contexts steps : Bool) → Option ℕ
     → Command Pair Report
@@ -120,13 +120,13 @@ abbrev pub shows_part : ShowTask → Screen → Command Pair Report
 shows_part x screen =
     shows_as (on_screen x.options screen) x.program.now x.contexts x.steps x.at
 
--- `show --valid`: the view of the accepted calls of a trace.
+-- `show --valid`: the view of the accepted attempts of a trace.
 
--- the number of calls after which a trace is refused, and its error; None for an accepted trace
+-- the number of attempts after which a trace is refused, and its error; None for an accepted trace
 abbrev pub Refusal : Type 0
 Refusal = Option (ℕ × Error)
 
--- the last line of the view of a trace that is refused after this number of calls
+-- the last line of the view of a trace that is refused after this number of attempts
 abbrev pub refusal_text : ViewFormat → (calls : ℕ) → List ℕ
 refusal_text Columns calls =
     concat (codes "the trace is refused after call " ∷ decimal calls ∷ codes "\n" ∷ [])
@@ -143,7 +143,7 @@ pub record IsWholeTrace (given : Pair) : Type 0 where
   pub well_formed : IsWellFormedText given.text program
   pub trace : IsSomeTrace program given.input
 
--- the trace is refused for this error, and the part has that of its accepted calls
+-- the trace is refused for this error, and the part has that of its accepted attempts
 pub record IsAcceptedPart (given part : Pair) (calls : ℕ) (f : Error) : Type 0 where
   pub program : Program
   pub well_formed : IsWellFormedText given.text program
@@ -153,7 +153,7 @@ pub record IsAcceptedPart (given part : Pair) (calls : ℕ) (f : Error) : Type 0
   pub calls_are : calls ≡ accepted.calls
   pub refused : f ≡ error_of_trace accepted.error
 
--- the part has the trace of the accepted calls, which is the trace itself if that is accepted
+-- the part has the trace of the accepted attempts, which is the trace itself if that is accepted
 abbrev pub IsPart : (given part : Pair) → Refusal → Type 0
 IsPart given part None = (part ≡ given) × IsWholeTrace given
 IsPart given part (Some refusal) = IsAcceptedPart given part refusal.0 refusal.1
@@ -165,8 +165,8 @@ pub record OfPart (given : Pair) (Holds : Pair → Refusal → Type 0) : Type 0 
   pub is : IsPart given part refusal
   pub holds : Holds part refusal
 
--- no calls can be accepted: the text has no head of a setup that the program accepts, or memory was
--- refused
+-- no attempts can be accepted: the text has no head of a setup that the program accepts, or memory
+-- was refused
 pub record HasNoPart (given : Pair) (f : Error) : Type 0 where
   pub program : Program
   pub well_formed : IsWellFormedText given.text program
@@ -181,18 +181,18 @@ module _ (format : ViewFormat) (command : Command Pair Report) where
   IsShown part shown =
       command.Writes part shown ⊎ ((report : Report) × command.Reports part shown report)
 
-  -- its view of the accepted calls, and the last line
+  -- its view of the accepted attempts, and the last line
   abbrev pub IsShownWithLine : (text : List ℕ) → Pair → Refusal → Type 0
   IsShownWithLine text part refusal =
       (shown : List ℕ) × IsShown part shown × (text ≡ shown ++ last_line format refusal)
 
-  -- the accepted calls were shown, with the last line, and then the trace is refused
+  -- the accepted attempts were shown, with the last line, and then the trace is refused
   abbrev pub IsRefusedAfter : (text : List ℕ) → Error → Pair → Refusal → Type 0
   IsRefusedAfter text f part None = ⊥
   IsRefusedAfter text f part (Some refusal) =
       IsShownWithLine text part (Some refusal) × (f ≡ refusal.1)
 
-  -- the command on the accepted calls of a trace; for a refused one a last line says so
+  -- the command on the accepted attempts of a trace; for a refused one a last line says so
   abbrev pub on_valid_calls : Command Pair Report
   on_valid_calls = record {
     Writes = λ given text. OfPart given (IsShownWithLine text);
@@ -205,7 +205,7 @@ module _ (format : ViewFormat) (command : Command Pair Report) where
         command.Spoils part text f ⊎ IsRefusedAfter text f part refusal);
   }
 
--- a command on a trace, or on its accepted calls
+-- a command on a trace, or on its accepted attempts
 abbrev pub valid_if : (valid : Bool) → ViewFormat → Command Pair Report → Command Pair Report
 valid_if true format command = on_valid_calls format command
 valid_if false format command = command

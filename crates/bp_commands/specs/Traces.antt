@@ -217,9 +217,9 @@ module _ (t : Program) (s z : SetupOf) (h g : List Call) where
     pub other : DeadlocksAt t z g waiting
 
 -- The trace of a history in which the same assertion of the same thread failed as in h, or which
--- ends in the same deadlock, by no more calls and no more contexts. Each of its calls made a step.
--- Its setup is that of h except for the seed, which it lacks, and the contexts, which are those
--- that it uses.
+-- ends in the same deadlock, by no more attempts and no more contexts. Each of its attempts made a
+-- step. Its setup is that of h except for the seed, which it lacks, and the contexts, which are
+-- those that it uses.
 pub record IsShrunkText
     (text : List ℕ) (t : Program) (s : SetupOf) (h : List Call) (written : List ℕ)
     : Type 0 where

@@ -75,12 +75,12 @@ abbrev pub seen_by : Program → SetupOf → ℕ → List ℕ → List Call → 
 seen_by t s i name h =
     let c = configuration_after t s h in value_seen c.globals (stack_of c i) name
 
--- the value that it sees after the first k calls of the history
+-- the value that it sees after the first k attempts of the history
 abbrev pub seen_after : Program → SetupOf → List Call → ℕ → List ℕ → ℕ → Option Bool
 seen_after t s h i name k = seen_by t s i name (take k h)
 
 -- After a history this is the first of these values that thread i does not see: the value that it
--- sees instead, and the last call that changed its view of the name.
+-- sees instead, and the last attempt that changed its view of the name.
 pub record IsDifference
     (t : Program) (s : SetupOf) (h : List Call) (i : ℕ) (vs : Valuation) (d : Difference)
     : Type 0 where
@@ -96,21 +96,21 @@ GoesOnAt t c i (Some number) = (top : Top) × IsTop t c i top × (top.number ≡
 
 -- after the history h, at the step x
 module _ (t : Program) (s : SetupOf) (h : List Call) (x : StepOf) where
-  -- no call takes it, whatever its choice bit
+  -- no attempt takes it, whatever its choice bit
   abbrev pub IsStuck : Type 0
   IsStuck = (call : Call) → IsStepOf t s h x call → ⊥
 
   abbrev pub StandsAtPlace : Bool → Type 0
   StandsAtPlace b = stands_at x.place (stack_of (configuration_after t s h) x.thread) ≡ b
 
-  -- a call takes it, but these later steps do not tell which way its thread goes
+  -- an attempt takes it, but these later steps do not tell which way its thread goes
   pub record IsUnclear (later : List StepOf) : Type 0 where
     pub call : Call
     pub takes : IsStepOf t s h x call
     pub ambiguous :
         IsAmbiguousOnStack t x.thread later (stack_of (configuration_after t s h) x.thread)
 
-  -- its thread may make a call; with either choice bit the reply is r, which is not a step
+  -- its thread may make an attempt; with either choice bit the reply is r, which is not a step
   pub record IsAnswered (r : Reply) : Type 0 where
     pub call : Call
     pub thread : call.thread ≡ x.thread
@@ -118,7 +118,7 @@ module _ (t : Program) (s : SetupOf) (h : List Call) (x : StepOf) where
     pub each : (y : Call) → y.thread ≡ x.thread → IsAllowed t s h y → y.reply ≡ r
     pub refused : is_granted r ≡ false
 
-  -- a call takes it except for its values: this is the first that the thread does not see after it
+  -- an attempt takes it but for its values: this is the first that the thread does not see after it
   pub record SeesOther (d : Difference) : Type 0 where
     pub call : Call
     pub takes : IsStepOf t s h (record x { values = [] }) call
@@ -132,7 +132,7 @@ module _ (t : Program) (s : SetupOf) (h : List Call) (x : StepOf) where
   IsReason later (Differs d) = StandsAtPlace true × SeesOther d
   IsReason later Ambiguous = IsUnclear later
 
--- the reason says that no call takes a step; an ambiguous one asks for a column
+-- the reason says that no attempt takes a step; an ambiguous one asks for a column
 abbrev pub ForStuck : StepReason → Type 0 → Type 0
 ForStuck Ambiguous P = Unit {0}
 ForStuck reason P = P

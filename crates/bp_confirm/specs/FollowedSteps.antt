@@ -1,4 +1,4 @@
--- Devices: how steps are followed, call by call.
+-- Devices: how steps are followed, attempt by attempt.
 use Rattle.std.specs.Prelude.{if◌then◌else◌, ℕ, Bool, true, false, not, ◌&&◌, ◌==◌, List, [], ◌∷◌, Option, None, Some, is_none, ◌+◌, slice_get, ◌≡◌, MatchBool, get_or, option_map}
 use Rattle.bp_text.specs.Lines.{position_at}
 use Rattle.bp_language.specs.Ast.{Block, Then, Branches, Loops, Choose, Program}
@@ -145,7 +145,7 @@ abbrev pub IsNotTaken
 IsNotTaken text t s h x later n (error.Refusal r) = IsRefusedHere text t s h x later n r
 IsNotTaken text t s h x later n error.Memory = Unit {0}
 
--- the session does not call thread i: it has made its last call, or memory is refused
+-- the session makes no attempt of thread i: it has made its last one, or memory is refused
 abbrev pub IsNotCalled : SetupOf → List Call → ℕ → NotCalled → Type 0
 IsNotCalled s h i call.Finished = is_terminated s h i ≡ true
 IsNotCalled s h i call.Memory = Unit {0}

@@ -105,7 +105,7 @@ IsAmbiguousOnStack t i later (f ∷ fs) = IsAmbiguous t f.left (next_place i lat
 
 -- in this setup, with these last bits
 module _ (t : Program) (s : SetupOf) (last : LastBits) where
-  -- the call takes the step x after the history h, with the bit inferred from the later steps
+  -- the attempt takes the step x after the history h, with the bit inferred from the later steps
   pub record Follows (h : List Call) (x : StepOf) (later : List StepOf) (call : Call)
       : Type 0 where
     pub takes : IsStepOf t s h x call
@@ -113,15 +113,15 @@ module _ (t : Program) (s : SetupOf) (last : LastBits) where
         call.bit ≡ bit_of_stack last x.thread later (stack_of (configuration_after t s h) x.thread)
     pub clear : IsClearOnStack x.thread later (stack_of (configuration_after t s h) x.thread)
 
-  -- the calls follow the steps after the history h, and these later steps come after them
+  -- the attempts follow the steps after the history h, and these later steps come after them
   abbrev pub FollowAfter : List Call → List StepOf → List StepOf → List Call → Type 0
   FollowAfter h [] later [] = Unit {0}
   FollowAfter h (x ∷ xs) later (call ∷ calls) =
       Follows h x (xs ++ later) call × FollowAfter (h ++ call ∷ []) xs later calls
   FollowAfter h xs later calls = ⊥
 
-  -- the history takes these steps, one call for each, with the inferred bits; each call is allowed,
-  -- so the history is legal
+  -- the history takes these steps, one attempt for each, with the inferred bits; each attempt is
+  -- allowed, so the history is legal
   abbrev pub IsFollowed : List StepOf → List Call → Type 0
   IsFollowed steps h = FollowAfter [] steps [] h
 
@@ -153,8 +153,8 @@ module _ (t : Program) (s : SetupOf) where
   abbrev pub waits_after : List Call → ℕ → Bool
   waits_after h = λ i. waits t (configuration_after t s h) i
 
-  -- the history takes the steps, one call for each, with the inferred bits and some last bits; each
-  -- last bit is 0 unless it ends in a deadlock
+  -- the history takes the steps, one attempt for each, with the inferred bits and some last bits;
+  -- each last bit is 0 unless it ends in a deadlock
   pub record IsTaken (steps : List StepOf) (h : List Call) : Type 0 where
     pub last : LastBits
     pub followed : IsFollowed t s last steps h
@@ -183,8 +183,8 @@ module _ (t : Program) (s : SetupOf) where
     pub is : h ≡ zeroed
     pub depends : choices ≡ []
 
-  -- the history takes the steps, one call for each, with the inferred bits; if last bits lead to a
-  -- deadlock it ends in one, which depends on these bits
+  -- the history takes the steps, one attempt for each, with the inferred bits; if last bits lead to
+  -- a deadlock it ends in one, which depends on these bits
   pub record IsConfirmed (steps : List StepOf) (h : List Call) (choices : List LastChoice)
       : Type 0 where
     pub zeroed : List Call

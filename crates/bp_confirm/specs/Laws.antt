@@ -25,7 +25,7 @@ use Rattle.bp_confirm.specs.ConfirmedTexts.{IsConfirmedText, IsStepsRefusal, Has
 
 -- Runs of a program that take reported steps, without the machine.
 
--- from c on the thread of the step moves as the call does, from the place of the step, and then
+-- from c on the thread of the step moves as the attempt does, from the place of the step, and then
 -- sees the values
 pub record IsMoveOf (t : Program) (c : Configuration) (x : StepOf) (call : Call) : Type 0 where
   pub next : Configuration
@@ -34,7 +34,7 @@ pub record IsMoveOf (t : Program) (c : Configuration) (x : StepOf) (call : Call)
   pub move : Moves t c call.thread call.bit next
   pub values : SeesValues next x.thread x.values
 
--- each of these calls is the move of one step, in order
+-- each of these attempts is the move of one step, in order
 abbrev pub MovesTake : Program → Configuration → List StepOf → List Call → Type 0
 MovesTake t c [] [] = Unit {0}
 MovesTake t c (x ∷ xs) (call ∷ calls) =

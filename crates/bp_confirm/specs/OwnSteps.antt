@@ -39,7 +39,7 @@ abbrev pub next_start : List Frame → Option ℕ
 next_start [] = None
 next_start (f ∷ fs) = start_of_block f.left
 
--- the line has the thread's location before the call, and no values
+-- the line has the thread's location before the attempt, and no values
 pub record IsOwnLine (text : List ℕ) (c : Configuration) (call : Call) (x : StepLineOf)
     : Type 0 where
   pub thread : x.thread ≡ call.thread
@@ -59,14 +59,14 @@ AreOwnLines text t c calls xs = ⊥
 
 -- The steps that a history makes, and the text of their lines.
 
--- the step of a call that is made in c
+-- the step of an attempt that is made in c
 abbrev pub own_step : List ℕ → Configuration → Call → OwnStep
 own_step text c call = record {
   thread = call.thread;
   position = option_map (position_at text) (next_start (stack_of c call.thread));
 }
 
--- the steps of these calls from c on; a refused call makes none
+-- the steps of these attempts from c on; a refused attempt makes none
 abbrev pub own_steps_from : List ℕ → Program → Configuration → List Call → List OwnStep
 own_steps_from text t c [] = []
 own_steps_from text t c (call ∷ calls) =
@@ -102,7 +102,7 @@ pub record AreStepsOfTrace
   pub steps_are : steps ≡ own_steps text t setup history
   pub report : IsReport setup history r
 
--- law: the lines are the own lines of the run of the granted calls
+-- law: the lines are the own lines of the run of the granted attempts
 abbrev pub StepsAreOfTheRun : Type 0
 StepsAreOfTheRun =
     (text : List ℕ) (t : Program) (s : SetupOf) (h : List Call)

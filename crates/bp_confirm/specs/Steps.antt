@@ -85,8 +85,8 @@ pub record IsFirstMismatch
   pub is_seen : seen ≡ value_seen c.globals (stack_of c i) value.0
   pub differs : seen ≢ Some value.1
 
--- the call takes the step after the history h: it may follow h, the thread is at the place before
--- it, the machine grants it, and the thread sees the values after it
+-- the attempt takes the step after the history h: it may follow h, the thread is at the place
+-- before it, the machine grants it, and the thread sees the values after it
 pub record IsStepOf (t : Program) (s : SetupOf) (h : List Call) (x : StepOf) (call : Call)
     : Type 0 where
   pub thread : call.thread ≡ x.thread
@@ -95,7 +95,7 @@ pub record IsStepOf (t : Program) (s : SetupOf) (h : List Call) (x : StepOf) (ca
   pub at : stands_at x.place (stack_of (configuration_after t s h) x.thread) ≡ true
   pub values : SeesValues (configuration_after t s (h ++ call ∷ [])) x.thread x.values
 
--- the calls take the steps after the history h, one call for each step
+-- the attempts take the steps after the history h, one attempt for each step
 abbrev pub TakeAfter : Program → SetupOf → List Call → List StepOf → List Call → Type 0
 TakeAfter t s h [] [] = Unit {0}
 TakeAfter t s h (x ∷ xs) (call ∷ calls) =

@@ -36,7 +36,7 @@ pub record BeginsWithHead (trace : List ℕ) : Type 0 where
 abbrev pub IsReadHead : List ℕ → Option Head → Type 0
 IsReadHead trace head = (b : BeginsWithHead trace) → IsSomeAnd head (λ h. setup_of_head h ≡ b.setup)
 
--- the line of the initial bits, that of the contexts and that of the calls of a thread
+-- the line of the initial bits, that of the contexts and that of the attempts of a thread
 module _ (s : SetupOf) where
   abbrev pub init_line_number : ℕ
   init_line_number = FIRST_ENTRY + threads s

@@ -22,13 +22,13 @@ abbrev pub IsFinding : Program → Configuration → Finding → Type 0
 IsFinding t d Failure = d.failed ≡ true
 IsFinding t d Deadlock = IsDeadlocked t d
 
--- the largest number of calls of one of the first n threads
+-- the largest number of attempts of one of the first n threads
 abbrev pub most_calls : ℕ → List Call → ℕ
 most_calls zero h = 0
 most_calls (suc i) h = max (most_calls i h) (length (calls_of_thread i h))
 
 -- The setup of the trace of a run within k contexts: it has no seed, and allows the default number
--- of calls, or the number that some thread of the run makes if it is larger.
+-- of attempts, or the number that some thread of the run makes if it is larger.
 abbrev pub setup_of_run : SetupOf → ℕ → List Call → SetupOf
 setup_of_run s k h = record {
   entries = s.entries;
@@ -38,8 +38,8 @@ setup_of_run s k h = record {
   seed = None;
 }
 
--- The session is in the setup of the run's trace, and stands after the run's history. Each call of
--- the history is a granted step, and the history ends in the finding.
+-- The session is in the setup of the run's trace, and stands after the run's history. Each attempt
+-- of the history is a granted step, and the history ends in the finding.
 pub record IsFoundRun (c : Flat) (t : Program) (s : SetupOf) (r : FoundRun) : Type 0 where
   pub code : r.session.code ≡ c
   pub setup : r.session.setup ≡ setup_of_run s r.contexts r.history.items
@@ -47,7 +47,7 @@ pub record IsFoundRun (c : Flat) (t : Program) (s : SetupOf) (r : FoundRun) : Ty
   pub granted : granted_calls r.history.items ≡ r.history.items
   pub found : IsFinding t (configuration_after t r.session.setup r.history.items) r.finding
 
--- no setup allows a run with this number of contexts, or with this number of calls of a thread
+-- no setup allows a run with this number of contexts, or with this number of attempts of a thread
 abbrev pub IsTooLong : ℕ → ℕ → Type 0
 IsTooLong contexts calls = (MAX_CONTEXTS < contexts) ⊎ (MAX_CALLS < calls)
 
@@ -76,7 +76,7 @@ pub record IsMade (o : ListedSteps) (n : ℕ) (c : Configuration) (i : ℕ) (d :
   pub is : o.makes n c i d ≡ true
   pub last : d.failed ≡ true → n + 1 ≡ o.count
 
--- These calls are moves, one after the other, from c to d. If the first m listed steps were made
+-- These attempts are moves, one after the other, from c to d. If the first m listed steps were made
 -- before them, some of the moves make the listed steps from there on, in their order, so that the
 -- first n are made.
 pub data MakesFrom (t : Program) (o : ListedSteps)

@@ -228,13 +228,13 @@ pub record IsExplored
 
 -- Runs that are played on a session. How an exploration works, which no public clause names.
 
--- the history makes the first n listed steps, and the last of all with its last call
+-- the history makes the first n listed steps, and the last of all with its last attempt
 pub record IsPlayedTo (t : Program) (s : SetupOf) (o : ListedSteps) (h : List Call) (n : ℕ)
     : Type 0 where
   pub makes : MakesInOrder t s o h n (configuration_after t s h)
   pub last : o.count ≤ n → EndsInLast t s o h (configuration_after t s h)
 
--- the session stands after the history, each call of which is a granted step
+-- the session stands after the history, each attempt of which is a granted step
 pub record IsReplay
     (c : Flat) (t : Program) (s : SetupOf) (o : ListedSteps) (k : ℕ) (h : List Call) (r : Replay)
     : Type 0 where

@@ -29,8 +29,8 @@ pub record EndsInLast
   pub moves : Moves t at last.thread last.bit d
   pub made : IsMade o number at last.thread d
 
--- The session is in the setup of the run's trace, and stands after the run's history. Each call of
--- the history is a granted step, and it makes all listed steps.
+-- The session is in the setup of the run's trace, and stands after the run's history. Each attempt
+-- of the history is a granted step, and it makes all listed steps.
 pub record IsRunThrough
     (c : Flat) (t : Program) (s : SetupOf) (o : ListedSteps) (r : RunThrough)
     : Type 0 where

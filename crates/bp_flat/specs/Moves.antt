@@ -65,7 +65,7 @@ expression_value s (Operation op a b) =
 abbrev pub expression_values : Store Valuation → List Expression → List Bool
 expression_values s es = map (expression_value s) es
 
--- the value of `?` is the call's choice bit
+-- the value of `?` is the attempt's choice bit
 abbrev pub decision_value : Store Valuation → Bool → Decision → Bool
 decision_value s bit Choose = bit
 decision_value s bit (Decide e) = expression_value s e

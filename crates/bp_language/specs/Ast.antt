@@ -13,7 +13,7 @@ pub data Expression : Type 0 where
   Negation : (e : Expression) → Expression
   Operation : (op : Op) (left right : Expression) → Expression
 
--- the test of a branch, a loop, an assertion or an assumption: the call's choice bit, or an
+-- the test of a branch, a loop, an assertion or an assumption: the attempt's choice bit, or an
 -- expression
 pub data Decision : Type 0 where
   Choose : Decision

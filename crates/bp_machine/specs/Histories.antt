@@ -1,4 +1,4 @@
--- Histories: the replies to calls, lists of calls, their reports, and the bits of a seed.
+-- Histories: the replies to attempts, lists of attempts, their reports, and the bits of a seed.
 use Rattle.std.specs.Prelude.{◌≡◌, ℕ, ◌≤◌, List, [], ◌∷◌, length, Bool, true, false, if◌then◌else◌, ◌↔◌, IsTrue, not, ◌&&◌, nat_le, ◌++◌, Option, None, Some, slice_index_or, unwrap_or, ◌==◌, ◌<◌, zero, suc, ◌+◌, ◌||◌, filter, ◌/◌, ◌%◌, slice_get}
 use Rattle.std.specs.List.{concat}
 use Rattle.rand_pcg.specs.Lcg.{Lcg, started, increment_of}
@@ -51,19 +51,19 @@ letter_of Blocked = 98
 letter_of Failed = 102
 letter_of Stepped = 115
 
--- the call with this reply made a step
+-- the attempt with this reply made a step
 abbrev pub is_granted : Reply → Bool
 is_granted Stepped = true
 is_granted Failed = true
 is_granted r = false
 
--- the thread makes no more calls after this reply
+-- the thread makes no more attempts after this reply
 abbrev pub is_last : Reply → Bool
 is_last Stepped = false
 is_last Blocked = false
 is_last r = true
 
--- The reply to a call of a thread, and the configuration after it.
+-- The reply to an attempt of a thread, and the configuration after it.
 
 -- no more frames fit on the stack
 abbrev pub is_full : List Frame → Bool
@@ -111,14 +111,14 @@ configuration_after_step t c i bit [] = None
 configuration_after_step t c i bit (f ∷ fs) =
     after_effect c i (effect t.procedures f.left c.globals f fs bit)
 
--- the configuration after a call with this reply: it changes only if the call made a step
+-- the configuration after an attempt with this reply: it changes only if the attempt made a step
 abbrev pub configuration_after_call : Program → Configuration → ℕ → Bool → Reply → Configuration
 configuration_after_call t c i bit r =
     if is_granted r then unwrap_or (configuration_after_step t c i bit (stack_of c i)) c else c
 
--- Histories: lists of calls with their replies, oldest first.
+-- Histories: lists of attempts with their replies, oldest first.
 
--- the configuration after the calls of a history, by their replies
+-- the configuration after the attempts of a history, by their replies
 abbrev pub configuration_after_calls : Program → Configuration → List Call → Configuration
 configuration_after_calls t c [] = c
 configuration_after_calls t c (x ∷ xs) =
@@ -127,11 +127,11 @@ configuration_after_calls t c (x ∷ xs) =
 abbrev pub configuration_after : Program → SetupOf → List Call → Configuration
 configuration_after t s h = configuration_after_calls t (start t s) h
 
--- the calls with a granted step
+-- the attempts with a granted step
 abbrev pub granted_calls : List Call → List Call
 granted_calls h = filter (λ x. is_granted x.reply) h
 
--- the threads of the granted calls
+-- the threads of the granted attempts
 abbrev pub granted_threads : List Call → List ℕ
 granted_threads [] = []
 granted_threads (x ∷ xs) =
@@ -140,19 +140,19 @@ granted_threads (x ∷ xs) =
 abbrev pub calls_of_thread : ℕ → List Call → List Call
 calls_of_thread i h = filter (λ x. x.thread == i) h
 
--- the last call had a last reply
+-- the last attempt had a last reply
 abbrev pub ends_with_last : List Call → Bool
 ends_with_last [] = false
 ends_with_last (x ∷ []) = is_last x.reply
 ends_with_last (x ∷ y ∷ xs) = ends_with_last (y ∷ xs)
 
--- thread i has terminated: its last call had such a reply, or it has as many calls as are
+-- thread i has terminated: its last attempt had such a reply, or it has as many attempts as are
 -- allowed
 abbrev pub is_terminated : SetupOf → List Call → ℕ → Bool
 is_terminated s h i =
     ends_with_last (calls_of_thread i h) || nat_le s.calls (length (calls_of_thread i h))
 
--- the number of lines that the call x finishes after h
+-- the number of lines that the attempt x finishes after h
 abbrev pub terminated_by : SetupOf → List Call → Call → ℕ
 terminated_by s h x = if is_terminated s (h ++ x ∷ []) x.thread then 1 else 0
 
@@ -164,7 +164,7 @@ live_below (suc n) s h = if is_terminated s h n then live_below n s h else live_
 abbrev pub live_threads : SetupOf → List Call → ℕ
 live_threads s h = live_below (threads s) s h
 
--- the call x may follow h: its thread is live, and its reply is the machine's
+-- the attempt x may follow h: its thread is live, and its reply is the machine's
 pub record IsAllowed (t : Program) (s : SetupOf) (h : List Call) (x : Call) : Type 0 where
   pub thread : x.thread < threads s
   pub still_live : is_terminated s h x.thread ≡ false
@@ -175,13 +175,13 @@ abbrev pub IsLegalAfter : Program → SetupOf → List Call → List Call → Ty
 IsLegalAfter t s h [] = Unit {0}
 IsLegalAfter t s h (x ∷ xs) = IsAllowed t s h x × IsLegalAfter t s (h ++ x ∷ []) xs
 
--- each call of the history may follow those before it
+-- each attempt of the history may follow those before it
 abbrev pub IsLegal : Program → SetupOf → List Call → Type 0
 IsLegal t s h = IsLegalAfter t s [] h
 
 -- The report of a history.
 
--- the thread of the first call with the reply Failed
+-- the thread of the first attempt with the reply Failed
 abbrev pub outcome_or : Call → Reply → Outcome → Outcome
 outcome_or x Failed o = outcome.Failed x.thread
 outcome_or x r o = o
@@ -201,7 +201,7 @@ pub record IsReport (s : SetupOf) (h : List Call) (r : Report) : Type 0 where
   pub left_live : r.left_live ≡ live_threads s h
   pub contexts : IsLeastWithin r.contexts (granted_threads h)
 
--- these calls are moves, one after the other, from c to d
+-- these attempts are moves, one after the other, from c to d
 pub data IsRun (t : Program) : Configuration → List Call → Configuration → Type 0 where
   ends : (c : Configuration) → IsRun t c [] c
   moves : (c : Configuration) (x : Call) (d : Configuration) (xs : List Call) (e : Configuration)
@@ -264,7 +264,7 @@ pub record IsAt (x : ChoicesOf) (seed thread n : ℕ) : Type 0 where
 
 -- Histories with the choice bits of a seed.
 
--- call n of each thread, from 0, has its bit n
+-- attempt n of each thread, from 0, has its bit n
 abbrev pub IsSeeded : ℕ → List Call → Type 0
 IsSeeded seed h =
     (i n : ℕ) (x : Call)
@@ -275,14 +275,14 @@ IsSeeded seed h =
 abbrev pub HasSeededBits : SetupOf → List Call → Type 0
 HasSeededBits s h = (seed : ℕ) → s.seed ≡ Some seed → IsSeeded seed h
 
--- the bit of the next call of thread i is that of the seed
+-- the bit of the next attempt of thread i is that of the seed
 pub record IsSeededBit (s : SetupOf) (h : List Call) (i : ℕ) (bit : Bool) : Type 0 where
   pub seed : ℕ
   pub has : s.seed ≡ Some seed
   pub is : bit ≡ choice_bit seed i (length (calls_of_thread i h))
 
--- the bit of the next call of thread i: the given bit if the setup has no seed; the seed's bit if
--- no bit was given
+-- the bit of the next attempt of thread i: the given bit if the setup has no seed; the seed's bit
+-- if no bit was given
 abbrev pub IsBitOfCall : SetupOf → List Call → ℕ → Option Bool → Bool → Type 0
 IsBitOfCall s h i (Some given) bit = (s.seed ≡ None) × (bit ≡ given)
 IsBitOfCall s h i None bit = IsSeededBit s h i bit

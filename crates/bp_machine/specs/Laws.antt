@@ -33,7 +33,7 @@ RunsAreHistories =
     → IsBoundedRun t s steps d
     → IsHistoryOfSteps t s (history_of_run steps d.failed) d
 
--- and the granted calls of a legal history are such a run, with these replies
+-- and the granted attempts of a legal history are such a run, with these replies
 abbrev pub HistoriesAreRuns : Type 0
 HistoriesAreRuns =
     (t : Program) (s : SetupOf) (h : List Call)
@@ -48,7 +48,7 @@ FailuresAreReal =
     → outcome_of h ≡ Failed i
     → IsRealFailure t s h i
 
--- a legal history has at most as many calls as its threads may make together
+-- a legal history has at most as many attempts as its threads may make together
 abbrev pub HistoriesAreShort : Type 0
 HistoriesAreShort =
     (t : Program) (s : SetupOf) (h : List Call)
@@ -64,8 +64,8 @@ DeadlocksGrantNothing =
     → reply_of t fits c i bit ≡ Some r
     → is_granted r ≡ false
 
--- so a legal history that reaches a deadlock has no granted call after it, whatever contexts and
--- calls of a thread its setup allows
+-- so a legal history that reaches a deadlock has no granted attempt after it, whatever contexts and
+-- attempts of a thread its setup allows
 abbrev pub DeadlocksLast : Type 0
 DeadlocksLast =
     (t : Program) (s : SetupOf) (h more : List Call)
@@ -82,7 +82,7 @@ EntriesOnOneLine =
     → All (λ e. All (λ b. b ≢ 10) e) s.entries
 
 -- programs of one code have the same legal histories, which print the same rows; their reports are
--- equal as well, since a report depends only on the setup and the calls
+-- equal as well, since a report depends only on the setup and the attempts
 abbrev pub OneCodeOneMeaning : Type 0
 OneCodeOneMeaning =
     (c : Flat) (t u : Program) (s : SetupOf) (h : List Call)

@@ -55,8 +55,8 @@ is_left (f ∷ fs) = true
 abbrev pub has_frames : Configuration → ℕ → Bool
 has_frames c i = is_left (stack_of c i)
 
--- Some thread has frames left, and each thread that has frames left waits. Contexts and calls do
--- not matter: a thread that was refused a context, or made all its calls, waits if it is at an
+-- Some thread has frames left, and each thread that has frames left waits. Contexts and attempts do
+-- not matter: a thread that was refused a context, or made all its attempts, waits if it is at an
 -- assumption of 0, and could step otherwise.
 pub record IsDeadlocked (t : Program) (c : Configuration) : Type 0 where
   pub thread : ℕ
@@ -80,7 +80,7 @@ abbrev pub values_printed : Valuation → List Frame → Option (List Bool)
 values_printed g [] = None
 values_printed g (f ∷ fs) = values_at (frame_store g f) f.left
 
--- the rows that a call prints in this configuration: one if its step is granted and a print
+-- the rows that an attempt prints in this configuration: one if its step is granted and a print
 abbrev pub rows_of_call : Configuration → Call → List PrintedRow
 rows_of_call c x =
     let printed = values_printed c.globals (stack_of c x.thread) in
@@ -116,7 +116,7 @@ EachHasRoom t c steps =
     → HasRoom d x.thread
 
 -- The steps are moves, one after the other, from the start of the setup to d. They are within its
--- contexts, no thread makes more steps than it may make calls, and the stacks have room.
+-- contexts, no thread makes more steps than it may make attempts, and the stacks have room.
 pub record IsBoundedRun (t : Program) (s : SetupOf) (steps : List Call) (d : Configuration)
     : Type 0 where
   pub run : IsRun t (start t s) steps d
@@ -136,14 +136,14 @@ history_of_run [] failed = []
 history_of_run (x ∷ xs) failed =
     record x { reply = reply_of_step xs failed } ∷ history_of_run xs failed
 
--- the history is legal, has only granted calls, and leads to d
+-- the history is legal, has only granted attempts, and leads to d
 pub record IsHistoryOfSteps (t : Program) (s : SetupOf) (h : List Call) (d : Configuration)
     : Type 0 where
   pub legal : IsLegal t s h
   pub granted : granted_calls h ≡ h
   pub leads : configuration_after t s h ≡ d
 
--- the granted calls of the history are a bounded run, with the replies of one
+-- the granted attempts of the history are a bounded run, with the replies of one
 pub record HasBoundedRun (t : Program) (s : SetupOf) (h : List Call) : Type 0 where
   pub run : IsBoundedRun t s (granted_calls h) (configuration_after t s h)
   pub replies :

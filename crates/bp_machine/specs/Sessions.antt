@@ -43,8 +43,8 @@ pub record IsCountOf (k : ContextCount) (threads : List ℕ) : Type 0 where
 
 -- A guest thread as a session keeps it.
 
--- its stack, the topmost record first; the calls that it made; whether the last of them had a last
--- reply
+-- its stack, the topmost record first; the attempts that it made; whether the last of them had a
+-- last reply
 pub record GuestThreadOf : Type 0 where
   pub stack : List ActivationRecord
   pub calls : ℕ
@@ -143,7 +143,7 @@ pub record SessionOf : Type 0 where
   pub choices : List ChoicesOf
 
 -- The session stands after the history h of the program t. If the setup has a seed, the history has
--- its bits, and the choices of each thread are before the bit of its next call.
+-- its bits, and the choices of each thread are before the bit of its next attempt.
 pub record Stands (t : Program) (x : SessionOf) (h : List Call) : Type 0 where
   pub state : StandsAfter t x.setup x.machine.state h
   pub seeded : HasSeededBits x.setup h
@@ -176,8 +176,8 @@ pub record IsCallStep (t : Program) (s : SetupOf) (h : List Call) (i : ℕ) (bit
   pub calls : is_call frame.left ≡ true
   pub steps : Answers t s.contexts (configuration_after t s h) (granted_threads h) i bit Stepped
 
--- the next call of thread i after the history h with this given bit, or none: it may follow h, and
--- has the required bit
+-- the next attempt of thread i after the history h with this given bit, or none: it may follow h,
+-- and has the required bit
 pub record IsNextCall
     (t : Program) (s : SetupOf) (h : List Call) (i : ℕ) (given : Option Bool) (x : Call)
     : Type 0 where
@@ -185,7 +185,7 @@ pub record IsNextCall
   pub bit : IsBitOfCall s h i given x.bit
   pub allowed : IsAllowed t s h x
 
--- the bit given for a recorded call: none if the setup has a seed, else that of the record
+-- the bit given for a recorded attempt: none if the setup has a seed, else that of the record
 abbrev pub given_bit : SetupOf → Bool → Option Bool
 given_bit s bit = if is_some s.seed then None else Some bit
 
@@ -193,9 +193,9 @@ given_bit s bit = if is_some s.seed then None else Some bit
 abbrev pub IsLiveThread : SetupOf → List Call → ℕ → Type 0
 IsLiveThread s h i = (i < threads s) × (is_terminated s h i ≡ false)
 
--- Why a call of thread i is refused after the history h with this given bit, or none: there is no
--- such thread; else its thread has terminated; else a bit was given although the setup has a seed,
--- or none although it has none. Memory may be refused only if its step is a call.
+-- Why an attempt of thread i is refused after the history h with this given bit, or none: there is
+-- no such thread; else its thread has terminated; else a bit was given although the setup has a
+-- seed, or none although it has none. Memory may be refused only if its step is a call.
 module _ (t : Program) (s : SetupOf) (h : List Call) (i : ℕ) (given : Option Bool) where
   abbrev pub IsAskRefusal : AskError → Type 0
   IsAskRefusal NoThread = threads s ≤ i

@@ -8,8 +8,8 @@ use Rattle.bp_machine.specs.declared.limits.TheConstants.{MAX_THREADS, MAX_CONTE
 use Rattle.bp_machine.specs.declared.setup_errors.SetupError.{SetupError}
 use Rattle.bp_machine.specs.declared.setup_errors.SetupError.TheVariants.{Threads, UnknownEntry, EntryHasFormals, InitLength, OutOfRange, Memory}
 
--- an entry procedure for each thread, a bit for each global, the contexts and the calls of a thread
--- that are allowed, and the seed of the choice bits
+-- an entry procedure for each thread, a bit for each global, the contexts and the attempts of a
+-- thread that are allowed, and the seed of the choice bits
 pub record SetupOf : Type 0 where
   pub entries : List (List ℕ)
   pub init : List Bool
@@ -101,7 +101,7 @@ pub record IsInRange (s : SetupOf) : Type 0 where
 -- The start of a run of a program, and its setup.
 
 -- each thread's entry procedure, the initial bits of the globals if given, and the contexts and the
--- calls of a thread that are allowed
+-- attempts of a thread that are allowed
 pub record StartOf : Type 0 where
   pub entries : List (List ℕ)
   pub init : Option (List Bool)
@@ -116,7 +116,7 @@ start_with entries init contexts calls = record {
   calls = calls;
 }
 
--- one thread begins with `main`, all globals are 0, and few contexts and calls are allowed
+-- one thread begins with `main`, all globals are 0, and few contexts and attempts are allowed
 abbrev pub default_start : StartOf
 default_start = start_with (codes "main" ∷ []) None DEFAULT_CONTEXTS DEFAULT_CALLS
 

@@ -1,5 +1,5 @@
--- The result of a call of a thread in a session, and the state after it: how a session works, which
--- no public clause names.
+-- The result of an attempt of a thread in a session, and the state after it: how a session works,
+-- which no public clause names.
 use Rattle.std.specs.Prelude.{if◌then◌else◌, ◌≡◌, ℕ, ◌+◌, ◌<◌, ◌^◌, Bool, true, false, ◌||◌, nat_le, List, [], ◌∷◌, Option, None, Some, length, slice_get, slice_set, ◌≢◌}
 use Rattle.bp_flat.specs.Flat.{Instruction, Flat}
 use Rattle.bp_flat.specs.InstrEffects.{store_of, effect_of}
@@ -58,7 +58,7 @@ module _ (code : List Instruction) (g : ℕ) (bit : Bool) where
   IsTransitionUnless true fits stack v = v ≡ Stays Stopped
   IsTransitionUnless false fits stack v = IsTransitionOn fits stack v
 
--- the transition for a call of this thread, thread i, if this number of contexts is allowed
+-- the transition for an attempt of this thread, thread i, if this number of contexts is allowed
 abbrev pub IsTransition :
     List Instruction → State → ℕ → ℕ → GuestThreadOf → Bool → Transition → Type 0
 IsTransition code x most i guest bit v =
@@ -83,7 +83,7 @@ abbrev pub stack_after_transition : Transition → List ActivationRecord → Lis
 stack_after_transition (Steps d) fs = stack_after d fs
 stack_after_transition v fs = fs
 
--- the thread after a call
+-- the thread after an attempt
 abbrev pub thread_after : GuestThreadOf → Transition → GuestThreadOf
 thread_after guest v = record {
   stack = stack_after_transition v guest.stack;
@@ -95,7 +95,7 @@ abbrev pub globals_after : ℕ → Transition → ℕ
 globals_after g (Steps (Continues m w)) = w.globals
 globals_after g v = g
 
--- the state after a call of thread i
+-- the state after an attempt of thread i
 abbrev pub state_after : State → ℕ → GuestThreadOf → Transition → State
 state_after x i guest (Stays r) =
     record x { threads = slice_set x.threads i (thread_after guest (Stays r)) }
@@ -117,11 +117,11 @@ abbrev pub MayGrow : State → ℕ → Transition → Type 0
 MayGrow x i (Stays r) = Unit {0}
 MayGrow x i v = used_with x.contexts i < 2 ^ 32
 
--- the thread makes no more calls
+-- the thread makes no more attempts
 abbrev pub is_over : SetupOf → GuestThreadOf → Bool
 is_over s guest = guest.ended || nat_le s.calls guest.calls
 
--- the transition for a call of thread i, which exists and may make it
+-- the transition for an attempt of thread i, which exists and may make it
 pub record IsNextTransition
     (code : List Instruction) (s : SetupOf) (x : State) (i : ℕ) (bit : Bool) (v : Transition)
     : Type 0 where
@@ -130,13 +130,13 @@ pub record IsNextTransition
   pub goes_on : is_over s guest ≡ false
   pub is : IsTransition code x s.contexts i guest bit v
 
--- the thread exists, and may make a further call
+-- the thread exists, and may make a further attempt
 pub record GoesOn (s : SetupOf) (x : State) (i : ℕ) : Type 0 where
   pub guest : GuestThreadOf
   pub has : slice_get x.threads i ≡ Some guest
   pub goes_on : is_over s guest ≡ false
 
--- the thread exists, and makes no more calls
+-- the thread exists, and makes no more attempts
 pub record IsOver (s : SetupOf) (x : State) (i : ℕ) : Type 0 where
   pub guest : GuestThreadOf
   pub has : slice_get x.threads i ≡ Some guest
@@ -167,7 +167,7 @@ abbrev pub IsCallTransition : Transition → Type 0
 IsCallTransition (Steps d) = IsEntering d
 IsCallTransition v = ⊥
 
--- How a session makes its calls, which no public clause names: how it judges one, and how its
+-- How a session makes its attempts, which no public clause names: how it judges one, and how its
 -- choices are drawn.
 
 abbrev pub session_of : Flat → SetupOf → MachineOf → List ChoicesOf → SessionOf
@@ -201,7 +201,7 @@ abbrev pub IsGiven : Option Bool → Bool → Type 0
 IsGiven (Some given) bit = bit ≡ given
 IsGiven None bit = Unit {0}
 
--- the bit of the next call of thread i, with this given bit or none
+-- the bit of the next attempt of thread i, with this given bit or none
 abbrev pub IsKeptBit : List ChoicesOf → ℕ → Option Bool → Bool → Type 0
 IsKeptBit choices i (Some given) bit = (slice_get choices i ≡ None) × (bit ≡ given)
 IsKeptBit choices i None bit =
@@ -214,7 +214,7 @@ IsBitRefusal choices i given Seeded =
 IsBitRefusal choices i given Unseeded = (slice_get choices i ≡ None) × (given ≡ None)
 IsBitRefusal choices i given f = ⊥
 
--- the transition for a call of thread i, with this given bit or none
+-- the transition for an attempt of thread i, with this given bit or none
 pub record IsJudged (x : SessionOf) (i : ℕ) (given : Option Bool) (p : Judged) : Type 0 where
   pub thread : p.call.thread ≡ i
   pub bit : IsKeptBit x.choices i given p.call.bit
@@ -222,7 +222,7 @@ pub record IsJudged (x : SessionOf) (i : ℕ) (given : Option Bool) (p : Judged)
       IsNextTransition x.code.instructions x.setup x.machine.state i p.call.bit p.transition
   pub reply : p.call.reply ≡ reply_of_transition p.transition
 
--- why a call of thread i is refused before memory is allocated
+-- why an attempt of thread i is refused before memory is allocated
 abbrev pub IsKeptRefusal : SessionOf → ℕ → Option Bool → AskError → Type 0
 IsKeptRefusal x i given NoThread = slice_get x.machine.state.threads i ≡ None
 IsKeptRefusal x i given Terminated = IsOver x.setup x.machine.state i

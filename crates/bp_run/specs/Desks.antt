@@ -114,7 +114,7 @@ pub record IsLegalDesk (d : DeskOf) : Type 0 where
   pub legal : IsLegal d.code.tree d.setup d.history
   pub seeded : HasSeededBits d.setup d.history
 
--- The session stands after the history, and the books count the calls of the history and the
+-- The session stands after the history, and the books count the attempts of the history and the
 -- threads that are live after it.
 pub record IsInBooks (x : SessionOf) (h : List Call) (made live : ℕ) : Type 0 where
   pub fits : Fits x.code.tree x.setup
@@ -142,7 +142,7 @@ coded_desk =
 
 -- Seats as contracts see them.
 
--- a thread, the number of calls made from its seat, and whether it may continue
+-- a thread, the number of attempts made from its seat, and whether it may continue
 pub record SeatOf : Type 0 where
   pub thread : ℕ
   pub calls : ℕ
@@ -155,7 +155,7 @@ seat_of thread calls is_open = record { thread = thread; calls = calls; is_open 
 abbrev pub open_amount : Bool → ℕ
 open_amount is_open = if is_open then 1 else 0
 
--- a seat has one part of each ledger: the first counts its calls, the second its live thread
+-- a seat has one part of each ledger: the first counts its attempts, the second its live thread
 pub record HasShares (call_parts made live_parts own_live : ℕ) (seat : SeatOf) : Type 0 where
   pub one_of_calls : call_parts ≡ 1
   pub made_is : made ≡ seat.calls
@@ -171,7 +171,7 @@ AreNewSeats n seats = seats ≡ map new_seat (range_with_len 0 n)
 
 -- Taps as contracts see them.
 
--- the calls that were taken, and the calls that are left once the board is gathered
+-- the attempts that were taken, and the attempts that are left once the board is gathered
 pub record TapOf : Type 0 where
   pub taken : List Call
   pub rest : Option (List Call)
@@ -179,14 +179,14 @@ pub record TapOf : Type 0 where
 abbrev pub tap_of : List Call → List Call → Option ℕ → TapOf
 tap_of taken known left = record { taken = taken; rest = option_map (λ _. known) left }
 
--- the call is the next of those that are left
+-- the attempt is the next of those that are left
 pub record IsNextOf (cs : List Call) (c : Call) (new : Option (List Call)) : Type 0 where
   pub others : List Call
   pub are : new ≡ Some others
   pub first : cs ≡ c ∷ others
 
--- the calls left after a look at the tap: unspecified before the board is gathered; then the calls
--- that are left are given one by one
+-- the attempts left after a look at the tap: unspecified before the board is gathered; then the
+-- attempts that are left are given one by one
 abbrev pub IsTakenOf : Option (List Call) → Option Call → Option (List Call) → Type 0
 IsTakenOf old result new =
     MatchOption old

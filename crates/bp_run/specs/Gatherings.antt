@@ -45,8 +45,8 @@ pub record HasBeen (t : Program) (s : SetupOf) (Holds : List Call → Type 0) : 
   pub seeded : HasSeededBits s history
   pub held : Holds history
 
--- the histories in which a refused call of thread i has its reason: for memory the thread is live
--- and the next step is a call; otherwise the thread has terminated already
+-- the histories in which a refused attempt of thread i has its reason: for memory the thread is
+-- live and the next step is a call; otherwise the thread has terminated already
 abbrev pub TellsOfRefusal : Program → SetupOf → ℕ → AskError → Type 0
 TellsOfRefusal t s i error.Memory =
     HasBeen t s (λ h. (is_terminated s h i ≡ false) × (is_at_call t s h i ≡ true))
@@ -66,7 +66,7 @@ pub record AreOnePerThread (n : ℕ) (seats : List SeatOf) : Type 0 where
   pub many : length seats ≡ n
   pub each : (i : ℕ) → i < n → count_by (λ s. s.thread == i) seats ≡ 1
 
--- the seat has counted the calls of its thread in the history, and is open if and only if its
+-- the seat has counted the attempts of its thread in the history, and is open if and only if its
 -- thread's line is not finished
 pub record IsSeatOf (s : SetupOf) (h : List Call) (seat : SeatOf) : Type 0 where
   pub calls : seat.calls ≡ length (calls_of_thread seat.thread h)
@@ -76,10 +76,10 @@ pub record IsSeatOf (s : SetupOf) (h : List Call) (seat : SeatOf) : Type 0 where
 abbrev pub AreSeatsOf : SetupOf → List Call → List SeatOf → Type 0
 AreSeatsOf s h seats = All (IsSeatOf s h) seats
 
--- The calls taken and left are one legal history, with the bits of the seed, and the report is of
--- it; the tap gives those that are left. The seats are one for each thread, and together they have
--- its calls and its live threads. The result also tells which thread stopped early, if any, and
--- whether each seat agrees with the history.
+-- The attempts taken and left are one legal history, with the bits of the seed, and the report is
+-- of it; the tap gives those that are left. The seats are one for each thread, and together they
+-- have its attempts and its live threads. The result also tells which thread stopped early, if any,
+-- and whether each seat agrees with the history.
 pub record IsGathered
     (t : Program) (s : SetupOf) (taken : List Call) (seats : List SeatOf) (tap : TapOf) (r : Report)
     (early : Option ℕ) (agree : Bool)

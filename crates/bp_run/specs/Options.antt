@@ -12,7 +12,7 @@ use Rattle.bp_run.specs.declared.limits.TheConstants.{MAX_TURN, MAX_RING}
 abbrev pub setup_under : OptionsOf → Program → SetupOf
 setup_under o t = setup_from o.start (Some o.seed) t
 
--- a turn has no call or too many, or the ring has no room or too much
+-- a turn has no attempt or too many, or the ring has no room or too much
 abbrev pub has_bad_turn_or_ring : OptionsOf → Bool
 has_bad_turn_or_ring o =
     (o.turn == 0 || nat_lt MAX_TURN o.turn) || (o.ring == 0 || nat_lt MAX_RING o.ring)

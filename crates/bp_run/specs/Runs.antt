@@ -47,9 +47,9 @@ module _ (t : Program) (s : SetupOf) (old new : Option (List ℕ)) where
     pub stopped : HaveStopped t s history
 
   -- So it was played on a board with these seats at its end: one for each thread. Together they
-  -- have counted exactly the calls of the history, and as many of them are open as lines in it.
-  -- `agree` tells whether each seat has counted its thread's calls, and is open if and only if its
-  -- thread has not terminated.
+  -- have counted exactly the attempts of the history, and as many of them are open as lines in it.
+  -- `agree` tells whether each seat has counted its thread's attempts, and is open if and only if
+  -- its thread has not terminated.
   pub record IsPlayedFrom (seats : List SeatOf) (agree : Bool) (r : Report) : Type 0 where
     pub played : IsPlayed r
     pub one_each : AreOnePerThread (threads s) seats

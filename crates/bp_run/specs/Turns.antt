@@ -1,4 +1,4 @@
--- The results of a call and of a turn at a desk, and what the seat tells of them.
+-- The results of an attempt and of a turn at a desk, and what the seat tells of them.
 use Rattle.std.specs.Prelude.{◌≡◌, ◌⊎◌, ℕ, ◌≤◌, ◌+◌, false, true, List, [], ◌∷◌, ◌++◌, None, length, not, ◌≢◌, ◌<◌, ⊤}
 use Rattle.std.specs.List.{AllByRecursion}
 use Rattle.bp_language.specs.Ast.{Program}
@@ -12,10 +12,10 @@ use Rattle.bp_machine.specs.Setups.{SetupOf}
 use Rattle.bp_machine.specs.declared.calls.Reply.TheVariants.{Stepped}
 use Rattle.bp_run.specs.Desks.{DeskOf, SeatOf}
 
--- The result of a call at a desk.
+-- The result of an attempt at a desk.
 
--- Why a call of thread i is not made and sent after the history h: the machine refuses it, or the
--- ring is full although the thread is live.
+-- Why an attempt of thread i is not made and sent after the history h: the machine refuses it, or
+-- the ring is full although the thread is live.
 abbrev pub IsSendRefusal : Program → SetupOf → List Call → ℕ → AskError → Type 0
 IsSendRefusal t s h i error.Busy = IsLiveThread s h i
 IsSendRefusal t s h i f = IsAskRefusal t s h i None f
@@ -24,9 +24,9 @@ IsSendRefusal t s h i f = IsAskRefusal t s h i None f
 abbrev pub IsUnchanged : DeskOf → DeskOf → Type 0
 IsUnchanged old new = (new ≡ record old { free = new.free }) × (old.free ≤ new.free)
 
--- One call of the seat's thread was sent: the next one that the machine makes, with the bit of the
--- seed and this reply. It takes one free place at most. The seat counts it, and is open if the line
--- is; it has counted no more calls than were sent.
+-- One attempt of the seat's thread was sent: the next one that the machine makes, with the bit of
+-- the seed and this reply. It takes one free place at most. The seat counts it, and is open if the
+-- line is; it has counted no more attempts than were sent.
 pub record IsAsked (old new : DeskOf) (seat after : SeatOf) (reply : Reply) : Type 0 where
   pub call : Call
   pub next : IsNextCall old.code.tree old.setup old.history seat.thread None call
@@ -52,22 +52,22 @@ abbrev pub MayLackMemory : DeskOf → SeatOf → Type 0
 MayLackMemory d seat =
     IsAskRefusal d.code.tree d.setup d.history seat.thread None error.Memory
 
--- Why a call is refused: the thread has terminated, or the seat is shut; else memory may be refused
--- if its step is a call; and the ring may be full if no place is known to be free.
+-- Why an attempt is refused: the thread has terminated, or the seat is shut; else memory may be
+-- refused if its step is a call; and the ring may be full if no place is known to be free.
 abbrev pub IsDeskRefusal : DeskOf → SeatOf → AskError → Type 0
 IsDeskRefusal d seat error.Terminated = IsShut d seat
 IsDeskRefusal d seat error.Memory = IsOpen d seat × MayLackMemory d seat
 IsDeskRefusal d seat error.Busy = IsOpen d seat × (d.free ≡ 0)
 IsDeskRefusal d seat f = ⊥
 
--- The result of a turn at a desk: the calls that it appends.
+-- The result of a turn at a desk: the attempts that it appends.
 
--- the calls are steps of this thread
+-- the attempts are steps of this thread
 abbrev pub AreSteps : ℕ → List Call → Type 0
 AreSteps i cs = AllByRecursion (λ x. (x.thread ≡ i) × (x.reply ≡ Stepped)) cs
 
--- The turn ended with this reply: after n calls, or because the reply is not Stepped, or because
--- the thread has terminated. The calls before the last are steps.
+-- The turn ended with this reply: after n attempts, or because the reply is not Stepped, or because
+-- the thread has terminated. The attempts before the last are steps.
 pub record IsTurn (old new : DeskOf) (seat after : SeatOf) (n : ℕ) (reply : Reply)
     : Type 0 where
   pub steps : List Call
@@ -100,15 +100,15 @@ pub record IsCutTurn (old new : DeskOf) (seat after : SeatOf) (n : ℕ) (f : Ask
 
 -- The seat after a turn, whatever others do at the desk.
 
--- a desk refuses a call only for these reasons
+-- a desk refuses an attempt only for these reasons
 abbrev pub IsDeskError : AskError → Type 0
 IsDeskError error.Terminated = ⊤
 IsDeskError error.Memory = ⊤
 IsDeskError error.Busy = ⊤
 IsDeskError f = ⊥
 
--- At least one and at most n calls were made. The seat is not open after a last reply; it is open
--- after a step only if all n calls were made.
+-- At least one and at most n attempts were made. The seat is not open after a last reply; it is
+-- open after a step only if all n attempts were made.
 pub record IsSeatTurn (seat after : SeatOf) (n : ℕ) (reply : Reply) : Type 0 where
   pub own : after.thread ≡ seat.thread
   pub more : seat.calls < after.calls
@@ -116,8 +116,8 @@ pub record IsSeatTurn (seat after : SeatOf) (n : ℕ) (reply : Reply) : Type 0 w
   pub last : is_last reply ≡ true → after.is_open ≡ false
   pub whole : reply ≡ Stepped → after.is_open ≡ true → after.calls ≡ seat.calls + n
 
--- Fewer than n calls were made before the refusal, and none if the thread had terminated; else the
--- seat is still open.
+-- Fewer than n attempts were made before the refusal, and none if the thread had terminated; else
+-- the seat is still open.
 pub record IsCutSeatTurn (seat after : SeatOf) (n : ℕ) (f : AskError) : Type 0 where
   pub own : after.thread ≡ seat.thread
   pub some : seat.calls ≤ after.calls

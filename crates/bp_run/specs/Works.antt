@@ -15,13 +15,13 @@ use Rattle.bp_trace.specs.TraceText.{head_text, call_line}
 use Rattle.bp_run.specs.declared.workers.Unfinished.{Unfinished}
 use Rattle.bp_run.specs.declared.workers.Unfinished.TheVariants.{Memory, Terminated, Halted}
 
--- The calls that a writer thread has taken, and the text given to its sink.
+-- The attempts that a writer thread has taken, and the text given to its sink.
 
--- a line for each call
+-- a line for each attempt
 abbrev pub lines_of : List Call → List ℕ
 lines_of cs = flat_map call_line cs
 
--- the sink was given the lines of the calls that were taken
+-- the sink was given the lines of the attempts that were taken
 pub record AreCallsWritten
     {W : Type 0} (contents : W → Option (List ℕ)) (old new : Sink W) (taken taken_now : List Call)
     : Type 0 where
@@ -29,19 +29,19 @@ pub record AreCallsWritten
   pub grown : taken_now ≡ taken ++ more
   pub given : Given contents old new (lines_of more)
 
--- if all workers were started, the sink was given the head and the calls that were taken; otherwise
--- it was not touched
+-- if all workers were started, the sink was given the head and the attempts that were taken;
+-- otherwise it was not touched
 abbrev pub IsStaged
     : {W : Type 0} → (W → Option (List ℕ)) → SetupOf → Sink W → Sink W → List Call → Bool → Type 0
 IsStaged contents s old new taken true = Given contents old new (head_text One s ++ lines_of taken)
 IsStaged contents s old new taken false = new ≡ old
 
--- the number of calls left in a gathered tap
+-- the number of attempts left in a gathered tap
 abbrev pub rest_length : Option (List Call) → ℕ
 rest_length None = 0
 rest_length (Some cs) = length cs
 
--- the sink was given the first of the calls that were left, and these are left
+-- the sink was given the first of the attempts that were left, and these are left
 pub record IsRestWritten
     {W : Type 0} (contents : W → Option (List ℕ)) (old new : Sink W)
     (rest rest_now : Option (List Call))

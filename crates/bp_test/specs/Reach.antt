@@ -38,14 +38,14 @@ pub record IsTried (t : Program) (s : SetupOf) (h : List Call) (x : Place) : Typ
   pub tried : refuses_context call.reply ≡ false
   pub next : next_place (configuration_after t s (take before h)) call.thread ≡ Some x
 
--- after the history thread i waits at this place, whether it may make more calls or not
+-- after the history thread i waits at this place, whether it may make more attempts or not
 pub record IsWaiting (t : Program) (s : SetupOf) (h : List Call) (i : ℕ) (x : Place)
     : Type 0 where
   pub within : i < threads s
   pub has_to_wait : waits t (configuration_after t s h) i ≡ true
   pub next : next_place (configuration_after t s h) i ≡ Some x
 
--- a call of the history led its thread to this place, and it had to wait there
+-- an attempt of the history led its thread to this place, and it had to wait there
 pub record IsWaitedAt (t : Program) (s : SetupOf) (h : List Call) (x : Place) : Type 0 where
   pub before : ℕ
   pub call : Call
@@ -55,7 +55,7 @@ pub record IsWaitedAt (t : Program) (s : SetupOf) (h : List Call) (x : Place) : 
 abbrev pub IsReachedByCall : Program → SetupOf → List Call → Place → Type 0
 IsReachedByCall t s h x = IsTried t s h x ⊎ IsWaitedAt t s h x
 
--- a call reached this place, or a thread waits at it before the first call or after the last one
+-- an attempt reached this place, or a thread waits at it before the first attempt or after the last
 abbrev pub Reaches : Program → SetupOf → List Call → Place → Type 0
 Reaches t s h x =
     IsReachedByCall t s h x
@@ -115,7 +115,7 @@ marks_after (Some n) r marks = if refuses_context r then marks else slice_set ma
 abbrev pub key_with : (key thread number : ℕ) → ℕ
 key_with key thread number = bit_xor key (number * 128 + thread) * FACTOR % 2 ^ 64
 
--- the key after a call of this thread at this instruction: only a step changes it
+-- the key after an attempt of this thread at this instruction: only a step changes it
 abbrev pub key_after : (key thread : ℕ) → Option ℕ → Reply → ℕ
 key_after key thread None reply = key
 key_after key thread (Some number) reply =

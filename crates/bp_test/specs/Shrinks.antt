@@ -46,8 +46,8 @@ unseeded s = record s { seed = None }
 abbrev pub with_contexts : SetupOf → ℕ → SetupOf
 with_contexts s k = record s { contexts = k; seed = None }
 
--- g is a legal history, in the setup of the contexts that it uses, each of whose calls made a step.
--- It has the outcome of h and this end, by no more calls and no more contexts.
+-- g is a legal history, in the setup of the contexts that it uses, each of whose attempts made a
+-- step. It has the outcome of h and this end, by no more attempts and no more contexts.
 pub record IsShrunk (t : Program) (s : SetupOf) (h : List Call) (end : HistoryEnd) (g : Shrunk)
     : Type 0 where
   pub setup : g.setup ≡ with_contexts s g.report.contexts
@@ -68,7 +68,7 @@ pub record IsDriven (t : Program) (s : SetupOf) (end : HistoryEnd) (d : Driven) 
   pub report : IsReport s d.history.items d.report
   pub ends : IsEnd t s d.history.items end
 
--- the same outcome, by no more calls and no more contexts
+-- the same outcome, by no more attempts and no more contexts
 pub record IsNoMore (d : Driven) (report : Report) : Type 0 where
   pub outcome : d.report.outcome ≡ report.outcome
   pub calls : d.report.calls ≤ report.calls

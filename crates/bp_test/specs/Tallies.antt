@@ -77,7 +77,7 @@ abbrev pub has_full_stack : List Call → Bool
 has_full_stack h = list_any (λ x. is_full x.reply) h
 
 -- The resource that a run lacked which ended too early, neither deadlocked nor finished: the first
--- of contexts, room on a stack, and calls.
+-- of contexts, room on a stack, and attempts.
 abbrev pub is_early : MadeRun → Bool
 is_early r = lives r && not (is_finished_run r)
 
@@ -104,7 +104,7 @@ ends_of runs =
       lacking_calls = capped (count_by is_without_calls runs);
     }
 
--- the number of calls of a run
+-- the number of attempts of a run
 abbrev pub calls_of : MadeRun → ℕ
 calls_of r = r.report.calls
 

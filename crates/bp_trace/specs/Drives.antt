@@ -14,7 +14,7 @@ use Rattle.bp_trace.specs.declared.limits.TheConstants.{MAX_SCHEDULE}
 use Rattle.bp_trace.specs.declared.drives.ScheduleLine.{ScheduleLine}
 use Rattle.bp_trace.specs.TraceText.{schedule_text, lines_of_history, IsLineAt, HasNoLine, trace_text, line_of_call}
 
--- a legal history makes the calls of the lines before the n-th, which begins the rest
+-- a legal history makes the attempts of the lines before the n-th, which begins the rest
 pub record DrivesUpTo
     (t : Program) (s : SetupOf) (schedule : List ℕ) (n : ℕ) (rest : List ℕ) : Type 0 where
   pub history : List Call
@@ -74,18 +74,18 @@ pub record DrivesTo
 -- The effect of a line of a schedule on a session: a device of the driver, which no public clause
 -- names.
 
--- the refusal of a call on the line n, of an existing thread
+-- the refusal of an attempt on the line n, of an existing thread
 abbrev pub drive_error_of : AskError → ℕ → DriveError
 drive_error_of refused.Memory n = Memory
 drive_error_of f n = AfterFinish n
 
--- the call of this line was added
+-- the attempt of this line was added
 pub record IsAdded (old new : List Call) (line : ScheduleLine) : Type 0 where
   pub call : Call
   pub is : new ≡ old ++ call ∷ []
   pub asked : line_of_call call ≡ line
 
--- when the call of a line is refused, which is the n-th
+-- when the attempt of a line is refused, which is the n-th
 module _ (s : SetupOf) (h : List Call) (line : ScheduleLine) (n : ℕ) where
   abbrev pub IsLineRefusal : DriveError → Type 0
   IsLineRefusal TooLong = ⊥

@@ -1,4 +1,4 @@
--- How a replay judges a call: a device, which no public clause names.
+-- How a replay judges an attempt: a device, which no public clause names.
 use Rattle.std.specs.Prelude.{◌≡◌, ◌≢◌, ◌⊎◌, ◌≤◌, ◌+◌, ◌++◌, ℕ, List, [], Option, length, map, drop}
 use Rattle.std.specs.Option.{option_map, option_to_list}
 use Rattle.bp_language.specs.Ast.{Program}
@@ -25,21 +25,21 @@ use Rattle.bp_trace.specs.declared.errors.Due.{Due}
 use Rattle.bp_trace.specs.declared.errors.ReplayError.{ReplayError}
 use Rattle.bp_trace.specs.declared.errors.ReplayError.TheVariants as error
 
--- the rows of a call, which prints one or none
+-- the rows of an attempt, which prints one or none
 abbrev pub rows_of : Option Printed → List PrintedRow
 rows_of row = option_to_list (option_map row_of row)
 
--- the refusal of a call on the line n, after this number of calls; its thread exists
+-- the refusal of an attempt on the line n, after this number of attempts; its thread exists
 abbrev pub replay_error_of : AskError → ℕ → ℕ → ReplayError
 replay_error_of refused.Memory n made = error.Memory
 replay_error_of f n made = error.AfterFinish n made
 
--- the machine's call has the bit and the reply of the trace's
+-- the machine's attempt has the bit and the reply of the trace's
 pub record IsOwnAs (own x : Call) : Type 0 where
   pub bit : own.bit ≡ x.bit
   pub reply : own.reply ≡ x.reply
 
--- the bit or the reply differs after this number of calls
+-- the bit or the reply differs after this number of attempts
 module _ (own x : Call) (n made : ℕ) where
   pub record IsDueCall (due : Due) : Type 0 where
     pub calls : due.calls ≡ made
@@ -51,17 +51,17 @@ module _ (own x : Call) (n made : ℕ) where
       (m ≡ n) × IsDueCall due × (own.bit ≡ x.bit) × (own.reply ≢ x.reply)
   IsMismatch f = ⊥
 
--- why a call on the line n is refused after h
+-- why an attempt on the line n is refused after h
 abbrev pub IsCallRefusal : Program → SetupOf → List Call → ℕ → Call → ReplayError → Type 0
 IsCallRefusal t s h n x f = (f ≡ error.Memory) ⊎ IsCallError t s h n x f
 
--- the session stands after the calls that were played, and these are the rows that they print
+-- the session stands after the attempts that were played, and these are the rows that they print
 abbrev pub ArePlayed : {O : Type 0} → SessionOf → Played O → Type 0
 ArePlayed x p =
     Stands x.code.tree x p.history.items
     × (map row_of p.printed.items ≡ printed_rows x.code.tree x.setup p.history.items)
 
--- observations of the calls played so far remain valid with the new ones
+-- observations of the attempts played so far remain valid with the new ones
 abbrev pub Watches
     : {O : Type 0}
     → (O → O → Program → SetupOf → List Call → Type 0)
@@ -75,7 +75,7 @@ Watches {O} sees t s old new =
     → sees first old.watcher t s old.history.items
     → sees first new.watcher t s new.history.items
 
--- a watcher that has begun with this setup sees all calls that are played
+-- a watcher that has begun with this setup sees all attempts that are played
 abbrev pub WatchesAll
     : {O : Type 0}
     → (O → O → Program → SetupOf → List Call → Type 0)
@@ -87,7 +87,7 @@ abbrev pub WatchesAll
 WatchesAll {O} sees t s begun p =
     (first : O) → sees first begun t s [] → sees first p.watcher t s p.history.items
 
--- a call of the line n is refused after h, and those of the line before it were played
+-- an attempt of the line n is refused after h, and those of the line before it were played
 pub record IsRefusedAfter
     (t : Program) (s : SetupOf) (h : List Call) (n : ℕ) (calls played : List Call)
     (f : ReplayError)
@@ -95,13 +95,13 @@ pub record IsRefusedAfter
   pub among : IsRefusedAmong t s h n calls f
   pub are : played ≡ h ++ among.good
 
--- why the calls of the line n are refused after h and the calls played
+-- why the attempts of the line n are refused after h and the attempts played
 abbrev pub IsLineRefused :
     Program → SetupOf → List Call → ℕ → List Call → List Call → ReplayError → Type 0
 IsLineRefused t s h n calls played f =
     (f ≡ error.Memory) ⊎ IsRefusedAfter t s h n calls played f
 
--- the lines of the calls that were played begin the text, and no line of calls follows them
+-- the lines of the attempts that were played begin the text, and no line of attempts follows them
 pub record IsBody
     {O : Type 0} (v : Version) (s : SetupOf) (text : List ℕ) (first : ℕ) (b : Body O)
     : Type 0 where
@@ -112,8 +112,8 @@ pub record IsBody
   pub ends : HasNoBodyLine v (threads s) (last_thread (map (λ x. x.thread) b.played.history.items))
       (drop b.size text)
 
--- the lines of calls that may be played begin the text, then a line of which one call is refused;
--- those before it were played
+-- the lines of attempts that may be played begin the text, then a line of which one attempt is
+-- refused; those before it were played
 pub record HasRefusedBody
     (t : Program) (v : Version) (s : SetupOf) (text : List ℕ) (first : ℕ) (played : List Call)
     (f : ReplayError)
@@ -148,7 +148,7 @@ pub record IsPlayedTrace
   pub trace : IsTrace t o.version o.setup h text
   pub report : IsReport o.setup h r
 
--- the text with this head is refused after these accepted calls
+-- the text with this head is refused after these accepted attempts
 pub record IsRefusedOpened
     (t : Program) (text : List ℕ) (o : Opened) (kept : List Call) (f : ReplayError) : Type 0 where
   pub refusal : IsReplayRefusal t text f

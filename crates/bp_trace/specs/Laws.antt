@@ -24,7 +24,7 @@ pub record DrivesTo (t : Program) (s : SetupOf) (schedule : List ℕ) (h : List 
   pub lines : (n : ℕ) → IsBadLine t s schedule n → ⊥
   pub finishes : (n : ℕ) → IsAfterFinish t s schedule n → ⊥
 
--- the lines of the calls of a legal history drive its program to it
+-- the lines of the attempts of a legal history drive its program to it
 abbrev pub LinesDriveAgain : Type 0
 LinesDriveAgain =
     (t : Program) (s : SetupOf) (h : List Call)
@@ -62,7 +62,7 @@ RefusedDrivesNowhere =
     → IsDriven t s schedule h
     → ⊥
 
--- the pieces of a history are its calls, cut into the fewest lists of one thread each
+-- the pieces of a history are its attempts, cut into the fewest lists of one thread each
 pub record AreItsPieces (h : List Call) : Type 0 where
   pub whole : calls_of_pieces (pieces_of h) ≡ h
   pub fewest : IsLeastWithin (length (pieces_of h)) (map (λ x. x.thread) h)

@@ -20,15 +20,15 @@ use Rattle.bp_trace.specs.declared.traces.Version.{Version}
 use Rattle.bp_trace.specs.Replays.{IsBodyLine, IsEndLine, HasOtherEnd, HasMoreAfter}
 use Rattle.bp_trace.specs.declared.errors.EndCounts.{EndCounts}
 
--- The text of the pieces of a history, call by call: a device of the writer, which no public clause
--- names.
+-- The text of the pieces of a history, attempt by attempt: a device of the writer, which no public
+-- clause names.
 
 -- the thread of a line, after the end of the line before it
 abbrev pub line_start : Bool → ℕ → List ℕ
 line_start is_first i =
     (if is_first then [] else codes "\n") ++ (decimal i ++ codes " ")
 
--- the text before a call that follows one of this thread, or none
+-- the text before an attempt that follows one of this thread, or none
 abbrev pub opening : Option ℕ → ℕ → List ℕ
 opening None i = line_start true i
 opening (Some l) i = if l == i then [] else line_start false i
@@ -36,12 +36,12 @@ opening (Some l) i = if l == i then [] else line_start false i
 abbrev pub symbol_after : Option ℕ → Call → List ℕ
 symbol_after last x = opening last x.thread ++ symbol_text (symbol_of x)
 
--- the calls after one of this thread, without the end of the last line
+-- the attempts after one of this thread, without the end of the last line
 abbrev pub symbols_after : Option ℕ → List Call → List ℕ
 symbols_after last [] = []
 symbols_after last (x ∷ xs) = symbol_after last x ++ symbols_after (Some x.thread) xs
 
--- How a line of calls is read: a device of the reader, which no public clause names.
+-- How a line of attempts is read: a device of the reader, which no public clause names.
 
 -- the thread of a line, which is below n, and a space
 abbrev pub thread_field : (n : ℕ) → Format ℕ
@@ -62,11 +62,11 @@ abbrev pub HasNoTail : List ℕ → Type 0
 HasNoTail text =
     (b : Bool) (r : Reply) (more : List ℕ) → text ≢ bit_digit b ∷ 32 ∷ letter_of r ∷ 10 ∷ more
 
--- the line of this call of a thread below n begins the text
+-- the line of this attempt of a thread below n begins the text
 abbrev pub IsCallAt : ℕ → List ℕ → Call → Type 0
 IsCallAt n text x = (more : List ℕ) × (x.thread < n) × (text ≡ call_line x ++ more)
 
--- the line of no call of a thread below n begins the text
+-- the line of no attempt of a thread below n begins the text
 abbrev pub HasNoCall : ℕ → List ℕ → Type 0
 HasNoCall n text = (x : Call) (more : List ℕ) → x.thread < n → text ≢ call_line x ++ more
 
@@ -92,7 +92,7 @@ IsHeadRefusal text (error.Head k) = BreaksAt head text k
 IsHeadRefusal text error.Memory = Unit {0}
 IsHeadRefusal text f = ⊥
 
--- How a line of calls is read, in either version: a device of the reader, which no public clause
+-- How a line of attempts is read, in either version: a device of the reader, which no public clause
 -- names.
 
 -- this bit and the letter of this reply begin the text
@@ -103,8 +103,8 @@ IsSymbolAt text x = (more : List ℕ) × (text ≡ bit_digit x.0 ∷ letter_of x
 abbrev pub HasNoSymbol : List ℕ → Type 0
 HasNoSymbol text = (b : Bool) (r : Reply) (more : List ℕ) → text ≢ bit_digit b ∷ letter_of r ∷ more
 
--- the text begins with symbols of this size, and no other follows them; their calls of this thread
--- were added
+-- the text begins with symbols of this size, and no other follows them; their attempts of this
+-- thread were added
 pub record HasSymbols (i : ℕ) (text : List ℕ) (old new : List Call) (size : ℕ) : Type 0 where
   pub symbols : List Symbol
   pub more : List ℕ
@@ -113,7 +113,7 @@ pub record HasSymbols (i : ℕ) (text : List ℕ) (old new : List Call) (size : 
   pub size_is : size ≡ length (flat_map symbol_text symbols)
   pub ends : HasNoSymbol more
 
--- a line of calls of this size begins the text, and these are its calls
+-- a line of attempts of this size begins the text, and these are its attempts
 pub record IsBodyLineAt
     (v : Version) (n : ℕ) (last : Option ℕ) (text : List ℕ) (calls : List Call) (size : ℕ)
     : Type 0 where
@@ -123,7 +123,7 @@ pub record IsBodyLineAt
   pub begins : text ≡ line ++ more
   pub size_is : size ≡ length line
 
--- no line of calls begins the text
+-- no line of attempts begins the text
 abbrev pub HasNoBodyLine : Version → ℕ → Option ℕ → List ℕ → Type 0
 HasNoBodyLine v n last text =
     (line : List ℕ) (calls : List Call) (more : List ℕ)
@@ -176,8 +176,8 @@ pub record HasOtherLine (text : List ℕ) : Type 0 where
 abbrev pub counts : ℕ → ℕ → EndCounts
 counts calls left_live = record { calls = calls; left_live = left_live }
 
--- Why the text after the calls of a trace is refused at line n: it is not the end line of these
--- counts of calls and live threads alone.
+-- Why the text after the attempts of a trace is refused at line n: it is not the end line of these
+-- counts of attempts and live threads alone.
 module _ (rest : List ℕ) (calls left_live n : ℕ) where
   abbrev own : List ℕ
   own = end_line calls left_live

@@ -30,16 +30,16 @@ use Rattle.bp_trace.specs.declared.replays.Watched.{Watched}
 use Rattle.bp_trace.specs.declared.errors.MigrateError.{MigrateError}
 use Rattle.bp_trace.specs.declared.errors.MigrateError.TheVariants as refusal
 
--- The machine's own call for a recorded one.
+-- The machine's own attempt for a recorded one.
 
--- After the history h a call x was recorded: of its thread, with the bit of the seed, else with its
--- own bit.
+-- After the history h an attempt x was recorded: of its thread, with the bit of the seed, else with
+-- its own bit.
 module _ (t : Program) (s : SetupOf) (h : List Call) (x : Call) where
-  -- this call comes next
+  -- this attempt comes next
   abbrev pub IsOwnCall : Call → Type 0
   IsOwnCall own = IsNextCall t s h x.thread (given_bit s x.bit) own
 
-  -- why no call comes next; memory may be refused to the watcher, too
+  -- why no attempt comes next; memory may be refused to the watcher, too
   abbrev pub IsOwnRefusal : AskError → Type 0
   IsOwnRefusal Memory = Unit {0}
   IsOwnRefusal f = IsAskRefusal t s h x.thread (given_bit s x.bit) f
@@ -57,15 +57,15 @@ pub record IsTrace
   pub playable : IsPlayable t s h
   pub is : text ≡ text_of v s h
 
--- the number of lines of the calls of a history
+-- the number of lines of the attempts of a history
 abbrev pub line_count : Version → List Call → ℕ
 line_count One h = length h
 line_count Two h = length (pieces_of h)
 
--- a line of calls of one of n threads that may follow a call of the last thread, or the head if
--- there is none; and its calls
+-- a line of attempts of one of n threads that may follow an attempt of the last thread, or the head
+-- if there is none; and its attempts
 module _ (n : ℕ) (last : Option ℕ) (line : List ℕ) (calls : List Call) where
-  -- one call
+  -- one attempt
   pub record IsCallLine : Type 0 where
     pub call : Call
     pub thread : call.thread < n
@@ -99,7 +99,7 @@ pub record IsEndLine (line : List ℕ) : Type 0 where
   pub second : IsDecimal left_live
   pub is : line ≡ codes "end " ++ (calls ++ (codes " " ++ (left_live ++ codes "\n")))
 
--- The text that may be after the calls of a history, other than its own end alone.
+-- The text that may be after the attempts of a history, other than its own end alone.
 module _ (own rest : List ℕ) where
   -- another end
   pub record HasOtherEnd : Type 0 where
@@ -115,11 +115,11 @@ module _ (own rest : List ℕ) where
     pub begins : rest ≡ own ++ more
     pub some : more ≢ []
 
--- Why the call x is refused on line n after the history h: its thread has made its last call; else
--- the machine's own call, with the bit of the seed if there is one, has another bit; else it has
--- another reply.
+-- Why the attempt x is refused on line n after the history h: its thread has made its last attempt;
+-- else the machine's own attempt, with the bit of the seed if there is one, has another bit; else
+-- it has another reply.
 module _ (t : Program) (s : SetupOf) (h : List Call) (n : ℕ) (x : Call) where
-  -- the machine's own call of the thread, after those of h
+  -- the machine's own attempt of the thread, after those of h
   pub record IsDue (due : Due) : Type 0 where
     pub calls : due.calls ≡ length h
     pub own : IsOwnCall t s h x due.call
@@ -132,7 +132,7 @@ module _ (t : Program) (s : SetupOf) (h : List Call) (n : ℕ) (x : Call) where
       (m ≡ n) × IsDue due × (due.call.bit ≡ x.bit) × (due.call.reply ≢ x.reply)
   IsCallError f = ⊥
 
--- one of the calls of line n is refused, after h and those before it
+-- one of the attempts of line n is refused, after h and those before it
 pub record IsRefusedAmong
     (t : Program) (s : SetupOf) (h : List Call) (n : ℕ) (calls : List Call) (f : ReplayError)
     : Type 0 where
@@ -160,10 +160,10 @@ abbrev pub counts_of : SetupOf → List Call → EndCounts
 counts_of s h = record { calls = length h; left_live = live_threads s h }
 
 -- Why the rest is refused: it is empty; no line that may follow begins it; it begins with one whose
--- calls are refused; with the end of another history; or with the end, and more after it.
+-- attempts are refused; with the end of another history; or with the end, and more after it.
 module _
     (t : Program) (v : Version) (s : SetupOf) (h : List Call) (n : ℕ) (rest : List ℕ) where
-  -- a line of calls that may follow those of h
+  -- a line of attempts that may follow those of h
   abbrev pub IsNextLine : List ℕ → List Call → Type 0
   IsNextLine line calls =
       IsBodyLine (threads s) (last_thread (map (λ x. x.thread) h)) line calls v
@@ -176,7 +176,7 @@ module _
         → rest ≢ line ++ more
     pub ends : (line more : List ℕ) → IsEndLine line → rest ≢ line ++ more
 
-  -- a line begins it, one of whose calls is refused after those before it
+  -- a line begins it, one of whose attempts is refused after those before it
   pub record HasRefusedCall (f : ReplayError) : Type 0 where
     pub line : List ℕ
     pub calls : List Call
@@ -227,9 +227,9 @@ module _ (t : Program) (text : List ℕ) where
   IsReplayRefusal error.Memory = IsShort
   IsReplayRefusal f = IsShort × HasRefusedRest f
 
--- The calls of a text that are accepted even if the whole text is not a trace.
+-- The attempts of a text that are accepted even if the whole text is not a trace.
 
--- no calls of a text with this error are accepted: it has no head, or the setup is refused, or
+-- no attempts of a text with this error are accepted: it has no head, or the setup is refused, or
 -- memory was
 abbrev pub HasNoCalls : ReplayError → Type 0
 HasNoCalls error.TooLong = Unit {0}
@@ -239,9 +239,9 @@ HasNoCalls error.Memory = Unit {0}
 HasNoCalls f = ⊥
 
 module _ (t : Program) (text : List ℕ) where
-  -- These calls of the text are accepted: it begins with the head of a setup that the program
-  -- accepts, and with whole lines of calls of its threads. These are the first of them, and may be
-  -- played.
+  -- These attempts of the text are accepted: it begins with the head of a setup that the program
+  -- accepts, and with whole lines of attempts of its threads. These are the first of them, and may
+  -- be played.
   pub record IsAccepted (v : Version) (s : SetupOf) (h : List Call) : Type 0 where
     pub head : HasHead s
     pub fine : setup_error t s ≡ None
@@ -265,7 +265,7 @@ module _ (t : Program) (text : List ℕ) where
     pub history : List Call
     pub is : IsTrace t version setup history text
 
-  -- the text is refused for this error, and this is the trace of its accepted calls
+  -- the text is refused for this error, and this is the trace of its accepted attempts
   pub record IsAcceptedTrace (x : AcceptedTrace) : Type 0 where
     pub version : Version
     pub setup : SetupOf

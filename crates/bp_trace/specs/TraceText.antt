@@ -1,4 +1,4 @@
--- The text of a trace: the setups that have one, its head, and the lines of its calls; schedules.
+-- The text of a trace: the setups that have one, its head, the lines of its attempts; schedules.
 use Rattle.std.specs.Prelude.{◌≡◌, ◌≢◌, ◌<◌, ℕ, Bool, List, [], ◌∷◌, ◌++◌, map, flat_map, decimal, if◌then◌else◌, ◌==◌, Option, None, Some, length, codes, ◌^◌}
 use Rattle.std.specs.List.{concat, AllByRecursion}
 pub use Rattle.bp_text.specs.Formats.{bit_digit}
@@ -10,7 +10,7 @@ use Rattle.bp_trace.specs.declared.drives.ScheduleLine.{ScheduleLine}
 use Rattle.bp_trace.specs.declared.traces.Version.{Version}
 use Rattle.bp_trace.specs.declared.traces.Version.TheVariants.{One, Two}
 
--- Schedules: lines that give the thread of the next call, and its choice bit.
+-- Schedules: lines that give the thread of the next attempt, and its choice bit.
 
 -- the thread, a space, the bit and a line feed
 abbrev pub line_text : ScheduleLine → List ℕ
@@ -19,7 +19,7 @@ line_text x = decimal x.thread ++ 32 ∷ bit_digit x.bit ∷ 10 ∷ []
 abbrev pub schedule_text : List ScheduleLine → List ℕ
 schedule_text xs = flat_map line_text xs
 
--- the schedule line of a call
+-- the schedule line of an attempt
 abbrev pub line_of_call : Call → ScheduleLine
 line_of_call x = record { thread = x.thread; bit = x.bit }
 
@@ -34,14 +34,14 @@ IsLineAt n text x = (more : List ℕ) × (x.thread < n) × (text ≡ line_text x
 abbrev pub HasNoLine : ℕ → List ℕ → Type 0
 HasNoLine n text = (x : ScheduleLine) (more : List ℕ) → x.thread < n → text ≢ line_text x ++ more
 
--- The pieces of a history: the cut of its calls into the fewest lists of one thread each.
+-- The pieces of a history: the cut of its attempts into the fewest lists of one thread each.
 
 -- a choice bit and the reply to it
 pub record Symbol : Type 0 where
   pub bit : Bool
   pub reply : Reply
 
--- successive calls of one thread, at least one
+-- successive attempts of one thread, at least one
 pub record Piece : Type 0 where
   pub thread : ℕ
   pub first : Symbol
@@ -62,7 +62,7 @@ calls_of_pieces ps = flat_map calls_of_piece ps
 abbrev pub piece_of : Call → List Symbol → Piece
 piece_of x others = record { thread = x.thread; first = symbol_of x; others = others }
 
--- a call, then the pieces: it joins the first piece if that is of its thread
+-- an attempt, then the pieces: it joins the first piece if that is of its thread
 abbrev pub with_call : Call → List Piece → List Piece
 with_call x [] = piece_of x [] ∷ []
 with_call x (p ∷ ps) =
@@ -120,7 +120,7 @@ head_text v s = concat (head_lines v s)
 abbrev pub call_line : Call → List ℕ
 call_line x = decimal x.thread ++ 32 ∷ bit_digit x.bit ∷ 32 ∷ letter_of x.reply ∷ 10 ∷ []
 
--- the number of calls, and of the threads that are live
+-- the number of attempts, and of the threads that are live
 abbrev pub end_line : ℕ → ℕ → List ℕ
 end_line calls left_live = concat (
     codes "end " ∷ decimal calls
@@ -136,7 +136,7 @@ abbrev pub piece_line : Piece → List ℕ
 piece_line p =
     decimal p.thread ++ 32 ∷ (flat_map symbol_text (p.first ∷ p.others) ++ codes "\n")
 
--- a line for each call, or one for each piece
+-- a line for each attempt, or one for each piece
 abbrev pub calls_text : Version → List Call → List ℕ
 calls_text One h = flat_map call_line h
 calls_text Two h = flat_map piece_line (pieces_of h)

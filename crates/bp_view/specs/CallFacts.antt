@@ -1,4 +1,4 @@
--- A call's effects, as plain facts; and the session after the first calls of a history.
+-- An attempt's effects, as plain facts; and the session after the first attempts of a history.
 use Rattle.std.specs.Prelude.{◌≡◌, ℕ, List, if◌then◌else◌, ◌==◌, nat_lt, [], ◌∷◌, length, take, Bool, ◌++◌, Option, None, Some, map, option_map, ◌&&◌, not, suc, false, MatchOption, codes, ◌≤◌, ◌<◌, ◌⊎◌, min}
 use Rattle.bp_text.specs.declared.lines.Position.{Position}
 use Rattle.bp_text.specs.Lines.{IsOneLine, position_at}
@@ -29,7 +29,7 @@ pub record AreProgramFacts (t : Program) (text : List ℕ) (x : ProgramFacts) : 
   pub globals : x.globals.now ≡ t.globals
   pub procedures : x.procs.now ≡ t.procedures
 
--- The variables that a call changed, by the configurations before and after it.
+-- The variables that an attempt changed, by the configurations before and after it.
 
 -- the variables whose values before and after differ, with their values after; both have the same
 -- names
@@ -42,8 +42,8 @@ changed (x ∷ xs) (y ∷ ys) = if same_bit x.1 y.1 then changed xs ys else y �
 abbrev pub arguments_of : Frame → Valuation
 arguments_of f = take (length f.procedure.formals) f.locals
 
--- the changes of a call in the frame at the top of a stack, by the depths before and after it: the
--- formals of a procedure that it entered, or the locals that have other values; nothing after a
+-- the changes of an attempt in the frame at the top of a stack, by the depths before and after it:
+-- the formals of a procedure that it entered, or the locals that have other values; nothing after a
 -- return
 abbrev pub frame_changed : Frame → Frame → (depth_before depth_after : ℕ) → Valuation
 frame_changed f g m n =
@@ -57,14 +57,14 @@ IsSameCall [] after = Unit {0}
 IsSameCall (f ∷ fs) [] = Unit {0}
 IsSameCall (f ∷ fs) (g ∷ gs) = length (f ∷ fs) ≡ length (g ∷ gs) → f.procedure ≡ g.procedure
 
--- A device: this also holds of the stacks of thread i, and a call without a stack before or after
--- it changes no global.
+-- A device: this also holds of the stacks of thread i, and an attempt without a stack before or
+-- after it changes no global.
 pub record IsNext (c d : Configuration) (i : ℕ) : Type 0 where
   pub call : IsSameCall (stack_of c i) (stack_of d i)
   pub idle : stack_of c i ≡ [] → d.globals ≡ c.globals
   pub ended : stack_of d i ≡ [] → d.globals ≡ c.globals
 
--- The changes of a call, as plain facts.
+-- The changes of an attempt, as plain facts.
 
 -- a variable, with the procedure of a local, and its value
 pub record Entry : Type 0 where
@@ -80,7 +80,7 @@ entry_of x = record { owner = option_map (λ p. p.now) x.owner; name = x.name.no
 abbrev pub owned : Option Procedure → Valuation → List Entry
 owned owner values = map (λ v. record { owner = owner; name = v.0; value = v.1 }) values
 
--- the changes of a call in the frame at the top of a stack
+-- the changes of an attempt in the frame at the top of a stack
 abbrev pub frame_entries : Frame → Frame → (depth_before depth_after : ℕ) → List Entry
 frame_entries f g m n = owned (Some g.procedure) (frame_changed f g m n)
 
@@ -89,7 +89,7 @@ stack_entries [] after = []
 stack_entries (f ∷ fs) [] = []
 stack_entries (f ∷ fs) (g ∷ gs) = frame_entries f g (length (f ∷ fs)) (length (g ∷ gs))
 
--- the changes of a call of thread i: globals, and the variables at the top of its stack
+-- the changes of an attempt of thread i: globals, and the variables at the top of its stack
 abbrev pub changes_between : (before after : Configuration) → ℕ → List Entry
 changes_between c d i =
     owned None (changed c.globals d.globals) ++ stack_entries (stack_of c i) (stack_of d i)
@@ -99,7 +99,7 @@ abbrev pub slot_entry : Option Procedure → List ℕ → (before after : Bool) 
 slot_entry owner name p q =
     if same_bit p q then [] else record { owner = owner; name = name; value = q } ∷ []
 
--- A call of a history with its context and the tops of its thread's stack before and after it.
+-- An attempt of a history with its context and the tops of its thread's stack before and after it.
 
 -- the step is one of another thread than the last
 abbrev pub is_other : Option ℕ → ℕ → Bool
@@ -109,20 +109,20 @@ is_other (Some l) i = not (l == i)
 abbrev pub is_switch : List Call → Call → Bool
 is_switch h x = is_granted x.reply && is_other (last_thread (granted_threads h)) x.thread
 
--- the context of the step of the call x after h, if it is granted
+-- the context of the step of the attempt x after h, if it is granted
 abbrev pub IsContext : List Call → Call → Option ℕ → Type 0
 IsContext h x None = is_granted x.reply ≡ false
 IsContext h x (Some n) =
     (is_granted x.reply ≡ Bool.true) × IsLeastWithin n (granted_threads (h ++ x ∷ []))
 
--- A call of thread i leads from one configuration to the other, and these are the tops of its stack
--- before and after it.
+-- An attempt of thread i leads from one configuration to the other, and these are the tops of its
+-- stack before and after it.
 pub record Leads (t : Program) (c d : Configuration) (i : ℕ) (m : ReplayedCall) : Type 0 where
   pub before : MatchOption m.before (stack_of c i ≡ []) (IsTop t c i)
   pub after : MatchOption m.after (stack_of d i ≡ []) (IsTop t d i)
   pub next : IsNext c d i
 
--- the replayed call is that of the call x after h
+-- the replayed attempt is that of the attempt x after h
 pub record IsReplayedCall (t : Program) (s : SetupOf) (h : List Call) (x : Call) (m : ReplayedCall)
     : Type 0 where
   pub number : m.number ≡ suc (length h)
@@ -133,7 +133,7 @@ pub record IsReplayedCall (t : Program) (s : SetupOf) (h : List Call) (x : Call)
       let now = configuration_after t s h in
       Leads t now (configuration_after t s (h ++ x ∷ [])) x.thread m
 
--- The shown part of a call, as plain facts.
+-- The shown part of an attempt, as plain facts.
 
 -- The next statement of a thread: its start, as printed and as a line and a column; its procedure;
 -- the number of frames of the stack; the text of the statement, and whether it reads a choice bit.
@@ -157,8 +157,8 @@ nothing_next =
       reads = false;
     }
 
--- The shown facts of a call: its number from 1, the call with its reply, its context, whether the
--- step before was another thread's, its thread's next statement, and its changes.
+-- The shown facts of an attempt: its number from 1, the attempt with its reply, its context,
+-- whether the step before was another thread's, its thread's next statement, and its changes.
 pub record ShownCall : Type 0 where
   pub number : ℕ
   pub call : Call
@@ -197,7 +197,7 @@ is_tried Failed = Bool.true
 is_tried Blocked = Bool.true
 is_tried r = false
 
--- the choice bit of a call whose statement reads one, if it was tried
+-- the choice bit of an attempt whose statement reads one, if it was tried
 abbrev pub choice_of : ShownCall → Option Bool
 choice_of f = if f.next.reads && is_tried f.call.reply then Some f.call.bit else None
 
@@ -217,17 +217,17 @@ abbrev pub IsNextOf : List ℕ → List Frame → Next → Type 0
 IsNextOf text [] next = next ≡ nothing_next
 IsNextOf text (f ∷ fs) next = IsNextAt text f (length (f ∷ fs)) next
 
--- the values that a call prints in this configuration: those of a step at a print
+-- the values that an attempt prints in this configuration: those of a step at a print
 abbrev pub printed_by : Configuration → Call → Option (List Bool)
 printed_by c x =
     if is_granted x.reply then values_printed c.globals (stack_of c x.thread) else None
 
--- the changes of the call x after the history h of a program
+-- the changes of the attempt x after the history h of a program
 abbrev pub changes_by : Program → SetupOf → (h : List Call) → Call → List Entry
 changes_by t s h x =
     changes_between (configuration_after t s h) (configuration_after t s (h ++ x ∷ [])) x.thread
 
--- these are the facts of the call x after h
+-- these are the facts of the attempt x after h
 pub record AreCallFacts
     (t : Program) (text : List ℕ) (s : SetupOf) (h : List Call) (x : Call) (f : ShownCall)
     : Type 0 where
@@ -238,11 +238,11 @@ pub record AreCallFacts
   pub next : IsNextOf text (stack_of (configuration_after t s h) x.thread) f.next
   pub changes : f.changes ≡ changes_by t s h x
 
--- Checkpoints: the session after the first calls of a history.
+-- Checkpoints: the session after the first attempts of a history.
 
 -- Of a program in a setup, and a history.
 module _ (t : Program) (s : SetupOf) (h : List Call) where
-  -- the session stands after the first calls of the history, as many as the checkpoint says
+  -- the session stands after the first attempts of the history, as many as the checkpoint says
   pub record IsCheckpoint (x : Checkpoint) : Type 0 where
     pub few : x.made ≤ length h
     pub program : x.session.code.tree ≡ t
@@ -250,17 +250,17 @@ module _ (t : Program) (s : SetupOf) (h : List Call) where
     pub stands : Stands t x.session (take x.made h)
     pub last : x.last ≡ last_thread (granted_threads (take x.made h))
 
-  -- these are the first n calls, or all if there are fewer
+  -- these are the first n attempts, or all if there are fewer
   pub record IsCheckpointAfter (n : ℕ) (x : Checkpoint) : Type 0 where
     pub is : IsCheckpoint x
     pub made : x.made ≡ min n (length h)
 
-  -- A device: a checkpoint after the first n calls was kept, or n is 0, or the history is shorter.
+  -- A device: a checkpoint after the first n attempts was kept, or n is 0, or there are fewer.
   abbrev pub IsKept : (n : ℕ) → Option Checkpoint → Type 0
   IsKept n None = (n ≡ 0) ⊎ (length h < n)
   IsKept n (Some x) = IsCheckpoint x × (x.made ≡ n)
 
-  -- A device: a watcher has counted the calls of the history.
+  -- A device: a watcher has counted the attempts of the history.
   pub record HasCounted (w : CheckpointWatcher) : Type 0 where
     pub made : w.made ≡ length h
     pub last : w.last ≡ last_thread (granted_threads h)

@@ -1,5 +1,5 @@
 -- The contexts of a history: the shown part of each, as plain facts, and a line for each: its
--- thread, its first and its last call, its thread's places before and after it, and the globals
+-- thread, its first and its last attempt, its thread's places before and after it, and the globals
 -- that it changed.
 use Rattle.std.specs.Prelude.{◌≡◌, ◌-◌, ℕ, suc, List, [], ◌∷◌, ◌++◌, Option, None, Some, codes, decimal, length, map, ◌≤◌, slice_get, take, if◌then◌else◌, ◌==◌, MatchOption}
 use Rattle.std.specs.List.{concat}
@@ -29,13 +29,13 @@ use Rattle.bp_view.specs.CallFacts.{next_in, IsNextOf, Next, entry_of, owned, En
 use Rattle.bp_view.specs.declared.spans.Span.{Span}
 use Rattle.bp_view.specs.declared.spans.StandingPoint.{StandingPoint}
 
--- the call x, after k others, made a step in context n
+-- the attempt x, after k others, made a step in context n
 pub record IsStepIn (n : ℕ) (h : List Call) (k : ℕ) (x : Call) : Type 0 where
   pub at : slice_get h k ≡ Some x
   pub context : IsContext (take k h) x (Some n)
 
--- All steps in context n are of thread i. The first is that of the call after `first` others, and
--- the last that of the call after `last` others.
+-- All steps in context n are of thread i. The first is that of the attempt after `first` others,
+-- and the last that of the attempt after `last` others.
 pub record IsContextOf (n : ℕ) (h : List Call) (i first last : ℕ) : Type 0 where
   pub begins : (x : Call) × IsStepIn n h first x
   pub ends : (x : Call) × IsStepIn n h last x
@@ -43,8 +43,8 @@ pub record IsContextOf (n : ℕ) (h : List Call) (i first last : ℕ) : Type 0 w
       → IsStepIn n h k x
       → (x.thread ≡ i) × (first ≤ k) × (k ≤ last)
 
--- The shown facts of a context: its number, its thread, the numbers of its first and its last call,
--- its thread's next statement before the first and after the last, and its changes.
+-- The shown facts of a context: its number, its thread, the numbers of its first and its last
+-- attempt, its thread's next statement before the first and after the last, and its changes.
 pub record ShownContext : Type 0 where
   pub number : ℕ
   pub thread : ℕ
@@ -67,7 +67,7 @@ context_in x =
       changes = map entry_of x.changes.now;
     }
 
--- the globals whose values differ before the call after `first` others and after the one after
+-- the globals whose values differ before the attempt after `first` others and after the one after
 -- `last` others
 abbrev pub changes_within : Program → SetupOf → List Call → (first last : ℕ) → List Entry
 changes_within t s h first last =
@@ -75,7 +75,7 @@ changes_within t s h first last =
     let after = configuration_after t s (take (suc last) h) in
     owned None (changed before.globals after.globals)
 
--- The facts of context n of a history: its first and its last call, counted from 1; its thread's
+-- The facts of context n of a history: its first and its last attempt, counted from 1; its thread's
 -- next statement before the first and after the last; and the globals whose values there differ.
 pub record AreContextFacts
     (t : Program) (text : List ℕ) (s : SetupOf) (h : List Call) (n : ℕ) (f : ShownContext)
@@ -180,7 +180,7 @@ abbrev pub context_text : ViewFormat → Widths → ShownContext → List ℕ
 context_text Columns w f = context_line w f
 context_text Json w f = context_object f
 
--- the text before the contexts: in JSON the numbers of calls and contexts of the history
+-- the text before the contexts: in JSON the numbers of attempts and contexts of the history
 abbrev pub contexts_head : ViewFormat → (calls contexts : ℕ) → List ℕ
 contexts_head Columns calls contexts = []
 contexts_head Json calls contexts =

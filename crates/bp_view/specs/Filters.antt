@@ -1,4 +1,4 @@
--- The calls of a history that are asked for, and the number of calls in each line.
+-- The attempts of a history that are asked for, and the number of attempts in each line.
 use Rattle.std.specs.Prelude.{if◌then◌else◌, ◌==◌, ◌&&◌, ◌+◌, nat_lt, ℕ, suc, Bool, true, false, List, [], ◌∷◌, ◌≡◌, ◌-◌, nat_le, ◌++◌, Option, None, Some, drop, length, max, replicate, reverse, take, unwrap_or, ◌||◌, bytes_eq, map, option_map, slice_get}
 use Rattle.std.specs.Borrow.{Bor}
 use Rattle.std.specs.List.{list_all, list_any, prefix_len, suffix_len}
@@ -18,19 +18,19 @@ abbrev pub is_wait : Reply → Bool
 is_wait Blocked = true
 is_wait r = false
 
--- both calls are waits of one thread with one choice bit
+-- both attempts are waits of one thread with one choice bit
 abbrev pub is_same_wait : Call → Call → Bool
 is_same_wait x y =
     is_wait x.reply && (is_wait y.reply && (x.thread == y.thread && same_bit x.bit y.bit))
 
--- the number of calls, from the first on, that are the same wait as x
+-- the number of attempts, from the first on, that are the same wait as x
 abbrev pub waits_like : Call → List Call → ℕ
 waits_like x [] = 0
 waits_like x (y ∷ ys) = if is_same_wait x y then suc (waits_like x ys) else 0
 
--- The number of calls in the line of a call, if its history has the calls `before`, the latest
--- first, and `after` it. The last of more than three equal waits stands for all of them, and the
--- others have no line. Any other call has a line of its own.
+-- The number of attempts in the line of an attempt, if its history has the attempts `before`, the
+-- latest first, and `after` it. The last of more than three equal waits stands for all of them, and
+-- the others have no line. Any other attempt has a line of its own.
 abbrev pub calls_in_line : (folds : Bool) → Call → (before after : List Call) → ℕ
 calls_in_line false x before after = 1
 calls_in_line true x before after =
@@ -39,26 +39,26 @@ calls_in_line true x before after =
     then if waits_like x after == 0 then waits else 0
     else 1
 
--- calls of thread i are asked for
+-- attempts of thread i are asked for
 abbrev pub is_of_thread : Option ℕ → ℕ → Bool
 is_of_thread None i = true
 is_of_thread (Some k) i = i == k
 
--- call n of `count` calls is asked for: fewer than `last` are after it
+-- attempt n of `count` attempts is asked for: fewer than `last` are after it
 abbrev pub is_late : Option ℕ → ℕ → ℕ → Bool
 is_late None count n = true
 is_late (Some last) count n = nat_lt (count - n) last
 
--- call n is neither before the first that is asked for, nor after the last
+-- attempt n is neither before the first that is asked for, nor after the last
 abbrev pub is_between : (from to : Option ℕ) → ℕ → Bool
 is_between from to n = nat_le (unwrap_or from 0) n && nat_le n (unwrap_or to n)
 
--- call n of thread i, among `count` calls, is asked for
+-- attempt n of thread i, among `count` attempts, is asked for
 abbrev pub is_asked : CallFilter → ℕ → ℕ → ℕ → Bool
 is_asked f count n i =
     is_of_thread f.thread i && (is_late f.last count n && is_between f.from f.to n)
 
--- the number of the `count` calls before all those whose numbers are asked for
+-- the number of the `count` attempts before all those whose numbers are asked for
 abbrev pub before_last : Option ℕ → ℕ → ℕ
 before_last None count = 0
 before_last (Some last) count = count - last
@@ -66,12 +66,12 @@ before_last (Some last) count = count - last
 abbrev pub skipped : CallFilter → ℕ → ℕ
 skipped f count = max (unwrap_or f.from 0 - 1) (before_last f.last count)
 
--- the number of the last of `count` calls that is asked for
+-- the number of the last of `count` attempts that is asked for
 abbrev pub last_number : CallFilter → ℕ → ℕ
 last_number f count = unwrap_or f.to count
 
--- the number of calls in the line of call n, which is x in this whole history: calls whose numbers
--- are not asked for are in no line
+-- the number of attempts in the line of attempt n, which is x in this whole history: attempts whose
+-- numbers are not asked for are in no line
 abbrev pub calls_at : CallFilter → (whole : List Call) → (n : ℕ) → Call → ℕ
 calls_at f whole n x =
     let count = length whole in
@@ -79,26 +79,26 @@ calls_at f whole n x =
     let after = take (last_number f count - n) (drop n whole) in
     calls_in_line f.folds x (reverse before) after
 
--- the number of calls in the line of x, which is the next call of this whole history after h
+-- the number of attempts in the line of x, which is the next attempt of this whole history after h
 abbrev pub calls_of : CallFilter → (whole h : List Call) → Call → ℕ
 calls_of f whole h x = calls_at f whole (suc (length h)) x
 
--- the calls of this whole history whose numbers are asked for
+-- the attempts of this whole history whose numbers are asked for
 abbrev pub asked_calls : CallFilter → List Call → List Call
 asked_calls f whole =
     let count = length whole in
     let before = skipped f count in
     take (last_number f count - before) (drop before whole)
 
--- the calls for which the lines of these calls stand, one line after the other; the first of them
--- is call n of this whole history
+-- the attempts for which the lines of these attempts stand, one line after the other; the first of
+-- them is attempt n of this whole history
 abbrev pub calls_of_lines : CallFilter → (whole : List Call) → (n : ℕ) → List Call → List Call
 calls_of_lines f whole n [] = []
 calls_of_lines f whole n (x ∷ xs) =
     replicate (calls_at f whole n x) x ++ calls_of_lines f whole (suc n) xs
 
--- the lines of the calls whose numbers are asked for stand for these calls, each once and in their
--- order
+-- the lines of the attempts whose numbers are asked for stand for these attempts, each once and in
+-- their order
 abbrev pub StandForEachOnce : Type 0
 StandForEachOnce =
     (f : CallFilter) (whole : List Call)

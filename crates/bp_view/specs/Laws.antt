@@ -8,7 +8,7 @@ use Rattle.bp_machine.specs.declared.calls.Call.{Call}
 use Rattle.bp_machine.specs.Setups.{SetupOf}
 use Rattle.bp_view.specs.CallFacts.{Entry, changes_by}
 
--- The values after a call, from its changes and the values before it.
+-- The values after an attempt, from its changes and the values before it.
 
 -- the globals with a change; one of a local leaves them
 abbrev pub global_with : Option Procedure → Valuation → List ℕ → Bool → Valuation
@@ -40,10 +40,10 @@ locals_in es = flat_map (λ e. local_in e.owner e.name e.value) es
 abbrev pub variables_of : List Frame → List (Procedure × Valuation)
 variables_of fs = map (λ f. (f.procedure, f.locals)) fs
 
--- The frames of a stack after a call with these changes, if it then has depth n, with a frame of p
--- at its top. A frame that the call entered has the formals that the changes name, and 0 for each
--- declared local. A top frame that stays has the changes. A frame that was left is gone. Those
--- below have their values.
+-- The frames of a stack after an attempt with these changes, if it then has depth n, with a frame
+-- of p at its top. A frame that the attempt entered has the formals that the changes name, and 0
+-- for each declared local. A top frame that stays has the changes. A frame that was left is gone.
+-- Those below have their values.
 abbrev pub variables_with
     : List (Procedure × Valuation) → (n : ℕ) → Procedure → List Entry
     → List (Procedure × Valuation)
@@ -60,15 +60,15 @@ AreVariablesWith (f ∷ fs) (g ∷ gs) es =
     let before = variables_of (f ∷ fs) in
     variables_of (g ∷ gs) ≡ variables_with before (length (g ∷ gs)) g.procedure es
 
--- these changes of a call of thread i lead from the values of one configuration to those of the
+-- these changes of an attempt of thread i lead from the values of one configuration to those of the
 -- other
 pub record AreReplayed (c d : Configuration) (i : ℕ) (es : List Entry) : Type 0 where
   pub globals : d.globals ≡ globals_with c.globals es
   pub own : AreVariablesWith (stack_of c i) (stack_of d i) es
   pub others : (j : ℕ) → j ≢ i → stack_of d j ≡ stack_of c j
 
--- The changes of a call lead from the values before it to those after it, in a program in which no
--- two names of a kind have the same text.
+-- The changes of an attempt lead from the values before it to those after it, in a program in which
+-- no two names of a kind have the same text.
 abbrev pub ChangesReplay : Type 0
 ChangesReplay =
     (t : Program) (s : SetupOf) (h : List Call) (x : Call)

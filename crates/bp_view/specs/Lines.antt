@@ -1,4 +1,4 @@
--- The line of a call in columns, its object in JSON, and the parts of both.
+-- The line of an attempt in columns, its object in JSON, and the parts of both.
 use Rattle.std.specs.Prelude.{if◌then◌else◌, ℕ, Bool, true, false, List, [], ◌∷◌, ◌++◌, codes, ◌-◌, Option, None, Some, length, max, min, nat_lt, take, flat_map, map, option_map, ◌*◌, decimal, ◌==◌, ◌≡◌, ◌+◌}
 use Rattle.std.specs.List.{concat}
 use Rattle.bp_text.specs.Pieces.{string_text, bit_text, key_text, string_or_null, at_left, at_right, spaces, bit_or_null, list_text, number_or_null, truth_text}
@@ -94,7 +94,7 @@ entries_text format xs = flat_map (entry_text format) xs
 abbrev pub variables_text : ViewFormat → Option Procedure → Valuation → List ℕ
 variables_text format owner values = entries_text format (owned owner values)
 
--- The line of a call in columns.
+-- The line of an attempt in columns.
 
 -- the note of a reply
 abbrev pub reply_note : Reply → List ℕ
@@ -106,7 +106,7 @@ reply_note Blocked = codes " waits"
 reply_note Failed = codes " failed"
 reply_note Stepped = []
 
--- the number of the context of a step, or a dash if a call made none
+-- the number of the context of a step, or a dash if an attempt made none
 abbrev pub context_text : Option ℕ → List ℕ
 context_text None = codes "-"
 context_text (Some n) = decimal n
@@ -115,7 +115,7 @@ context_text (Some n) = decimal n
 abbrev pub mark_text : Bool → List ℕ
 mark_text switch = if switch then codes ">" else codes " "
 
--- the fields of a call before its place, in columns of these widths
+-- the fields of an attempt before its place, in columns of these widths
 abbrev pub field_texts : Widths → ShownCall → List (List ℕ)
 field_texts w f =
     mark_text f.switch
@@ -135,13 +135,13 @@ abbrev pub choice_text : Option Bool → List ℕ
 choice_text None = []
 choice_text (Some bit) = if bit then codes " ?=1" else codes " ?=0"
 
--- the number of calls in a line, if there are several
+-- the number of attempts in a line, if there are several
 abbrev pub times_text : ℕ → List ℕ
 times_text calls =
     if nat_lt 1 calls then concat (codes " " ∷ decimal calls ∷ codes " times" ∷ []) else []
 
--- the note of a call: its choice bit, the note of its reply, the number of calls in the line, and
--- its changes
+-- the note of an attempt: its choice bit, the note of its reply, the number of attempts in the
+-- line, and its changes
 abbrev pub note_text : ShownCall → (calls : ℕ) → List ℕ
 note_text f calls =
     concat (
@@ -171,9 +171,9 @@ call_text w f calls =
     ∷ led (spaces (w.notes - length statement)) (note_text f calls)
     ∷ [])
 
--- The text of a call in at most `columns` columns. The place and the statement have those that the
--- fields and the note leave, and are cut at their end: the statement first, and then the place. The
--- note is cut only if it has no room even then.
+-- The text of an attempt in at most `columns` columns. The place and the statement have those that
+-- the fields and the note leave, and are cut at their end: the statement first, and then the place.
+-- The note is cut only if it has no room even then.
 abbrev pub narrow_text : (columns : ℕ) → Widths → ShownCall → (calls : ℕ) → List ℕ
 narrow_text columns w f calls =
     let fields = concat (field_texts w f) in
@@ -182,7 +182,7 @@ narrow_text columns w f calls =
     shortened columns (
     concat (fields ∷ at_left room (shortened room (standing_text w f)) ∷ note ∷ []))
 
--- the text of a call, in at most this number of columns
+-- the text of an attempt, in at most this number of columns
 abbrev pub fitted_text : Option ℕ → Widths → ShownCall → (calls : ℕ) → List ℕ
 fitted_text None w f calls = call_text w f calls
 fitted_text (Some columns) w f calls =
@@ -190,7 +190,7 @@ fitted_text (Some columns) w f calls =
     then narrow_text columns w f calls
     else call_text w f calls
 
--- the line of a call, in a colour
+-- the line of an attempt, in a colour
 abbrev pub line_text : Widths → Colour → ShownCall → (calls : ℕ) → List ℕ
 line_text w colour f calls =
     concat (
@@ -199,12 +199,12 @@ line_text w colour f calls =
     ∷ closing colour
     ∷ codes "\n" ∷ [])
 
--- the line of a call in the colour of its reply, if colours are wanted
+-- the line of an attempt in the colour of its reply, if colours are wanted
 abbrev pub column_line : (has_colour : Bool) → Widths → ShownCall → (calls : ℕ) → List ℕ
 column_line has_colour w f calls =
     line_text w (colour_of has_colour f.call.reply f.switch) f calls
 
--- The object of a call in JSON.
+-- The object of an attempt in JSON.
 
 -- the name of a reply
 abbrev pub reply_name : Reply → List ℕ
@@ -216,7 +216,7 @@ reply_name Blocked = codes "waits"
 reply_name Failed = codes "failed"
 reply_name Stepped = codes "stepped"
 
--- the texts of the members of a call that have one value each: its own, its thread's next
+-- the texts of the members of an attempt that have one value each: its own, its thread's next
 -- statement, and the reply
 abbrev pub member_texts : ShownCall → List (List ℕ)
 member_texts f =
@@ -241,7 +241,7 @@ abbrev pub printed_text : Option (List Bool) → List ℕ
 printed_text None = codes "null"
 printed_text (Some values) = list_text (flat_map bit_item values)
 
--- a call: the members that have one value each, its changes and its printed values
+-- an attempt: the members that have one value each, its changes and its printed values
 abbrev pub call_object : ShownCall → (printed : Option (List Bool)) → List ℕ
 call_object f printed =
     concat (
@@ -278,8 +278,8 @@ abbrev pub longest : List (List ℕ) → ℕ
 longest [] = 0
 longest (x ∷ xs) = max (length x) (longest xs)
 
--- The quantities that determine the widths of a view: its number of calls, the places and the texts
--- of the statements of its program, the number of its procedures, and the columns of a line.
+-- The quantities that determine the widths of a view: its number of attempts, the places and the
+-- texts of the statements of its program, the number of its procedures, and the columns of a line.
 pub record Extent : Type 0 where
   pub calls : ℕ
   pub places : List (List ℕ)
@@ -297,9 +297,9 @@ extent calls places statements procedures columns =
       columns = columns;
     }
 
--- The widths of a view: those of the greatest number of a call, of the number of threads, of the
--- limit of the contexts, and of the longest place. The notes begin after the longest statement as
--- its column has it, moved by two columns for each procedure, up to the maximum. Lines and
+-- The widths of a view: those of the greatest number of an attempt, of the number of threads, of
+-- the limit of the contexts, and of the longest place. The notes begin after the longest statement
+-- as its column has it, moved by two columns for each procedure, up to the maximum. Lines and
 -- statements are cut if the columns of a line are limited.
 pub record AreWidths (s : SetupOf) (e : Extent) (w : Widths) : Type 0 where
   pub number : w.number ≡ length (decimal e.calls)

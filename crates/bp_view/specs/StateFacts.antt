@@ -22,13 +22,13 @@ use Rattle.bp_view.specs.declared.state_facts.ThreadFacts.{ThreadFacts}
 
 -- A thread's status after a history.
 
--- the reply to the last of the calls
+-- the reply to the last of the attempts
 abbrev pub last_reply : List Call → Option Reply
 last_reply [] = None
 last_reply (x ∷ []) = Some x.reply
 last_reply (x ∷ y ∷ xs) = last_reply (y ∷ xs)
 
--- why a thread makes no more calls, by the reply to its last one
+-- why a thread makes no more attempts, by the reply to its last one
 abbrev pub status_after : Option Reply → Status
 status_after (Some reply.Ended) = Finished
 status_after (Some reply.Failed) = Failed
@@ -39,7 +39,7 @@ status_after (Some reply.Blocked) = OutOfCalls
 status_after (Some reply.Stepped) = OutOfCalls
 status_after None = OutOfCalls
 
--- The status of thread i after the history h, by the first that applies: it makes no more calls;
+-- The status of thread i after the history h, by the first that applies: it makes no more attempts;
 -- its next statement is an assumption of 0, whatever its choice bit is; an assertion failed. If
 -- none does, it continues.
 abbrev pub status : Program → SetupOf → List Call → ℕ → Status
@@ -67,7 +67,7 @@ pub record ShownThread : Type 0 where
   pub status : Status
   pub frames : List ShownFrame
 
--- The shown facts of a state: the number of calls made, and of the whole history; whether an
+-- The shown facts of a state: the number of attempts made, and of the whole history; whether an
 -- assertion failed; the globals with their values; and the threads.
 pub record ShownState : Type 0 where
   pub number : ℕ
@@ -136,7 +136,7 @@ module _ (t : Program) (text : List ℕ) (s : SetupOf) (h : List Call) where
   AreThreadsFacts i [] = Unit {0}
   AreThreadsFacts i (x ∷ xs) = AreThreadFacts i x × AreThreadsFacts (suc i) xs
 
-  -- these are the facts of the state, if the whole history has this number of calls
+  -- these are the facts of the state, if the whole history has this number of attempts
   pub record AreStateFacts (count : ℕ) (x : ShownState) : Type 0 where
     pub number : x.number ≡ length h
     pub count_is : x.count ≡ count

@@ -186,8 +186,8 @@ abbrev pub state_text : ViewFormat → ShownState → List ℕ
 state_text Columns x = state_lines x (threads_text Columns x.threads)
 state_text Json x = state_object x (threads_text Json x.threads)
 
--- Of a program and its text, in a setup: the state after the calls h, which begin a history of this
--- many calls.
+-- Of a program and its text, in a setup: the state after the attempts h, which begin a history of
+-- this many attempts.
 pub record IsStateText
     (format : ViewFormat)
     (t : Program) (text : List ℕ) (s : SetupOf) (h : List Call) (count : ℕ) (said : List ℕ)
@@ -196,8 +196,8 @@ pub record IsStateText
   pub facts_are : AreStateFacts t text s h count facts
   pub is : said ≡ state_text format facts
 
--- the state after the first n calls of the history of a trace of the program, or after all if there
--- are fewer, and the report of the whole history
+-- the state after the first n attempts of the history of a trace of the program, or after all if
+-- there are fewer, and the report of the whole history
 pub record IsStateOfTrace
     (format : ViewFormat) (n : ℕ) (t : Program) (text trace : List ℕ) (said : List ℕ)
     (report : Report)

@@ -1,4 +1,4 @@
--- The view of a history of a program: a line for each of its calls that is shown.
+-- The view of a history of a program: a line for each of its attempts that is shown.
 use Rattle.std.specs.Prelude.{◌≡◌, ℕ, Bool, true, false, List, [], ◌∷◌, ◌++◌, Option, None, Some, codes, decimal, flat_map, length, ◌≤◌, map, ◌<◌, ◌&&◌, suc, nat_lt, take, slice_get}
 use Rattle.std.specs.List.{concat}
 use Rattle.bp_text.specs.Pieces.{key_text, list_text}
@@ -69,8 +69,8 @@ wait_text Json file x = codes "," ++ condition_object x
 abbrev pub waits_text : ViewFormat → (file : List ℕ) → List ShownCondition → List ℕ
 waits_text format file xs = flat_map (wait_text format file) xs
 
--- the calls of a history, the contexts of its steps, and the threads that may continue; this text
--- of its outcome, and this one of the threads that wait
+-- the attempts of a history, the contexts of its steps, and the threads that may continue; this
+-- text of its outcome, and this one of the threads that wait
 abbrev pub foot_in_format : ViewFormat → Report → (outcome waits : List ℕ) → List ℕ
 foot_in_format Columns r outcome waits =
     concat (
@@ -102,7 +102,7 @@ pub record IsFoot
   pub facts_are : AreFootFacts t text s h r facts
   pub is : foot ≡ foot_text format file facts
 
--- The end of a view: its foot, and the state after the last call if that is asked for.
+-- The end of a view: its foot, and the state after the last attempt if that is asked for.
 
 -- a state after a foot: for people there is an empty line between them
 abbrev pub after_foot : ViewFormat → List ℕ → List ℕ
@@ -111,7 +111,7 @@ after_foot Json state = state
 
 -- Of a program and its text, in a setup; at the end of the history h.
 module _ (format : ViewFormat) (t : Program) (text : List ℕ) (s : SetupOf) (h : List Call) where
-  -- the state after the last call if it is asked for, else nothing
+  -- the state after the last attempt if it is asked for, else nothing
   abbrev pub IsStateIf : Bool → List ℕ → Type 0
   IsStateIf true said =
       (state : List ℕ)
@@ -119,7 +119,7 @@ module _ (format : ViewFormat) (t : Program) (text : List ℕ) (s : SetupOf) (h 
       × IsStateText format t text s h (length h) state
   IsStateIf false said = said ≡ []
 
--- the foot with the report of a history, and the state after its last call if that is asked for
+-- the foot with the report of a history, and the state after its last attempt if that is asked for
 pub record IsEnd
     (o : ViewOptions) (file : List ℕ)
     (t : Program) (text : List ℕ) (s : SetupOf) (h : List Call) (r : Report) (end : List ℕ)
@@ -130,14 +130,14 @@ pub record IsEnd
   pub state_is : IsStateIf o.format t text s h o.has_state state
   pub is : end ≡ foot ++ state
 
--- The calls that a view shows, by its options.
+-- The attempts that a view shows, by its options.
 
 -- equal waits have one line: objects are never folded
 abbrev pub folds_in : ViewFormat → Bool → Bool
 folds_in Columns fold = fold
 folds_in Json fold = false
 
--- the calls that are asked for
+-- the attempts that are asked for
 abbrev pub filter_of : ViewOptions → CallFilter
 filter_of o =
     record {
@@ -164,13 +164,13 @@ pub record IsViewContextOf (t : Program) (text : List ℕ) (x : ViewContext) : T
   pub filter : x.filter ≡ filter_of x.options
   pub names : map (λ n. n.now) x.names.now ≡ watched_names x.options.watch
 
--- if only the calls of one thread are to be shown, it is one of n threads
+-- if only the attempts of one thread are to be shown, it is one of n threads
 abbrev pub IsThere : Option ℕ → (n : ℕ) → Type 0
 IsThere None n = Unit {0}
 IsThere (Some i) n = i < n
 
--- the line of a call in this format, if it stands for this number of calls: columns show no printed
--- values, and objects no calls
+-- the line of an attempt in this format, if it stands for this number of attempts: columns show no
+-- printed values, and objects no attempts
 abbrev pub line_in
     : ViewFormat → (has_colour : Bool) → Widths → ShownCall → (calls : ℕ)
     → (printed : Option (List Bool)) → List ℕ
@@ -182,7 +182,7 @@ line_in Json has_colour w f calls printed = call_object f printed
 module _
     (t : Program) (text : List ℕ) (s : SetupOf) (o : ViewOptions) (w : Widths)
     (whole : List Call) where
-  -- the line of the call x after the history h
+  -- the line of the attempt x after the history h
   pub record IsViewLine (h : List Call) (x : Call) (line : List ℕ) : Type 0 where
     pub facts : ShownCall
     pub facts_are : AreCallFacts t text s h x facts
@@ -196,7 +196,7 @@ module _
   IsViewLineIf true h x line = IsViewLine h x line
   IsViewLineIf false h x line = line ≡ []
 
-  -- that call has a line: it is asked for, changed a watched variable, and the line stands for it
+  -- that attempt has a line: it is asked for, changed a watched variable, and a line stands for it
   abbrev pub has_line : List Call → Call → Bool
   has_line h x =
       is_asked (filter_of o) (length whole) (suc (length h)) x.thread
@@ -206,8 +206,8 @@ module _
   abbrev pub IsShownLine : List Call → Call → List ℕ → Type 0
   IsShownLine h x line = IsViewLineIf (has_line h x) h x line
 
-  -- the lines of the first n calls, one after the other: line k, from 0, is that of the call after
-  -- k others
+  -- the lines of the first n attempts, one after the other: line k, from 0, is that of the attempt
+  -- after k others
   abbrev pub AreLines : (n : ℕ) → (lines : List ℕ) → Type 0
   AreLines n lines =
       IsInParts
@@ -215,7 +215,7 @@ module _
       n
       lines
 
--- the head, a line for each call of the history that is shown, and the end
+-- the head, a line for each attempt of the history that is shown, and the end
 pub record IsView
     (t : Program) (text : List ℕ) (s : SetupOf) (h : List Call) (r : Report) (o : ViewOptions)
     (file : List ℕ) (view : List ℕ)
@@ -260,7 +260,7 @@ module _
   abbrev pub IsViewed : Report → Type 0
   IsViewed report = IsWritten (λ view. IsViewOfTrace t text trace o file view report) old new
 
-  -- only the calls of thread i were to be shown, which the trace does not have
+  -- only the attempts of thread i were to be shown, which the trace does not have
   pub record HasNoThread (i : ℕ) : Type 0 where
     pub replayed : Replayed
     pub is : IsReplayed t trace replayed
@@ -288,7 +288,7 @@ module _
 abbrev pub IsMissing : Option ℕ → (n : ℕ) → ViewError → Type 0
 IsMissing only n f = (i : ℕ) × (only ≡ Some i) × (n ≤ i) × (f ≡ NoThread i)
 
--- A device: the printed values that a view of this format shows of a call.
+-- A device: the printed values that a view of this format shows of an attempt.
 abbrev pub printed_in : ViewFormat → Configuration → Call → Option (List Bool)
 printed_in Columns c x = None
 printed_in Json c x = printed_by c x
@@ -328,7 +328,7 @@ OneView =
     → IsView t text s h r o file w
     → v ≡ w
 
--- there is at most one state within this number of calls
+-- there is at most one state within this number of attempts
 abbrev pub OneState : Type 0
 OneState =
     (format : ViewFormat) (t : Program) (text : List ℕ) (s : SetupOf) (h : List Call) (count : ℕ)
