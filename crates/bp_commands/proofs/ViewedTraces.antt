@@ -43,7 +43,7 @@ module _ (o : ViewOptions) (file : List ℕ) (given : Pair) (t : Program) (of : 
     }))
     not_viewed view.Write found = grind (arith)
 
--- The answer of a command on the accepted calls of a trace, from the command on a part of it.
+-- The answer of a command on the accepted attempts of a trace, from the command on a part of it.
 
 module _ (format : ViewFormat) (command : Command Pair Report) (given : Pair) where
   abbrev whole : Command Pair Report
@@ -66,7 +66,7 @@ module _ (format : ViewFormat) (command : Command Pair Report) (given : Pair) wh
     ))
     refused_part old new f (inr (inr spoilt)) = grind (arith)
 
-  -- the trace is refused after some calls
+  -- the trace is refused after some attempts
   module _ (p : Program) (well_formed : IsWellFormedText given.text p) (x : AcceptedTrace) (accepted : IsAcceptedTrace p given.input x) where
     abbrev before : Pair
     before = record { text = given.text; input = x.trace.items }
@@ -85,11 +85,11 @@ module _ (format : ViewFormat) (command : Command Pair Report) (given : Pair) wh
       refused = refl;
     }
 
-    -- the command refuses the trace of these calls, or is cut short
+    -- the command refuses the trace of these attempts, or is cut short
     pub part_refused : (old new : Option (List ℕ)) (f : Error) → IsRefusedWith command old new before f → IsRefusedWith whole old new given f
     part_refused old new f is = refused_part before refusal is_before old new f is
 
-    -- the calls were shown, but not the last line
+    -- the attempts were shown, but not the last line
     pub line_cut : (old mid new : Option (List ℕ)) (r : Report) → IsDoneWith command old mid before r → AppendsPart mid new (refusal_text format x.calls)
         → IsRefusedWith whole old new given Write
     line_cut old mid new r done part = inr (inl (
@@ -101,7 +101,7 @@ module _ (format : ViewFormat) (command : Command Pair Report) (given : Pair) wh
       },
     ))
 
-    -- the calls were shown, and the last line
+    -- the attempts were shown, and the last line
     pub line_shown : (old mid new : Option (List ℕ)) (r : Report) → IsDoneWith command old mid before r → AppendsAll mid new (refusal_text format x.calls)
         → IsRefusedWith whole old new given (error_of_trace x.error)
     line_shown old mid new r done all = inr (inr (record {

@@ -12,7 +12,7 @@ pub record Agree (later : List StepOf) (h : List Call) (c d : Configuration) : T
   pub stacks : (i : ℕ) → AgreeStacks (next_place i later) (stack_of c i) (stack_of d i)
   pub unended : (i : ℕ) → ends_with_last (calls_of_thread i h) ≡ false
 
--- the histories have calls of the same threads, and lead to such configurations unless an assertion failed
+-- the histories have attempts of the same threads, and agree as above unless an assertion failed
 pub record Together (t : Program) (s : SetupOf) (later : List StepOf) (h g : List Call) : Type 0 where
   pub threads_same : granted_threads h ≡ granted_threads g
   pub counts : (i : ℕ) → length (calls_of_thread i h) ≡ length (calls_of_thread i g)
@@ -100,7 +100,7 @@ module _ (t : Program) (s : SetupOf) (h g : List Call) (x : StepOf) (later : Lis
           values = sees_same (configuration_after t s (h ++ y ∷ [])) (configuration_after t s (g ++ y ∷ [])) i view.0 view.1 x.values takes.values;
         }
 
-    -- with the bit that is inferred there, this history has a call that takes the step as well;
+    -- with the bit that is inferred there, this history has an attempt that takes the step as well;
     -- then both continue together
     module _ (last : LastBits) (a : Call) (follows : Follows t s last h x later a) (more : some_follow later ≡ true) where
       abbrev c' : Configuration

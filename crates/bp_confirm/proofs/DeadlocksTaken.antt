@@ -74,7 +74,7 @@ module _ (t : Program) (s : SetupOf) (given : LastBits) (x : StepOf) (later : Li
     abbrev bit_here : Bool → Bool
     bit_here last = bit_of_block first.frame.left (next_place i later) last (some_follow later)
 
-    -- a call that follows after a history in which the thread has this stack
+    -- an attempt that follows after a history in which the thread has this stack
     at : (last : LastBits) (h : List Call) (k : Call) → Follows t s last h x later k → (after h).globals ≡ z.globals → stack_of (after h) i ≡ first.frame ∷ first.below
         → after_effect (after h) i (effect_here (bit_here (last i))) ≡ Some (after (h ++ k ∷ []))
     at last h k follows globals stack =

@@ -1,4 +1,4 @@
--- At most one step changes a view last, and a call does not change a view before it.
+-- At most one step changes a view last, and an attempt does not change a view before it.
 use Rattle.bp_confirm.proofs.Common.{◌≡◌, ◌∙◌, ◌<◌, ◌≤◌, ◌⊎◌, inl, inr, ℕ, Bool, List, [], ◌∷◌, ◌++◌, length, take, Option, None, Some, refl, ap, sym, subst, arith, length-append, ◌+◌, drop, get_or, map, option_map, slice_get, rules, take_all, take-append-le, drop_of_length-le, Program, Valuation, Call, configuration_after, IsLeastWithin, SetupOf, contexts_opened, opened, opened_none, opened_more, opened_least, IsLastChange, seen_by, seen_after, IsDifference, IsFirstMismatch, StepLineOf, thread_of}
 use Rattle.std.proofs.Math.Nat.{eq-or-lt_of_le}
 use Rattle.bp_confirm.proofs.Elements.{rest_at}
@@ -14,7 +14,7 @@ module _ (f g : ℕ → Option Bool) (n : ℕ) (same : (k : ℕ) → k ≤ n →
 
 -- the view after the front of a history
 module _ {X : Type 0} (look : List X → Option Bool) (h : List X) where
-  -- a further call does not change a view before it
+  -- a further attempt does not change a view before it
   pub seen_in_front : (a : X) (k : ℕ) → k ≤ length h → look (take k (h ++ a ∷ [])) ≡ look (take k h)
   seen_in_front a k within = ap look (take-append-le k h (a ∷ []) within)
 
@@ -24,7 +24,7 @@ module _ {X : Type 0} (look : List X → Option Bool) (h : List X) where
   pub seen_whole : (g : List X) → look (take (length g) g) ≡ look g
   seen_whole g = let all : length g ≤ length g = omega arith in seen_at_end g (length g) all
 
-  -- two calls after which the same is seen
+  -- two attempts after which the same is seen
   module _ (a b : X) (same : look (h ++ a ∷ []) ≡ look (h ++ b ∷ [])) where
     as_long : length (h ++ a ∷ []) ≡ length (h ++ b ∷ [])
     as_long = length-append h (a ∷ []) ∙ sym (length-append h (b ∷ []))
@@ -47,15 +47,15 @@ module _ {X : Type 0} (look : List X → Option Bool) (h : List X) where
         → IsLastChange (λ k. look (take k (h ++ b ∷ []))) (length (h ++ b ∷ [])) q → p ≡ q
     one_change p q given1 given2 = search (rules, one_last_change, seen_alike, as_long)
 
-  -- a last change among the calls of a history is one among those of a longer one
+  -- a last change among the attempts of a history is one among those of a longer one
   pub change_in_front : (a : X) (o : Option ℕ) → IsLastChange (λ k. look (take k h)) (length h) o → IsLastChange (λ k. look (take k (h ++ a ∷ []))) (length h) o
   change_in_front a o given1 = search (rules, same_change, seen_in_front)
 
--- The first value that a thread does not see after a call, and the last call that changed its view.
+-- The first value that a thread does not see after an attempt, and the last change of its view.
 
 module _ (t : Program) (s : SetupOf) (h : List Call) (a : Call) (i : ℕ) (vs : Valuation) (name : List ℕ) (place : ℕ) (seen : Option Bool)
     (named : option_map (λ v. v.0) (slice_get vs place) ≡ Some name) (mismatch : IsFirstMismatch (configuration_after t s (h ++ a ∷ [])) i vs place seen) where
-  -- the view of the value's name, after the first calls of the history with the call
+  -- the view of the value's name, after the first attempts of the history with the attempt
   abbrev sees : ℕ → Option Bool
   sees = seen_after t s (h ++ a ∷ []) i name
 
@@ -69,7 +69,7 @@ module _ (t : Program) (s : SetupOf) (h : List Call) (a : Call) (i : ℕ) (vs : 
   seen_last =
       mismatch.is_seen ∙ ap (λ x. seen_by t s i x (h ++ a ∷ [])) name_is ∙ sym (seen_whole (seen_by t s i name) h (h ++ a ∷ [])) ∙ ap sees (sym all_calls)
 
-  -- the last change before the call, and then after it
+  -- the last change before the attempt, and then after it
   module _ (was : Option Bool) (old changed : Option ℕ)
       (before : (was ≡ seen_after t s h i name (length h)) × IsLastChange (seen_after t s h i name) (length h) old)
       (next : (f : ℕ → Option Bool) (m : ℕ) → length h + 1 ≡ m + 1 → was ≡ f m → IsLastChange f m old

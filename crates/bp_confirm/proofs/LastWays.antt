@@ -1,4 +1,4 @@
--- The ways of a step with each of its last bits, apart from that of any other call.
+-- The ways of a step with each of its last bits, apart from that of any other attempt.
 use Rattle.bp_confirm.proofs.Common.{◌≡◌, Bool, false, List, Option, None, Some, refl, option_map, true, inl, ◌⊎◌, arith, Block, Program, Procedure, Frame, StatementEffect, Leaves, Fails, effect, Valuation, Call, stack_of, configuration_after, SetupOf, is_left, is_fork_on, LastBits, bit_of_block, Follows, IsClear, Place, StepOf, next_place}
 use Rattle.bp_confirm.proofs.StepMoves.{AgreeStacks}
 

@@ -51,7 +51,7 @@ module _ (t : Program) (s : SetupOf) (h : List Call) (x : StepOf) (later : List 
   here_or_elsewhere : {X : Type 0} → StandsAtPlace t s h x true → IsReason t s h x later Elsewhere → X
   here_or_elsewhere there other = absurd (false≢true (sym other ∙ there))
 
-  -- a call takes the step, so it is refused for no other reason
+  -- an attempt takes the step, so it is refused for no other reason
   taken_or_not : {X : Type 0} → IsUnclear t s h x later → (reason : StepReason) → IsNotTakenFor reason → X
   taken_or_not unclear reason other = absurd (by_reason reason other)
     where
@@ -112,7 +112,7 @@ module _ (t : Program) (s : SetupOf) (h : List Call) (x : StepOf) (later : List 
   one_reason (Refused r) (Differs e) p q = refused_or_seen r p.1 e q.1
   one_reason (Differs d) (Refused r) p q = refused_or_seen r q.1 d p.1
 
--- the calls that follow some steps follow those before one of them, and then that one
+-- the attempts that follow some steps follow those before one of them, and then that one
 module _ (t : Program) (s : SetupOf) (last : LastBits) where
   pub record FollowsTo (h : List Call) (xs : List StepOf) (x : StepOf) (later : List StepOf) : Type 0 where
     pub front : List Call
@@ -142,7 +142,7 @@ module _ (text : List ℕ) (t : Program) (s : SetupOf) (last : LastBits) where
   abbrev State : Type 0
   State = List Call × List StepLineOf
 
-  -- a call follows the first of them
+  -- an attempt follows the first of them
   record IsNext (a b : State) : Type 0 where
     step : StepLineOf
     call : Call
@@ -172,7 +172,7 @@ module _ (text : List ℕ) (t : Program) (is : IsWellFormedText text t) (s : Set
   pub goes_on : GoesOnAt t (configuration_after t s refused.history) (step_of text refused.step).thread r.number
   goes_on = subst (λ i. GoesOnAt t (configuration_after t s refused.history) i r.number) refused.thread refused.number
 
-  -- no call follows the refused step
+  -- no attempt follows the refused step
   not_followed : (a : Call) → Follows t s last refused.history (step_of text refused.step) (steps_of text refused.later) a → ⊥
   not_followed a follows = by_reason r.reason refused.reason refused.none
     where

@@ -126,7 +126,7 @@ module _ (text : List ℕ) where
       → IsTop t c i x → slice_get points x.number ≡ None → ⊥
   point_missing t points c i x are is at = let same = sym (ap (option_map (λ (s : SourcePoint). s.position)) at) ∙ point_start t points c i x are is in cc
 
--- one more call
+-- one more attempt
 module _ (text : List ℕ) (t : Program) where
   steps_more : (c : Configuration) (h : List Call) (x : Call)
       → own_steps_from text t c (h ++ x ∷ [])

@@ -27,7 +27,7 @@ pub fork_here : (t : Program) (code : Flat) (c : Configuration) (i : ℕ) (x : T
     → is_fork instr.now ≡ is_fork_on (stack_of c i)
 fork_here t code c i x given1 given2 got instr given3 given4 = search (rules, fork_is)
 
--- A history that is made again call by call.
+-- A history that is made again attempt by attempt.
 
 module _ (t : Program) (s : SetupOf) (h : List Call) (playable : IsPlayable t s h) (n : ℕ) (d : Call) (within : n < length h) where
   playable_here : IsPlayable t s (take n h ++ get_or h n d ∷ [])
@@ -35,12 +35,12 @@ module _ (t : Program) (s : SetupOf) (h : List Call) (playable : IsPlayable t s 
       subst (IsPlayable t s) (take_more h n d within)
       (front t s (take (n + 1) h) (drop (n + 1) h) (subst (IsPlayable t s) (sym (take-append-drop (n + 1) h)) playable))
 
-  -- the machine's next call is that of the history
+  -- the machine's next attempt is that of the history
   pub front_again : (own : Call) → IsNextCall t s (take n h) (get_or h n d).thread (given_bit s (get_or h n d).bit) own → take n h ++ own ∷ [] ≡ take (n + 1) h
   front_again own next = ap (λ c. take n h ++ c ∷ []) (own_is t s (take n h) (get_or h n d) [] playable_here own next) ∙ sym (take_more h n d within)
 
 module _ (t : Program) (s : SetupOf) (last : LastBits) where
-  -- calls that follow steps take them
+  -- attempts that follow steps take them
   pub taken : (h : List Call) (xs later : List StepOf) (calls : List Call) → FollowAfter t s last h xs later calls → TakeAfter t s h xs calls
   taken h [] later [] follow = tt
   taken h (x ∷ xs) later (a ∷ calls) (here, rest) = (here.takes, taken (h ++ a ∷ []) xs later calls rest)

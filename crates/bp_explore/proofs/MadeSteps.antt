@@ -207,7 +207,7 @@ module _ (t : Program) (s : SetupOf) where
   pub none_below_of : (b : Bool) (k : ℕ) → HasNeitherBelow t s failures b k → HasNoneBelow t s b k
   none_below_of b k h m below = none_of b m (h m below)
 
--- A history with one more call, and the listed steps that it makes.
+-- A history with one more attempt, and the listed steps that it makes.
 
 module _ (t : Program) (s : SetupOf) (o : ListedSteps) (own : o.is_of t) where
   pub played_none : 0 < o.count → IsPlayedTo t s o [] 0

@@ -5,7 +5,7 @@ use Rattle.bp_explore.specs.declared.explorations.Ending.{Ending}
 use Rattle.bp_explore.specs.declared.explorations.Ending.TheVariants.{Nothing, NothingWithin, Found, Unplayed, Unfinished}
 use Rattle.bp_explore.specs.declared.explorations.Finding.{Finding}
 
--- Histories of only granted calls.
+-- Histories of only granted attempts.
 
 pub granted_more : (h : List Call) (x : Call) → granted_calls h ≡ h → is_granted x.reply ≡ true → granted_calls (h ++ x ∷ []) ≡ h ++ x ∷ []
 granted_more h x given1 given2 = search (rules, filter-append)

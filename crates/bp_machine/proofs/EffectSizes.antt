@@ -1,4 +1,4 @@
--- The verdict of a call is the machine's reply, and the state after it stands after the longer
+-- The verdict of an attempt is the machine's reply, and the state after it stands after the longer
 -- history.
 use Rattle.bp_machine.proofs.Common.{◌≡◌, suc, ◌+◌, ◌≤◌, Bool, true, false, List, [], ◌∷◌, length, refl, ap, arith, Block, Procedure, Program, Valuation, Frame, is_call, StatementEffect, Leaves, Misses, effect, Bits, Activation, valuation_of, ShowsStack, SameEffect}
 

@@ -1,18 +1,18 @@
--- The granted calls of a legal history are a run within the bounds of its setup.
+-- The granted attempts of a legal history are a run within the bounds of its setup.
 use Rattle.bp_machine.proofs.Common.{◌≡◌, ◌≢◌, ℕ, zero, suc, ◌+◌, ◌*◌, ◌<◌, ◌≤◌, ◌==◌, Bool, true, false, cond, ◌||◌, List, [], ◌∷◌, ◌++◌, length, refl, ap, sym, ◌∙◌, subst, arith, add-one, inl, inr, length-append, map, rules, suc-mul, nat_tests, Program, regrouped, Configuration, Moves, Call, SetupOf, threads, calls_of_thread, is_terminated, IsAllowed, IsLegalAfter, IsLegal, configuration_after_call, IsWithin, configuration_after, granted_threads, granted_calls, is_granted, IsRun, Reply, HasRoom, EachHasRoom, reply_of_step, history_of_run, HasBoundedRun}
 use Rattle.std.proofs.Common.{append-nil}
 use Rattle.bp_machine.proofs.HistoryWithCall.{calls_of_thread-same, calls_of_thread-other, same_or_not, configuration_after-append}
 use Rattle.bp_machine.proofs.RealFailures.{IsStep, is_step, step_moves, run_from, runs, within, first_step, ended, one_move}
 use Rattle.bp_machine.proofs.RunsAreHistories.{reply_before}
 
--- A legal history has at most as many calls as its threads may make together.
+-- A legal history has at most as many attempts as its threads may make together.
 
--- each call is of a thread below n
+-- each attempt is of a thread below n
 abbrev pub AllBelow : ℕ → List Call → Type 0
 AllBelow n [] = Unit {0}
 AllBelow n (x ∷ xs) = (x.thread < n) × AllBelow n xs
 
--- the calls of the threads below n
+-- the attempts of the threads below n
 pub total : ℕ → List Call → ℕ
 total zero h = 0
 total (suc n) h = total n h + length (calls_of_thread n h)
@@ -62,7 +62,7 @@ total_bound zero k h each = omega arith
 total_bound (suc n) k h each = omega (arith, total_bound n k h each, each n, suc-mul n k)
 
 module _ (t : Program) (s : SetupOf) where
-  -- a live thread has fewer calls than are allowed
+  -- a live thread has fewer attempts than are allowed
   fewer : (a b : Bool) → (a || b) ≡ false → b ≡ false
   fewer a b given1 = grind (arith)
 
@@ -91,11 +91,11 @@ module _ (t : Program) (s : SetupOf) where
   below_after p [] legal = tt
   below_after p (x ∷ xs) (allowed, rest) = (allowed.thread, below_after (p ++ x ∷ []) xs rest)
 
-  -- each call of a legal history is of a thread of the setup
+  -- each attempt of a legal history is of a thread of the setup
   pub all_below : (h : List Call) → IsLegal t s h → AllBelow (threads s) h
   all_below h legal = below_after [] h legal
 
-  -- the calls of all threads are all calls
+  -- the attempts of all threads are all attempts
   pub all_calls : (h : List Call) → IsLegal t s h → total (threads s) h ≡ length h
   all_calls h legal = total_all (threads s) h (all_below h legal)
 
@@ -114,7 +114,7 @@ same_threads (x ∷ xs) = here (is_granted x.reply) (same_threads xs)
     here true e = ap (λ ts. x.thread ∷ ts) e
     here false e = e
 
--- of a thread there are no more granted calls than calls
+-- of a thread there are no more granted attempts than attempts
 fewer_granted : (i : ℕ) (h : List Call) → length (calls_of_thread i (granted_calls h)) ≤ length (calls_of_thread i h)
 fewer_granted i [] = omega arith
 fewer_granted i (x ∷ xs) = here (is_granted x.reply) (fewer_granted i xs)
@@ -144,7 +144,7 @@ no_split [] x later e = cc
 no_split (y ∷ ys) x later e = cc
 
 module _ (t : Program) (s : SetupOf) where
-  -- a call without a step leaves the configuration
+  -- an attempt without a step leaves the configuration
   stays : (h : List Call) (y : Call) → is_granted y.reply ≡ false → configuration_after t s (h ++ y ∷ []) ≡ configuration_after t s h
   stays h y given1 = search (rules, configuration_after-append)
 

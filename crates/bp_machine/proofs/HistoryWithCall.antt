@@ -1,4 +1,4 @@
--- A history with one more call.
+-- A history with one more attempt.
 use Rattle.bp_machine.proofs.Common.{◌≡◌, ◌≢◌, ℕ, zero, suc, ◌+◌, ◌<◌, ◌==◌, Bool, true, false, cond, ◌||◌, nat_le, List, [], ◌∷◌, ◌++◌, length, refl, ap, ◌∙◌, subst, arith, take, get_or, sym, length-append, ◌⊎◌, Some, inl, inr, ◌≤◌, slice_get, slice_set, rules, append-nil, take_more, length-set, nat_tests, Program, regrouped, Configuration, bits_of, valuation_of, ShowsStack, Call, SetupOf, start, threads, configuration_after_call, is_last, is_granted, configuration_after_calls, configuration_after, granted_threads, calls_of_thread, ends_with_last, is_terminated, live_below, IsAllowed, IsLegalAfter, IsLegal, outcome_or, outcome_of, is_failure, stack_of, terminated_by, live_threads, Reply, Stepped, Outcome, Clean, IsCountOf, State, activations, ShowsThread, StandsAfter, GuestThreadOf}
 use Rattle.bp_machine.specs.declared.calls.Reply.TheVariants as replies
 use Rattle.bp_machine.specs.declared.calls.Outcome.TheVariants.{Failed}
@@ -68,7 +68,7 @@ live_at_start (suc n) s some = ap (λ b. cond b (live_below n s []) (live_below 
     none : nat_le s.calls 0 ≡ false
     none = grind (arith, nat_tests)
 
--- The calls of a thread, counted one by one.
+-- The attempts of a thread, counted one by one.
 
 module _ (h : List Call) (i n : ℕ) (d : Call) (within : i < length h) where
   calls_same : (get_or h i d).thread ≡ n → calls_of_thread n (take (i + 1) h) ≡ calls_of_thread n (take i h) ++ get_or h i d ∷ []
@@ -83,7 +83,7 @@ module _ (h : List Call) (i n : ℕ) (d : Call) (within : i < length h) where
   pub ended_same : (get_or h i d).thread ≡ n → is_last (get_or h i d).reply ≡ ends_with_last (calls_of_thread n (take (i + 1) h))
   ended_same e = sym (ap ends_with_last (calls_same e) ∙ ends_with_last-append (calls_of_thread n (take i h)) (get_or h i d))
 
--- The outcome of a history with one more call.
+-- The outcome of a history with one more attempt.
 
 -- the first outcome that is no clean one
 abbrev first_outcome : Outcome → Outcome → Outcome
@@ -103,7 +103,7 @@ or_clean o = grind (arith)
 not_failed : (x : Call) (r : Reply) → is_granted r ≡ false → outcome_or x r Clean ≡ Clean
 not_failed x r given1 = grind (arith)
 
--- a call without a step leaves the outcome
+-- an attempt without a step leaves the outcome
 pub same_outcome : (h : List Call) (x : Call) → is_granted x.reply ≡ false → outcome_of h ≡ outcome_of (h ++ x ∷ [])
 same_outcome h x e = sym (outcome-append h x ∙ ap (first_outcome (outcome_of h)) (not_failed x x.reply e) ∙ or_clean (outcome_of h))
 
@@ -118,7 +118,7 @@ clean_of o given1 = grind (arith)
 pub failed_outcome : (h : List Call) (x : Call) → x.reply ≡ replies.Failed → is_failure (outcome_of h) ≡ false → Failed x.thread ≡ outcome_of (h ++ x ∷ [])
 failed_outcome h x given1 given2 = search (rules, outcome-append, clean_of)
 
--- A state that stands after a history stands after it with one more call, if that call is allowed.
+-- A state that stands after a history stands after it with one more attempt, if that is allowed.
 
 pub same_or_not : (j i : ℕ) → (j ≡ i) ⊎ (j ≢ i)
 same_or_not j i = go (j == i) refl
@@ -141,7 +141,7 @@ set_other (z ∷ zs) (suc i) (suc j) y n = set_other zs i j y (λ e. n (ap suc e
 
 module _ (t : Program) (s : SetupOf) (x : State) (h : List Call) (stands : StandsAfter t s x h) (i : ℕ)
     (guest : GuestThreadOf) (has : slice_get x.threads i ≡ Some guest) where
-  -- the state after one more call with this reply
+  -- the state after one more attempt with this reply
   pub record Leaves (call : Call) (guest_after : GuestThreadOf) (y : State) (d : Configuration) : Type 0 where
     pub thread : call.thread ≡ i
     pub allowed : IsAllowed t s h call
@@ -208,7 +208,7 @@ module _ (t : Program) (s : SetupOf) (x : State) (h : List Call) (stands : Stand
                 other_guest call guest_after y d e j other l (sym (set_other x.threads i j guest_after other) ∙ at)
           ]
 
--- A call changes no thread but its own: which threads have terminated, and how many are live, before and after it.
+-- An attempt changes no thread but its own: which threads have terminated, and how many are live.
 
 -- a last reply terminates the thread
 pub last_terminates : (s : SetupOf) (h : List Call) (x : Call) → is_last x.reply ≡ true → is_terminated s (h ++ x ∷ []) x.thread ≡ true
@@ -256,7 +256,7 @@ module _ (s : SetupOf) (h : List Call) (x : Call) (still_live : is_terminated s 
           → live_below (suc n) s (h ++ x ∷ []) + terminated_by s h x ≡ live_below (suc n) s h
       there other before = search (rules, terminated-other, more)
 
--- the live threads before and after a call that is allowed
+-- the live threads before and after an attempt that is allowed
 pub live_threads-append : (t : Program) (s : SetupOf) (h : List Call) (x : Call) → IsAllowed t s h x
     → live_threads s (h ++ x ∷ []) + terminated_by s h x ≡ live_threads s h
 live_threads-append t s h x allowed = live_with s h x allowed.still_live (threads s) allowed.thread

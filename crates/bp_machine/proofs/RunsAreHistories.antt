@@ -39,7 +39,7 @@ pub reply_before : (t : Program) (d : Configuration) (xs : List Call) (e : Confi
     → reply_of_step [] d.failed ≡ reply_of_step xs e.failed
 reply_before t d xs e given1 = grind (arith)
 
--- the thread of a call
+-- the thread of an attempt
 abbrev thread_of : Call → ℕ
 thread_of x = x.thread
 
@@ -54,7 +54,7 @@ still_live : (s : SetupOf) (h : List Call) (i : ℕ) → ends_with_last (calls_o
 still_live s h i given1 given2 = grind (arith)
 
 module _ (t : Program) (s : SetupOf) where
-  -- the calls p are made, no thread has terminated, and the steps xs are to come
+  -- the attempts p are made, no thread has terminated, and the steps xs are to come
   record Stands (p xs : List Call) (e : Configuration) : Type 0 where
     live_threads : (i : ℕ) → ends_with_last (calls_of_thread i p) ≡ false
     run : IsRun t (configuration_after t s p) xs e

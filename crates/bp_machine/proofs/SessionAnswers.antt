@@ -1,4 +1,4 @@
--- The results of a session that stands after a history: a call, a refusal, and its accessors.
+-- The results of a session that stands after a history: an attempt, a refusal, and its accessors.
 use Rattle.bp_machine.proofs.Common.{◌≡◌, ℕ, ◌+◌, ◌<◌, ◌||◌, nat_le, Bool, true, false, List, [], ◌∷◌, ◌++◌, length, Option, Some, is_some, refl, ap, sym, ◌∙◌, subst, arith, cond, add-one, zero, suc, ◌≤◌, None, get_or, ◌⊎◌, inl, inr, ◌^◌, slice_get, rules, ∥∥₁_map, slice_get_within, slice_get_cases, Name, Program, bits_of, Bits, Flat, StandsFor, valuation_of, StepsAlike, Call, Transition, Judged, ChoicesOf, choice_bit, IsBitOfCall, configuration_after, is_terminated, ends_with_last, calls_of_thread, live_below, SetupOf, threads, IsInRange, State, MachineOf, StandsAfter, GuestThreadOf, SessionOf, Stands, IsInOrder, IsLiveThread, IsNextCall, IsAskRefusal, choices_of, state_after, is_over, IsCallTransition, AreDrawn, IsKeptBit, IsJudged, IsKeptRefusal, session_of}
 use Rattle.std.proofs.Common.{length-set}
 use Rattle.std.specs.Option.{option_map}
@@ -58,7 +58,7 @@ module _ (t : Program) (x : SessionOf) (h : List Call) (stands : Stands t x h)
   is_live_thread : (guest : GuestThreadOf) → slice_get state.threads i ≡ Some guest → is_over s guest ≡ false → IsLiveThread s h i
   is_live_thread guest given1 given2 = search (rules, within_threads, still_live)
 
-  -- why a session refuses a call is why it is refused after the history
+  -- why a session refuses an attempt is why it is refused after the history
   pub refused_after : (e : AskError) → IsKeptRefusal x i given e → IsAskRefusal t s h i given e
   refused_after NoThread none = there (slice_get_cases state.threads i).1
     where
@@ -73,7 +73,7 @@ module _ (t : Program) (x : SessionOf) (h : List Call) (stands : Stands t x h)
   refused_after Memory never = absurd never
   refused_after Busy never = absurd never
 
-  -- the bit that a session gives a call is the one that it has to have
+  -- the bit that a session gives an attempt is the one that it has to have
   bit_of : (given : Option Bool) (bit : Bool) → i < threads s → IsKeptBit x.choices i given bit → IsBitOfCall s h i given bit
   bit_of given bit given1 given2 = grind (arith, no_seed, has_seed)
 
@@ -81,7 +81,7 @@ module _ (t : Program) (x : SessionOf) (h : List Call) (stands : Stands t x h)
     line_of : IsLiveThread s h i
     line_of = let next = judged.transition in is_live_thread next.guest next.has next.goes_on
 
-    -- the call that was judged is the next call
+    -- the attempt that was judged is the next attempt
     pub judged_next : IsNextCall t s h i given p.call
     judged_next = search (rules, allowed, line_of, bit_of)
 
@@ -92,7 +92,7 @@ module _ (t : Program) (x : SessionOf) (h : List Call) (stands : Stands t x h)
         let step = call_step x.code t alike s state h stands.state i next.guest next.has line_of.0 line_of.1 p.call.bit p.transition call next.is in
         (line_of, (p.call.bit, bit_of given p.call.bit line_of.0 judged.bit, step))
 
--- the session stands after the history with the call that was made
+-- the session stands after the history with the attempt that was made
 module _ (t : Program) (x : SessionOf) (h : List Call) (stands : Stands t x h) (count : length x.choices ≡ choices_of x.setup) (alike : StepsAlike x.code t)
     (p : Judged) (given : Option Bool) (judged : IsJudged x p.call.thread given p)
     (y : State) (made : y ≡ state_after x.machine.state p.call.thread judged.transition.guest p.transition)
@@ -110,7 +110,7 @@ module _ (t : Program) (x : SessionOf) (h : List Call) (stands : Stands t x h) (
       (subst (λ r. StandsAfter t x.setup (state_after x.machine.state i next.guest p.transition)
       (h ++ record { thread = i; bit = p.call.bit; reply = r } ∷ [])) (sym judged.reply) after)
 
-  -- with a seed, the call has its bit
+  -- with a seed, the attempt has its bit
   call_bit : (seed : ℕ) → x.setup.seed ≡ Some seed → (given : Option Bool) → IsBitOfCall x.setup h i given p.call.bit
       → p.call.bit ≡ choice_bit seed i (length (calls_of_thread i h))
   call_bit seed given1 given given2 = grind (arith)
@@ -127,7 +127,7 @@ module _ (t : Program) (x : SessionOf) (h : List Call) (stands : Stands t x h) (
 same_thread_count : (x : State) (i : ℕ) (guest : GuestThreadOf) (v : Transition) → length (state_after x i guest v).threads ≡ length x.threads
 same_thread_count x i guest v = search (rules, length-set)
 
--- a session in order is in order with the call that was made
+-- a session in order is in order with the attempt that was made
 pub still_in_order : (x y : SessionOf) (i : ℕ) (guest : GuestThreadOf) (v : Transition)
     → y.code ≡ x.code → y.setup ≡ x.setup → y.machine.state ≡ state_after x.machine.state i guest v → length y.choices ≡ length x.choices
     → IsInOrder x
@@ -167,7 +167,7 @@ module _ (t : Program) (c : Flat) (s : SetupOf) (x : State) (h : List Call) (is 
   pub no_global : c.globals ≤ n → None ≡ option_map (λ (e : List ℕ × Bool). e.1) (slice_get (configuration_after t s h).globals n)
   no_global given1 = search (rules, named_past)
 
--- A call that was judged may be made at once; the session then stands after the history with it.
+-- A judged attempt may be made at once; the session then stands after the history with it.
 
 module _ (c : Flat) (s : SetupOf) (machine later : MachineOf) (same : later.state ≡ machine.state) (choices : List ChoicesOf)
     (i : ℕ) (given : Option Bool) (p : Judged) (order : IsInOrder (session_of c s machine choices))

@@ -1,5 +1,5 @@
--- A new session is in order, and one that makes room for a call stays so; a call that was judged
--- may be made.
+-- A new session is in order, and one that makes room for a call stays so; an attempt that was
+-- judged may be made.
 use Rattle.bp_machine.proofs.Common.{◌≡◌, ℕ, zero, suc, ◌+◌, ◌==◌, Bool, false, List, [], ◌∷◌, ◌++◌, length, map, Option, None, Some, refl, ap, sym, ◌∙◌, subst, ◌<◌, ◌^◌, nat_le, true, arith, ◌⊎◌, ◌-◌, drop, reverse, inl, inr, slice_get, option_map, slice_set, rules, option_or, length-map, reverse-append, slice_get-map, get_or_from_slice_get, ∥∥₁_map, set-append_seam, Name, Procedure, Program, regrouped, bits_of, binding, procedure_named, first_stack, Flat, Heading, heading_named, Instruction, bits_from, StandsFor, valuation_of, places_of, ShowsStack, IsOfProgram, SameHeading, heading_of_procedure, SetupError, IsCountOf, State, activations, ShowsThread, StandsAfter, GuestThreadOf, first_thread, used_with, MachineOf, SessionOf, Stands, IsInOrder, top_of, with_top, entered_top, SetupOf, start, entry_error, entries_error, Fits, IsInRange, Clean, is_failure, ChoicesOf, Call, Judged, ActivationRecord, is_over, session_of, AreFirstChoices, IsJudged}
 use Rattle.std.proofs.Math.Path.{fun_ext}
 use Rattle.std.proofs.lemmas.List.{length-append}
@@ -133,7 +133,7 @@ module _ (c : Flat) (s : SetupOf) (machine later : MachineOf) (same : later.stat
   pub still_judged : (i : ℕ) (given : Option Bool) (p : Judged) → IsJudged before i given p → IsJudged after p.call.thread given p
   still_judged i given p given1 = grind (arith)
 
--- a call that was judged may be made
+-- an attempt that was judged may be made
 module _ (s : SetupOf) (range : IsInRange s) where
   pub few_calls : (guest : GuestThreadOf) → is_over s guest ≡ false → guest.calls + 1 < 2 ^ 32
   few_calls guest given1 = grind (arith)

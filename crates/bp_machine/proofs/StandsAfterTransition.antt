@@ -1,4 +1,4 @@
--- A session that stands after a history stands after it with the call that it returns.
+-- A session that stands after a history stands after it with the attempt that it returns.
 use Rattle.bp_machine.proofs.Common.{◌≡◌, ℕ, ◌+◌, ◌<◌, Bool, true, false, cond, nat_le, List, [], ◌∷◌, ◌++◌, length, Some, refl, ap, sym, ◌∙◌, subst, arith, suc, ◌/◌, add-one, ◌⊎◌, zero, inl, inr, slice_get, slice_set, unwrap_or, length-append, rules, Lcg, started, increment_of, multiplier_64, pcg32, slice_get_within, slice_get_cases, Program, Frame, Configuration, after_effect, Flat, ShowsStack, StepsAlike, Effect, Continues, Enters, Returns, Reply, Stopped, Failed, Stepped, Call, Transition, Stays, Fails, Steps, used_with, count_with, IsCountOf, State, activations, StandsAfter, GuestThreadOf, IsCallStep, SetupOf, threads, is_granted, stack_of, reply_on_stack, configuration_after_step, configuration_after, granted_threads, is_terminated, IsAllowed, is_failure, ChoicesOf, IsAt, choice_word, choice_bit, calls_of_thread, IsSeeded, IsTransition, reply_of_transition, thread_after, state_after, stack_after, IsEntering, IsCallTransition, AreDrawn, ActivationRecord}
 use Rattle.std.proofs.Common.{length-set, append-nil, get_or-set_same, get_or-set_other}
 use Rattle.bp_flat.specs.declared.effects.Effect.TheVariants as instr
@@ -180,7 +180,7 @@ pub at_first_word : (seed thread word : ℕ) (g : Lcg) → (word, g) ≡ pcg32 (
     → IsAt (record { word = word; place = 0; generator = g }) seed thread 0
 at_first_word seed thread word g given1 = search (rules, start_is, word_after)
 
--- A seeded history is seeded with one more call that has the seed's bit, and so are the choices
+-- A seeded history is seeded with one more attempt that has the seed's bit, and so are the choices
 -- after it.
 
 -- an item of a list with one more is an item of the list, or the last

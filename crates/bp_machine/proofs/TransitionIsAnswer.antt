@@ -1,4 +1,4 @@
--- The verdict of a call is the machine's reply.
+-- The verdict of an attempt is the machine's reply.
 use Rattle.bp_machine.proofs.Common.{◌≡◌, ℕ, ◌&&◌, Bool, true, false, cond, nat_le, List, [], ◌∷◌, length, Option, None, Some, refl, ap, sym, ◌∙◌, subst, arith, ◌<◌, get_or, slice_get, slice_set, option_map, rules, length-map, map-set, map-set_same, slice_get_read, slice_get-map, Program, bits_of, store_of, effect_of, Effect, Continues, Enters, Returns, Valuation, Frame, is_call, StatementEffect, Leaves, effect, Flat, Instruction, Activation, effect_at, valuation_of, ShowsStack, SameEffect, StepsAlike, Reply, Stopped, Full, ActivationRecord, Transition, Stays, Fails, Steps, MAX_FRAMES, is_granted, reply_to_effect, reply_on_stack, activation_of, activations, count_with, GuestThreadOf, KeptThread, guests, rooms, State, MachineOf, transition_of, IsTransitionAt, IsTransitionOn, IsTransitionUnless, reply_of_transition, stack_after, globals_after, thread_after, state_after, TransitionFitsIn, Outcome, ContextCount}
 use Rattle.bp_flat.specs.declared.effects.Effect.TheVariants as instr
 use Rattle.bp_flat.specs.Moves as moves
@@ -113,7 +113,7 @@ module _ (c : Flat) (t : Program) (alike : StepsAlike c t) (bit : Bool) (gw : �
   answer_of true stack S fits v shows is = grind (arith)
   answer_of false stack S fits v shows is = on_stack stack S fits v shows is
 
--- The thread of a call, found in the list of threads, and the state after the call.
+-- The thread of an attempt, found in the list of threads, and the state after the attempt.
 
 -- a kept thread of a list, if the lists of its parts have it
 pub guest_here : (ks : List KeptThread) (i : ℕ) (k : KeptThread) → i < length ks → k ≡ get_or ks i k → slice_get (guests ks) i ≡ Some k.guest

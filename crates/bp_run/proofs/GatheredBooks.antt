@@ -5,9 +5,9 @@ use Rattle.bp_flat.specs.Flat.{Flat}
 use Rattle.bp_machine.specs.declared.limits.TheConstants.{MAX_THREADS, MAX_CALLS}
 use Rattle.bp_machine.proofs.HistoriesAreRuns.{legal_length}
 
--- The books of a desk at the start, and after one more call.
+-- The books of a desk at the start, and after one more attempt.
 
--- a session that stands after no call
+-- a session that stands after no attempt
 pub books_at_start : (x : SessionOf) (made live : ℕ) → Fits x.code.tree x.setup → is_some x.setup.seed ≡ true → Stands x.code.tree x [] → 0 < x.setup.calls
     → made ≡ 0 → live ≡ threads x.setup → IsInBooks x [] made live
 books_at_start x made live given1 given2 given3 given4 given5 given6 = search (rules, live_at_start)
@@ -22,7 +22,7 @@ module _ (x new : SessionOf) (h : List Call) (made live i : ℕ) (call : Call) (
     books_with : (more less : ℕ) → more ≡ made + 1 → less + terminated_by x.setup h call ≡ live → IsInBooks new (h ++ call ∷ []) more less
     books_with more less given1 given2 = grind (arith, length-append, live_with)
 
-    -- a thread that the call terminates
+    -- a thread that the attempt terminates
     pub books_when_terminated : (more less : ℕ) → more ≡ made + 1 → less + 1 ≡ live
         → is_terminated x.setup (h ++ call ∷ []) call.thread ≡ true → IsInBooks new (h ++ call ∷ []) more less
     books_when_terminated more less one_more closed terminated =
@@ -33,7 +33,7 @@ module _ (x new : SessionOf) (h : List Call) (made live i : ℕ) (call : Call) (
     books_when_live more one_more still_live =
         books_with more live one_more (ap (λ b. live + cond b 1 0) still_live ∙ omega arith)
 
--- the books count few calls
+-- the books count few attempts
 pub few_made : (x : SessionOf) (h : List Call) (made live : ℕ) → IsInBooks x h made live → IsInRange x.setup → made < 2 ^ 32
 few_made x h made live books range =
     let long = legal_length x.code.tree x.setup h books.stands.state.legal in

@@ -7,7 +7,7 @@ use Rattle.bp_text.proofs.Givings.{and_then, given_none, part_first, part_then, 
 use Rattle.bp_text.proofs.PartsOfTexts.{regrouped}
 use Rattle.bp_machine.specs.Laws.{StepsAreARun, StepsAreWithin, FailuresAreReal}
 
--- How the lines of calls add up.
+-- How the lines of attempts add up.
 
 pub lines_append : (cs ds : List Call) → lines_of (cs ++ ds) ≡ lines_of cs ++ lines_of ds
 lines_append cs ds = flat_map-append call_line cs ds
@@ -21,7 +21,7 @@ module _ {W : Type 0} (contents : W → Option (List ℕ)) where
   rest_begins a (Some cs) t = record { more = []; left = cs; were = refl; are = refl; given = given_none contents a }
   rest_begins a None t = absurd (false≢true t)
 
-  -- one more of the calls that are left was taken and written
+  -- one more of the attempts that are left was taken and written
   pub rest_more : (a b c : Sink W) (rest r1 r2 : Option (List Call)) (x : Call)
       → IsRestWritten contents a b rest r1 → IsTakenOf r1 (Some x) r2 → Given contents b c (call_line x) → IsRestWritten contents a c rest r2
   rest_more a b c rest r1 r2 x s next w =
@@ -93,7 +93,7 @@ pub has_rest : (t : Program) (s : SetupOf) (taken : List Call) (seats : List Sea
     (b : Option ℕ) (a : Bool) → IsGathered t s taken seats tap r b a → is_some tap.rest ≡ true
 has_rest t s taken seats tap r b a g = ap is_some g.rest
 
--- a head, the lines of some calls and those of the others, and an end
+-- a head, the lines of some attempts and those of the others, and an end
 both_lines : (head end : List ℕ) (cs ds : List Call) → (head ++ lines_of cs) ++ (lines_of ds ++ end) ≡ head ++ (lines_of (cs ++ ds) ++ end)
 both_lines head end cs ds = simp (regrouped, lines_append)
 
@@ -109,7 +109,7 @@ module _ {W : Type 0} (contents : W → Option (List ℕ)) (t : Program) (s : Se
   abbrev now : Option (List ℕ)
   now = contents d.out.now
 
-  -- the calls that were left are those gathered as left
+  -- the attempts that were left are those gathered as left
   same : rest.more ≡ g.left
   same = search (rules, same_Some, append-nil)
 
@@ -150,7 +150,7 @@ module _ {W : Type 0} (contents : W → Option (List ℕ)) (t : Program) (s : Se
   pub cut : d.refused ≡ true → IsCutTrace t s old now
   cut given1 = search (rules, taken_all)
 
--- The writer stopped before the end: the calls that were taken are written, or a part of their
+-- The writer stopped before the end: the attempts that were taken are written, or a part of their
 -- lines.
 module _ {W : Type 0} (contents : W → Option (List ℕ)) (t : Program) (s : SetupOf) (a b : Sink W) (taken : List Call)
     (seats : List SeatOf) (tap : TapOf) (r : Report) (early : Option ℕ) (agree : Bool) (fresh : a.refused ≡ false)

@@ -1,4 +1,4 @@
--- Turns grow by one call, and are cut short before one.
+-- Turns grow by one attempt, and are cut short before one.
 use Rattle.bp_run.proofs.Common.{[], ◌∷◌, length, length-append, not, AreSteps, ◌≡◌, ◌≢◌, ℕ, ◌+◌, true, ◌++◌, Result, Ok, Err, MatchResult, refl, sym, ◌∙◌, ap, subst, arith, inl, inr, ◌⊎◌, ◌<◌, ◌≤◌, Bool, false, List, None, is_some, IfErr, rules, false≢true, is_terminated, is_last, Call, SessionOf, IsNextCall, SetupOf, threads, last_terminates, DeskOf, SeatOf, desk_of, seat_of, IsLegalDesk, IsDeskRefusal, IsTurn, IsCutTurn, IsSeatTurn, IsCutSeatTurn, IsDeskError, IsSendRefusal, TellsOfRefusal}
 use Rattle.bp_run.specs.Turns.{IsUnchanged}
 use Rattle.bp_language.proofs.GrownLists.{regrouped}
@@ -33,8 +33,8 @@ module _ (old new : DeskOf) (seat after : SeatOf) (n : ℕ) where
       → MatchResult r (IsSeatTurn seat after n) (IsCutSeatTurn seat after n)
   seat_turn r given1 = search (rules, thread_of_last, all_made, open_before, desk_error)
 
--- A call is refused as one of a terminated thread if and only if the thread has terminated, or the
--- seat is shut.
+-- An attempt is refused as one of a terminated thread if and only if the thread has terminated, or
+-- the seat is shut.
 
 -- the seat is not open, or the thread has terminated
 abbrev Shut : SetupOf → List Call → ℕ → Bool → Type 0
@@ -61,7 +61,7 @@ module _ (x : SessionOf) (h : List Call) (i : ℕ) (within : i < threads x.setup
   pub still_live : (call : Call) → IsNextCall x.code.tree x.setup h i None call → is_terminated x.setup h i ≡ false
   still_live call next = subst (λ j. is_terminated x.setup h j ≡ false) next.thread next.allowed.still_live
 
-  -- the refusals of a call that was not sent, with a seed, as those of a desk
+  -- the refusals of an attempt that was not sent, with a seed, as those of a desk
   pub desk_refusal : (free calls : ℕ) (is_open : Bool) → is_open ≡ true → is_some x.setup.seed ≡ true → (f : AskError)
       → (f ≡ Busy → free ≡ 0) → IsRefused f → IsDeskRefusal (desk_of x h free) (seat_of i calls is_open) f
   desk_refusal free calls is_open e seed NoThread full few = absurd (omega (arith, few, within))
@@ -92,7 +92,7 @@ module _ (x : SessionOf) (h : List Call) (i : ℕ) (within : i < threads x.setup
       → is_terminated x.setup h i ≡ false → TerminatedWhereShut x.setup h i is_open r
   not_shut is_open given1 r given2 given3 = grind (arith)
 
--- A turn that is cut short before one more call.
+-- A turn that is cut short before one more attempt.
 
 steps_more : (i : ℕ) (steps : List Call) (last : Call) → AreSteps i steps → last.thread ≡ i → last.reply ≡ Stepped → AreSteps i (steps ++ last ∷ [])
 steps_more i [] last stepped thread reply = ((thread, reply), tt)

@@ -110,7 +110,7 @@ any_one P x p = (0, x, omega arith, refl, p)
 pub one_of_any : {X : Type 0} (P : X → Type 0) (x : X) → Any P (x ∷ []) → P x
 one_of_any given1 = grind (arith)
 
--- the threads that step, with one more call
+-- the threads that step, with one more attempt
 module _ (h : List Call) (c : Call) where
   steps_then : (i : ℕ) → HasStep h i → HasStep (h ++ c ∷ []) i
   steps_then i given1 = search (rules, in_front)
@@ -153,7 +153,7 @@ module _ (others : List Bool) (n : ℕ) (old cur : List Bool) (was : MarksGrow (
   pub below_unmarked : is_marked others n ≡ false → MarksGrow (λ i. Some i) (IsMarkedBelow others (n + 1)) old cur
   below_unmarked given1 = grind (arith)
 
--- the marks after the call at i
+-- the marks after the attempt at i
 module _ (h : List Call) (i : ℕ) (within : i < length h) (d : Call) (old cur : List Bool) (was : MarksGrow (λ i. Some i) (HasStep (take i h)) old cur) where
   pub step_at : is_granted (get_or h i d).reply ≡ true → MarksGrow (λ i. Some i) (HasStep (take (i + 1) h)) old (slice_set cur (get_or h i d).thread true)
   step_at granted =

@@ -1,4 +1,4 @@
--- Properties of a history with one more call: a failed one is its outcome, and it is short.
+-- Properties of a history with one more attempt: a failed one is its outcome, and it is short.
 use Rattle.bp_test.proofs.Common.{◌≡◌, ◌+◌, ◌*◌, ◌-◌, ◌<◌, ◌≤◌, true, nat_le, List, [], ◌∷◌, ◌++◌, length, refl, ap, arith, ℕ, ◌||◌, Bool, false, cond, sym, ◌∙◌, add-one, count_by, unwrap_or, rules, nat_tests, sum_by-append, map-append, Program, Call, Reply, Outcome, outcome_or, outcome_of, is_failure, stack_of, configuration_after_step, configuration_after_call, configuration_after_calls, configuration_after, granted_threads, IsLegal, is_granted, IsAtFalseAssertion, IsRealFailure, threads, SetupOf, SessionOf, Stands, waits, FailuresAreReal, has_refusal, refuses_context, waiting_below, IsNext, AreWaiting, IsWait, Waiting}
 use Rattle.std.proofs.lemmas.List.Elements.{All-push}
 use Rattle.bp_flat.specs.Moves.{Configuration}
@@ -23,7 +23,7 @@ pub smaller : (old new : SessionOf) (g h : List Call) → new.setup ≡ old.setu
     → threads new.setup * new.setup.calls - length h < threads old.setup * old.setup.calls - length g
 smaller old new g h given1 given2 given3 = search (rules, bounded)
 
--- Whether a history with one more call has one that was refused a context.
+-- Whether a history with one more attempt has one that was refused a context.
 
 any_with : (n m : ℕ) (b : Bool) → m ≡ n + cond b 1 0 → nat_le 1 m ≡ (nat_le 1 n || b)
 any_with n m b given1 = grind (arith)
@@ -31,7 +31,7 @@ any_with n m b given1 = grind (arith)
 refusal_with : (h : List Call) (x : Call) → has_refusal (h ++ x ∷ []) ≡ (has_refusal h || refuses_context x.reply)
 refusal_with h x = search (rules, any_with, count_by, sum_by-append)
 
--- a call, by its results
+-- an attempt, by its results
 pub refusal_of_call : (h new : List Call) (thread : ℕ) (r : Reply) (was now : Bool)
     → ((x : Call) × (new ≡ h ++ x ∷ []) × (x.thread ≡ thread) × (x.reply ≡ r))
     → now ≡ (was || refuses_context r)
@@ -66,7 +66,7 @@ module _ (t : Program) where
   after_both c [] ys = refl
   after_both c (x ∷ xs) ys = after_both (configuration_after_call t c x.thread x.bit x.reply) xs ys
 
-  -- calls without a step leave the configuration
+  -- attempts without a step leave the configuration
   idle : (c : Configuration) (h : List Call) → granted_threads h ≡ [] → configuration_after_calls t c h ≡ c
   idle c [] e = refl
   idle c (x ∷ xs) e = by_test (is_granted x.reply) refl e (λ none. idle c xs none)

@@ -1,4 +1,4 @@
--- The places that a history reaches, with one more call, and with one more thread that waits.
+-- The places that a history reaches, with one more attempt, and with one more thread that waits.
 use Rattle.bp_test.proofs.Common.{◌≡◌, ◌⊎◌, ◌<◌, ◌≤◌, ◌+◌, ℕ, suc, Bool, true, false, List, [], ◌∷◌, ◌++◌, take, length, Option, None, Some, refl, ap, sym, ◌∙◌, subst, arith, inl, inr, if◌then◌else◌, slice_set, rules, length-append, take-append-le, take_all, Program, Place, Call, Reply, configuration_after, SetupOf, at_end, same_or_not, refuses_context, next_place, place_of, marks_after, IsNumberOf, IsReachedByCall, IsTried, IsWaitedAt, IsWaiting, Reaches, MarksGrow}
 use Rattle.std.proofs.Math.Seq.{take-append_seam}
 use Rattle.std.proofs.lemmas.Option.{slice_get_within}
@@ -33,7 +33,7 @@ module _ (t : Program) (s : SetupOf) (h : List Call) (c : Call) where
   tried_cases : (x : Place) → IsTried t s (h ++ c ∷ []) x → IsTried t s h x ⊎ ((refuses_context c.reply ≡ false) × (next ≡ Some x))
   tried_cases x given1 = search (rules, at_end, slice_get_within, take-append-le, take-append_seam)
 
-  -- this call tried this place
+  -- this attempt tried this place
   abbrev pub IsTriedNow : Place → Type 0
   IsTriedNow x = (refuses_context c.reply ≡ false) × (next ≡ Some x)
 
@@ -77,7 +77,7 @@ module _ (t : Program) (s : SetupOf) (h : List Call) (c : Call) where
         (subst (λ g. IsWaiting t s g held.call.thread x) (ap (λ n. take (suc n) (h ++ c ∷ [])) last.0 ∙ whole) held.waiting))
   ]
 
-  -- the marks after one more call
+  -- the marks after one more attempt
   pub reached_by_call : (old cur tried new : List Bool)
       → MarksGrow (place_of t) (IsReachedByCall t s h) old cur
       → MarksGrow (place_of t) IsTriedNow cur tried
@@ -104,7 +104,7 @@ module _ (t : Program) (s : SetupOf) (h : List Call) (c : Call) where
         ]
       ])
 
--- no call, no place
+-- no attempt, no place
 pub none_by_call : (t : Program) (s : SetupOf) (old : List Bool) → MarksGrow (place_of t) (IsReachedByCall t s []) old old
 none_by_call t s old = grind (arith)
 
@@ -127,7 +127,7 @@ module _ (t : Program) (s : SetupOf) (h : List Call) where
         | inr other ↦ inl (is.0, let below = is.1 in omega (arith, below, other), is.2)
       ])
 
--- the marks of a whole run: at its start, by its calls, and at its end
+-- the marks of a whole run: at its start, by its attempts, and at its end
 pub whole_marks : (t : Program) (s : SetupOf) (h : List Call) (old first cur new : List Bool)
     → MarksGrow (place_of t) (λ x. (i : ℕ) × IsWaiting t s [] i x) old first
     → MarksGrow (place_of t) (IsReachedByCall t s h) first cur
@@ -159,7 +159,7 @@ module _ (t : Program) (s : SetupOf) (o : Option ℕ) (x : Place) where
   pub reaches_without : (h : List Call) → Reaches t s h x → Reaches t (record s { seed = o }) h x
   reaches_without h given1 = grind (arith)
 
--- the marks, by the results of a call of a run
+-- the marks, by the results of an attempt of a run
 pub marks_of_call : (t : Program) (s z : SetupOf) (h new : List Call) (thread : ℕ) (number : Option ℕ) (r : Reply) (old cur tried now : List Bool) → z ≡ s
     → ((x : Call) × (new ≡ h ++ x ∷ []) × (x.thread ≡ thread) × (x.reply ≡ r))
     → IsNumberOf t (next_place (configuration_after t s h) thread) number

@@ -10,7 +10,7 @@ use Rattle.bp_test.specs.declared.shrinks.Shrunk.{Shrunk}
 pub no_error : (t : Program) (s : SetupOf) → Fits t s → IsInRange s → setup_error t s ≡ None
 no_error t s given1 given2 = grind (arith)
 
--- The granted calls of a legal history are one as well, within as many contexts as they use.
+-- The granted attempts of a legal history are one as well, within as many contexts as they use.
 
 threads_of : (h : List Call) → map (λ x. x.thread) (granted_calls h) ≡ granted_threads h
 threads_of [] = refl
@@ -21,7 +21,7 @@ threads_of (x ∷ xs) = here (is_granted x.reply) (threads_of xs)
     here true e = ap (λ ts. x.thread ∷ ts) e
     here false e = e
 
--- all granted calls are granted
+-- all granted attempts are granted
 pub granted_again : (h : List Call) → granted_calls (granted_calls h) ≡ granted_calls h
 granted_again [] = refl
 granted_again (x ∷ xs) = here (is_granted x.reply) refl (granted_again xs)

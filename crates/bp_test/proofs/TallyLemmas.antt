@@ -3,9 +3,9 @@ use Rattle.bp_test.proofs.Common.{◌≡◌, ◌≤◌, ℕ, zero, suc, List, []
 use Rattle.std.proofs.Common.{length-append}
 use Rattle.bp_test.proofs.MarkLemmas.{other_marks, grown_marks, both_marks, any_first, any_later, any_of_both, any_one, one_of_any}
 
--- The key of a run with one more call, the keys of more runs, and that no seed changes them.
+-- The key of a run with one more attempt, the keys of more runs, and that no seed changes them.
 
--- the key, by the results of a call of a run
+-- the key, by the results of an attempt of a run
 pub key_of_call : (t : Program) (s z : SetupOf) (h new : List Call) (thread : ℕ) (number : Option ℕ) (r : Reply) (key now : ℕ) → z ≡ s
     → ((x : Call) × (new ≡ h ++ x ∷ []) × (x.thread ≡ thread) × (x.reply ≡ r))
     → IsNumberOf t (next_place (configuration_after t s h) thread) number

@@ -8,7 +8,7 @@ use Rattle.std.proofs.lemmas.Str.{digit_value_digit}
 use Rattle.bp_trace.proofs.OneText.{call_then, front_cut, piece_then, symbols_alike, no_symbol_at_end, number_begins, one_call_line, one_piece_line}
 use Rattle.bp_trace.proofs.ScheduleLines.{thread_parts, thread_there}
 
--- The thread that begins a text, with a space after it, and the call that does.
+-- The thread that begins a text, with a space after it, and the attempt that does.
 
 module _ (n : ℕ) (text : List ℕ) (few : n ≤ MAX_THREADS) where
   there : (i : ℕ) (more : List ℕ) → i < n → text ≡ decimal i ++ 32 ∷ more → IsAt (thread_field n) text i more
@@ -135,7 +135,7 @@ one_end_line line other x y p q e =
     let (same, rest) = one_at (end_there line x _ p refl) (end_there other y _ q e) in
     (p.is ∙ ap (λ (z : List ℕ × List ℕ). codes "end " ++ (z.0 ++ (codes " " ++ (z.1 ++ codes "\n")))) same ∙ sym q.is, rest)
 
--- The line of calls that begins a text.
+-- The line of attempts that begins a text.
 
 -- ---- the symbols
 
@@ -235,15 +235,15 @@ module _ (n : ℕ) (last : Option ℕ) (text : List ℕ) where
                     omega (arith, long, front, length-append (decimal t) (32 ∷ (symbols ++ codes "\n")), length-append symbols (codes "\n"));
               }
 
--- One line begins a text: no two lines of calls do, no two end lines, and no line of each kind.
+-- One line begins a text: no two lines of attempts do, no two end lines, and no line of each kind.
 
 module _ (n : ℕ) (few : n ≤ MAX_THREADS) (last : Option ℕ) where
-  -- two lines of calls that begin one text are one
+  -- two lines of attempts that begin one text are one
   pub one_body_line : (v : Version) (line other : List ℕ) (calls others : List Call) (x y : List ℕ)
       → IsBodyLine n last line calls v → IsBodyLine n last other others v → line ++ x ≡ other ++ y → (line ≡ other) × (calls ≡ others) × (x ≡ y)
   one_body_line v line other calls others x y given1 given2 given3 = search (rules, one_call_line, one_piece_line)
 
-  -- a line of calls begins with a digit, and an end line with a letter
+  -- a line of attempts begins with a digit, and an end line with a letter
   pub not_both : (v : Version) (line end : List ℕ) (calls : List Call) (x y : List ℕ)
       → IsBodyLine n last line calls v → IsEndLine end → line ++ x ≢ end ++ y
   not_both v line end calls x y given1 given2 = search (rules, number_begins, call_then, piece_then)

@@ -1,5 +1,5 @@
--- The calls before the first refused line, and those before the refused call on it, are the longest
--- accepted beginning.
+-- The attempts before the first refused line, and those before the refused attempt on it, are the
+-- longest accepted beginning.
 use Rattle.bp_trace.proofs.Common.{◌≡◌, ℕ, zero, suc, ◌+◌, ◌-◌, ◌<◌, ◌≤◌, List, [], ◌∷◌, ◌++◌, length, take, drop, map, get_or, Some, ap, sym, ◌∙◌, subst, arith, inl, inr, length-append, length-drop, None, refl, ◌⊎◌, slice_get, take_more, take-append-drop, drop-drop, drop_at, AllByRecursion, both_added, regrouped, Program, Configuration, Call, configuration_after_call, configuration_after, configuration_after_calls, last_thread, SessionOf, Stands, PrintedRow, rows_of_call, rows_after, printed_rows, SetupOf, threads, start, setup_error, MAX_THREADS, few_threads, ReplayError, Version, IsBodyLineAt, HasNoBodyLine, IsRefusedAfter, IsCallRefusal, IsLineRefused, IsBodyRefusal, calls_text, HasHead, head_text, IsPlayable, IsBodyLine, IsCallError, line_count, IsAccepted, IsLongestAccepted, HasRefusedCall}
 use Rattle.std.proofs.lemmas.List.{append-nil}
 use Rattle.std.proofs.Math.Seq.{drop-cons}
@@ -10,7 +10,7 @@ use Rattle.bp_trace.proofs.Walks.{Walk, Stays, Goes, compared, stays}
 use Rattle.bp_trace.proofs.OneText.{front_cut}
 use Rattle.bp_trace.proofs.PlayableFronts.{not_refused, one_place}
 
--- The calls of some lines of a trace, by a session that stands after them.
+-- The attempts of some lines of a trace, by a session that stands after them.
 
 last_at : (h : List Call) (n : ℕ) (x : Call) → length h ≡ suc n → slice_get h n ≡ Some x → Some x.thread ≡ last_thread (map (λ (y : Call). y.thread) h)
 last_at [] n x long e = absurd cc
@@ -31,7 +31,7 @@ rows_more t c (y ∷ ys) x =
     ap (λ rs. rows_of_call c y ++ rs) (rows_more t next ys x)
     ∙ simp regrouped
 
--- one more call
+-- one more attempt
 pub played_more : (t : Program) (s : SetupOf) (h new : List Call) (x : Call) (old_rows new_rows : List PrintedRow) → new ≡ h ++ x ∷ []
     → old_rows ≡ printed_rows t s h → new_rows ≡ old_rows ++ rows_of_call (configuration_after t s h) x → new_rows ≡ printed_rows t s new
 played_more t s h new x old_rows new_rows is before after =
@@ -41,7 +41,7 @@ played_more t s h new x old_rows new_rows is before after =
 pub playable_of : (t : Program) (x : SessionOf) (s : SetupOf) (h : List Call) → x.setup ≡ s → Stands t x h → IsPlayable t s h
 playable_of t x s h same stands = subst (λ z. IsPlayable t z h) same (record { legal = stands.state.legal; seeded = stands.seeded })
 
--- the refusal of the i-th call of a line
+-- the refusal of the i-th attempt of a line
 module _ (t : Program) (s : SetupOf) (h own calls : List Call) (i : ℕ) (d : Call) (within : i < length calls) (parts : own ≡ h ++ take i calls) where
   whole : calls ≡ take i calls ++ get_or calls i d ∷ drop (suc i) calls
   whole = sym (take-append-drop i calls) ∙ ap (λ cs. take i calls ++ cs) (drop-cons calls i d within)
@@ -99,7 +99,7 @@ module _ (v : Version) (n first : ℕ) (text : List ℕ) (h : List Call) (size l
       are = moved.are;
     })
 
--- one more of the calls of a line
+-- one more of the attempts of a line
 pub history_more : (old own new calls : List Call) (i : ℕ) (d : Call) → i < length calls → own ≡ old ++ take i calls
     → new ≡ own ++ get_or calls i d ∷ [] → new ≡ old ++ take (i + 1) calls
 history_more old own new calls i d within before after =
@@ -138,7 +138,7 @@ module _ (t : Program) (text : List ℕ) (v : Version) (s : SetupOf) (has : HasH
       let same = one_head w v r s _ _ a.head has (sym a.parts ∙ parts) in
       subst (λ z. IsAccepted t text z s g) same.0 (subst (λ z. IsAccepted t text w z g) same.1 a)
 
-  -- no line of calls begins the rest
+  -- no line of attempts begins the rest
   module _ (ends : HasNoBodyLine v (threads s) (last_thread (map thread_of h)) rest) where
     beginning : (g o : List Call) (r : List ℕ) → Compared (g ++ o, r) → (m : List Call) × (h ≡ g ++ m)
     beginning g o r (inl on) = let (m, is) = grown (threads s) v (g ++ o, r) (h, rest) on in (o ++ m, is ∙ simp regrouped)
@@ -159,7 +159,7 @@ module _ (t : Program) (text : List ℕ) (v : Version) (s : SetupOf) (has : HasH
       longest = λ w r g a. let own = moved w r g a in beginning g own.others own.rest (within g own);
     }
 
-  -- a line of calls begins it, of which one is refused
+  -- a line of attempts begins it, of which one is refused
   module _ (n : ℕ) (f : ReplayError) (r : HasRefusedCall t v s h n rest f) where
     abbrev good : List Call
     good = h ++ r.among.good

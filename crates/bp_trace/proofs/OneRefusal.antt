@@ -1,5 +1,5 @@
--- Two histories that may be played, each followed by text that no line of calls continues, have two
--- texts; so a text has at most one refusal.
+-- Two histories that may be played, each followed by text that no line of attempts continues, have
+-- two texts; so a text has at most one refusal.
 use Rattle.bp_trace.proofs.Common.{◌≡◌, ℕ, ◌<◌, List, [], ◌∷◌, ◌++◌, map, flat_map, refl, ap, sym, ◌∙◌, subst, ◌≢◌, ◌≤◌, ◌+◌, length, ◌⊎◌, inl, inr, length-append, arith, append-nil, None, Some, rules, AllByRecursion, regrouped, Program, Call, last_thread, MAX_THREADS, IsLegalAfter, live_threads, SetupOf, threads, setup_error, Version, One, Two, Piece, calls_of_piece, calls_of_pieces, pieces_of, call_line, piece_line, calls_text, end_line, HasHead, head_lines, head_text, IsBodyLine, IsPlayable, counts_of, IsEndLine, HasOtherEnd, HasMoreAfter, IsRefusedAmong, HasNoNextLine, HasRefusedCall, IsRestRefused, IsTrace, line_count, Reaches, HasRefusedSetup, HasRefusedRest, IsReplayRefusal, ReplayError, TEXT_LIMIT, entries_are_names, fits, few_threads, few_calls, range_of, MAX_TRACE, OneRefusal, RefusedIsNoTrace, BreaksAt, one_break, head}
 use Rattle.bp_trace.proofs.PiecesAreFewest.{piece_thread, last_is_thread, Alternate, pieces_alternate, pieces_threads, thread_of, pieces_whole, some_line}
 use Rattle.bp_trace.proofs.EndLineAt.{one_body_line, one_end_line, not_both}
@@ -14,14 +14,14 @@ use Rattle.bp_trace.proofs.OneText.{front_cut}
 use Rattle.bp_trace.proofs.TraceLength.{own_end, trace_short}
 use Rattle.bp_trace.specs.declared.errors.ReplayError.TheVariants as error
 
--- The text of a history is that of its lines, each of which may follow the calls before it.
+-- The text of a history is that of its lines, each of which may follow the attempts before it.
 
 module _ (n : ℕ) (v : Version) where
-  -- the calls so far, and the rest of the text
+  -- the attempts so far, and the rest of the text
   abbrev pub State : Type 0
   State = List Call × List ℕ
 
-  -- a line of calls that may follow begins the rest
+  -- a line of attempts that may follow begins the rest
   pub record IsNextLine (a b : State) : Type 0 where
     pub line : List ℕ
     pub calls : List Call
@@ -35,7 +35,7 @@ module _ (n : ℕ) (v : Version) where
       p.is_line q.is_line (sym p.begins ∙ q.begins) in
       λ i. ((p.history ∙ ap (λ z. a.0 ++ z) calls ∙ sym q.history) i, rest i)
 
-  -- a walk adds calls
+  -- a walk adds attempts
   pub grown : (a b : State) → Walk IsNextLine a b → (m : List Call) × (b.0 ≡ a.0 ++ m)
   grown a b Stays = ([], sym (append-nil a.0))
   grown a b (Goes {u = u} next w) = let (m, is) = grown u b w in (next.calls ++ m, is ∙ ap (λ z. z ++ m) next.history ∙ simp regrouped)
@@ -75,7 +75,7 @@ module _ (n : ℕ) where
       (piece_walk [] (pieces_of h) x (pieces_threads (λ i. i < n) h below) (pieces_alternate h))
 
 module _ (t : Program) (v : Version) (s : SetupOf) (few : threads s ≤ MAX_THREADS) where
-  -- no line of calls that may be played after h begins the text
+  -- no line of attempts that may be played after h begins the text
   abbrev pub Stops : List Call → List ℕ → Type 0
   Stops h x =
       (line : List ℕ) (calls : List Call) (more : List ℕ)
@@ -104,7 +104,7 @@ module _ (t : Program) (v : Version) (s : SetupOf) (few : threads s ≤ MAX_THRE
         | inr back ↦ let same = not_gone (g, y) (h, x) back ph sy in (sym same.0, sym same.1)
       ]
 
--- The text after the calls of a history is refused once, or is its end.
+-- The text after the attempts of a history is refused once, or is its end.
 
 module _ (t : Program) (v : Version) (s : SetupOf) (few : threads s ≤ MAX_THREADS) (h : List Call)
     (own_is : IsEndLine (end_line (length h) (live_threads s h))) (n : ℕ) (x : List ℕ) where
@@ -144,7 +144,7 @@ module _ (t : Program) (v : Version) (s : SetupOf) (few : threads s ≤ MAX_THRE
   stops f (inr (inr (inr (inl r)))) line calls more next playable e = end_or_line line own calls more r.1.more next own_is e r.1.begins
   stops f (inr (inr (inr (inr r)))) line calls more next playable e = call_stops f r line calls more next playable e
 
-  -- nothing, an end and a line of calls are not begun by one text
+  -- nothing, an end and a line of attempts are not begun by one text
   nothing_ends : (end more : List ℕ) → IsEndLine end → x ≡ [] → x ≡ end ++ more → ⊥
   nothing_ends end more is_end e f = omega (arith, ap length (sym e ∙ f), length-append end more, ap length is_end.is)
 

@@ -13,7 +13,7 @@ module _ (t : Program) (s : SetupOf) (few : threads s ≤ MAX_THREADS) where
   abbrev State : Type 0
   State = List Call × List ℕ
 
-  -- one more call, whose line begins the rest
+  -- one more attempt, whose line begins the rest
   record IsNext (a b : State) : Type 0 where
     call : Call
     allowed : IsAllowed t s a.0 call

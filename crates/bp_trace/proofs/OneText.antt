@@ -55,7 +55,7 @@ pub front_cut : (front a b : List ℕ) → front ++ a ≡ front ++ b → a ≡ b
 front_cut [] a b e = e
 front_cut (c ∷ front) a b e = front_cut front a b (same_head c c (front ++ a) (front ++ b) e).1
 
--- ---- the calls
+-- ---- the attempts
 
 pub call_then : (c : Call) (rest : List ℕ) → call_line c ++ rest ≡ decimal c.thread ++ 32 ∷ bit_digit c.bit ∷ 32 ∷ letter_of c.reply ∷ 10 ∷ rest
 call_then c rest = simp regrouped
@@ -63,7 +63,7 @@ call_then c rest = simp regrouped
 same_call : (c d : Call) → c.thread ≡ d.thread → c.bit ≡ d.bit → c.reply ≡ d.reply → c ≡ d
 same_call c d thread bit reply = λ i. record { thread = thread i; bit = bit i; reply = reply i }
 
--- one line of a call begins a text
+-- one line of an attempt begins a text
 pub one_call_line : (c d : Call) (x y : List ℕ) → c.thread < 2 ^ 64 → d.thread < 2 ^ 64 → call_line c ++ x ≡ call_line d ++ y → (c ≡ d) × (x ≡ y)
 one_call_line c d x y given1 given2 given3 = search (rules, one_number, call_then, same_head, same_call, one_digit, one_letter)
 

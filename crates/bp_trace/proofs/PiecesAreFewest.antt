@@ -1,8 +1,8 @@
--- The pieces of a history are its calls, cut into the fewest lists of one thread each.
+-- The pieces of a history are its attempts, cut into the fewest lists of one thread each.
 use Rattle.bp_trace.proofs.Common.{◌≡◌, ℕ, ◌<◌, ◌==◌, Bool, true, false, cond, List, [], ◌∷◌, ◌++◌, length, flat_map, None, Some, refl, ap, sym, ◌∙◌, arith, codes, decimal, ◌≢◌, Option, subst, map, ◌+◌, length-append, append-nil, rules, nat_tests, AllByRecursion, flat_map-append, regrouped, Call, IsLeastWithin, letter_of, contexts_opened, last_thread, Piece, symbol_of, piece_of, with_call, pieces_of, symbol_text, piece_line, call_of, calls_of_piece, calls_of_pieces, Symbol, bit_digit, call_line, calls_text, symbols_after, Version, One, Two, IsBodyLine, line_count}
 use Rattle.bp_machine.proofs.ContextCounts.{opened, opened_none, opened_more, opened_least}
 
--- The pieces of a history have the text that its calls have one by one.
+-- The pieces of a history have the text that its attempts have one by one.
 
 abbrev symbols_text : Piece → List ℕ
 symbols_text p = flat_map symbol_text (p.first ∷ p.others)
@@ -13,7 +13,7 @@ pieces_text ps = flat_map piece_line ps
 abbrev pub thread_of : Call → ℕ
 thread_of x = x.thread
 
--- the pieces of calls of which y is the first
+-- the pieces of attempts of which y is the first
 pub record Cut (y : Call) (ys : List Call) : Type 0 where
   pub piece : Piece
   pub rest : List Piece
@@ -23,12 +23,12 @@ pub record Cut (y : Call) (ys : List Call) : Type 0 where
   count : length rest ≡ opened (Some y.thread) (map thread_of ys)
   body : symbols_text piece ++ (10 ∷ pieces_text rest) ≡ symbol_text (symbol_of y) ++ (symbols_after (Some y.thread) ys ++ codes "\n")
 
--- a call after one of its thread
+-- an attempt after one of its thread
 goes_on : (x y : Call) (ys : List Call) → (x.thread == y.thread) ≡ true
     → symbol_text (symbol_of y) ++ (symbols_after (Some y.thread) ys ++ codes "\n") ≡ symbols_after (Some x.thread) (y ∷ ys) ++ codes "\n"
 goes_on x y ys e = rw e (simp regrouped)
 
--- a call after one of another thread
+-- an attempt after one of another thread
 breaks : (x y : Call) (ys : List Call) → (x.thread == y.thread) ≡ false
     → 10 ∷ (decimal y.thread ++ 32 ∷ (symbol_text (symbol_of y) ++ (symbols_after (Some y.thread) ys ++ codes "\n")))
     ≡ symbols_after (Some x.thread) (y ∷ ys) ++ codes "\n"
@@ -80,7 +80,7 @@ cut x (y ∷ ys) = go (cut y ys) (x.thread == (cut y ys).piece.thread) refl
               ∙ ap (λ t. symbol_text (symbol_of x) ++ t) (breaks x y ys other);
         }
 
--- the text of the pieces is that of the calls one by one, and the end of the last line
+-- the text of the pieces is that of the attempts one by one, and the end of the last line
 pieces_are_symbols : (x : Call) (xs : List Call) → flat_map piece_line (pieces_of (x ∷ xs)) ≡ symbols_after None (x ∷ xs) ++ codes "\n"
 pieces_are_symbols x xs =
     let b = cut x xs in
@@ -92,7 +92,7 @@ pub some_pieces : (h : List Call) → 0 < length h → flat_map piece_line (piec
 some_pieces [] some = absurd (omega arith)
 some_pieces (x ∷ xs) some = pieces_are_symbols x xs
 
--- The pieces of a history have the threads of its calls, and no two neighbours have one.
+-- The pieces of a history have the threads of its attempts, and no two neighbours have one.
 
 module _ (P : ℕ → Type 0) where
   with_one : (x : Call) (ps : List Piece) → P x.thread → AllByRecursion (λ (p : Piece). P p.thread) ps
@@ -140,9 +140,9 @@ pieces_count (x ∷ xs) = let c = cut x xs in omega (arith, opened_more None x.t
 pub pieces_fewest : (h : List Call) → IsLeastWithin (length (pieces_of h)) (map thread_of h)
 pieces_fewest h = subst (λ n. IsLeastWithin n (map thread_of h)) (pieces_count h) (opened_least (map thread_of h))
 
--- The calls of a line are of one thread, which is the last after them.
+-- The attempts of a line are of one thread, which is the last after them.
 
--- some calls, and all of them of this thread
+-- some attempts, and all of them of this thread
 pub record AreOfThread (i : ℕ) (calls : List Call) : Type 0 where
   pub some : calls ≢ []
   pub each : AllByRecursion (λ (x : Call). x.thread ≡ i) calls
@@ -200,9 +200,9 @@ last_is_thread i h [] are = absurd (are.some refl)
 last_is_thread i h (x ∷ xs) are =
     ap last_thread (threads_after h (x ∷ xs)) ∙ last_behind (map thread_of h) x.thread (map thread_of xs) ∙ last_of_one i x xs are.each
 
--- The text of a history grows by one line, with the calls of that line.
+-- The text of a history grows by one line, with the attempts of that line.
 
--- the calls of one piece are cut into only it
+-- the attempts of one piece are cut into only it
 one_piece : (i : ℕ) (t : Symbol) (ts : List Symbol) → pieces_of (map (call_of i) (t ∷ ts)) ≡ record { thread = i; first = t; others = ts } ∷ []
 one_piece i t [] = refl
 one_piece i t (u ∷ us) =
@@ -211,7 +211,7 @@ one_piece i t (u ∷ us) =
     ap (with_call (call_of i t)) (one_piece i u us)
     ∙ ap (λ b. cond b (piece_of (call_of i t) (u ∷ us) ∷ []) (piece_of (call_of i t) [] ∷ rest ∷ [])) same
 
--- a call before some pieces leaves the others as they are
+-- an attempt before some pieces leaves the others as they are
 call_before : (x : Call) (p : Piece) (ps qs : List Piece) → with_call x ((p ∷ ps) ++ qs) ≡ with_call x (p ∷ ps) ++ qs
 call_before x p ps qs = go (x.thread == p.thread)
   where
@@ -221,7 +221,7 @@ call_before x p ps qs = go (x.thread == p.thread)
     go true = refl
     go false = refl
 
--- a piece of another thread than the last call is one piece more
+-- a piece of another thread than the last attempt is one piece more
 pub one_piece_more : (h : List Call) (p : Piece) → Some p.thread ≢ last_thread (map thread_of h) → pieces_of (h ++ calls_of_piece p) ≡ pieces_of h ++ p ∷ []
 one_piece_more [] p other = one_piece p.thread p.first p.others
 one_piece_more (x ∷ []) p other =

@@ -1,5 +1,5 @@
--- A history that may be played is played call by call: its prefixes may be, and the call after a
--- prefix is not refused.
+-- A history that may be played is played attempt by attempt: its prefixes may be, and the attempt
+-- after a prefix is not refused.
 use Rattle.bp_trace.proofs.Common.{◌≡◌, ℕ, ◌==◌, zero, suc, Bool, true, false, cond, List, [], ◌∷◌, ◌++◌, length, Option, None, Some, is_some, refl, ap, sym, ◌∙◌, ◌⊎◌, inl, inr, subst, arith, slice_get, append-nil, false≢true, nat_tests, regrouped, Program, Call, Answers, choice_bit, calls_of_thread, is_terminated, configuration_after, granted_threads, IsAllowed, IsLegalAfter, IsBitOfCall, IsNextCall, given_bit, SetupOf, ReplayError, IsPlayable, IsDue, IsCallError, IsRefusedAmong}
 use Rattle.bp_trace.specs.declared.errors.Due.{Due}
 use Rattle.bp_trace.specs.declared.errors.ReplayError.TheVariants as error
@@ -47,7 +47,7 @@ module _ (t : Program) (s : SetupOf) where
         (ap (λ cs. slice_get cs n) (calls_after i h g) ∙ in_front (calls_of_thread i h) (calls_of_thread i g) n x at);
   }
 
-  -- the machine has one own call
+  -- the machine has one own attempt
   module _ (h : List Call) (x : Call) where
     bits_alike : (b : Bool) (u v : Bool) → IsBitOfCall s h x.thread (cond b None (Some x.bit)) u → IsBitOfCall s h x.thread (cond b None (Some x.bit)) v → u ≡ v
     bits_alike true u v p q =
@@ -95,14 +95,14 @@ module _ (t : Program) (s : SetupOf) where
     pub own_is : (own : Call) → IsNextCall t s h x.thread (given_bit s x.bit) own → own ≡ x
     own_is own next = one_own h x own x next is_next
 
-    -- so the call is not refused
+    -- so the attempt is not refused
     pub not_refused : (n : ℕ) (f : ReplayError) → IsCallError t s h n x f → ⊥
     not_refused n (error.AfterFinish m made) r = false≢true (sym next_allowed.still_live ∙ r.2)
     not_refused n (error.Bit m due) r = r.2 (ap (λ (y : Call). y.bit) (own_is due.call r.1.own))
     not_refused n (error.Reply m due) r = r.3 (ap (λ (y : Call). y.reply) (own_is due.call r.1.own))
     not_refused n f r = r
 
-  -- one call has one refusal
+  -- one attempt has one refusal
   module _ (h : List Call) (n : ℕ) (x : Call) where
     terminated_or_not : is_terminated s h x.thread ≡ true → is_terminated s h x.thread ≡ false → ⊥
     terminated_or_not a b = false≢true (sym b ∙ a)
@@ -128,7 +128,7 @@ module _ (t : Program) (s : SetupOf) where
     one_call_error (error.Reply m d) (error.Reply k e) p q = λ i. error.Reply ((p.0 ∙ sym q.0) i) (one_due d e p.1 q.1 i)
     one_call_error f g p q = absurd (assumption (p, q))
 
--- Of the calls of a line at most one is refused, and with one refusal.
+-- Of the attempts of a line at most one is refused, and with one refusal.
 
 -- of two places in a list one is before the other, or they are one
 abbrev pub Places : List Call → Call → List Call → Call → Type 0
@@ -164,4 +164,4 @@ module _ (t : Program) (s : SetupOf) (h : List Call) (n : ℕ) (calls : List Cal
     ]
   ]
 
--- A call that differs from the machine's own is refused, and so is one if the machine makes none.
+-- An attempt other than the machine's own is refused, and so is one if the machine makes none.

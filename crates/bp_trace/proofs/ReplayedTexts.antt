@@ -1,4 +1,4 @@
--- A text whose head and lines of calls were read is a trace, or is refused.
+-- A text whose head and lines of attempts were read is a trace, or is refused.
 use Rattle.bp_trace.proofs.Common.{◌≡◌, ◌⊎◌, ℕ, ◌+◌, ◌≤◌, List, [], ◌∷◌, ◌++◌, length, flat_map, drop, None, ap, sym, ◌∙◌, subst, arith, inl, inr, length-append, rules, Program, Call, IsReport, SetupOf, setup_error, MAX_TRACE, ReplayError, Version, IsEndRefusal, setup_of_head, IsHeadOf, Head, HasHead, version_line, entry_line, init_line, head_lines, head_text, calls_text, IsLongestAccepted, IsPlayable, line_count, Reaches, IsRestRefused, HasRefusedRest, IsReplayRefusal, IsBody, IsBodyRefusal, HasRefusedBody, FitsText, IsOpened}
 use Rattle.std.proofs.Common.{drop_at}
 use Rattle.bp_machine.specs.declared.calls.Report.{Report}
@@ -51,7 +51,7 @@ module _ (t : Program) (text : List ℕ) (short : length text ≤ MAX_TRACE) (v 
       refused_rest : (f : ReplayError) → IsRestRefused t v s h (first + line_count v h) after f → HasRefusedRest t text f
       refused_rest f r = record { version = v; setup = s; history = h; number = first + line_count v h; rest = after; reached = reaches; refused = r }
 
-    -- a call is refused
+    -- an attempt is refused
     call_refused : (played : List Call) (f : ReplayError) (r : HasRefusedBody t v s rest first played f) → IsReplayRefusal t text f
     call_refused played (error.AfterFinish m made) r = (short, refused_rest r.history r.rest r.playable r.parts (error.AfterFinish m made) r.refused)
     call_refused played (error.Bit m d) r = (short, refused_rest r.history r.rest r.playable r.parts (error.Bit m d) r.refused)
@@ -81,11 +81,11 @@ module _ (t : Program) (text : List ℕ) (short : length text ≤ MAX_TRACE) (v 
       abbrev after : List ℕ
       after = drop b.size rest
 
-      -- the text after the calls is refused
+      -- the text after the attempts is refused
       pub end_refuses : (f : ReplayError) → IsEndRefusal after r.calls r.left_live b.line f → IsReplayRefusal t text f
       end_refuses f given1 = grind (arith)
 
-      -- all calls of the lines are the longest that are accepted
+      -- all attempts of the lines are the longest that are accepted
       pub end_keeps : IsLongestAccepted t text v s h
       end_keeps =
           longest_before_no_line t text v s has fine h playable after

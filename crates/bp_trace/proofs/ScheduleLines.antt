@@ -1,5 +1,5 @@
--- Lines of schedules: their beginnings, their lengths, their calls, and a session that stands after
--- them.
+-- Lines of schedules: their beginnings, their lengths, their attempts, and a session that stands
+-- after them.
 use Rattle.bp_trace.proofs.Common.{◌≡◌, ℕ, ◌+◌, ◌/◌, ◌%◌, ◌<◌, ◌≤◌, ◌^◌, List, [], ◌∷◌, ◌++◌, length, refl, ap, sym, ◌∙◌, arith, decimal, append_assoc, ◌*◌, length-append, ◌≢◌, ◌↔◌, IsTrue, Bool, true, Some, subst, Option, None, rules, decimal_digit, decimal_step, HasNone, IsAt, ends_at, regrouped, one_at, ScheduleLine, schedule_line, thread_field, line_text, bit_digit, IsLineAt, HasNoLine, schedule_text, line_of_call, lines_of_history, mul-le-mul_left, mul-le-mul_right, cases_lt, Program, Configuration, MAX_THREADS, Call, SetupOf, threads, IsInRange, IsLegal, Answers, reply_of, configuration_after, granted_threads, is_terminated, IsAllowed, Reply, SessionOf, Stands, IsAskRefusal, AllBelow, all_below, legal_length, MAX_SCHEDULE, IsAfterFinish, IsRefusal, drive_error_of, IsLineRefusal, DriveError}
 use Rattle.bp_machine.specs.declared.calls.AskError.{AskError}
 use Rattle.bp_machine.specs.declared.calls.AskError.TheVariants.{Memory}
@@ -37,8 +37,8 @@ module _ (n : ℕ) (few : n < 2 ^ 64) (text : List ℕ) where
 pub one_line : (x y : ScheduleLine) (a b : List ℕ) → x.thread < 100 → y.thread < 100 → line_text x ++ a ≡ line_text y ++ b → (x ≡ y) × (a ≡ b)
 one_line x y a b few_x few_y e = one_at (line_there 100 (omega arith) _ x a few_x refl) (line_there 100 (omega arith) _ y b few_y e)
 
--- Lines of schedules: their lengths, their calls, and the next call of a session that stands after
--- them.
+-- Lines of schedules: their lengths, their attempts, and the next attempt of a session that stands
+-- after them.
 
 -- The schedule of a legal history is short enough to be driven.
 
@@ -80,16 +80,16 @@ module _ (t : Program) (s : SetupOf) where
       let reply = same_answer t s.contexts (configuration_after t s h) (granted_threads h) y.thread y.bit x.reply y.reply other q.answers in
       λ i. record { thread = thread i; bit = bit i; reply = reply i }
 
--- a refused call of an existing thread, if the setup has no seed
+-- a refused attempt of an existing thread, if the setup has no seed
 pub ask_refused : (t : Program) (s : SetupOf) (h : List Call) (i : ℕ) (bit : Bool) (f : AskError) → i < threads s
     → s.seed ≡ None → IsAskRefusal t s h i (Some bit) f
     → (f ≡ Memory → ⊥) → is_terminated s h i ≡ true
 ask_refused t s h i bit f given1 given2 given3 given4 = grind (arith)
 
--- The calls of all lines, by a session that stands after them.
+-- The attempts of all lines, by a session that stands after them.
 
 module _ (x : SessionOf) (h : List Call) (stands : Stands x.code.tree x h) where
-  -- the refusal of a call of a thread that is there
+  -- the refusal of an attempt of a thread that is there
   pub refused_line : (line : ScheduleLine) (n : ℕ) (f : AskError) → line.thread < threads x.setup → x.setup.seed ≡ None
       → ((g : List Call) → Stands x.code.tree x g
       → IsAskRefusal x.code.tree x.setup g line.thread (Some line.bit) f) → IsLineRefusal x.setup h line n (drive_error_of f n)

@@ -1,4 +1,4 @@
--- The text written of a view, call by call, is the beginning of a whole one.
+-- The text written of a view, attempt by attempt, is the beginning of a whole one.
 use Rattle.bp_view.proofs.Common.{◌≡◌, ◌∙◌, ◌<◌, ◌≤◌, ◌++◌, ◌-◌, ℕ, zero, suc, Bool, true, false, cond, List, [], ◌∷◌, codes, take, length, length-append, length-take, get_or, map, max, min, ap, refl, arith, slice_get, Some, ◌+◌, Option, drop, add-one, sym, subst, drop-cons, take-append-drop, ◌&&◌, ◌⊎◌, inl, inr, None, nat_le, unwrap_or, append-nil, add-zero, Bor, nat_lt, option_map, rules, nat_tests, take_all, take_more, length-take-le, slice_get-get_or, AppendsAll, part_of_each, both_added, HasParts, IsKind, part_written, Procedure, Program, Name, Place, StandsFor, places_of, Flat, binding, Call, Report, configuration_after, IsLegal, outcome_of, SetupOf, Stands, IsPlayable, front, SourceStatement, place_text, AreSourceStatementsAt, AreSourceStatements, shown_texts, texts_are, ViewFormat, ViewOptions, Columns, printed_by, calls_of, before_last, is_asked, is_between, is_late, is_of_thread, skipped, CallFilter, shortened, longest, variables_text, Widths, filter_of, foot_text, IsFoot, has_line, line_in, IsShownLine, IsViewLine, IsViewLineIf, after_foot, IsEnd, IsStateIf, IsViewContextOf, HasMade, IsView, IsViewable, state_text, IsStateText, ViewContext, view_head, globals_line, thread_line, thread_lines}
 use Rattle.std.proofs.KnownBytes.{Appends-nil}
 use Rattle.std.specs.Option.{option_copied}
@@ -69,7 +69,7 @@ module _ (c : Flat) (t : Program) (code : StandsFor c t) (text : List ℕ) (stat
         by_shown true = view_line h x
         by_shown false = ([], refl)
 
-    -- each call of the history has a line
+    -- each attempt of the history has a line
     pub each_line : (k : ℕ) → k < length whole
         → (line : List ℕ) × ((x : Call) → slice_get whole k ≡ Some x → IsShownLine t text s o w whole (take k whole) x line)
     each_line = part_of_each (λ k x line. IsShownLine t text s o w whole (take k whole) x line) whole (λ k x at. shown_line (take k whole) x)
@@ -108,7 +108,7 @@ module _ (t : Program) (text : List ℕ) (s : SetupOf) (x : ViewContext) where
   IsLine k line =
       (call : Call) → slice_get x.history.now k ≡ Some call → IsShownLine t text s x.options x.widths x.history.now (take k x.history.now) call line
 
-  -- the writer has made the first i calls, and the head and the lines of these were written
+  -- the writer has made the first i attempts, and the head and the lines of these were written
   pub record HasWritten (i : ℕ) (w : ViewWriter) (a b : Option (List ℕ)) : Type 0 where
     pub made : HasMade t (take i x.history.now) w
     pub setup : w.session.setup ≡ s
@@ -144,7 +144,7 @@ module _ {c : Flat} {t : Program} {text : List ℕ} {s : SetupOf} {r : Report} {
     known_there : IsViewContextOf t text w.context
     known_there = subst (IsViewContextOf t text) (sym has.context) can.known
 
-    -- all calls were made: the end that follows is one of the view
+    -- all attempts were made: the end that follows is one of the view
     pub end_there : {end : List ℕ} → length h ≤ i
         → ((text : List ℕ) (g : List Call) → let t = w.session.code.tree in IsViewContextOf t text w.context → Stands t w.session g
         → w.context.history.now ≡ g → r.outcome ≡ outcome_of g → IsEnd w.context.options w.context.file.now t text w.session.setup g r end)
@@ -157,7 +157,7 @@ module _ {c : Flat} {t : Program} {text : List ℕ} {s : SetupOf} {r : Report} {
       abbrev next : List Call
       next = take i h ++ get_or h i d ∷ []
 
-      -- the calls up to the next one may be played
+      -- the attempts up to the next one may be played
       pub playable_next : IsPlayable t w.session.setup next
       playable_next =
           let all = both_added (take i h) _ _ (get_or h i d ∷ []) (drop (suc i) h) _ refl refl (sym (drop-cons h i d within)) ∙ take-append-drop i h in
@@ -183,7 +183,7 @@ module _ {c : Flat} {t : Program} {text : List ℕ} {s : SetupOf} {r : Report} {
         parts = subst (λ k. HasParts (IsLine t text s x) (head t text s x) k a e) (sym (add-one i)) (part_written has.parts line all);
       }
 
--- The calls before those that are asked for have no lines.
+-- The attempts before those that are asked for have no lines.
 
 either : (m n a : ℕ) → a ≤ max m n → (a ≤ m) ⊎ (a ≤ n)
 either m n a few = by_test (nat_le a m) refl
@@ -192,7 +192,7 @@ either m n a few = by_test (nat_le a m) refl
     by_test true e = inl (grind (arith, nat_tests))
     by_test false e = inr (let more : m < a = grind (arith, nat_tests) in omega (arith, more, few))
 
--- a call before the first that is asked for, or before the last ones
+-- an attempt before the first that is asked for, or before the last ones
 early : (f : CallFilter) (count n : ℕ) → n < unwrap_or f.from 0 → is_between f.from f.to n ≡ false
 early f count n given1 = grind (arith)
 
@@ -215,12 +215,12 @@ module _ (t : Program) (text : List ℕ) (s : SetupOf) (x : ViewContext) where
   abbrev calls : List Call
   calls = x.history.now
 
-  -- call k, from 0, is one of those before
+  -- attempt k, from 0, is one of those before
   no_line : (k : ℕ) → k < length calls → suc k ≤ skipped (filter_of x.options) (length calls) → IsLine t text s x k []
   no_line k given1 given2 = search (rules, length-take-le, early, not_asked)
 
   module _ {head : List ℕ} {a b : Option (List ℕ)} (has : HasParts (IsLine t text s x) head 0 a b) where
-    -- so the head is a text with the lines of these calls
+    -- so the head is a text with the lines of these attempts
     pub none_before : (m : ℕ) → m ≤ length calls → m ≤ skipped (filter_of x.options) (length calls) → HasParts (IsLine t text s x) head m a b
     none_before zero few before = has
     none_before (suc m) few before =

@@ -1,9 +1,9 @@
--- The lines of the calls that are asked for stand for these calls, each once.
+-- The lines of the attempts that are asked for stand for these attempts, each once.
 use Rattle.bp_view.proofs.Common.{◌≡◌, ◌≤◌, suc, Bool, true, false, List, [], ◌∷◌, length, refl, arith, ◌∙◌, ◌+◌, ◌-◌, ◌==◌, if◌then◌else◌, nat_le, nat_lt, ℕ, zero, ◌++◌, append-nil, drop, length-append, replicate, reverse, take, ap, ap₂, sym, subst, rules, drop-append-add, drop-append_seam, take-append_seam, take-nil, drop_all, length-take-le, reverse-append, nat_tests, Call, is_same_wait, waits_like, asked_calls, calls_at, calls_of_lines, last_number, skipped, StandForEachOnce, calls_in_line, CallFilter}
 use Rattle.std.proofs.lemmas.List.{append_assoc, take-append-drop}
 use Rattle.bp_view.specs.declared.filters.TheConstants.{MAX_WAITS}
 
--- How many equal waits a list begins with, by its first call.
+-- How many equal waits a list begins with, by its first attempt.
 
 module _ (x y : Call) (ys : List Call) where
   pub same_first : is_same_wait x y ≡ true → waits_like x (y ∷ ys) ≡ suc (waits_like x ys)
@@ -12,7 +12,7 @@ module _ (x y : Call) (ys : List Call) where
   pub other_first : is_same_wait x y ≡ false → waits_like x (y ∷ ys) ≡ 0
   other_first other = rw other refl
 
--- there are no more equal waits than calls
+-- there are no more equal waits than attempts
 at_most_here : (x y : Call) (ys : List Call) (b : Bool) → is_same_wait x y ≡ b → waits_like x ys ≤ length ys → waits_like x (y ∷ ys) ≤ length (y ∷ ys)
 at_most_here x y ys b given1 given2 = grind (arith)
 
@@ -20,8 +20,8 @@ pub at_most : (x : Call) (ys : List Call) → waits_like x ys ≤ length ys
 at_most x [] = omega arith
 at_most x (y ∷ ys) = at_most_here x y ys (is_same_wait x y) refl (at_most x ys)
 
--- the calls for which the lines of these calls stand, one line after the other; the calls `before`
--- come before them, the latest first
+-- the attempts for which the lines of these attempts stand, one line after the other; the attempts
+-- `before` come before them, the latest first
 abbrev calls_after : (folds : Bool) → (before calls : List Call) → List Call
 calls_after folds before [] = []
 calls_after folds before (x ∷ xs) = replicate (calls_in_line folds x before xs) x ++ calls_after folds (x ∷ before) xs
@@ -29,7 +29,7 @@ calls_after folds before (x ∷ xs) = replicate (calls_in_line folds x before xs
 equal_threads : (i j : ℕ) → (i == j) ≡ true → i ≡ j
 equal_threads i j e = grind (arith, nat_tests)
 
--- calls that are the same wait are equal
+-- attempts that are the same wait are equal
 equal_waits : (x y : Call) → is_same_wait x y ≡ true → x ≡ y
 equal_waits x y given1 = grind (arith)
 
@@ -42,13 +42,13 @@ like_either x y = by_tests (is_same_wait x y) refl (is_same_wait y x) refl
     by_tests : (b : Bool) → is_same_wait x y ≡ b → (c : Bool) → is_same_wait y x ≡ c → is_same_wait x y ≡ is_same_wait y x
     by_tests b given1 c given2 = grind (arith)
 
--- the waits before a call that have no line of their own: that of a later call stands for them
+-- the waits before an attempt that have no line of their own: that of a later one stands for them
 abbrev pending : (before calls : List Call) → List Call
 pending before [] = []
 pending before (x ∷ xs) =
     if nat_lt MAX_WAITS (suc (waits_like x before + waits_like x xs)) then replicate (waits_like x before) x else []
 
--- those before the next call, by the waits before and after this one
+-- those before the next attempt, by the waits before and after this one
 abbrev still_pending : (many last : Bool) (x : Call) (before : ℕ) → List Call
 still_pending many last x before =
     if last then [] else if many then replicate (suc before) x else []
@@ -107,7 +107,7 @@ one_more : (p : ℕ) (x : Call) (xs : List Call) → replicate (suc p) x ++ xs �
 one_more zero x xs = refl
 one_more (suc p) x xs = ap (λ ys. x ∷ ys) (one_more p x xs)
 
--- the line of a call, and then the waits that are still pending
+-- the line of an attempt, and then the waits that are still pending
 joined : (x : Call) (xs : List Call) (p q : ℕ) (many last : Bool) → (last ≡ true → q ≡ 0)
     → replicate (if many then if last then suc (p + q) else 0 else 1) x ++ (still_pending many last x p ++ xs)
     ≡ (if many then replicate p x else []) ++ x ∷ xs
@@ -136,7 +136,7 @@ each_after false calls = unfolded [] calls
 first_taken : (n : ℕ) (x : Call) (xs ys : List Call) → take n (x ∷ ys) ≡ x ∷ xs → take (n - 1) ys ≡ xs
 first_taken n x xs ys given1 = grind (arith)
 
--- the calls before those that are asked for are `first`; of those, these are before the next one
+-- the attempts before those that are asked for are `first`; of those, these are before the next one
 module _ (f : CallFilter) (whole : List Call) (first : List Call) (skips : length first ≡ skipped f (length whole)) where
   abbrev last : ℕ
   last = last_number f (length whole)

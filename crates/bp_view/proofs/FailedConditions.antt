@@ -15,7 +15,7 @@ module _ (t : Program) where
   calls_append c [] ys = refl
   calls_append c (x ∷ xs) ys = calls_append (configuration_after_call t c x.thread x.bit x.reply) xs ys
 
-  -- calls without a step change nothing
+  -- attempts without a step change nothing
   same_without_steps : (c : Configuration) (xs : List Call) → granted_threads xs ≡ [] → configuration_after_calls t c xs ≡ c
   same_without_steps c [] none = refl
   same_without_steps c (x ∷ xs) none =

@@ -1,7 +1,7 @@
--- A thread's stack and the globals after a call.
+-- A thread's stack and the globals after an attempt.
 use Rattle.bp_view.proofs.Common.{◌≡◌, ◌<◌, ℕ, true, false, nat_lt, [], refl, arith, if◌then◌else◌, ◌≤◌, ◌⊎◌, inl, inr, Bool, List, ◌∷◌, Option, length, unwrap_or, rules, nat_tests, cases_lt, get_or_past, get_or-set_same, Block, Procedure, Program, Frame, Configuration, StatementEffect, Leaves, effect, after_effect, call_effect, Valuation, Reply, configuration_after_call, configuration_after_step, stack_of, is_granted, arguments_of, changed, frame_changed, IsNext, IsSameCall}
 
--- The changes of a call at the top of a stack, by the depth of the stack after it.
+-- The changes of an attempt at the top of a stack, by the depth of the stack after it.
 
 module _ (f g : Frame) (m n : ℕ) where
   pub entered : m < n → frame_changed f g m n ≡ arguments_of g

@@ -6,7 +6,7 @@ use Rattle.bp_view.proofs.FailedConditions.{one_assertion, one_condition, one_de
 
 -- The facts of a context are single.
 
--- a context has one thread, one first and one last call
+-- a context has one thread, one first and one last attempt
 record OneContext (i j first last other next : ℕ) : Type 0 where
   thread : i ≡ j
   first_is : first ≡ other

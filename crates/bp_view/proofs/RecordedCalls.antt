@@ -1,4 +1,4 @@
--- A recorded call of a history that may be played is refused only for memory.
+-- A recorded attempt of a history that may be played is refused only for memory.
 use Rattle.bp_view.proofs.Common.{if◌then◌else◌, ◌≡◌, ◌∙◌, ◌<◌, ℕ, ◌+◌, ◌^◌, List, [], ◌∷◌, ◌++◌, Bool, true, Option, None, Some, is_some, length, arith, sym, refl, take, drop, get_or, subst, take-append-drop, ◌≢◌, ap, length-append, rules, false≢true, take_more, take_all, take-append-le, Program, StandsFor, Call, IsPrintRefusal, IsAskRefusal, given_bit, last_thread, Stands, SetupOf, IsInRange, IsLegal, granted_threads, calls_of_thread, calls_other, calls_of_thread-same, IsOwnRefusal, IsPlayable, next_allowed, front, IsCheckpoint, IsKept, last_reply}
 use Rattle.std.proofs.Math.Nat.{mul-le-mul_left, mul-le-mul_right}
 use Rattle.bp_machine.specs.declared.calls.AskError.{AskError}
@@ -20,12 +20,12 @@ module _ (t : Program) (s : SetupOf) (h : List Call) (x : Call) (playable : IsPl
   pub print_refused : (printed : Option (List Bool)) (f : AskError) → IsPrintRefusal s x.thread printed f → f ≡ error.Memory
   print_refused printed f given1 = search (rules, next_allowed)
 
--- the number of the next call is a number of 64 bits
+-- the number of the next attempt is a number of 64 bits
 module _ (t : Program) (s : SetupOf) (h : List Call) (legal : IsLegal t s h) (range : IsInRange s) where
   pub next_number : length h + 1 < 2 ^ 64
   next_number = search (rules, legal_length, mul-le-mul_right, mul-le-mul_left)
 
--- The front of a history that may be played, with its next call.
+-- The front of a history that may be played, with its next attempt.
 
 module _ (t : Program) (s : SetupOf) (h : List Call) (playable : IsPlayable t s h) where
   pub front_playable : (n : ℕ) → IsPlayable t s (take n h)
@@ -34,7 +34,7 @@ module _ (t : Program) (s : SetupOf) (h : List Call) (playable : IsPlayable t s 
   pub playable_here : (i : ℕ) (d : Call) → i < length h → IsPlayable t s (take i h ++ get_or h i d ∷ [])
   playable_here i d inside = subst (IsPlayable t s) (take_more h i d inside) (front_playable (i + 1))
 
--- a recorded call is refused only for memory
+-- a recorded attempt is refused only for memory
 pub asked_refused : (t : Program) (s : SetupOf) (h : List Call) (x : Call) → IsPlayable t s (h ++ x ∷ [])
     → (f : AskError) → IsAskRefusal t s h x.thread (given_bit s x.bit) f → f ≡ error.Memory
 asked_refused t s h x playable error.Memory is = refl
@@ -44,7 +44,7 @@ asked_refused t s h x playable error.Seeded is = own_refused t s h x playable er
 asked_refused t s h x playable error.Unseeded is = own_refused t s h x playable error.Unseeded is
 asked_refused t s h x playable error.Busy is = absurd is
 
--- A checkpoint of a history is one of each longer history, and a watcher counts one call more.
+-- A checkpoint of a history is one of each longer history, and a watcher counts one attempt more.
 
 module _ (t : Program) (s : SetupOf) (h : List Call) where
   -- the session stands after the whole history
@@ -62,11 +62,11 @@ module _ (t : Program) (s : SetupOf) (h : List Call) where
     goes_on : (x : Checkpoint) → IsCheckpoint t s h x → IsCheckpoint t s longer x
     goes_on x given1 = search (rules, front, take-append-le, one_more)
 
-    -- a kept checkpoint is kept after one more call, after which none is wanted
+    -- a kept checkpoint is kept after one more attempt, after which none is wanted
     pub still_kept : (n : ℕ) (kept : Option Checkpoint) → IsKept t s h n kept → length h + 1 ≢ n → IsKept t s longer n kept
     still_kept n kept given1 given2 = search (rules, goes_on, one_more)
 
--- The last reply to a thread, call by call.
+-- The last reply to a thread, attempt by attempt.
 
 last_reply-append : (xs : List Call) (x : Call) → last_reply (xs ++ x ∷ []) ≡ Some x.reply
 last_reply-append [] x = refl

@@ -1,4 +1,4 @@
--- The line of a call, if it has one, or nothing.
+-- The line of an attempt, if it has one, or nothing.
 use Rattle.bp_view.proofs.Common.{if◌then◌else◌, ◌≡◌, ◌∙◌, ◌+◌, ◌-◌, ◌<◌, ◌++◌, ℕ, suc, true, List, [], ◌∷◌, codes, nat_lt, take, length, ap, ap₂, refl, sym, arith, ◌≤◌, length-append, append-nil, ◌/◌, ◌%◌, ◌^◌, ◌==◌, ◌⊎◌, inl, inr, false, decimal, append_assoc, max, Bool, Option, None, ◌&&◌, subst, slice_set, rules, nat_tests, concat, cases_lt, replicate-append-replicate, spaces, at_right, at_left, regrouped, Program, Configuration, Call, is_granted, configuration_after, SetupOf, ViewFormat, ViewOptions, ShownCall, changes_by, AreCallFacts, IsReplayedCall, CallFilter, calls_at, calls_of, is_asked, is_seen, watched_names, shortened, prefix_text, tens_digits, tens_text, field_texts, mark_text, Widths, line_in, next_print_in, printed_in, filter_of, has_line, IsShownLine, IsViewLineIf, Gains, Grown, Buffer, ViewContext}
 use Rattle.std.proofs.lemmas.Fmt.{decimal_digit, decimal_step}
 use Rattle.std.proofs.Math.ListN.{length-replicate}
@@ -52,7 +52,7 @@ number_split width n fits = by_size (cases_lt n 10)
         ∙ ap (λ k. spaces k ++ (front ++ last)) gap
         ∙ ap (at_right width) (sym (decimal_step n many fits))
 
--- the fields of a call
+-- the fields of an attempt
 pub fields_are : (w : Widths) (f : ShownCall) (mark digit : ℕ) → f.number < 2 ^ 64
     → mark ∷ [] ≡ mark_text f.switch → digit ≡ 48 + f.number % 10 → prefix_text (key_of w f) mark digit ≡ concat (field_texts w f)
 fields_are w f mark digit given1 given2 given3 = search (rules, decimal, append_assoc, number_split)
@@ -67,7 +67,7 @@ pub parts_put : (k : PrefixKey) (text : List ℕ) (m d mark digit last : ℕ) �
     → slice_set (slice_set text 0 mark) last digit ≡ prefix_text k mark digit
 parts_put k text m d mark digit last given1 given2 = search (rules, digit_put)
 
--- The place of a call and its statement, with the spaces between them, and how long the place is in its column.
+-- The place of an attempt and its statement, the spaces between, and the length of its column.
 
 pub statement_is : (place shown end whole : List ℕ) (padding indent gap : ℕ) → gap ≡ padding + indent → shown ++ end ≡ whole
     → place ++ (spaces gap ++ (shown ++ end)) ≡ (place ++ spaces padding) ++ concat (spaces indent ∷ whole ∷ [])
@@ -79,7 +79,7 @@ statement_is place shown end whole padding indent gap gap_is cut =
 pub place_length : (width : ℕ) (place : List ℕ) → length (at_left width place) ≡ max width (length place)
 place_length width place = omega (arith, length-append place (spaces (width - length place)), length-replicate {A = ℕ} (width - length place) 32)
 
--- The values that a call prints are the next ones, if it made a step.
+-- The values that an attempt prints are the next ones, if it made a step.
 
 pub printed_of : (format : ViewFormat) (c : Configuration) (x : Call) (values next : Option (List Bool)) → next ≡ next_print_in format c x.thread
     → values ≡ (if is_granted x.reply then next else None) → values ≡ printed_in format c x
@@ -98,7 +98,7 @@ module _ (t : Program) (text : List ℕ) (s : SetupOf) (context : ViewContext) (
   abbrev has : Bool
   has = has_line t text s o w whole h x
 
-  -- a filter of the call is one of its replayed call
+  -- a filter of the attempt is one of its replayed attempt
   module _ (m : ReplayedCall) (of : IsReplayedCall t s h x m) (f : CallFilter) (filter : f ≡ filter_of o) where
     pub asked_of : (b : Bool) → is_asked f (length whole) m.number m.call.thread ≡ b
         → is_asked (filter_of o) (length whole) (suc (length h)) x.thread ≡ b

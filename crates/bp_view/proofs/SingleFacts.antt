@@ -1,4 +1,4 @@
--- The facts of a call, and those of a state, are single.
+-- The facts of an attempt, and those of a state, are single.
 use Rattle.bp_view.proofs.Common.{◌≡◌, ◌≤◌, ◌∙◌, ℕ, List, ap, flat_map, length, map, sym, take, [], ◌∷◌, ◌++◌, Option, None, Some, refl, suc, ap₂, arith, rules, flat_map-map, false≢true, Program, Frame, Call, granted_threads, SetupOf, least_opened, one_statement_at, AreCallFacts, IsNextOf, Next, ShownCall, IsContext, AreFrameFacts, AreStackFacts, AreStateFacts, AreThreadFacts, AreThreadsFacts, ShownFrame, ShownState, ShownThread}
 use Rattle.std.proofs.Common.{take_all}
 
@@ -8,7 +8,7 @@ pub all_mapped : {X Y Z : Type 0} (f : Y → List Z) (said : X → Y) (xs : List
     → flat_map (λ x. f (said x)) (take n xs) ≡ flat_map f (map said xs)
 all_mapped f said xs n all = ap (flat_map (λ x. f (said x))) (take_all n xs all) ∙ sym (flat_map-map f said xs)
 
--- The facts of a call are single.
+-- The facts of an attempt are single.
 
 pub one_next : (text : List ℕ) (stack : List Frame) (m n : Next) → IsNextOf text stack m → IsNextOf text stack n → m ≡ n
 one_next text stack m n given1 given2 = search (rules, one_statement_at)

@@ -1,8 +1,8 @@
--- The spans of a history with one more call.
+-- The spans of a history with one more attempt.
 use Rattle.bp_view.proofs.Common.{if◌then◌else◌, ◌≡◌, ◌∙◌, ◌⊎◌, inl, inr, ℕ, ◌+◌, ◌<◌, ◌≤◌, List, [], ◌∷◌, ◌++◌, Some, Bool, true, false, length, take, drop, ap, sym, refl, subst, take-append-drop, arith, zero, suc, ◌==◌, cond, map, get_or, append-nil, rules, take-append_seam, get_or-append_seam, cases_lt, false≢true, take-append-le, take_more, get_or_append_left, slice_get_within, slice_get-get_or, get_or_from_slice_get, nat_tests, one_before, one_last, within, Program, Call, IsWithin, IsLeastWithin, granted_threads, is_granted, configuration_after, contexts_opened, last_thread, used_with, SetupOf, within_front, counts_more, granted_threads-append, IsContextOf, IsStepIn, count_of, joined, with_step, AreSpans, AreSpansFrom, IsSpan, IsStandingPoint, IsContext, Span}
 use Rattle.std.proofs.lemmas.List.{length-append}
 
--- The contexts of a history with one more call.
+-- The contexts of a history with one more attempt.
 
 -- the threads of the steps of a history in two parts
 granted-append : (g h : List Call) → granted_threads (g ++ h) ≡ granted_threads g ++ granted_threads h
@@ -41,7 +41,7 @@ module _ (h : List Call) (x : Call) where
         context = subst (λ g. IsContext g y (Some n)) (sym (take_front k (omega (arith, inside)))) is.context;
       }
 
-  -- so is the step of the last call
+  -- so is the step of the last attempt
   last_step : (n : ℕ) → IsContext h x (Some n) → IsStepIn n (h ++ x ∷ []) (length h) x
   last_step n here = record {
     at = slice_get-get_or (h ++ x ∷ []) (length h) x (omega (arith, longer)) ∙ ap Some (get_or-append_seam h x [] x);
@@ -67,7 +67,7 @@ module _ (h : List Call) (x : Call) where
   pub one_context : (m n : ℕ) → IsContext h x (Some m) → IsContext h x (Some n) → m ≡ n
   one_context m n a b = let low = a.1.least n b.1.within in let high = b.1.least m a.1.within in omega (arith, low, high)
 
-  -- a context in which the last call made no step stays as it is
+  -- a context in which the last attempt made no step stays as it is
   module _ (n i first last : ℕ) (is : IsContextOf n h i first last) where
     begins_within : first < length h
     begins_within = slice_get_within h first is.begins.0 is.begins.1.at
@@ -97,7 +97,7 @@ module _ (h : List Call) (x : Call) where
       each = λ k y step. each_joined thread k y (step_of n k y step);
     }
 
-  -- a context in which no call made a step before has only the last step
+  -- a context in which no attempt made a step before has only the last step
   each_new : (n : ℕ) → ((k : ℕ) (y : Call) → IsStepIn n h k y → ⊥) → (k : ℕ) (y : Call)
       → (IsStepIn n h k y × (k < length h)) ⊎ ((k ≡ length h) × (x ≡ y) × IsContext h x (Some n))
       → (y.thread ≡ x.thread) × (length h ≤ k) × (k ≤ length h)
@@ -160,7 +160,7 @@ module _ (t : Program) (s : SetupOf) where
       subst (λ m. IsSpan t s h m (get_or xs k d)) place (span_at h 1 xs are.each k d inside)
 
   module _ (h : List Call) (x : Call) where
-    -- a span in which the last call made no step stays as it is
+    -- a span in which the last attempt made no step stays as it is
     span_kept : (n : ℕ) (y : Span) → (IsContext h x (Some n) → ⊥) → IsSpan t s h n y → IsSpan t s (h ++ x ∷ []) n y
     span_kept n y not is =
         let begins = slice_get_within h is.first is.context.begins.0 is.context.begins.1.at in
@@ -181,11 +181,11 @@ module _ (t : Program) (s : SetupOf) where
     all_kept idle n [] are = tt
     all_kept idle n (y ∷ ys) are = (span_kept n y (λ here. false≢true (sym idle ∙ here.0)) are.0, all_kept idle (suc n) ys are.1)
 
-    -- a call without a step leaves all spans as they are
+    -- an attempt without a step leaves all spans as they are
     pub spans_idle : (xs : List Span) → AreSpans t s h xs → is_granted x.reply ≡ false → AreSpans t s (h ++ x ∷ []) xs
     spans_idle xs given1 given2 = search (rules, granted_threads-append, append-nil, all_kept)
 
-    -- the step of the last call, as a span of its own
+    -- the step of the last attempt, as a span of its own
     pub record IsOwnStep (step : Span) : Type 0 where
       pub thread : step.thread ≡ x.thread
       pub first : step.first ≡ suc (length h)
@@ -278,7 +278,7 @@ module _ (t : Program) (s : SetupOf) where
           past : (k : ℕ) (y : Call) → IsStepIn (1 + length xs) h k y → ⊥
           past k y is = let few = steps_within h (length xs) (1 + length xs) k y are.count.used is in absurd (omega (arith, few))
 
--- The thread of the last step of a history with one more call.
+-- The thread of the last step of a history with one more attempt.
 
 last-append : (ts : List ℕ) (i : ℕ) → last_thread (ts ++ i ∷ []) ≡ Some i
 last-append [] i = refl

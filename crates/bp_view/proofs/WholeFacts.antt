@@ -1,4 +1,4 @@
--- Each call and each end of a history has facts.
+-- Each attempt and each end of a history has facts.
 use Rattle.bp_view.proofs.Common.{◌≡◌, ◌⊎◌, inl, inr, ℕ, zero, suc, ◌≤◌, Bool, true, false, [], length, ap, refl, subst, add-one, if◌then◌else◌, ◌∙◌, ◌+◌, ◌++◌, List, ◌∷◌, Some, slice_get, take, sym, arith, Option, None, drop, IsTrue, ◌↔◌, option_map, rules, cases_lt, get_or_past, map-append, All-push, All-nil, slice_get_within, position_at, Program, Configuration, Frame, frame_store, Flat, StandsFor, place, places_of, start_of_block, has_frames, is_left, IsDeadlocked, waits, Call, SetupOf, threads, Outcome, Clean, Failed, Report, stack_of, configuration_after, granted_threads, IsLegal, is_granted, outcome_of, IsRealFailure, opened, opened_least, real, SourceStatement, variables_read, AreSourceStatements, IsStatementAt, place_text, IsStatement, source_statement_at, SourceStatementAt, waiting, AreStandingFacts, AreWaitsFacts, ShownCondition, named_entries, AreFailureFacts, AreFootFacts, IsAtCondition, ShownFoot, AreFrameFacts, AreStackFacts, AreThreadFacts, AreThreadsFacts, ShownFrame, ShownThread, status, AreStateFacts, ShownState, changes_by, nothing_next, AreCallFacts, IsNextOf, Next, ShownCall, is_switch, IsContext}
 use Rattle.bp_machine.proofs.Deadlocks.{not_waiting, seen_ended, seen_none, seen_waiting, AreSeen}
 use Rattle.bp_view.proofs.FailedConditions.{assertion_facts, at_assertion, at_assumption}

@@ -3,7 +3,7 @@ use Rattle.bp_machine.proofs.SessionAnswers.{judged_next, refused_after, refused
 use Rattle.bp_machine.proofs.sessions.Session.make_given.Goals.{In_ok-made}
 use Rattle.bp_machine.proofs.sessions.Session.make_given.Goals as goal
 
--- the judged call, of the session as it is kept
+-- the judged attempt, of the session as it is kept
 judged : (c : In_ok-made)
     → IsJudged
     (session_of c.self.inside.code c.self.inside.setup c.self.inside.machine c.self.inside.choices.items)

@@ -5,7 +5,7 @@ use Rattle.bp_run.proofs.desks.Desk.ask.Given.{Over}
 use Rattle.bp_run.proofs.desks.Desk.ask.Goals.{In_ok-call, After-audit}
 use Rattle.bp_run.proofs.desks.Desk.ask.Goals as goal
 
--- the facts once the call was sent
+-- the facts once the attempt was sent
 within : (g : Over) (c : In_ok-call g) → c.seat.inside.thread < threads c.self.inside.session.setup
 within g c = rw c.self.invariant.2 c.seat.invariant.0
 
@@ -26,11 +26,11 @@ stands : (g : Over) (c : After-audit g)
     → Stands c.self.inside.session.code.tree c.send.new.session (c.self.inside.to.end.past ++ c.in_ok-call.call ∷ [])
 stands g c = c.in_ok-call.ensures.stands c.self.invariant.0.stands
 
--- the history with the call
+-- the history with the attempt
 abbrev now : (g : Over) → After-audit g → List Call
 now g c = c.self.inside.to.end.past ++ c.in_ok-call.call ∷ []
 
--- the thread has terminated after the call if the session says so
+-- the thread has terminated after the attempt if the session says so
 abbrev SaysTerminated : (g : Over) → After-audit g → Bool → Type 0
 SaysTerminated g c b = (t : Program) (h : List Call) → Stands t c.send.new.session h → b ≡ is_terminated c.send.new.session.setup h c.seat.inside.thread
 
@@ -130,7 +130,7 @@ returns-in_err-call-clause-answer g c =
     (λ e. c.send.ensures.full c.self.invariant.0.stands (search rules))
     (c.in_err-call.ensures.answer c.self.invariant.0.stands)))
 
--- the call that was made, if the thread has terminated or not
+-- the attempt that was made, if the thread has terminated or not
 asked : (g : Over) (c : After-audit g) (b : Bool)
     → IsNextCall c.self.inside.session.code.tree c.self.inside.session.setup (c.self.inside.to.end.past) c.seat.inside.thread None
     c.in_ok-call.call
