@@ -123,7 +123,7 @@ impl SlotExpr {
 /// The test of an instruction with two ways.
 #[derive(Drop)]
 pub enum Test {
-    /// The choice bit of the call.
+    /// The choice bit of the attempt.
     Choice,
     /// The value of an expression.
     Value(SlotExpr),

@@ -80,7 +80,7 @@ impl Sub {
 /// The test of a branch, a loop, an assertion or an assumption.
 #[derive(Drop)]
 pub enum Decider {
-    /// `?`: the choice bit of the call.
+    /// `?`: the choice bit of the attempt.
     Choice,
     /// The value of an expression.
     Value(Expr),

@@ -1,4 +1,4 @@
-//! Calls of guest threads, their replies and refusals. Threads that a history finishes or leaves
+//! Attempts of guest threads, their replies and refusals. Threads that a history finishes or leaves
 //! open. Reports of histories.
 ghost use Rattle.std.specs.Prelude.{◌≡◌};
 ghost use Rattle.bp_machine.specs.Histories.{is_terminated, live_threads};
@@ -7,14 +7,14 @@ use crate::setups::Setup;
 use std::alloc::AllocError;
 use thiserror::Error;
 
-/// Why a call is refused: the first reason that applies. The session is unchanged, and no choice
-/// bit is used.
+/// Why an attempt is refused: the first reason that applies. The session is unchanged, and no
+/// choice bit is used.
 #[derive(Clone, Copy, Debug, PartialEq, Eq, Error)]
 pub enum AskError {
     /// There is no such thread.
     #[error("there is no such thread")]
     NoThread,
-    /// The thread makes no more calls.
+    /// The thread makes no more attempts.
     #[error("the thread has made its last call")]
     Terminated,
     /// A choice bit was given, although the setup has a seed.
@@ -26,7 +26,7 @@ pub enum AskError {
     /// There was not enough memory for a frame.
     #[error("out of memory")]
     Memory,
-    /// The ring to which calls are sent is full. Only a desk returns this, never a session.
+    /// The ring to which attempts are sent is full. Only a desk returns this, never a session.
     #[error("the ring is full")]
     Busy,
 }
@@ -42,7 +42,7 @@ impl From<AllocError> for AskError {
     }
 }
 
-/// The reply to a call: the first that applies.
+/// The reply to an attempt: the first that applies.
 #[derive(Clone, Copy, Debug, PartialEq, Eq)]
 pub enum Reply {
     /// An assertion failed earlier.
@@ -80,7 +80,7 @@ impl Reply {
         }
     }
 
-    /// Returns whether the thread makes no more calls after this reply.
+    /// Returns whether the thread makes no more attempts after this reply.
     pub fn is_last(&self) -> bool
         ensures { result ≡ is_last self.now }
     {
@@ -93,12 +93,12 @@ impl Reply {
 pub struct Call {
     /// The thread, from 0.
     pub thread: u32,
-    /// The call's choice bit, whether its step reads it or not.
+    /// The attempt's choice bit, whether its step reads it or not.
     pub bit: bool,
     pub reply: Reply,
 }
 
-/// Returns whether the thread makes no more calls after the history.
+/// Returns whether the thread makes no more attempts after the history.
 fn is_terminated(setup: &Setup, history: &[Call], thread: u32) -> bool
     ensures { result ≡ is_terminated setup.now history.now thread }
 {
@@ -138,7 +138,7 @@ pub enum Outcome {
 #[derive(Clone, Copy, Debug, PartialEq, Eq)]
 pub struct Report {
     pub outcome: Outcome,
-    /// The number of calls, also of those that made no step.
+    /// The number of attempts, also of those that made no step.
     pub calls: u64,
     /// The number of threads that may continue.
     pub left_live: u32,

@@ -11,12 +11,12 @@ pub fn steps_are_within()
     ensures { StepsAreWithin }
 {}
 
-/// Proves that the runs of a program within the bounds of a setup are exactly the granted calls of
-/// its legal histories. Such a run is moves, one after the other, from the start of the setup:
-/// within its contexts, with at most as many steps of each thread as it may make calls, and with
+/// Proves that the runs of a program within the bounds of a setup are exactly the granted attempts
+/// of its legal histories. Such a run is moves, one after the other, from the start of the setup:
+/// within its contexts, with at most as many steps of each thread as it may make attempts, and with
 /// room for a frame at each call of a procedure. With the replies of its steps it is a legal
-/// history, which leads to the same configuration; and the granted calls of each legal history are
-/// such a run, with these replies.
+/// history, which leads to the same configuration; and the granted attempts of each legal history
+/// are such a run, with these replies.
 pub fn runs_are_histories()
     ensures each { RunsAreHistories }
     ensures back { HistoriesAreRuns }
@@ -27,13 +27,13 @@ pub fn failures_are_real()
     ensures { FailuresAreReal }
 {}
 
-/// Proves that a legal history has at most as many calls as its threads may make together.
+/// Proves that a legal history has at most as many attempts as its threads may make together.
 pub fn histories_are_short()
     ensures { HistoriesAreShort }
 {}
 
 /// Proves that in a deadlock no thread is granted a step, whatever its choice bit and the contexts
-/// that are left. So a legal history has no granted call after it.
+/// that are left. So a legal history has no granted attempt after it.
 pub fn deadlocks_last()
     ensures each { DeadlocksGrantNothing }
     ensures later { DeadlocksLast }

@@ -1,4 +1,4 @@
-//! The sequential machine: setups, and sessions that answer the calls of guest threads.
+//! The sequential machine: setups, and sessions that answer the attempts of guest threads.
 #![tactic(auto)]
 
 mod calls;

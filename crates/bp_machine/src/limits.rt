@@ -4,7 +4,7 @@
 pub const MAX_THREADS: usize = 64;
 /// The most contexts that a session may be allowed.
 pub const MAX_CONTEXTS: u32 = 1000;
-/// The most calls that a thread may be allowed. It is allowed at least one.
+/// The most attempts that a thread may be allowed. It is allowed at least one.
 pub const MAX_CALLS: u32 = 100_000;
 /// The most frames of a thread's stack.
 pub const MAX_FRAMES: usize = 1024;
@@ -13,5 +13,5 @@ pub const MAX_FRAMES: usize = 1024;
 pub const DEFAULT_ENTRY: &str = "main";
 /// The default bound on contexts.
 pub const DEFAULT_CONTEXTS: u32 = 2;
-/// The default bound on the calls of each thread.
+/// The default bound on the attempts of each thread.
 pub const DEFAULT_CALLS: u32 = 1000;

@@ -62,8 +62,8 @@ fn transition_of(effect: Effect, is_full: bool) -> Transition
     }
 }
 
-/// Returns the transition for a call of a thread with this stack. `fits` says whether one more step
-/// is within the contexts.
+/// Returns the transition for an attempt of a thread with this stack. `fits` says whether one more
+/// step is within the contexts.
 #[inline(always)]
 pub fn transition_on(code: &Code, globals: u128, fits: bool, stack: &Stack, bit: bool) -> Transition
     ensures { IsTransitionOn code.now.instructions globals bit fits stack.now.frames result }
@@ -98,7 +98,7 @@ impl Machine {
     ghost use Rattle.std.specs.Prelude.{None};
     ghost use Rattle.bp_machine.specs.declared.limits.TheConstants.{MAX_THREADS};
 
-    /// Makes the machine before any call.
+    /// Makes the machine before any attempt.
     pub(crate) fn start(globals: u128, threads: Vec<GuestThread>) -> Machine
         ensures { result.state ≡ record {
           globals = globals;
@@ -128,8 +128,8 @@ impl Machine {
         })
     }
 
-    /// Restarts the machine, before any call, with these globals and threads that begin with these
-    /// procedures.
+    /// Restarts the machine, before any attempt, with these globals and threads that begin with
+    /// these procedures.
     pub(crate) fn restart(&mut self, globals: u128, code: &Code, entries: &[String])
         requires { length self.old.state.threads ≡ length entries.now }
         ensures { self.new.state ≡ record {
@@ -186,7 +186,7 @@ impl Machine {
         self.threads.get(thread as usize)
     }
 
-    /// Returns the number of threads that may continue, if `calls` calls of each are allowed.
+    /// Returns the number of threads that may continue, if `calls` attempts of each are allowed.
     pub(crate) fn live_threads(&self, calls: u32) -> u32
         requires { length self.now.state.threads ≤ MAX_THREADS }
         ensures { (t : Program) (s : SetupOf) (h : List Answered)
@@ -203,7 +203,7 @@ impl Machine {
         count
     }
 
-    /// Returns the number of calls of all threads together.
+    /// Returns the number of attempts of all threads together.
     pub(crate) fn calls(&self) -> u64
         requires { length self.now.state.threads ≤ MAX_THREADS }
         ensures { (t : Program) (s : SetupOf) (h : List Answered)
@@ -217,7 +217,7 @@ impl Machine {
         sum
     }
 
-    /// Returns the transition for a call of the thread, if `contexts` contexts are allowed.
+    /// Returns the transition for an attempt of the thread, if `contexts` contexts are allowed.
     #[inline(always)]
     pub(crate) fn judge(
         &self,
@@ -247,7 +247,7 @@ impl Machine {
         transition_on(code, self.globals, true, guest.stack(), bit)
     }
 
-    /// Reserves memory for the frame of a call's step; without it the machine is unchanged.
+    /// Reserves memory for the frame of an attempt's step; without it the machine is unchanged.
     #[inline(always)]
     pub(crate) fn reserve(&mut self, thread: u32, transition: Transition) -> Result<(), AllocError>
         requires { thread < length self.old.state.threads }
@@ -260,7 +260,7 @@ impl Machine {
         Ok(())
     }
 
-    /// Makes a call of the thread, for whose frame there is room.
+    /// Makes an attempt of the thread, for whose frame there is room.
     #[inline(always)]
     pub(crate) fn make(&mut self, thread: u32, transition: Transition)
         requires within { thread < length self.old.state.threads }

@@ -1,4 +1,4 @@
-//! Sessions: the sequential machine, one call at a time.
+//! Sessions: the sequential machine, one attempt at a time.
 ghost use Rattle.std.specs.Prelude.{◌≡◌, ◌++◌, ◌∷◌, [], None, Some, IfOk, IsOk, OnOk, OnErr, MatchResult};
 ghost use Rattle.bp_machine.specs.Setups.{Fits};
 ghost use Rattle.bp_machine.specs.Sessions.{Stands, IsNextCall, IsAskRefusal, given_bit, AfterEach};
@@ -20,15 +20,15 @@ use bp_flat::stores::word_of;
 use std::alloc::{AllocError, Global};
 use std::marker::Model;
 
-/// A call that was judged, and its transition.
+/// An attempt that was judged, and its transition.
 #[derive(Clone, Copy)]
 pub(crate) struct Judged {
     call: Call,
     transition: Transition,
 }
 
-/// A session of guest threads: a code, a setup, and the machine after the calls that were answered.
-/// If the setup has a seed, it has the choices of each thread.
+/// A session of guest threads: a code, a setup, and the machine after the attempts that were
+/// answered. If the setup has a seed, it has the choices of each thread.
 #[derive(Drop)]
 pub struct Session {
     code: Code,
@@ -98,7 +98,7 @@ pub(crate) fn draw(choices: &mut Vec<Choices>, thread: usize)
 }
 
 impl Session {
-    /// Starts a session of a code in a setup that fits it, before any call.
+    /// Starts a session of a code in a setup that fits it, before any attempt.
     pub fn new(alloc: Global, code: &Code, setup: &Setup) -> Result<Session, AllocError>
         requires { Fits code.now.tree setup.now }
         ensures stands { IfOk result (λ x. Stands code.now.tree x []) }
@@ -119,8 +119,8 @@ impl Session {
         })
     }
 
-    /// Makes a call of a thread with the choice bit of the setup's seed. Only a step that is a call
-    /// allocates.
+    /// Makes an attempt of a thread with the choice bit of the setup's seed. Only a step that is a
+    /// call allocates.
     #[inline(always)]
     pub fn ask(&mut self, thread: u32) -> Result<Call, AskError>
         ensures answer { AfterEach self.old (λ t h. MatchResult result
@@ -135,8 +135,8 @@ impl Session {
         self.make_given(thread, None)
     }
 
-    /// Makes a call of a thread with this choice bit, if the setup has no seed. Only a step that is
-    /// a call allocates.
+    /// Makes an attempt of a thread with this choice bit, if the setup has no seed. Only a step
+    /// that is a call allocates.
     #[inline(always)]
     pub fn ask_with(&mut self, thread: u32, bit: bool) -> Result<Call, AskError>
         ensures answer { AfterEach self.old (λ t h. MatchResult result
@@ -151,8 +151,8 @@ impl Session {
         self.make_given(thread, Some(bit))
     }
 
-    /// Makes the machine's own call of the thread of a recorded call: with the bit of the seed if
-    /// the setup has one, else with the recorded bit. Only a step that is a call allocates.
+    /// Makes the machine's own attempt of the thread of a recorded attempt: with the bit of the
+    /// seed if the setup has one, else with the recorded bit. Only a step that is a call allocates.
     #[inline(always)]
     pub fn ask_as_recorded(&mut self, thread: u32, bit: bool) -> Result<Call, AskError>
         ensures answer { AfterEach self.old (λ t h. let given = given_bit self.old.setup bit in

@@ -24,7 +24,7 @@ pub enum SetupError {
     /// There is not one initial bit for each global.
     #[error("there must be one initial bit for each global")]
     InitLength,
-    /// More than 1,000 contexts, no call, or more than 100,000 calls.
+    /// More than 1,000 contexts, no attempt, or more than 100,000 attempts.
     #[error("a number is out of its range")]
     OutOfRange,
     /// There was not enough memory.

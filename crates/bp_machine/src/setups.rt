@@ -7,8 +7,8 @@ use bp_flat::Code;
 use std::alloc::{AllocError, Global};
 use std::marker::Model;
 
-/// An entry procedure for each guest thread, a bit for each global, the contexts and the calls of a
-/// thread that are allowed, and the seed of the choice bits, unless they are given.
+/// An entry procedure for each guest thread, a bit for each global, the contexts and the attempts
+/// of a thread that are allowed, and the seed of the choice bits, unless they are given.
 #[derive(Drop)]
 pub struct Setup {
     entries: Vec<String>,
@@ -87,8 +87,8 @@ impl Setup {
 
     /// Makes the setup of guest threads that begin in the procedures `entries`. `init` has the
     /// initial bits of the globals in order of declaration. At most `contexts` contexts are
-    /// allowed, and at most `calls` calls of each thread. With a seed each call has its choice bit,
-    /// else the one given.
+    /// allowed, and at most `calls` attempts of each thread. With a seed each attempt has its
+    /// choice bit, else the one given.
     pub fn new(
         alloc: Global,
         code: &Code,
@@ -165,7 +165,7 @@ impl Setup {
         self.contexts
     }
 
-    /// Returns the allowed number of calls of each thread: 1 to 100,000.
+    /// Returns the allowed number of attempts of each thread: 1 to 100,000.
     pub fn calls(&self) -> u32
         ensures { result ≡ self.now.calls }
     {
@@ -186,7 +186,7 @@ impl Setup {
         Setup { seed, ..self }
     }
 
-    /// Returns the setup with these bounds on the contexts and on the calls of a thread.
+    /// Returns the setup with these bounds on the contexts and on the attempts of a thread.
     pub fn with_bounds(self, contexts: u32, calls: u32) -> Setup
         requires contexts { contexts ≤ MAX_CONTEXTS }
         requires one { 0 < calls }

@@ -23,7 +23,7 @@ pub struct Start {
     pub init: Option<Vec<bool>>,
     /// The allowed number of contexts: at most 1,000.
     pub contexts: u32,
-    /// The allowed number of calls of each guest thread: 1 to 100,000.
+    /// The allowed number of attempts of each guest thread: 1 to 100,000.
     pub calls: u32,
 }
 
@@ -46,7 +46,7 @@ fn has_few_globals(code: &Code)
 }
 
 impl Start {
-    /// Returns one thread that begins with `main`, globals 0, 2 contexts, and 1,000 calls a thread.
+    /// Returns one thread that begins with `main`, globals 0, 2 contexts, and 1,000 attempts.
     pub fn defaults(alloc: Global) -> Result<Start, AllocError>
         ensures { IfOk result (λ s. s ≡ default_start) }
     {

@@ -1,4 +1,4 @@
-//! The guest threads of a session, and the effects of calls on them.
+//! The guest threads of a session, and the effects of attempts on them.
 ghost use Rattle.std.specs.Prelude.{◌≡◌, ◌||◌, ◌+◌, ◌<◌, ◌^◌, length, map, nat_le, string_bytes, vec_len, IfOk, OnOk, OnErr};
 ghost use Rattle.bp_machine.specs.Sessions.{thread_at, first_thread, guests};
 ghost use Rattle.bp_machine.specs.Transitions.{thread_after, reply_of_transition, TransitionFitsIn, IsCallTransition};
@@ -9,7 +9,7 @@ use bp_flat::{Code, Effect};
 use std::alloc::{AllocError, Global};
 use std::marker::Model;
 
-/// The result of a call, before it is made.
+/// The result of an attempt, before it is made.
 #[derive(Clone, Copy, PartialEq, Eq)]
 pub enum Transition {
     /// No step: the machine is unchanged, with this reply.
@@ -32,7 +32,7 @@ impl Transition {
     }
 }
 
-/// A guest thread: its stack, its number of calls, and whether the last of them had a last reply.
+/// A guest thread: its stack, its number of attempts, and whether the last one had a last reply.
 #[derive(Drop)]
 pub(crate) struct GuestThread {
     stack: Stack,
@@ -54,7 +54,7 @@ impl Model for GuestThread {
 impl GuestThread {
     ghost use Rattle.std.specs.Prelude.{false};
 
-    /// Makes a thread that has made no call.
+    /// Makes a thread that has made no attempt.
     fn start(stack: Stack) -> GuestThread
         ensures { result.guest ≡ record { stack = stack.frames; calls = 0; ended = false } }
     {
@@ -76,7 +76,7 @@ impl GuestThread {
         })
     }
 
-    /// Restarts the thread at this instruction, before any call.
+    /// Restarts the thread at this instruction, before any attempt.
     pub(crate) fn restart(&mut self, number: u32)
         ensures { self.new.guest ≡ thread_at number }
     {
@@ -91,7 +91,7 @@ impl GuestThread {
         &self.stack
     }
 
-    /// Returns whether the thread makes no more calls, if it may make `calls` calls.
+    /// Returns whether the thread makes no more attempts, if it may make `calls` attempts.
     pub(crate) fn is_terminated(&self, calls: u32) -> bool
         ensures { result ≡ (self.now.guest.ended || nat_le calls self.now.guest.calls) }
     {
@@ -104,7 +104,7 @@ impl GuestThread {
         self.calls
     }
 
-    /// Reserves memory for the frame of a call's step; without it the thread is unchanged.
+    /// Reserves memory for the frame of an attempt's step; without it the thread is unchanged.
     #[inline(always)]
     pub(crate) fn reserve(&mut self, transition: Transition) -> Result<(), AllocError>
         ensures guest { self.new.guest ≡ self.old.guest }
@@ -118,7 +118,7 @@ impl GuestThread {
         Ok(())
     }
 
-    /// Makes a call, for whose frame there is room.
+    /// Makes an attempt, for whose frame there is room.
     #[inline(always)]
     pub(crate) fn make(&mut self, transition: Transition)
         requires calls { self.old.guest.calls + 1 < 2 ^ 32 }

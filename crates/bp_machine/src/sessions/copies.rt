@@ -20,7 +20,7 @@ fn copied_choices(alloc: Global, choices: &[Choices]) -> Result<Vec<Choices>, Al
 }
 
 impl Session {
-    /// Returns a deep copy, which stands after the same calls.
+    /// Returns a deep copy, which stands after the same attempts.
     pub fn try_copy(&self) -> Result<Session, AllocError>
         ensures stands { (t : Program) (h : List Answered)
             → Stands t self.now h

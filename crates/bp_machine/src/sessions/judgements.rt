@@ -1,4 +1,4 @@
-//! How a session judges a call before it makes it.
+//! How a session judges an attempt before it makes it.
 ghost use Rattle.std.specs.Prelude.{◌≡◌, ◌++◌, ◌∷◌, [], Option, None, Some, IfOk, OnErr, MatchResult};
 ghost use Rattle.bp_machine.specs.Sessions.{Stands, IsNextCall, IsAskRefusal, given_bit, AfterEach};
 ghost use Rattle.bp_machine.specs.Transitions.{IsKeptBit, IsBitRefusal, IsGiven, IsJudged, IsKeptRefusal};
@@ -8,7 +8,7 @@ use crate::sessions::{Judged, Session, draw};
 use bp_flat::steps_alike;
 
 impl Session {
-    /// Returns the choice bit of the next call of a thread, with this given bit or none.
+    /// Returns the choice bit of the next attempt of a thread, with this given bit or none.
     fn bit_of_call(&self, thread: u32, given: Option<bool>) -> Result<bool, AskError>
         ensures { MatchResult result
             (IsKeptBit self.now.choices thread given)
@@ -22,7 +22,7 @@ impl Session {
         }
     }
 
-    /// Returns the bit to give for a recorded call with this bit.
+    /// Returns the bit to give for a recorded attempt with this bit.
     pub(super) fn given_bit(&self, bit: bool) -> Option<bool>
         ensures { result ≡ given_bit self.now.setup bit }
     {
@@ -33,7 +33,7 @@ impl Session {
         }
     }
 
-    /// Returns the transition for a call of the thread, with this given bit or none.
+    /// Returns the transition for an attempt of the thread, with this given bit or none.
     #[inline(always)]
     pub(super) fn judged(&self, thread: u32, given: Option<bool>) -> Result<Judged, AskError>
         ensures { MatchResult result
@@ -56,7 +56,7 @@ impl Session {
         })
     }
 
-    /// Makes a call of the thread, with this given bit or none.
+    /// Makes an attempt of the thread, with this given bit or none.
     #[inline(always)]
     pub(super) fn make_given(&mut self, thread: u32, given: Option<bool>) -> Result<Call, AskError>
         ensures answer { AfterEach self.old (λ t h. MatchResult result

@@ -1,4 +1,4 @@
-//! The state of a session's machine after the calls that it answered.
+//! The state of a session's machine after the attempts that it answered.
 ghost use Rattle.std.specs.Prelude.{◌≡◌, ◌<◌, [], List, drop, slice_get, option_map, is_some, length, MatchOption, MatchResult};
 ghost use Rattle.bp_language.specs.Ast.{Program};
 ghost use Rattle.bp_flat.specs.InstrEffects.{bits_of};
@@ -15,7 +15,7 @@ use crate::tops::Top;
 use bp_flat::{Kind, Store};
 
 impl Session {
-    /// Returns whether a thread makes no more calls.
+    /// Returns whether a thread makes no more attempts.
     pub fn is_terminated(&self, thread: u32) -> bool
         requires { thread < threads self.now.setup }
         ensures { (t : Program) (h : List Answered)
@@ -28,7 +28,7 @@ impl Session {
         }
     }
 
-    /// Returns the number of calls that a thread has made.
+    /// Returns the number of attempts that a thread has made.
     pub fn calls_of(&self, thread: u32) -> u32
         ensures { (t : Program) (h : List Answered)
             → Stands t self.now h
@@ -91,7 +91,7 @@ impl Session {
         self.machine.live_threads(self.setup.calls())
     }
 
-    /// Returns the report of the calls so far.
+    /// Returns the report of the attempts so far.
     pub fn report(&self) -> Report
         ensures { (t : Program) (h : List Answered)
             → Stands t self.now h

@@ -8,7 +8,7 @@ use bp_flat::stores::word_of;
 use std::alloc::AllocError;
 
 impl Session {
-    /// Restarts this session, before any call, in the same setup but with this seed or none. It
+    /// Restarts this session, before any attempt, in the same setup but with this seed or none. It
     /// uses the memory that it has. Only the choices may need more; if that is refused, the session
     /// is unchanged.
     pub fn restart(&mut self, seed: Option<u64>) -> Result<(), AllocError>
@@ -30,8 +30,8 @@ impl Session {
         Ok(())
     }
 
-    /// Returns a session of the same code before any call, in the same setup but with this seed or
-    /// none. It uses the memory of this one.
+    /// Returns a session of the same code before any attempt, in the same setup but with this seed
+    /// or none. It uses the memory of this one.
     pub fn restarted(self, seed: Option<u64>) -> Result<Session, AllocError>
         requires { Fits self.code.tree self.setup }
         ensures stands { IfOk result (λ x. Stands self.code.tree x []) }

@@ -32,8 +32,8 @@ impl Session {
     }
 
     /// Returns whether a thread waits: its next statement is an assumption of 0 with either choice
-    /// bit. The thread need not have a further call. One look is enough: an assumption of `?` lets
-    /// its thread continue if its bit is 1, and no other test depends on the bit.
+    /// bit. The thread need not have a further attempt. One look is enough: an assumption of `?`
+    /// lets its thread continue if its bit is 1, and no other test depends on the bit.
     pub fn waits(&self, thread: u32) -> bool
         ensures { AfterEach self.now (λ t h. let now = configuration_after t self.now.setup h in
             result ≡ waits t now thread) }
@@ -53,7 +53,7 @@ impl Session {
     }
 
     /// Returns whether the threads are deadlocked: some have frames left, and each of those waits.
-    /// It does not matter whether a thread may make a further call, or was refused a context.
+    /// It does not matter whether a thread may make a further attempt, or was refused a context.
     pub fn is_deadlocked(&self) -> bool
         ensures { AfterEach self.now (λ t h. let now = configuration_after t self.now.setup h in
             IsTrue result ↔ IsDeadlocked t now) }
