@@ -16,8 +16,8 @@ use std::alloc::{AllocError, Global};
 use std::sync::ledger::Ledger;
 use thiserror::Error;
 
-/// The number of calls that the worker of a thread made, by its own count, and whether the thread
-/// is still live.
+/// The number of attempts that the worker of a thread made, by its own count, and whether the
+/// thread is still live.
 #[derive(Clone, Copy, Debug, PartialEq, Eq)]
 pub struct WorkerCount {
     pub thread: u32,
@@ -124,7 +124,7 @@ impl From<CodeError> for RunError {
     }
 }
 
-/// Returns whether a turn has no call or more than 64, or the ring none or more than 65,536.
+/// Returns whether a turn has no attempt or more than 64, or the ring none or more than 65,536.
 pub fn has_bad_turn_or_ring(options: &RunOptions) -> bool
     ensures { result ≡ has_bad_turn_or_ring options.now }
 {

@@ -68,7 +68,7 @@ impl<C: Calls, O: Ledger> Board<C, O> {
 }
 
 /// The parts from which a board is opened: the two ends of a new ring, and the blanks of two
-/// ledgers, one of the calls that are made and one of the live threads.
+/// ledgers, one of the attempts that are made and one of the live threads.
 #[derive(Drop)]
 pub struct BoardParts {
     pub(crate) threads: u32,
@@ -89,7 +89,7 @@ impl Model for BoardParts {
 }
 
 impl BoardParts {
-    /// Makes parts for `threads` guest threads, with a ring that holds `ring` calls.
+    /// Makes parts for `threads` guest threads, with a ring that holds `ring` attempts.
     pub fn new(alloc: Global, threads: u32, ring: u32) -> Result<BoardParts, AllocError>
         requires some { 0 < threads }
         requires few { threads ≤ MAX_THREADS }
@@ -109,8 +109,8 @@ impl BoardParts {
     }
 }
 
-/// The ledger of the calls that were made, with the ring through which they leave, and the code and
-/// the setup of the board.
+/// The ledger of the attempts that were made, with the ring through which they leave, and the code
+/// and the setup of the board.
 pub trait Calls: Ledger {
     ghost use Rattle.bp_run.specs.Desks.{RingOf};
     ghost use Rattle.bp_flat.specs.Flat.{Flat};

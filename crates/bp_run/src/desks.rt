@@ -1,5 +1,5 @@
-//! The desk: the machine, and the end of the ring to which its history is sent. A call is made and
-//! sent, or neither. Whether a session has stopped: its live threads are before calls.
+//! The desk: the machine, and the end of the ring to which its history is sent. An attempt is made
+//! and sent, or neither. Whether a session has stopped: its live threads are before calls.
 ghost use Rattle.std.specs.Prelude.{◌≡◌, ◌≤◌, ◌<◌, ◌↔◌, [], true, None, is_some, IfOk, OnErr, MatchResult, ◌+◌, ◌∷◌, ◌++◌};
 ghost use Rattle.rtrb.specs.Ring.{sent, known_free, SameProducer};
 ghost use Rattle.bp_machine.specs.Setups.{threads, Fits};
@@ -19,9 +19,9 @@ use std::marker::Model;
 use std::sync::ledger::{Book, Ledger};
 
 /// The state that the lock of a board protects: a session, and the sending end of the ring, to
-/// which each call goes in the order in which the calls are made. While nobody is at work on it,
-/// the calls sent are a legal history of its program and setup, with the bits of the setup's seed,
-/// and its session stands after it.
+/// which each attempt goes in the order in which the attempts are made. While nobody is at work on
+/// it, the attempts sent are a legal history of its program and setup, with the bits of the setup's
+/// seed, and its session stands after it.
 #[derive(Drop)]
 pub struct Desk<C: Calls, O: Ledger> {
     pub(crate) session: Session,
@@ -101,8 +101,8 @@ impl<C: Calls, O: Ledger> Desk<C, O> {
         let _ = &self.session;
     }
 
-    /// Makes one call of the seat's thread, and sends it. At a refusal nothing is changed, and no
-    /// choice bit is used. It is refused if the thread has terminated, if the ring is full,
+    /// Makes one attempt of the seat's thread, and sends it. At a refusal nothing is changed, and
+    /// no choice bit is used. It is refused if the thread has terminated, if the ring is full,
     /// which it is not while a place is known to be free, or if memory is refused.
     pub fn ask(&mut self, seat: &mut Seat<C, O>) -> Result<Reply, AskError>
         ensures answer { MatchResult result
@@ -127,9 +127,9 @@ impl<C: Calls, O: Ledger> Desk<C, O> {
         Ok(call.reply)
     }
 
-    /// Makes calls of the seat's thread until there were `n`, one had another reply than Stepped,
-    /// its thread has terminated, or one is refused. Returns the last reply, or the refusal; the
-    /// calls before a refusal are kept.
+    /// Makes attempts of the seat's thread until there were `n`, one had another reply than
+    /// Stepped, its thread has terminated, or one is refused. Returns the last reply, or the
+    /// refusal; the attempts before a refusal are kept.
     pub fn turn(&mut self, seat: &mut Seat<C, O>, n: u32) -> Result<Reply, AskError>
         requires some { 0 < n }
         requires few { n ≤ MAX_TURN }
@@ -150,9 +150,9 @@ impl<C: Calls, O: Ledger> Desk<C, O> {
     }
 }
 
-/// Makes the next call of a thread with the seed's bit, and sends it. At a refusal neither is done:
-/// the machine refuses the call, or the ring is full, which it is not while a place is known to be
-/// free.
+/// Makes the next attempt of a thread with the seed's bit, and sends it. At a refusal neither is
+/// done: the machine refuses the attempt, or the ring is full, which it is not while a place is
+/// known to be free.
 pub(crate) fn send(
     session: &mut Session,
     to: &mut Producer<Call>,

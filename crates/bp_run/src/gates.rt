@@ -6,7 +6,7 @@ use std::time::Clock;
 /// Callbacks around each turn of a worker, made while it holds no lock. The caller of a run can use
 /// them to hold a worker back, or to watch it.
 pub trait Gate: Sync {
-    /// Called before each turn, with the number of calls that the thread has made.
+    /// Called before each turn, with the number of attempts that the thread has made.
     fn before<R: Wait + Clock>(&self, rt: &R, thread: u32, call: u64);
 
     /// Called after each turn that was answered, with its reply. A refused turn has none.
@@ -17,7 +17,7 @@ pub trait Gate: Sync {
     fn finished(&self, _thread: u32) {}
 }
 
-/// The turns of workers: the most calls of each, and the gate around it.
+/// The turns of workers: the most attempts of each, and the gate around it.
 #[derive(Clone, Copy)]
 pub struct Turns<'a, G> {
     pub calls: u32,

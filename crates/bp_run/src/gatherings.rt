@@ -13,9 +13,9 @@ use crate::seats::{Seat, Tap};
 use bp_machine::{Report, Session};
 use std::sync::ledger::{Book, Ledger, Share};
 
-/// A gathered board: the seats; the tap, which gives the calls not taken yet; the report of the
+/// A gathered board: the seats; the tap, which gives the attempts not taken yet; the report of the
 /// history; the first thread that is live although its next step is not a call; and whether each
-/// seat agrees with the machine on its thread's calls and on whether its thread has terminated.
+/// seat agrees with the machine on its thread's attempts and on whether its thread has terminated.
 #[derive(Drop)]
 pub struct Gathered<C: Calls, O: Ledger> {
     pub seats: Vec<Seat<C, O>>,
@@ -166,7 +166,7 @@ fn joined<C: Calls, O: Ledger>(
     }
 }
 
-/// Gathers a board once its workers are done: the calls taken from the tap are a prefix of the
+/// Gathers a board once its workers are done: the attempts taken from the tap are a prefix of the
 /// history, and the returned tap has the rest. The seats come back as they were. It allocates
 /// nothing and waits for nobody.
 pub fn gather<C: Calls, O: Ledger>(
@@ -185,7 +185,7 @@ pub fn gather<C: Calls, O: Ledger>(
     joined(desk, seats, tap)
 }
 
-/// Returns whether a seat has counted its thread's calls, and is open unless its thread has
+/// Returns whether a seat has counted its thread's attempts, and is open unless its thread has
 /// terminated.
 fn agrees<C: Calls, O: Ledger>(session: &Session, seat: &Seat<C, O>) -> bool
     requires { threads session.now.setup ≡ C.parts }
@@ -198,8 +198,8 @@ fn agrees<C: Calls, O: Ledger>(session: &Session, seat: &Seat<C, O>) -> bool
 }
 
 /// Returns whether each of the seats does so. The ledgers tie only the sums over all seats to the
-/// machine, so this is checked at run time for each seat. No seat whose calls were all made at the
-/// board of the session should differ.
+/// machine, so this is checked at run time for each seat. No seat whose attempts were all made at
+/// the board of the session should differ.
 pub(crate) fn agree<C: Calls, O: Ledger>(session: &Session, seats: &[Seat<C, O>]) -> bool
     requires { threads session.now.setup ≡ C.parts }
     ensures { (t : Program) (h : List Answered)

@@ -1,4 +1,4 @@
-//! Runs: one worker for each guest thread makes its calls at a board, and a writer thread writes
+//! Runs: one worker for each guest thread makes its attempts at a board, and a writer thread writes
 //! the trace while they run.
 #![tactic(auto)]
 

@@ -170,11 +170,11 @@ fn play_with<
     }
 }
 
-/// Plays a board that was opened for this code and setup: one worker for each seat makes the calls
-/// of its thread, and the calling thread writes the trace while the workers run. Returns the seats:
-/// together they have made as many calls as the written history has; the result tells whether each
-/// has made those of its thread. If a worker stopped too early, playing is refused once the trace
-/// is written.
+/// Plays a board that was opened for this code and setup: one worker for each seat makes the
+/// attempts of its thread, and the calling thread writes the trace while the workers run. Returns
+/// the seats: together they have made as many attempts as the written history has; the result tells
+/// whether each has made those of its thread. If a worker stopped too early, playing is refused
+/// once the trace is written.
 pub fn play<
     C: Calls + Send + Sync,
     O: Ledger + Send + Sync,

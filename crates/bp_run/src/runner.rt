@@ -69,9 +69,9 @@ fn open_and_play<
 }
 
 /// Runs the program of a code on this setup, and writes the trace: one worker for each guest thread
-/// makes its calls, and the calling thread writes them while the workers run. Returns the report of
-/// the history that was written, and the number of calls of each worker, by its own count. The
-/// contract does not say which legal history that is; its bits are those of the seed.
+/// makes its attempts, and the calling thread writes them while the workers run. Returns the report
+/// of the history that was written, and the number of attempts of each worker, by its own count.
+/// The contract does not say which legal history that is; its bits are those of the seed.
 ///
 /// Nothing is written before all workers were started. If a write or a flush fails the workers
 /// stop, and a proper prefix of the trace of a history is written. A worker that is refused memory

@@ -11,7 +11,7 @@ use std::alloc::{AllocError, Global};
 use std::marker::{Model, PhantomData};
 use std::sync::ledger::{Ledger, Share};
 
-/// The right to make one guest thread's calls, which belongs to the holder of the seat. It has
+/// The right to make one guest thread's attempts, which belongs to the holder of the seat. It has
 /// shares of the two ledgers of its board.
 #[derive(Drop)]
 pub struct Seat<C: Calls, O: Ledger> {
@@ -36,7 +36,7 @@ impl<C: Calls, O: Ledger> Model for Seat<C, O> {
         × HasShares s.made.parts s.made.amount s.own_live.parts s.own_live.amount seat };
 }
 
-/// Makes an open seat for each thread, in order, with a part of the calls and a line of its own.
+/// Makes an open seat for each thread, in order, with a part of the attempts and a line of its own.
 pub(crate) fn new_seats<C: Calls, O: Ledger>(
     alloc: Global,
     threads: u32,
@@ -69,7 +69,7 @@ impl<C: Calls, O: Ledger> Seat<C, O> {
         self.thread
     }
 
-    /// Returns the number of calls made from this seat.
+    /// Returns the number of attempts made from this seat.
     pub fn calls(&self) -> u64
         ensures { result ≡ self.now.calls }
     {
@@ -84,12 +84,12 @@ impl<C: Calls, O: Ledger> Seat<C, O> {
     }
 }
 
-/// The receiving end of a board's ring, which gives the history call by call. It takes no lock, and
-/// never waits.
+/// The receiving end of a board's ring, which gives the history attempt by attempt. It takes no
+/// lock, and never waits.
 #[derive(Drop)]
 pub struct Tap<C: Calls> {
     pub(crate) from: Consumer<Call>,
-    /// The number of calls left, once the board is gathered.
+    /// The number of attempts left, once the board is gathered.
     pub(crate) left: Option<usize>,
     pub(crate) of: PhantomData<C>,
 }
@@ -121,8 +121,8 @@ impl<C: Calls> Tap<C> {
         }
     }
 
-    /// Returns the next call of the history, if there is one in the ring. Once the board is
-    /// gathered, the tap gives the calls that were left, in order, and then nothing.
+    /// Returns the next attempt of the history, if there is one in the ring. Once the board is
+    /// gathered, the tap gives the attempts that were left, in order, and then nothing.
     pub fn next(&mut self) -> Option<Call>
         ensures some { IfSome result (λ c. self.new.taken ≡ self.old.taken ++ c ∷ []) }
         ensures none { IfNone result (self.new ≡ self.old) }

@@ -152,8 +152,8 @@ pub struct Signals {
     is_halted: AtomicBool,
     /// The `Notify` at which workers wait for room in the ring.
     pub(crate) room: Notify,
-    /// The `Notify` at which the writer thread waits for calls in the ring, and for the end of the
-    /// workers.
+    /// The `Notify` at which the writer thread waits for attempts in the ring, and for the end of
+    /// the workers.
     pub(crate) calls: Notify,
 }
 

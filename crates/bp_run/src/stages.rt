@@ -132,7 +132,7 @@ pub(crate) struct Workers<C: Calls, O: Ledger> {
     pub handles: Vec<Handle<C, O>>,
 }
 
-/// Starts a worker for each seat, takes and writes calls while they run, and joins them.
+/// Starts a worker for each seat, takes and writes attempts while they run, and joins them.
 pub(crate) fn stage<
     'a,
     C: Calls + Send + Sync,

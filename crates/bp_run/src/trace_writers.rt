@@ -1,5 +1,5 @@
-//! The writer thread: takes the calls from the ring while the workers run, and writes their lines.
-//! The writer of a trace: a sink, and the state of its flushes.
+//! The writer thread: takes the attempts from the ring while the workers run, and writes their
+//! lines. The writer of a trace: a sink, and the state of its flushes.
 ghost use Rattle.std.specs.Prelude.{◌≡◌, [], true, Some, is_some, ◌||◌, false};
 ghost use Rattle.bp_text.specs.Writing.{Given};
 ghost use Rattle.bp_trace.specs.TraceText.{head_text, call_line, end_line};
@@ -16,13 +16,13 @@ use std::io::Write;
 use std::sync::Wait;
 use std::time::Clock;
 
-/// The number of times that the writer thread dozes before it sleeps. While calls come in quick
+/// The number of times that the writer thread dozes before it sleeps. While attempts come in quick
 /// succession it is not worth a wake-up for each.
 const DOZES: u32 = 8;
 
-/// Takes calls and writes their lines, until the workers have ended and no call is seen. Each time
-/// the ring is empty, wakes as many workers that wait for room as there were calls. If the writer
-/// fails, tells all to stop.
+/// Takes attempts and writes their lines, until the workers have ended and no attempt is seen. Each
+/// time the ring is empty, wakes as many workers that wait for room as there were attempts. If the
+/// writer fails, tells all to stop.
 fn write_calls<W: Write, C: Calls, R: Wait + Clock>(
     rt: &R,
     writer: &mut TraceWriter<'_, W>,
@@ -60,7 +60,7 @@ fn write_calls<W: Write, C: Calls, R: Wait + Clock>(
     unreachable!()
 }
 
-/// Writes the head of the trace, and then the calls while they run, if all workers were started;
+/// Writes the head of the trace, and then the attempts while they run, if all workers were started;
 /// otherwise writes nothing, and tells those that were started to stop.
 pub(crate) fn write_running<W: Write, C: Calls, R: Wait + Clock>(
     rt: &R,
@@ -83,7 +83,7 @@ pub(crate) fn write_running<W: Write, C: Calls, R: Wait + Clock>(
     }
 }
 
-/// Writes the calls that are left in the ring of a gathered board.
+/// Writes the attempts that are left in the ring of a gathered board.
 pub(crate) fn write_rest<W: Write, C: Calls>(writer: &mut TraceWriter<'_, W>, tap: &mut Tap<C>)
     requires { is_some tap.old.rest ≡ true }
     ensures written { IsRestWritten W.contents writer.old.sink writer.new.sink tap.old.rest

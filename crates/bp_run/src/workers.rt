@@ -1,4 +1,4 @@
-//! Workers: each makes the calls of one guest thread.
+//! Workers: each makes the attempts of one guest thread.
 ghost use Rattle.std.specs.Prelude.{◌≡◌, ◌≤◌, ◌<◌, false, true, IfErr, OnOk, OnErr};
 ghost use Rattle.bp_run.specs.declared.limits.TheConstants.{MAX_TURN};
 ghost use Rattle.bp_run.specs.Works.{IsWorked, TellsOfStop};
@@ -12,7 +12,7 @@ use std::sync::Wait;
 use std::sync::ledger::Ledger;
 use std::time::Clock;
 
-/// Why a worker stopped early, though its seat is open. The calls made are kept.
+/// Why a worker stopped early, though its seat is open. The attempts made are kept.
 #[derive(Clone, Copy, Debug, PartialEq, Eq)]
 pub enum Unfinished {
     /// Memory was refused, before a call of a procedure.
@@ -23,10 +23,10 @@ pub enum Unfinished {
     Halted,
 }
 
-/// Takes turns of at most `turn` calls from this seat, until its thread has terminated, and tells
-/// the gate. If the ring is full it waits for room, and takes a turn again. Stops if memory is
-/// refused, if the thread had terminated already though the seat is open, or if the signals tell it
-/// to.
+/// Takes turns of at most `turn` attempts from this seat, until its thread has terminated, and
+/// tells the gate. If the ring is full it waits for room, and takes a turn again. Stops if memory
+/// is refused, if the thread had terminated already though the seat is open, or if the signals tell
+/// it to.
 pub fn work<C: Calls, O: Ledger, G: Gate, R: Wait + Clock>(
     rt: &R,
     board: &Board<C, O>,

@@ -190,7 +190,7 @@ pub(crate) fn search<R: Threads + Sync, C: Clock + Sync, P: Progress>(
 pub struct FoundRun {
     /// The number of the run, from 0.
     pub run: u64,
-    /// Its calls, up to its end.
+    /// Its attempts, up to its end.
     pub history: Vec<Call>,
     /// The report of that history.
     pub report: Report,

@@ -9,7 +9,7 @@ const HALVES: usize = 16;
 /// The kinds of changes, in the order in which a round tries them.
 #[derive(Clone, Copy, PartialEq, Eq)]
 enum Kind {
-    /// Calls without a step.
+    /// Attempts without a step.
     Idle,
     /// Loops.
     Loops,
@@ -25,9 +25,9 @@ enum Kind {
     Later,
     /// A context is divided between both sides.
     Splits,
-    /// The last calls of each context, by halves.
+    /// The last attempts of each context, by halves.
     Tails,
-    /// Parts, by halves down to single calls.
+    /// Parts, by halves down to single attempts.
     Parts,
     /// Choices are 0.
     Zeros,
@@ -92,11 +92,11 @@ pub(crate) struct Candidates {
     step: usize,
     /// Whether a change of this round was taken.
     is_useful: bool,
-    /// The number of calls that may still be driven.
+    /// The number of attempts that may still be driven.
     work: u64,
 }
 
-/// Returns the place after the calls of one thread that begin here.
+/// Returns the place after the attempts of one thread that begin here.
 fn end_of_context(history: &[Call], from: usize, thread: u32) -> usize {
     for place in from..history.len() {
         if history[place].thread != thread {
@@ -106,7 +106,7 @@ fn end_of_context(history: &[Call], from: usize, thread: u32) -> usize {
     history.len()
 }
 
-/// Returns the place of the first of the calls of one thread that end before this place.
+/// Returns the place of the first of the attempts of one thread that end before this place.
 fn start_of_context(history: &[Call], to: usize, thread: u32) -> usize {
     for distance in 0..to {
         let place = to - 1 - distance;
@@ -117,7 +117,7 @@ fn start_of_context(history: &[Call], to: usize, thread: u32) -> usize {
     0
 }
 
-/// Returns the place after the last call of the thread before a place.
+/// Returns the place after the last attempt of the thread before a place.
 fn end_before(history: &[Call], before: usize, thread: u32) -> Option<usize> {
     for distance in 0..before {
         let place = before - 1 - distance;
@@ -128,7 +128,7 @@ fn end_before(history: &[Call], before: usize, thread: u32) -> Option<usize> {
     None
 }
 
-/// Returns the place of the first call of the thread from a place on.
+/// Returns the place of the first attempt of the thread from a place on.
 fn start_after(history: &[Call], from: usize, thread: u32) -> Option<usize> {
     for place in from..history.len() {
         if history[place].thread == thread {
@@ -138,7 +138,7 @@ fn start_after(history: &[Call], from: usize, thread: u32) -> Option<usize> {
     None
 }
 
-/// Returns whether a call of the part has the bit 1.
+/// Returns whether an attempt of the part has the bit 1.
 fn has_one(history: &[Call], part: Part) -> bool {
     match history.get(part.from..part.to) {
         None => false,
@@ -193,7 +193,7 @@ fn place_after(history: &[Call], to: usize, thread: u32) -> usize {
     }
 }
 
-/// Divides the context of this place: the calls before the place move to an earlier one, and the
+/// Divides the context of this place: the attempts before the place move to an earlier one, and the
 /// rest to a later one.
 fn split(history: &[Call], place: usize, thread: u32) -> Option<Change> {
     let from = start_of_context(history, place, thread);
@@ -266,7 +266,7 @@ impl Candidates {
         Next::Skip
     }
 
-    /// Leaves out the last calls of a context, if it has more.
+    /// Leaves out the last attempts of a context, if it has more.
     fn tail(&self, part: Part) -> Option<Change> {
         if part.to.saturating_sub(part.from) <= self.size {
             return None;
@@ -275,7 +275,7 @@ impl Candidates {
         Some(Change::LeftOut(Part { from, to: part.to }))
     }
 
-    /// Returns the change at the place, of a call of this thread.
+    /// Returns the change at the place, of an attempt of this thread.
     fn change(&mut self, history: &[Call], thread: u32) -> Option<Change> {
         let from = self.place;
         let to = from.saturating_add(self.size).min(history.len());
@@ -303,7 +303,7 @@ impl Candidates {
         }
     }
 
-    /// Returns the change of all calls, which some kinds are.
+    /// Returns the change of all attempts, which some kinds are.
     fn whole(&self) -> Option<Change> {
         match self.kind {
             Kind::Idle if self.place == 0 => Some(Change::Idle),

@@ -7,7 +7,7 @@ ghost use Rattle.bp_test.specs.Shrinks.{unseeded};
 use bp_machine::{AskError, Call, Reply, Session, Top};
 use std::alloc::AllocError;
 
-/// The calls of a history from one place to before another.
+/// The attempts of a history from one place to before another.
 #[derive(Clone, Copy, PartialEq, Eq)]
 pub(crate) struct Part {
     pub(crate) from: usize,
@@ -17,13 +17,13 @@ pub(crate) struct Part {
 /// A change of a history.
 #[derive(Clone, Copy, PartialEq, Eq)]
 pub(crate) enum Change {
-    /// The calls that made no step are left out.
+    /// The attempts that made no step are left out.
     Idle,
     /// The steps that return a thread to an earlier place of the same context are left out.
     Loops,
     /// This part is left out.
     LeftOut(Part),
-    /// The calls of this part that are before `middle` are moved to `earlier`, the others to
+    /// The attempts of this part that are before `middle` are moved to `earlier`, the others to
     /// `later`.
     Split {
         part: Part,
@@ -35,12 +35,12 @@ pub(crate) enum Change {
     Zeros(Part),
 }
 
-/// Returns whether the call made a step.
+/// Returns whether the attempt made a step.
 fn is_granted(call: &Call) -> bool {
     matches!(call.reply, Reply::Stepped | Reply::Failed)
 }
 
-/// Writes the calls that made a step.
+/// Writes the attempts that made a step.
 fn write_granted(history: &[Call], lines: &mut Vec<Call>) -> Result<(), AllocError> {
     for call in history {
         if is_granted(call) {
@@ -60,7 +60,7 @@ fn write_parts(history: &[Call], parts: &[Part], lines: &mut Vec<Call>) -> Resul
     Ok(())
 }
 
-/// Writes the calls, those of this part with the bit 0.
+/// Writes the attempts, those of this part with the bit 0.
 fn write_zeros(history: &[Call], part: Part, lines: &mut Vec<Call>) -> Result<(), AllocError> {
     for (place, call) in history.iter().enumerate() {
         let is_kept = place < part.from || part.to <= place;
@@ -116,10 +116,10 @@ pub(crate) fn write_changed(
     }
 }
 
-/// The most calls of a loop that is left out.
+/// The most attempts of a loop that is left out.
 const LONGEST_LOOP: usize = 64;
 
-/// A call, and its thread's place before it.
+/// An attempt, and its thread's place before it.
 #[derive(Clone, Copy)]
 struct Visit {
     call: Call,
@@ -137,7 +137,7 @@ fn earlier_visit(path: &[Visit], top: Option<Top>) -> Option<usize> {
     None
 }
 
-/// Continues the path with a call, and leaves out a loop that it ends.
+/// Continues the path with an attempt, and leaves out a loop that it ends.
 fn go_on(path: &mut Vec<Visit>, call: Call, top: Option<Top>) -> Result<(), AllocError> {
     if let Some(place) = earlier_visit(path.as_slice(), top) {
         path.truncate(place);
@@ -146,7 +146,7 @@ fn go_on(path: &mut Vec<Visit>, call: Call, top: Option<Top>) -> Result<(), Allo
     Ok(())
 }
 
-/// Writes the calls of the path, which is then empty.
+/// Writes the attempts of the path, which is then empty.
 fn write_path(path: &mut Vec<Visit>, lines: &mut Vec<Call>) -> Result<(), AllocError> {
     for visit in path.as_slice() {
         lines.push(visit.call)?;
@@ -155,7 +155,7 @@ fn write_path(path: &mut Vec<Visit>, lines: &mut Vec<Call>) -> Result<(), AllocE
     Ok(())
 }
 
-/// Makes the call again, if the thread may make it.
+/// Makes the attempt again, if the thread may make it.
 fn make(session: &mut Session, call: &Call) -> Result<(), AllocError>
     ensures { (session.new.code ≡ session.old.code) × (session.new.setup ≡ session.old.setup) }
 {
@@ -165,7 +165,7 @@ fn make(session: &mut Session, call: &Call) -> Result<(), AllocError>
     }
 }
 
-/// Drives the calls of a history again without a seed, and writes them, except for those that
+/// Drives the attempts of a history again without a seed, and writes them, except for those that
 /// return a thread to an earlier place, with the same values, in the same context.
 pub(crate) fn without_loops(
     session: Session,

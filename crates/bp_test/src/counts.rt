@@ -18,9 +18,9 @@ pub struct Share {
 pub struct Counts {
     /// The number of runs.
     pub runs: u64,
-    /// The number of their calls.
+    /// The number of their attempts.
     pub calls: u64,
-    /// The most calls of one run.
+    /// The most attempts of one run.
     pub longest: u64,
     /// The number of runs that ended in each way.
     pub ends: Ends,

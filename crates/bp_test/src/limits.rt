@@ -12,8 +12,8 @@ pub const QUICK_BATCH: u64 = 250;
 /// The most runs of a test that are compared: the first ones.
 pub const MAX_KEYS: usize = 1 << 20;
 
-/// The most calls that are driven to make a history smaller, on top of those for its length.
+/// The most attempts that are driven to make a history smaller, on top of those for its length.
 pub const WORK: u64 = 1_500_000;
 
-/// The most calls that are driven for each call of a history that is made smaller.
+/// The most attempts that are driven for each attempt of a history that is made smaller.
 pub const WORK_OF_CALL: u64 = 10;

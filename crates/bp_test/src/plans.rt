@@ -14,7 +14,7 @@ use std::time::Clock;
 /// The most pilots.
 const PILOTS: u64 = 64;
 
-/// The number of calls after which no pilot begins, so that long ones do not hold up a test.
+/// The number of attempts after which no pilot begins, so that long ones do not hold up a test.
 const PILOT_CALLS: u64 = 1_000_000;
 
 /// The first seed, and the places at which switches matter in runs of the program.
@@ -32,7 +32,7 @@ pub struct Plan {
     pub lengths: Vec<u64>,
 }
 
-/// Returns whether a thread made all calls that it may make.
+/// Returns whether a thread made all attempts that it may make.
 fn is_cut_off(session: &Session) -> bool {
     let setup = session.setup();
     for thread in 0..setup.threads() {
@@ -43,7 +43,7 @@ fn is_cut_off(session: &Session) -> bool {
     false
 }
 
-/// Returns the number of visible steps. The calls are made again, on a session before any call.
+/// Returns the number of visible steps. The attempts are made again, on a session before any.
 fn count_visible(
     session: &mut Session,
     visible: &VisibleSteps,
@@ -67,9 +67,9 @@ fn count_visible(
 impl Plan {
     /// Makes the plan of a test that begins with this seed. It makes pilots: runs with the first 64
     /// of its seeds, whose switches are spread over powers of two. The lengths of those that were
-    /// cut off by the allowed calls, or made no visible step, are not kept. After a million calls
-    /// no pilot begins, nor after the deadline, when no run begins either. A plan does not depend
-    /// on the number of runs or of jobs.
+    /// cut off by the allowed attempts, or made no visible step, are not kept. After a million
+    /// attempts no pilot begins, nor after the deadline, when no run begins either. A plan does not
+    /// depend on the number of runs or of jobs.
     pub fn new<C: Clock>(
         clock: &C,
         alloc: Global,

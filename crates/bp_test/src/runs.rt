@@ -16,7 +16,7 @@ use crate::visible_steps::VisibleSteps;
 use bp_machine::{Call, Reply, Session};
 use std::alloc::AllocError;
 
-/// Makes a call of a thread, and appends it.
+/// Makes an attempt of a thread, and appends it.
 fn play(session: &mut Session, history: &mut Vec<Call>, thread: u32) -> Result<Reply, AllocError>
     requires { Stands session.old.code.tree session.old history.old.items }
     ensures stands { OnOk result (Stands session.new.code.tree session.new history.new.items) }
@@ -55,7 +55,7 @@ fn refuses_context(reply: Reply) -> bool
     matches!(reply, Reply::NoContexts)
 }
 
-/// Returns whether a call was refused a context, up to one with this reply.
+/// Returns whether an attempt was refused a context, up to one with this reply.
 fn refused_with(was_refused: bool, reply: Reply) -> bool
     ensures { result ≡ (was_refused || refuses_context reply) }
 {
@@ -115,12 +115,12 @@ fn reach_waits(reached: &mut Vec<bool>, session: &Session)
     }
 }
 
-/// The facts of a run apart from its calls.
+/// The facts of a run apart from its attempts.
 #[derive(Clone, Copy)]
 pub(crate) struct FollowedRun {
     /// The key of its steps, or of the whole run.
     pub(crate) key: u64,
-    /// Whether a call was refused a context.
+    /// Whether an attempt was refused a context.
     pub(crate) was_refused: bool,
 }
 
@@ -136,9 +136,9 @@ fn end_key(session: &Session, steps: u64) -> u64
     key
 }
 
-/// Makes calls by the schedule, on a session before any call, until an assertion fails or each
-/// thread rests. Marks the instructions of the calls, and those to which a call leads and at which
-/// its thread has to wait.
+/// Makes attempts by the schedule, on a session before any attempt, until an assertion fails or
+/// each thread rests. Marks the instructions of the attempts, and those to which an attempt leads
+/// and at which its thread has to wait.
 fn follow(
     session: &mut Session,
     scheduler: &mut Scheduler<'_>,
@@ -242,7 +242,7 @@ pub(crate) fn key_at_end(key: u64, thread: u32, number: Option<u32>) -> u64
     key_with(key, thread, number.unwrap_or(NOWHERE))
 }
 
-/// Returns the key after a call of this thread at the instruction of this number, with this reply.
+/// Returns the key after an attempt of this thread at the instruction `number`, with this reply.
 pub(crate) fn key_after(key: u64, thread: u32, number: Option<u32>, reply: Reply) -> u64
     ensures { result ≡ key_after key thread number reply }
 {

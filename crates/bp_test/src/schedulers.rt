@@ -35,14 +35,14 @@ const WITH_FEW: u32 = 5;
 /// The share of schedules that return to a thread that had to wait as soon as it may step.
 const RESUMING: u32 = 14;
 
-/// The weight of a thread that has not made a call, against one that has.
+/// The weight of a thread that has not made an attempt, against one that has.
 const UNMOVED: u32 = 3;
 
 /// Threads to which a schedule may switch, as masks.
 #[derive(Clone, Copy)]
 struct Others {
     all: u64,
-    /// Those that have not made a call.
+    /// Those that have not made an attempt.
     unmoved: u64,
     /// The sum of their weights.
     sum: u32,
@@ -57,7 +57,7 @@ struct Others {
 pub(crate) struct Scheduler<'a> {
     generator: Lcg64Xsh32,
     visible: &'a VisibleSteps,
-    /// The thread of the last call, or of the first one.
+    /// The thread of the last attempt, or of the first one.
     current: u32,
     /// Its next instruction, if there is one.
     number: Option<u32>,
@@ -196,7 +196,7 @@ fn first(session: &Session) -> Option<u32>
 }
 
 impl<'a> Scheduler<'a> {
-    /// Draws the schedule of a seed for a session before any call. It switches before visible
+    /// Draws the schedule of a seed for a session before any attempt. It switches before visible
     /// steps, whose number is estimated from pilots, by these lengths.
     pub(crate) fn new(
         seed: u64,
@@ -225,13 +225,13 @@ impl<'a> Scheduler<'a> {
         }
     }
 
-    /// Records the next instruction of the current thread after its call.
+    /// Records the next instruction of the current thread after its attempt.
     pub(crate) fn note_next(&mut self, number: Option<u32>) {
         self.number = number;
     }
 
-    /// Draws whether the schedule switches before the next call, which the current thread may make.
-    /// Each choice of the places that are left is as likely.
+    /// Draws whether the schedule switches before the next attempt, which the current thread may
+    /// make. Each choice of the places that are left is as likely.
     fn switches_now(&mut self) -> bool {
         if self.switches == 0 || self.places == 0 {
             return false;
@@ -252,8 +252,8 @@ impl<'a> Scheduler<'a> {
         true
     }
 
-    /// Draws a thread that may step, other than the current one. One that has not made a call is
-    /// three times as likely as another.
+    /// Draws a thread that may step, other than the current one. One that has not made an attempt
+    /// is three times as likely as another.
     fn drawn(&mut self, session: &Session) -> Option<u32>
         ensures { IfSome result (λ i. i < threads session.now.setup) }
     {
@@ -297,7 +297,7 @@ impl<'a> Scheduler<'a> {
         self.waiting &= !bit(thread as usize);
     }
 
-    /// Returns the thread that makes the next call: one that may step, if there is one.
+    /// Returns the thread that makes the next attempt: one that may step, if there is one.
     pub(crate) fn next(&mut self, session: &Session) -> Option<u32>
         ensures { let count = threads session.now.setup in
             MatchOption result

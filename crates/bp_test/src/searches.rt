@@ -25,7 +25,7 @@ pub(crate) struct Search {
     pub(crate) end: HistoryEnd,
     /// The smallest history so far.
     pub(crate) best: Driven,
-    /// The candidate: calls to be driven.
+    /// The candidate: attempts to be driven.
     pub(crate) lines: Vec<Call>,
     /// Memory for the history to which they are driven.
     pub(crate) spare: Vec<Call>,
@@ -38,8 +38,8 @@ fn ones(history: &[Call]) -> usize {
     history.iter().filter(|call| call.bit).count()
 }
 
-/// Returns whether the new history has the same outcome by no more calls and no more contexts, and
-/// by fewer of either or by fewer choice bits that are 1.
+/// Returns whether the new history has the same outcome by no more attempts and no more contexts,
+/// and by fewer of either or by fewer choice bits that are 1.
 fn is_better(new: &Driven, old: &Driven) -> bool
     ensures { result ≡ true → IsNoMore new.now old.now.report }
 {
@@ -101,7 +101,7 @@ fn drive_candidate(search: Search) -> Result<Search, AllocError>
     })
 }
 
-/// Writes the calls of a history after a change. For some changes the session drives it again.
+/// Writes the attempts of a history after a change. For some changes the session drives it again.
 fn write_candidate(
     session: Session,
     history: &[Call],

@@ -1,6 +1,6 @@
 //! Shrinking a history that fails or ends in a deadlock.
 //! How histories end.
-//! Driving calls again, in the memory of an earlier session.
+//! Driving attempts again, in the memory of an earlier session.
 ghost use Rattle.std.specs.Prelude.{◌≡◌, ◌≤◌, IfOk, List, true, IfErr, OnOk};
 ghost use Rattle.bp_language.specs.Ast.{Program};
 ghost use Rattle.bp_machine.specs.Histories.{granted_calls, IsLegal, IsReport};
@@ -24,12 +24,12 @@ use std::alloc::{AllocError, Global};
 pub struct Shrunk {
     /// Its setup: without a seed, and with as many contexts as its steps use.
     pub setup: Setup,
-    /// The calls. Each made a step.
+    /// The attempts. Each made a step.
     pub history: Vec<Call>,
     pub report: Report,
 }
 
-/// Returns the calls that made a step.
+/// Returns the attempts that made a step.
 fn granted(alloc: Global, history: &[Call]) -> Result<Vec<Call>, AllocError>
     ensures { IfOk result (λ v. v.items ≡ granted_calls history.now) }
 {
@@ -52,7 +52,7 @@ fn with_contexts(setup: &Setup, contexts: u32) -> Result<Setup, AllocError>
     Ok(unseeded.with_bounds(contexts, setup.calls()))
 }
 
-/// Returns the best history's calls that made a step, in the setup of the contexts they use.
+/// Returns the best history's attempts that made a step, in the setup of the contexts they use.
 fn used(alloc: Global, code: &Code, setup: &Setup, search: &Search) -> Result<Shrunk, AllocError>
     requires fits { Fits code.now.tree setup.now }
     requires driven { IsDriven code.now.tree setup.now search.now.end search.now.best }
@@ -78,11 +78,11 @@ fn used(alloc: Global, code: &Code, setup: &Setup, search: &Search) -> Result<Sh
     })
 }
 
-/// Returns a history with the same end, by no more calls and no more contexts: the same assertion
-/// fails, or the same threads wait at the same assumptions. Contexts are left out and joined, loops
-/// and other calls are left out, and choices are 0, as long as that makes it smaller and `limits`
-/// allows the work. The calls keep their bits, so the returned setup has no seed, and as many
-/// contexts as are used.
+/// Returns a history with the same end, by no more attempts and no more contexts: the same
+/// assertion fails, or the same threads wait at the same assumptions. Contexts are left out and
+/// joined, loops and other attempts are left out, and choices are 0, as long as that makes it
+/// smaller and `limits` allows the work. The attempts keep their bits, so the returned setup has no
+/// seed, and as many contexts as are used.
 pub fn shrink(
     alloc: Global,
     code: &Code,
@@ -174,7 +174,7 @@ pub(crate) fn has_end(
     Ok(is_same(&own, end))
 }
 
-/// Makes a call again, if the thread may make it, and appends it.
+/// Makes an attempt again, if the thread may make it, and appends it.
 fn make_again(session: &mut Session, history: &mut Vec<Call>, line: &Call) -> Result<(), AllocError>
     requires stands { Stands session.old.code.tree session.old history.old.items }
     ensures stands { OnOk result (Stands session.new.code.tree session.new history.new.items) }
@@ -190,8 +190,8 @@ fn make_again(session: &mut Session, history: &mut Vec<Call>, line: &Call) -> Re
     }
 }
 
-/// Drives the calls again without a seed, each with its thread and its bit. Those that a thread may
-/// not make are left out, and so are the calls after a failure.
+/// Drives the attempts again without a seed, each with its thread and its bit. Those that a thread
+/// may not make are left out, and so are the attempts after a failure.
 pub(crate) fn drive_again(
     session: Session,
     history: &mut Vec<Call>,

@@ -20,10 +20,10 @@ pub struct Ends {
     pub finished: u64,
     /// A thread was refused a context.
     pub out_of_contexts: u64,
-    /// A thread made all calls that it may make, or its stack was full.
+    /// A thread made all attempts that it may make, or its stack was full.
     pub cut_off: u64,
     /// Some threads were live, and each of them waits for one that could step, but was refused a
-    /// context, made all its calls or has a full stack.
+    /// context, made all its attempts or has a full stack.
     pub starved: u64,
     /// Some threads had not ended, and each of those waits for ever.
     pub deadlocked: u64,
@@ -31,7 +31,7 @@ pub struct Ends {
     pub lacking_contexts: u64,
     /// Of the others of them: a stack was full.
     pub lacking_frames: u64,
-    /// The rest of them: a thread made all calls that it may make.
+    /// The rest of them: a thread made all attempts that it may make.
     pub lacking_calls: u64,
 }
 
@@ -40,9 +40,9 @@ pub struct Ends {
 pub struct Tally {
     /// The number of runs.
     pub runs: u64,
-    /// The number of their calls.
+    /// The number of their attempts.
     pub calls: u64,
-    /// The most calls of one run.
+    /// The most attempts of one run.
     pub longest: u64,
     /// The number of runs that ended in each way.
     pub ends: Ends,
@@ -115,7 +115,7 @@ fn count_contexts(counts: &mut Vec<u64>, used: usize, runs: u64) -> Result<(), A
     Ok(())
 }
 
-/// Returns whether the call made a step.
+/// Returns whether the attempt made a step.
 pub(crate) fn is_step(call: &Call) -> bool
     ensures { result ≡ is_granted call.now.reply }
 {
@@ -168,8 +168,8 @@ impl Ends {
         lacking_calls: 0,
     };
 
-    /// Counts the resource that a run lacked which ended too early. `was_refused` tells whether a
-    /// call was refused a context.
+    /// Counts the resource that a run lacked which ended too early. `was_refused` tells whether an
+    /// attempt was refused a context.
     fn add_lack(&mut self, history: &[Call], was_refused: bool)
         ensures { self.new ≡ with_lack was_refused (has_full_stack history.now) self.old }
     {
@@ -183,7 +183,7 @@ impl Ends {
     }
 
     /// Counts a run, if no assertion failed in it. The flags tell whether each thread reached the
-    /// end of its program, and whether a call was refused a context.
+    /// end of its program, and whether an attempt was refused a context.
     fn add_run(
         &mut self,
         history: &[Call],
