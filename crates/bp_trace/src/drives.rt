@@ -1,5 +1,5 @@
-//! Driving a program by a schedule. Schedules: lines that name the thread of the next call and its
-//! choice bit.
+//! Driving a program by a schedule. Schedules: lines that name the thread of the next attempt and
+//! its choice bit.
 ghost use Rattle.std.specs.Prelude.{◌≡◌, ◌<◌, ◌≤◌, ℕ, List, Option, None, [], length, IfOk, IfErr, OnOk, MatchResult, drop};
 ghost use Rattle.bp_machine.specs.declared.limits.TheConstants.{MAX_THREADS};
 ghost use Rattle.bp_machine.specs.Setups.{Fits};
@@ -20,18 +20,18 @@ use bp_text::{after, bit_at};
 use std::alloc::Global;
 use std::io::Write;
 
-/// Returns the refusal of a call on the `n`-th line, of an existing thread.
+/// Returns the refusal of an attempt on the `n`-th line, of an existing thread.
 fn drive_error_of(error: AskError, n: u32) -> DriveError
     ensures { result ≡ drive_error_of error n }
 {
     match error {
         AskError::Memory => DriveError::Memory,
-        // The setup has no seed, so the thread makes no more calls.
+        // The setup has no seed, so the thread makes no more attempts.
         _ => DriveError::AfterFinish(n),
     }
 }
 
-/// Makes the call of a line, which is the `n`-th, and appends it.
+/// Makes the attempt of a line, which is the `n`-th, and appends it.
 fn play_line(
     session: &mut Session,
     calls: &mut Vec<Call>,
@@ -57,7 +57,7 @@ fn play_line(
     }
 }
 
-/// Plays all lines of a schedule on a session before any call.
+/// Plays all lines of a schedule on a session before any attempt.
 fn play(
     alloc: Global,
     session: &mut Session,
@@ -88,8 +88,8 @@ fn play(
     Ok(calls)
 }
 
-/// Plays the lines of a schedule, one call each, and then writes the trace of the history. A line
-/// is the number of a thread, a space, the choice bit and a line feed. At a refusal nothing is
+/// Plays the lines of a schedule, one attempt each, and then writes the trace of the history. A
+/// line is the number of a thread, a space, the choice bit and a line feed. At a refusal nothing is
 /// written, unless the writer refuses: it then has a proper prefix of the trace.
 pub fn drive<W: Write>(
     alloc: Global,
@@ -115,7 +115,7 @@ pub fn drive<W: Write>(
     Ok(report)
 }
 
-/// A line of a schedule: the thread that makes a call, and its choice bit.
+/// A line of a schedule: the thread that makes an attempt, and its choice bit.
 #[derive(Clone, Copy, Debug, PartialEq, Eq)]
 pub struct ScheduleLine {
     /// The thread, from 0.

@@ -94,7 +94,7 @@ fn is_joined(text: &[u8], pieces: &[&[u8]]) -> bool
     rest.is_empty()
 }
 
-/// Returns whether the line is the end line of these counts of calls and live threads.
+/// Returns whether the line is the end line of these counts of attempts and live threads.
 fn is_end_of(line: &[u8], calls: u64, left_live: u32) -> bool
     ensures { IsTrue result ↔ (line.now ≡ end_line calls left_live) }
 {
@@ -105,8 +105,8 @@ fn is_end_of(line: &[u8], calls: u64, left_live: u32) -> bool
     is_joined(line, &[b"end ", calls, b" ", left_live, b"\n"])
 }
 
-/// Judges the rest of a trace after its calls, at line `n`: it must be the end line of these counts
-/// of calls and live threads, and nothing more.
+/// Judges the rest of a trace after its attempts, at line `n`: it must be the end line of these
+/// counts of attempts and live threads, and nothing more.
 pub(crate) fn judge_end(rest: &[u8], calls: u64, left_live: u32, n: u32) -> Result<(), ReplayError>
     requires { n < 2 ^ 32 - 1 }
     ensures { MatchResult result

@@ -13,7 +13,7 @@ pub enum DriveError {
     /// This line is not a thread of the setup, a space, a bit and a line feed.
     #[error("line {0} of the schedule is not a thread and a choice bit")]
     Line(u32),
-    /// The thread of this line has made its last call.
+    /// The thread of this line has made its last attempt.
     #[error("line {0} of the schedule is of a thread that has made its last call")]
     AfterFinish(u32),
     /// There was not enough memory.
@@ -46,10 +46,10 @@ impl From<WriteError> for DriveError {
     }
 }
 
-/// The machine's own call, expected in place of a trace's.
+/// The machine's own attempt, expected in place of a trace's.
 #[derive(Clone, Copy, Debug, PartialEq, Eq)]
 pub struct Due {
-    /// The number of calls of the trace before it.
+    /// The number of attempts of the trace before it.
     pub calls: u64,
     pub call: Call,
 }
@@ -58,7 +58,7 @@ pub struct Due {
 #[derive(Clone, Copy, Debug, PartialEq, Eq)]
 pub struct EndCounts {
     pub calls: u64,
-    /// The number of threads that may make another call.
+    /// The number of threads that may make another attempt.
     pub left_live: u32,
 }
 
@@ -74,18 +74,18 @@ pub enum ReplayError {
     /// The program does not accept the setup of the head.
     #[error("{0}")]
     Setup(SetupError),
-    /// This line is neither one of calls of a thread of the setup nor an end, or it is after the
+    /// This line is neither one of attempts of a thread of the setup nor an end, or it is after the
     /// end.
     #[error("line {0} of the trace is not a line of calls or the end")]
     Line(u32),
-    /// The thread of a call on this line has made its last one. The number counts the calls before.
+    /// The thread of an attempt on this line has made its last one. The number counts those before.
     #[error("line {0} of the trace is of a thread that has made its last call")]
     AfterFinish(u32, u64),
-    /// The choice bit of a call on this line is not that of the seed, which the machine's own call
-    /// has.
+    /// The choice bit of an attempt on this line is not that of the seed, which the machine's own
+    /// attempt has.
     #[error("line {0} of the trace has another choice bit than the seed")]
     Bit(u32, Due),
-    /// The machine's own call has another reply than a call on this line.
+    /// The machine's own attempt has another reply than an attempt on this line.
     #[error("line {0} of the trace has another reply than the machine")]
     Reply(u32, Due),
     /// There is no end line. It must have these counts.

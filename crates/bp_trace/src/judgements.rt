@@ -1,4 +1,4 @@
-//! Judging the calls of a trace, one after the other.
+//! Judging the attempts of a trace, one after the other.
 ghost use Rattle.std.specs.Prelude.{◌≡◌, ◌<◌, ◌++◌, ◌∷◌, [], Some, IfOk, IfErr, OnOk, map};
 ghost use Rattle.bp_machine.specs.Histories.{configuration_after};
 ghost use Rattle.bp_machine.specs.Runs.{rows_of_call};
@@ -19,7 +19,7 @@ pub struct Printed {
     pub values: Vec<bool>,
 }
 
-/// The calls of a trace so far, their printed values, and the watcher.
+/// The attempts of a trace so far, their printed values, and the watcher.
 #[derive(Drop)]
 pub(crate) struct Played<O: Watcher + Drop> {
     pub(crate) history: Vec<Call>,
@@ -27,7 +27,7 @@ pub(crate) struct Played<O: Watcher + Drop> {
     pub(crate) watcher: O,
 }
 
-/// Appends a call and its printed values.
+/// Appends an attempt and its printed values.
 fn keep<O: Watcher + Drop>(
     played: &mut Played<O>,
     call: Call,
@@ -48,7 +48,7 @@ fn keep<O: Watcher + Drop>(
     Ok(())
 }
 
-/// Returns the refusal of a call on the `n`-th line, after `made` calls. Its thread exists.
+/// Returns the refusal of an attempt on the `n`-th line, after `made` attempts. Its thread exists.
 fn replay_error_of(error: AskError, n: u32, made: u64) -> ReplayError
     ensures { result ≡ replay_error_of error n made }
 {
@@ -58,7 +58,7 @@ fn replay_error_of(error: AskError, n: u32, made: u64) -> ReplayError
     }
 }
 
-/// Checks that the call on the `n`-th line, after `made` calls, is the machine's own.
+/// Checks that the attempt on the `n`-th line, after `made` attempts, is the machine's own.
 fn matched(own: &Call, call: &Call, n: u32, made: u64) -> Result<(), ReplayError>
     ensures own { OnOk result (IsOwnAs own.now call.now) }
     ensures other { IfErr result (IsMismatch own.now call.now n made) }
@@ -78,7 +78,7 @@ fn matched(own: &Call, call: &Call, n: u32, made: u64) -> Result<(), ReplayError
     }
 }
 
-/// Returns the row that a call prints, if its step is granted and at a `print`.
+/// Returns the row that an attempt prints, if its step is granted and at a `print`.
 #[inline(always)]
 fn row_of_call(session: &Session, call: &Call) -> Result<Option<Printed>, AskError>
     ensures row { AfterEach session.now (λ t h. IfOk result (λ row.
@@ -98,7 +98,7 @@ fn row_of_call(session: &Session, call: &Call) -> Result<Option<Printed>, AskErr
     }))
 }
 
-/// Judges a call on the `n`-th line of a trace, of an existing thread, and appends it.
+/// Judges an attempt on the `n`-th line of a trace, of an existing thread, and appends it.
 #[inline(always)]
 pub(crate) fn judge<O: Watcher + Drop>(
     session: &mut Session,

@@ -1,8 +1,8 @@
 //! Laws of schedules and traces. These functions do nothing: their contracts are the laws.
 ghost use Rattle.bp_trace.specs.Laws.{LinesDriveAgain, NoTwoHaveOneText, OneRefusal, OneScheduleRefusal, PiecesAreFewest, RefusedDrivesNowhere, RefusedIsNoTrace, RunsDriveToHistories};
 
-/// Proves that the lines of the calls of a legal history, each a thread and a choice bit, drive its
-/// program to that history: no other history is legal along them, and no line of them is refused.
+/// Proves that the lines of the attempts of a legal history, each a thread and a choice bit, drive
+/// its program to that history: no other history is legal along them, and no line is refused.
 pub fn lines_drive_again()
     ensures { LinesDriveAgain }
 {}
@@ -23,7 +23,7 @@ pub fn schedules_have_one_refusal()
 {}
 
 /// Proves that the pieces of a history, which are the lines of its trace in version 2, are its
-/// calls, cut into the fewest lists of one thread each.
+/// attempts, cut into the fewest lists of one thread each.
 pub fn pieces_are_fewest()
     ensures { PiecesAreFewest }
 {}

@@ -1,5 +1,5 @@
-//! Playing the lines of calls of a trace. Watching a replay: each call is made by a watcher, which
-//! may look at the session before and after it.
+//! Playing the lines of attempts of a trace. Watching a replay: each attempt is made by a watcher,
+//! which may look at the session before and after it.
 ghost use Rattle.std.specs.Prelude.{◌≡◌, ◌<◌, ◌+◌, ◌^◌, ◌++◌, [], length, map, IfOk, IfErr, OnOk, ◌∷◌, List, MatchResult};
 ghost use Rattle.std.specs.List.{AllByRecursion};
 ghost use Rattle.bp_language.specs.Ast.{Program};
@@ -17,7 +17,7 @@ use crate::traces::Version;
 use bp_machine::{AskError, Call, Session, Setup};
 use std::alloc::{AllocError, Global};
 
-/// The calls of a trace, the number of bytes of their lines, and the number of the line after them.
+/// The attempts of a trace, the number of bytes of their lines, and the number of the next line.
 #[derive(Drop)]
 pub(crate) struct Body<O: Watcher + Drop> {
     pub(crate) played: Played<O>,
@@ -34,7 +34,7 @@ fn last_thread(history: &[Call]) -> Option<u32>
     }
 }
 
-/// Judges the calls of the `n`-th line of a trace, one after the other.
+/// Judges the attempts of the `n`-th line of a trace, one after the other.
 #[inline(always)]
 fn judge_line<O: Watcher + Drop>(
     session: &mut Session,
@@ -60,8 +60,8 @@ fn judge_line<O: Watcher + Drop>(
     Ok(())
 }
 
-/// Plays the lines of calls that begin the text, from line `first` on. The watcher has begun with
-/// the setup. The calls before a refused one are kept.
+/// Plays the lines of attempts that begin the text, from line `first` on. The watcher has begun
+/// with the setup. The attempts before a refused one are kept.
 pub(crate) fn play<O: Watcher + Drop>(
     alloc: Global,
     session: &mut Session,
@@ -111,17 +111,17 @@ pub(crate) fn play<O: Watcher + Drop>(
     }
 }
 
-/// Observes a replay, whose calls it makes.
+/// Observes a replay, whose attempts it makes.
 pub trait Watcher {
     /// The observations of a history of a program under a setup, and the watcher at first.
     ghost sees: { Self → Self → Program → SetupOf → List Answered → Type 0 };
 
-    /// Begins with the setup, before any call.
+    /// Begins with the setup, before any attempt.
     fn begin(&mut self, setup: &Setup) -> Result<(), AllocError>
         ensures { (t : Program) → OnOk result (sees self.old self.new t setup.now []) };
 
-    /// Makes the machine's own call for a recorded one: of its thread, and with its bit if the
-    /// setup has no seed. May be refused memory of its own after the call was made.
+    /// Makes the machine's own attempt for a recorded one: of its thread, and with its bit if the
+    /// setup has no seed. May be refused memory of its own after the attempt was made.
     fn make(&mut self, session: &mut Session, recorded: &Call) -> Result<Call, AskError>
         ensures answer { AfterEach session.old (λ t h. MatchResult result
             (IsOwnCall t session.old.setup h recorded.now)
@@ -135,7 +135,7 @@ pub trait Watcher {
             → IfOk result (λ own. sees first self.new t session.old.setup (h ++ own ∷ []))) };
 }
 
-/// A watcher that only makes the calls.
+/// A watcher that only makes the attempts.
 #[derive(Clone, Copy, Debug, Drop)]
 pub struct Unwatched;
 
@@ -146,7 +146,7 @@ impl Watcher for Unwatched {
         Ok(())
     }
 
-    // Inlined, so that the effects of a call stay in registers.
+    // Inlined, so that the effects of an attempt stay in registers.
     #[inline(always)]
     fn make(&mut self, session: &mut Session, recorded: &Call) -> Result<Call, AskError> {
         session.ask_as_recorded(recorded.thread, recorded.bit)

@@ -1,5 +1,5 @@
 //! Replaying a trace: a text is the trace of a legal history, or is refused at its first mistake.
-//! Migrating a trace to version 2. The accepted calls of a text that as a whole is not a trace.
+//! Migrating a trace to version 2. The accepted attempts of a text that as a whole is not a trace.
 ghost use Rattle.std.specs.Prelude.{◌≡◌, [], IfOk, None, MatchResult, MatchOption};
 ghost use Rattle.bp_machine.specs.Sessions.{Stands};
 ghost use Rattle.bp_machine.specs.Setups.{setup_error, IsSetupRefusal};
@@ -25,7 +25,7 @@ use std::io::Write;
 #[derive(Drop)]
 pub struct Replayed {
     pub setup: Setup,
-    /// The calls, oldest first.
+    /// The attempts, oldest first.
     pub history: Vec<Call>,
     /// A row for each granted step at a `print`, oldest first.
     pub printed: Vec<Printed>,
@@ -98,7 +98,7 @@ pub(crate) fn open(alloc: Global, code: &Code, text: &[u8]) -> Result<Opened, Re
     }
 }
 
-/// Plays the rest of a trace after its head, and judges its end. The calls before a refusal are
+/// Plays the rest of a trace after its head, and judges its end. The attempts before a refusal are
 /// kept.
 pub(crate) fn play_opened<O: Watcher + Drop>(
     alloc: Global,
@@ -136,7 +136,7 @@ pub(crate) fn play_opened<O: Watcher + Drop>(
 }
 
 /// Replays a text without threads: it is the trace of a legal history of the program, in either
-/// version, or it is refused at its first mistake. The watcher makes the calls.
+/// version, or it is refused at its first mistake. The watcher makes the attempts.
 pub fn replay_watched<O: Watcher + Drop>(
     alloc: Global,
     code: &Code,
@@ -199,18 +199,18 @@ pub fn migrate<W: Write>(
     Ok(report)
 }
 
-/// The trace of the accepted calls of a text, and the refusal after them.
+/// The trace of the accepted attempts of a text, and the refusal after them.
 #[derive(Drop)]
 pub struct AcceptedTrace {
     pub trace: Vec<u8>,
-    /// The number of these calls.
+    /// The number of these attempts.
     pub calls: u64,
     pub error: ReplayError,
 }
 
-/// Returns the trace of the longest accepted beginning of the calls of a text, if a call, a line
-/// after the head or the end is refused. Returns None if the text is a trace itself. Refuses a text
-/// without the head of a setup that the program accepts.
+/// Returns the trace of the longest accepted beginning of the attempts of a text, if an attempt, a
+/// line after the head or the end is refused. Returns None if the text is a trace itself. Refuses a
+/// text without the head of a setup that the program accepts.
 pub fn accepted_trace(
     alloc: Global,
     code: &Code,

@@ -1,5 +1,5 @@
-//! The lines of calls in a trace of either version. A call is written by one write, for each thread
-//! that a setup may have.
+//! The lines of attempts in a trace of either version. An attempt is written by one write, for each
+//! thread that a setup may have.
 ghost use Rattle.std.specs.Prelude.{◌≡◌, ◌≢◌, ◌↔◌, ◌≤◌, Bool, Some, IsTrue, slice_get, MatchOption, ◌<◌, [], IfOk, length};
 ghost use Rattle.bp_text.specs.Writing.{Given, Writes};
 ghost use Rattle.bp_machine.specs.declared.limits.TheConstants.{MAX_THREADS};
@@ -83,7 +83,7 @@ fn tail_at(text: &[u8]) -> Option<(bool, Reply)>
     }
 }
 
-/// Parses the call line of a thread below `threads`, and returns it with its number of bytes.
+/// Parses the attempt line of a thread below `threads`, and returns it with its number of bytes.
 #[inline(always)]
 fn call_at(threads: u32, text: &[u8]) -> Option<(Call, usize)>
     requires { threads ≤ MAX_THREADS }
@@ -100,7 +100,7 @@ fn call_at(threads: u32, text: &[u8]) -> Option<(Call, usize)>
     }
 }
 
-/// Writes the line of a call of a thread with one digit.
+/// Writes the line of an attempt of a thread with one digit.
 fn put_with_one_digit<W: Write>(call: &Call, sink: &mut Sink<'_, W>)
     requires { call.now.thread < 10 }
     ensures { Given W.contents sink.old sink.new (call_line call.now) }
@@ -110,7 +110,7 @@ fn put_with_one_digit<W: Write>(call: &Call, sink: &mut Sink<'_, W>)
     sink.put(&[digit, b' ', bit, b' ', call.reply.letter(), b'\n'])
 }
 
-/// Writes the line of a call of a thread with two digits.
+/// Writes the line of an attempt of a thread with two digits.
 fn put_with_two_digits<W: Write>(call: &Call, sink: &mut Sink<'_, W>)
     requires two { 10 ≤ call.now.thread }
     requires few { call.now.thread < 100 }
@@ -122,7 +122,7 @@ fn put_with_two_digits<W: Write>(call: &Call, sink: &mut Sink<'_, W>)
     sink.put(&[tens, ones, b' ', bit, b' ', call.reply.letter(), b'\n'])
 }
 
-/// Writes the line of a call.
+/// Writes the line of an attempt.
 pub fn put_call<W: Write>(call: &Call, sink: &mut Sink<'_, W>)
     ensures { Given W.contents sink.old sink.new (call_line call.now) }
 {
@@ -137,7 +137,7 @@ pub fn put_call<W: Write>(call: &Call, sink: &mut Sink<'_, W>)
     sink.put_pieces(&[thread, Bytes(&rest)])
 }
 
-/// Writes the line of a call.
+/// Writes the line of an attempt.
 pub fn write_call<W: Write>(call: &Call, out: &mut W) -> Result<(), WriteError>
     ensures { Writes (W.contents out.old) (W.contents out.new) (call_line call.now) result }
 {
@@ -159,7 +159,7 @@ fn symbol_at(text: &[u8]) -> Option<(bool, Reply)>
     }
 }
 
-/// Appends the calls of a thread for the symbols that begin the text, and returns their size.
+/// Appends the attempts of a thread for the symbols that begin the text, and returns their size.
 #[inline(always)]
 fn read_symbols(thread: u32, text: &[u8], calls: &mut Vec<Call>) -> Result<usize, AllocError>
     ensures { IfOk result (HasSymbols thread text.now calls.old.items calls.new.items) }
@@ -172,7 +172,7 @@ fn read_symbols(thread: u32, text: &[u8], calls: &mut Vec<Call>) -> Result<usize
     Ok(size)
 }
 
-/// Parses the call line that begins the text.
+/// Parses the attempt line that begins the text.
 #[inline(always)]
 fn read_call(
     threads: u32,
@@ -193,7 +193,7 @@ fn read_call(
     Ok(Some(size))
 }
 
-/// Parses the line of a piece that begins the text, after a call of the thread `last`.
+/// Parses the line of a piece that begins the text, after an attempt of the thread `last`.
 #[inline(always)]
 fn read_piece(
     threads: u32,
@@ -221,9 +221,9 @@ fn read_piece(
     }
 }
 
-/// Parses the line of calls that begins the text, after a call of the thread `last`, or after the
-/// head, into `calls`, which is cleared first; returns the line's number of bytes. Returns None if
-/// there is no such line; then `calls` may hold anything.
+/// Parses the line of attempts that begins the text, after an attempt of the thread `last`, or
+/// after the head, into `calls`, which is cleared first; returns the line's number of bytes.
+/// Returns None if there is no such line; then `calls` may hold anything.
 #[inline(always)]
 pub(crate) fn body_line_at(
     version: Version,

@@ -1,4 +1,4 @@
-//! Writing the text of a trace. The versions of traces. Writing the calls of a history by its
+//! Writing the text of a trace. The versions of traces. Writing the attempts of a history by its
 //! pieces.
 ghost use Rattle.std.specs.Prelude.{◌≡◌, map, flat_map, string_bytes, None};
 ghost use Rattle.std.specs.List.{concat};
@@ -59,7 +59,7 @@ fn seed_piece<'a>(seed: Option<u64>) -> Piece<'a>
     }
 }
 
-/// Writes the lines of the allowed contexts and calls, and of the seed.
+/// Writes the lines of the allowed contexts and attempts, and of the seed.
 fn put_limits<W: Write>(setup: &Setup, sink: &mut Sink<'_, W>)
     ensures { Given W.contents sink.old sink.new (concat (limit_lines setup.now)) }
 {
@@ -110,7 +110,7 @@ pub fn write_head<W: Write>(setup: &Setup, out: &mut W) -> Result<(), WriteError
     sink.finish()
 }
 
-/// Writes the line that ends a trace of these counts of calls and live threads.
+/// Writes the line that ends a trace of these counts of attempts and live threads.
 pub fn put_end<W: Write>(calls: u64, left_live: u32, sink: &mut Sink<'_, W>)
     ensures { Given W.contents sink.old sink.new (end_line calls left_live) }
 {
@@ -119,7 +119,7 @@ pub fn put_end<W: Write>(calls: u64, left_live: u32, sink: &mut Sink<'_, W>)
     sink.put_pieces(&[Bytes(b"end "), number, Bytes(b" "), left_live, Bytes(b"\n")])
 }
 
-/// Writes the line that ends a trace of these counts of calls and live threads.
+/// Writes the line that ends a trace of these counts of attempts and live threads.
 pub fn write_end<W: Write>(calls: u64, left_live: u32, out: &mut W) -> Result<(), WriteError>
     ensures { Writes (W.contents out.old) (W.contents out.new) (end_line calls left_live) result }
 {
@@ -128,7 +128,7 @@ pub fn write_end<W: Write>(calls: u64, left_live: u32, out: &mut W) -> Result<()
     sink.finish()
 }
 
-/// Writes a line for each call.
+/// Writes a line for each attempt.
 fn put_calls<W: Write>(history: &[Call], sink: &mut Sink<'_, W>)
     ensures { Given W.contents sink.old sink.new (flat_map call_line history.now) }
 {
@@ -137,7 +137,7 @@ fn put_calls<W: Write>(history: &[Call], sink: &mut Sink<'_, W>)
     }
 }
 
-/// Writes the calls of a history in this version.
+/// Writes the attempts of a history in this version.
 fn put_history<W: Write>(version: Version, history: &[Call], sink: &mut Sink<'_, W>)
     ensures { Given W.contents sink.old sink.new (calls_text version history.now) }
 {
@@ -188,12 +188,12 @@ pub fn write_trace2<W: Write>(
     write_with_live_threads(Version::Two, setup, history, left_live, out)
 }
 
-/// The form of the calls of a trace.
+/// The form of the attempts of a trace.
 #[derive(Clone, Copy, Debug, PartialEq, Eq)]
 pub enum Version {
-    /// A line for each call.
+    /// A line for each attempt.
     One,
-    /// A line for each list of successive calls of one thread.
+    /// A line for each list of successive attempts of one thread.
     Two,
 }
 
@@ -209,7 +209,7 @@ fn put_start<W: Write>(is_first: bool, thread: u32, sink: &mut Sink<'_, W>)
     sink.put_pieces(&[Bytes(end), Number(u64::from(thread)), Bytes(b" ")])
 }
 
-/// Writes the text before a call that follows one of this thread, or none.
+/// Writes the text before an attempt that follows one of this thread, or none.
 fn put_opening<W: Write>(last: Option<u32>, thread: u32, sink: &mut Sink<'_, W>)
     ensures { Given W.contents sink.old sink.new (opening last thread) }
 {
@@ -220,7 +220,7 @@ fn put_opening<W: Write>(last: Option<u32>, thread: u32, sink: &mut Sink<'_, W>)
     }
 }
 
-/// Writes a call after one of this thread, or after none.
+/// Writes an attempt after one of this thread, or after none.
 fn put_symbol<W: Write>(last: Option<u32>, call: &Call, sink: &mut Sink<'_, W>)
     ensures { Given W.contents sink.old sink.new (symbol_after last call.now) }
 {
@@ -228,7 +228,7 @@ fn put_symbol<W: Write>(last: Option<u32>, call: &Call, sink: &mut Sink<'_, W>)
     sink.put(&[bit_digit(call.bit), call.reply.letter()])
 }
 
-/// Writes the calls of a history without the end of the last line.
+/// Writes the attempts of a history without the end of the last line.
 #[tactic(auto, using(bp_text::proofs::Givings::left_after))]
 fn put_symbols<W: Write>(history: &[Call], sink: &mut Sink<'_, W>)
     ensures { Given W.contents sink.old sink.new (symbols_after None history.now) }

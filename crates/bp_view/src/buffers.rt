@@ -53,8 +53,8 @@ impl Buffer {
         };
     }
 
-    /// Adds a piece. Most numbers of a call have one digit, which is pushed: formatting it takes
-    /// five times as long.
+    /// Adds a piece. Most numbers of an attempt have one digit, which is pushed: formatting it
+    /// takes five times as long.
     #[inline(always)]
     pub(crate) fn put(&mut self, piece: Piece<'_>)
         ensures { Grown self.old self.new (piece_text piece.entry) }

@@ -1,4 +1,4 @@
-//! The shown facts of a call, as plain values. The shown facts of a context of a history.
+//! The shown facts of an attempt, as plain values. The shown facts of a context of a history.
 ghost use Rattle.std.specs.Prelude.{◌≡◌, [], ℕ, List, map, MatchOption, OnOk};
 ghost use Rattle.bp_language.specs.Ast.{Program};
 ghost use Rattle.bp_flat.specs.Moves.{Configuration};
@@ -36,12 +36,12 @@ pub struct Next<'a> {
     pub reads_choice: bool,
 }
 
-/// The shown facts of a call.
+/// The shown facts of an attempt.
 #[derive(Clone, Copy)]
 pub struct CallFacts<'a> {
     /// Its number in the history, from 1.
     pub number: u64,
-    /// The call with its reply.
+    /// The attempt with its reply.
     pub call: Call,
     /// The context of its step; None if it made none.
     pub context: Option<u32>,
@@ -86,7 +86,7 @@ pub(crate) fn next_of<'a>(program: &ProgramFacts<'a>, top: Option<Top>) -> Next<
     }
 }
 
-/// Returns the facts of a call that changed these variables.
+/// Returns the facts of an attempt that changed these variables.
 pub fn facts_of_call<'a>(
     program: &ProgramFacts<'a>,
     replayed: &ReplayedCall,
@@ -116,7 +116,7 @@ fn is_tried(reply: Reply) -> bool
 }
 
 impl CallFacts<'_> {
-    /// Returns the choice bit of a call whose statement reads one, if it was tried.
+    /// Returns the choice bit of an attempt whose statement reads one, if it was tried.
     pub fn choice(&self) -> Option<bool>
         ensures { result ≡ choice_of (facts_in self.now) }
     {
@@ -135,9 +135,9 @@ pub struct ContextFacts<'a> {
     pub number: u64,
     /// The thread of its steps.
     pub thread: u32,
-    /// The number of its first call, from 1.
+    /// The number of its first attempt, from 1.
     pub first: u64,
-    /// The number of its last call, from 1.
+    /// The number of its last attempt, from 1.
     pub last: u64,
     /// Its thread's next statement before the first of them.
     pub from: Next<'a>,

@@ -1,5 +1,5 @@
-//! Checkpoints: the session after the first calls of a replay, so that only the later ones are made
-//! once more. The calls of a history, each with its thread's place before and after it.
+//! Checkpoints: the session after the first attempts of a replay, so that only the later ones are
+//! made once more. The attempts of a history, each with its thread's place before and after it.
 ghost use Rattle.std.specs.Prelude.{◌≡◌, List, IfOk, MatchResult, if◌then◌else◌, ◌++◌, ◌∷◌, [], suc, None, Some, true, false, length, option_map, MatchOption};
 ghost use Rattle.bp_language.specs.Ast.{Program};
 ghost use Rattle.bp_machine.specs.declared.calls.Call.{Call as Answered};
@@ -15,18 +15,18 @@ use bp_trace::limits::MAX_TRACE;
 use bp_trace::{ReplayError, Replayed, Watched, Watcher, replay_watched};
 use std::alloc::{AllocError, Global};
 
-/// The session after the first calls of a history.
+/// The session after the first attempts of a history.
 #[derive(Drop)]
 pub struct Checkpoint {
     pub session: Session,
-    /// The thread of the last step of these calls; None if they made no step.
+    /// The thread of the last step of these attempts; None if they made no step.
     pub last: Option<u32>,
-    /// The number of these calls.
+    /// The number of these attempts.
     pub made: u64,
 }
 
 impl Checkpoint {
-    /// Returns the checkpoint before any call.
+    /// Returns the checkpoint before any attempt.
     pub fn start(alloc: Global, code: &Code, setup: &Setup) -> Result<Checkpoint, AllocError>
         requires { Fits code.now.tree setup.now }
         ensures { let t = code.now.tree in (h : List Answered)
@@ -40,11 +40,11 @@ impl Checkpoint {
     }
 }
 
-/// Keeps a checkpoint of a replay after this number of calls. After none it keeps none.
+/// Keeps a checkpoint of a replay after this number of attempts. After none it keeps none.
 #[derive(Drop)]
 struct CheckpointWatcher {
     after: u64,
-    /// The number of calls made.
+    /// The number of attempts made.
     made: u64,
     /// The thread of the last step; None if there is none.
     last: Option<u32>,
@@ -82,8 +82,8 @@ impl Watcher for CheckpointWatcher {
     }
 }
 
-/// Returns the checkpoint that a watcher kept; if it kept none, the one after all calls or before
-/// any. The session stands after all.
+/// Returns the checkpoint that a watcher kept; if it kept none, the one after all attempts or
+/// before any. The session stands after all.
 fn checkpoint_of(
     alloc: Global,
     code: &Code,
@@ -112,8 +112,8 @@ fn checkpoint_of(
     })
 }
 
-/// Replays a text as `replay` does, and also returns the checkpoint after its first `after` calls,
-/// or after all if there are fewer.
+/// Replays a text as `replay` does, and also returns the checkpoint after its first `after`
+/// attempts, or after all if there are fewer.
 pub fn replay_to_checkpoint(
     alloc: Global,
     code: &Code,
@@ -143,7 +143,7 @@ pub fn replay_to_checkpoint(
     Ok((replayed, checkpoint))
 }
 
-/// A call of a history, with its thread's place before and after it.
+/// An attempt of a history, with its thread's place before and after it.
 #[derive(Clone, Copy)]
 pub struct ReplayedCall {
     /// Its number in the history, from 1.
@@ -159,7 +159,7 @@ pub struct ReplayedCall {
     pub after: Option<Top>,
 }
 
-/// Returns whether a call made a step.
+/// Returns whether an attempt made a step.
 pub(crate) fn is_step(reply: Reply) -> bool
     ensures { result ≡ is_granted reply }
 {
@@ -176,7 +176,7 @@ fn is_other(last: Option<u32>, thread: u32) -> bool
     }
 }
 
-/// Returns the context of the last call's step, if it made one.
+/// Returns the context of the last attempt's step, if it made one.
 fn context_of(session: &Session, reply: Reply) -> Option<u32>
     ensures { (t : Program) (h : List Answered)
         → Stands t session.now h
@@ -190,7 +190,7 @@ fn context_of(session: &Session, reply: Reply) -> Option<u32>
     None
 }
 
-/// Returns whether a call made a step, and the last step was another thread's.
+/// Returns whether an attempt made a step, and the last step was another thread's.
 fn is_switch(last: Option<u32>, call: &Call) -> bool
     ensures { (h : List Answered)
         → last ≡ last_thread (granted_threads h)
@@ -199,8 +199,8 @@ fn is_switch(last: Option<u32>, call: &Call) -> bool
     is_step(call.reply) && is_other(last, call.thread)
 }
 
-/// Makes the machine's own call for a recorded one, and returns its facts, if the thread `last`
-/// made the step before. A session refuses a call as `Session::ask_as_recorded` does.
+/// Makes the machine's own attempt for a recorded one, and returns its facts, if the thread `last`
+/// made the step before. A session refuses an attempt as `Session::ask_as_recorded` does.
 pub fn replayed_call(
     session: &mut Session,
     last: Option<u32>,
@@ -229,7 +229,7 @@ pub fn replayed_call(
     })
 }
 
-/// Returns the thread of the last step after one more call.
+/// Returns the thread of the last step after one more attempt.
 #[tactic(auto, using(crate::proofs::SpansOfHistories::last_after))]
 pub fn last_step(last: Option<u32>, call: &Call) -> Option<u32>
     ensures { (h : List Answered)
@@ -242,7 +242,7 @@ pub fn last_step(last: Option<u32>, call: &Call) -> Option<u32>
     last
 }
 
-/// Returns the values that a call printed: the next ones, if it made a step.
+/// Returns the values that an attempt printed: the next ones, if it made a step.
 pub fn printed_by(next: Option<&[bool]>, reply: Reply) -> Option<&[bool]>
     ensures { let values = option_map (λ v. v.now) next.entry in
         option_map (λ v. v.now) result ≡ (if is_granted reply then values else None) }

@@ -164,7 +164,7 @@ fn push_contexts_head(view: &mut Buffer, format: ViewFormat, calls: u64, context
 }
 
 /// Returns a line for each context of a trace, and the report of the trace: the thread of the
-/// context, its first and its last call, the thread's places before and after it, and the globals
+/// context, its first and last attempt, the thread's places before and after it, and the globals
 /// that it changed. A text that is not a trace of the program is refused as `replay` refuses it.
 pub fn contexts_of(
     alloc: Global,

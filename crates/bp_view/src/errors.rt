@@ -11,11 +11,11 @@ pub enum ViewError {
     /// The text is not a trace of the program, or memory was refused before anything was written.
     #[error("{0}")]
     Replay(ReplayError),
-    /// Only the calls of this thread were asked for, and the trace does not have it.
+    /// Only the attempts of this thread were asked for, and the trace does not have it.
     #[error("the trace has no thread {0}")]
     NoThread(u32),
-    /// Only the calls that change a variable of some names were asked for, and no variable of the
-    /// program has this one of the names, from 1.
+    /// Only the attempts that change a variable of some names were asked for, and no variable of
+    /// the program has this one of the names, from 1.
     #[error("the program has no variable that is name {0} of --watch")]
     NoVariable(u64),
     /// Memory was refused after the trace was replayed. A beginning of the view is written.

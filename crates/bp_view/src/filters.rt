@@ -1,11 +1,11 @@
-//! The calls of a history that are asked for, and the number of calls in each line. Equal waits in
-//! succession.
+//! The attempts of a history that are asked for, and the number of attempts in each line. Equal
+//! waits in succession.
 ghost use Rattle.std.specs.Prelude.{◌≡◌, drop, take, min, reverse};
 ghost use Rattle.bp_view.specs.Filters.{before_last, calls_at, is_asked, is_between, is_late, is_of_thread, last_number, skipped, calls_in_line, is_same_wait, waits_like};
 
 use bp_machine::{Call, Reply};
 
-/// Returns the first `count` calls, or all if there are fewer.
+/// Returns the first `count` attempts, or all if there are fewer.
 pub fn calls_to(calls: &[Call], count: u64) -> &[Call]
     ensures { result.now ≡ take count calls.now }
 {
@@ -13,7 +13,7 @@ pub fn calls_to(calls: &[Call], count: u64) -> &[Call]
     &calls[..end]
 }
 
-/// Returns the calls after the first `count`.
+/// Returns the attempts after the first `count`.
 fn calls_from(calls: &[Call], count: u64) -> &[Call]
     ensures { result.now ≡ drop count calls.now }
 {
@@ -21,23 +21,23 @@ fn calls_from(calls: &[Call], count: u64) -> &[Call]
     &calls[start..]
 }
 
-/// The calls of a history that are asked for.
+/// The attempts of a history that are asked for.
 #[derive(Clone, Copy)]
 pub struct CallFilter {
     /// Only those of this thread.
     pub thread: Option<u32>,
-    /// The number of the last calls.
+    /// The number of the last attempts.
     pub last: Option<u64>,
-    /// The number of the first call, from 1.
+    /// The number of the first attempt, from 1.
     pub from: Option<u64>,
-    /// The number of the last call, from 1.
+    /// The number of the last attempt, from 1.
     pub to: Option<u64>,
     /// Whether more than three equal waits of a thread in succession have one line.
     pub folds: bool,
 }
 
 impl CallFilter {
-    /// Returns whether the calls of the thread are asked for.
+    /// Returns whether the attempts of the thread are asked for.
     fn has_thread(&self, thread: u32) -> bool
         ensures { result ≡ is_of_thread self.now.thread thread }
     {
@@ -47,7 +47,7 @@ impl CallFilter {
         }
     }
 
-    /// Returns whether the call of this number is among the last that are asked for.
+    /// Returns whether the attempt of this number is among the last that are asked for.
     fn is_late(&self, number: u64, count: u64) -> bool
         ensures { result ≡ is_late self.now.last count number }
     {
@@ -57,14 +57,14 @@ impl CallFilter {
         }
     }
 
-    /// Returns whether the call of this number is between the first and last ones asked for.
+    /// Returns whether the attempt of this number is between the first and last ones asked for.
     fn is_between(&self, number: u64) -> bool
         ensures { result ≡ is_between self.now.from self.now.to number }
     {
         self.from.unwrap_or(0) <= number && number <= self.to.unwrap_or(number)
     }
 
-    /// Returns the number of the `count` calls before the last ones that are asked for.
+    /// Returns the number of the `count` attempts before the last ones that are asked for.
     fn before_last(&self, count: u64) -> u64
         ensures { result ≡ before_last self.now.last count }
     {
@@ -74,7 +74,7 @@ impl CallFilter {
         }
     }
 
-    /// Returns the number of the `count` calls before all those whose numbers are asked for.
+    /// Returns the number of the `count` attempts before all those whose numbers are asked for.
     pub fn skipped(&self, count: u64) -> u64
         ensures { result ≡ skipped self.now count }
     {
@@ -82,21 +82,21 @@ impl CallFilter {
         before_first.max(self.before_last(count))
     }
 
-    /// Returns the number of the last of `count` calls that is asked for.
+    /// Returns the number of the last of `count` attempts that is asked for.
     fn last_number(&self, count: u64) -> u64
         ensures { result ≡ last_number self.now count }
     {
         self.to.unwrap_or(count)
     }
 
-    /// Returns whether the call of this number, among `count` calls, is asked for.
+    /// Returns whether the attempt of this number, among `count` attempts, is asked for.
     pub fn asks_for(&self, thread: u32, number: u64, count: u64) -> bool
         ensures { result ≡ is_asked self.now count number thread }
     {
         self.has_thread(thread) && self.is_late(number, count) && self.is_between(number)
     }
 
-    /// Returns the number of calls in the line of the call with this number, in this whole history.
+    /// Returns the number of attempts in the line of the one of this number, in this whole history.
     pub fn calls_in_line(&self, history: &[Call], call: &Call, number: u64) -> usize
         ensures { result ≡ calls_at self.now history.now number call.now }
     {
@@ -115,7 +115,7 @@ impl CallFilter {
 /// The most equal waits in succession with a line each; more than these may be folded into one.
 const MAX_WAITS: usize = 3;
 
-/// Returns whether both calls are waits of one thread with one choice bit.
+/// Returns whether both attempts are waits of one thread with one choice bit.
 fn is_same_wait(call: &Call, other: &Call) -> bool
     ensures { result ≡ is_same_wait call.now other.now }
 {
@@ -125,7 +125,7 @@ fn is_same_wait(call: &Call, other: &Call) -> bool
         && call.bit == other.bit
 }
 
-/// Returns the number of these calls, from the first on, that are the same wait, up to the limit.
+/// Returns how many of these attempts, from the first on, are the same wait, up to the limit.
 fn waits_after(call: &Call, calls: &[Call], limit: usize) -> usize
     ensures { result ≡ min limit (waits_like call.now calls.now) }
 {
@@ -144,7 +144,7 @@ fn waits_after(call: &Call, calls: &[Call], limit: usize) -> usize
     count
 }
 
-/// Returns the number of these calls, from the last on, that are the same wait, up to the limit.
+/// Returns how many of these attempts, from the last on, are the same wait, up to the limit.
 fn waits_before(call: &Call, calls: &[Call], limit: usize) -> usize
     ensures { result ≡ min limit (waits_like call.now (reverse calls.now)) }
 {
@@ -163,7 +163,7 @@ fn waits_before(call: &Call, calls: &[Call], limit: usize) -> usize
     count
 }
 
-/// Returns the number of calls in the line of a call, among these calls before and after it.
+/// Returns the number of attempts in the line of an attempt, among these before and after it.
 pub(crate) fn calls_in_line(folds: bool, call: &Call, before: &[Call], after: &[Call]) -> usize
     ensures { result ≡ calls_in_line folds call.now (reverse before.now) after.now }
 {

@@ -1,5 +1,5 @@
-//! Facts of a history, as plain values: calls, changes, contexts, states and ends. And the texts of
-//! these facts, for people and in JSON.
+//! Facts of a history, as plain values: attempts, changes, contexts, states and ends. And the texts
+//! of these facts, for people and in JSON.
 #![tactic(auto)]
 
 mod buffers;

@@ -1,4 +1,4 @@
-//! The line of a call in columns, from its facts.
+//! The line of an attempt in columns, from its facts.
 ghost use Rattle.std.specs.Prelude.{◌≡◌, ◌++◌, ◌∷◌, [], codes, map};
 ghost use Rattle.std.specs.List.{concat};
 ghost use Rattle.bp_text.specs.Pieces.{at_left, spaces};
@@ -39,7 +39,7 @@ fn mark(is_switch: bool) -> u8
     if is_switch { b'>' } else { b' ' }
 }
 
-/// Adds the fields of a call: its number, its thread and its context.
+/// Adds the fields of an attempt: its number, its thread and its context.
 fn push_fields(line: &mut Buffer, prefix: &mut Prefix, widths: &Widths, facts: &CallFacts<'_>)
     ensures { Grown line.old line.new (concat (field_texts widths.now (facts_in facts.now))) }
 {
@@ -94,7 +94,7 @@ fn choice_note(choice: Option<bool>) -> &'static [u8]
     }
 }
 
-/// Adds the variables that a call changed.
+/// Adds the variables that an attempt changed.
 #[tactic(auto, using(crate::proofs::SingleFacts::all_mapped))]
 pub(crate) fn push_changed(note: &mut Buffer, format: ViewFormat, changes: &[Change<'_>])
     ensures { Grown note.old note.new (entries_text format (map entry_of changes.now)) }
@@ -104,7 +104,7 @@ pub(crate) fn push_changed(note: &mut Buffer, format: ViewFormat, changes: &[Cha
     }
 }
 
-/// Adds the number of calls in a line, if there are several.
+/// Adds the number of attempts in a line, if there are several.
 fn push_times(note: &mut Buffer, calls: usize)
     ensures { Grown note.old note.new (times_text calls) }
 {
@@ -113,8 +113,8 @@ fn push_times(note: &mut Buffer, calls: usize)
     }
 }
 
-/// Adds the note of a call: the choice bit if it is read, the reply if it is not a step, the number
-/// of calls in the line, and the variables that the step changed.
+/// Adds the note of an attempt: the choice bit if it is read, the reply if it is not a step, the
+/// number of attempts in the line, and the variables that the step changed.
 fn push_note(line: &mut Buffer, facts: &CallFacts<'_>, calls: usize)
     ensures { Grown line.old line.new (note_text (facts_in facts.now) calls) }
 {
@@ -124,7 +124,7 @@ fn push_note(line: &mut Buffer, facts: &CallFacts<'_>, calls: usize)
     push_changed(line, ViewFormat::Columns, facts.changes)
 }
 
-/// Adds the note of a call after `room` spaces, which are removed if the note is empty.
+/// Adds the note of an attempt after `room` spaces, which are removed if the note is empty.
 fn push_note_after(line: &mut Buffer, room: usize, facts: &CallFacts<'_>, calls: usize)
     ensures { let note = note_text (facts_in facts.now) calls in
         Grown line.old line.new (led (spaces room) note) }
@@ -136,7 +136,7 @@ fn push_note_after(line: &mut Buffer, room: usize, facts: &CallFacts<'_>, calls:
     line.drop_lead(start, middle)
 }
 
-/// Adds the fields of a call, its statement, and after the statement's column its note.
+/// Adds the fields of an attempt, its statement, and after the statement's column its note.
 fn push_call(
     line: &mut Buffer,
     prefix: &mut Prefix,
@@ -154,8 +154,8 @@ fn push_call(
     push_note_after(line, widths.notes.saturating_sub(size), facts, calls)
 }
 
-/// Adds a call in at most `columns` columns: its note, and before it as much of the place and the
-/// statement as there is room for.
+/// Adds an attempt in at most `columns` columns: its note, and before it as much of the place and
+/// the statement as there is room for.
 fn push_narrow_call(
     line: &mut Buffer,
     prefix: &mut Prefix,
@@ -183,7 +183,7 @@ fn push_narrow_call(
     cut_after(line, start, columns)
 }
 
-/// Adds a call, narrowed if lines may have fewer columns than it needs.
+/// Adds an attempt, narrowed if lines may have fewer columns than it needs.
 fn push_fitted_call(
     line: &mut Buffer,
     prefix: &mut Prefix,
@@ -217,8 +217,8 @@ fn push_end(line: &mut Buffer, colour: Colour)
     }
 }
 
-/// Adds the line of a call, which stands for this number of calls. It is coloured if that is wanted
-/// and the call is a failure or a switch. `prefix` has the thread and the context of another line.
+/// Adds the line of an attempt, which stands for this number of them. It is coloured if wanted and
+/// the attempt is a failure or a switch. `prefix` has the thread and the context of another line.
 pub(crate) fn push_line(
     line: &mut Buffer,
     prefix: &mut Prefix,

@@ -20,10 +20,10 @@ use std::alloc::{AllocError, Global};
 /// The values from which these fields are made, except for the sign and the last digit.
 #[derive(Clone, Copy, PartialEq, Eq)]
 pub(crate) struct PrefixKey {
-    /// The number of the call without its last digit.
+    /// The number of the attempt without its last digit.
     pub(crate) tens: u64,
     pub(crate) thread: u32,
-    /// None for a call that made no step.
+    /// None for an attempt that made no step.
     pub(crate) context: Option<u32>,
     pub(crate) number_width: usize,
     pub(crate) thread_width: usize,

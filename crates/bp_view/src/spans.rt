@@ -25,9 +25,9 @@ pub struct StandingPoint {
 pub struct Span {
     /// The thread of all steps of the context.
     pub thread: u32,
-    /// The number of the first step's call, from 1.
+    /// The number of the first step's attempt, from 1.
     pub first: u64,
-    /// The number of the last step's call, from 1.
+    /// The number of the last step's attempt, from 1.
     pub last: u64,
     /// The thread's point before the first of them.
     pub before: StandingPoint,
@@ -74,8 +74,8 @@ fn push_step(spans: &mut Vec<Span>, step: Span) -> Result<(), AllocError>
     Ok(())
 }
 
-/// Makes the machine's own call for a recorded one, and adds its step to the contexts if it made
-/// one. `number` is that of the call.
+/// Makes the machine's own attempt for a recorded one, and adds its step to the contexts if it made
+/// one. `number` is that of the attempt.
 fn play_call(
     session: &mut Session,
     spans: &mut Vec<Span>,

@@ -24,7 +24,7 @@ pub enum Status {
     Failed,
     /// One more step of it is not within the allowed contexts.
     OutOfContexts,
-    /// It has made all the calls that it may make.
+    /// It has made all the attempts that it may make.
     OutOfCalls,
     /// Its next step is a call, and its stack has no room for a frame.
     FullStack,
@@ -36,7 +36,7 @@ pub enum Status {
     Open,
 }
 
-/// Returns the reply to the last call of the thread.
+/// Returns the reply to the last attempt of the thread.
 #[tactic(auto, using(crate::proofs::RecordedCalls::other, crate::proofs::RecordedCalls::own))]
 fn last_reply(history: &[Call], thread: u32) -> Option<Reply>
     ensures { result ≡ last_reply (calls_of_thread thread history.now) }
@@ -51,7 +51,7 @@ fn last_reply(history: &[Call], thread: u32) -> Option<Reply>
 }
 
 impl Status {
-    /// Returns why a thread makes no more calls, by the reply to its last one.
+    /// Returns why a thread makes no more attempts, by the reply to its last one.
     fn after(last: Option<Reply>) -> Status
         ensures { result ≡ status_after last }
     {
@@ -114,9 +114,9 @@ pub struct ThreadFacts<'a> {
 /// The shown facts of a state.
 #[derive(Drop)]
 pub struct StateFacts<'a> {
-    /// The number of calls made.
+    /// The number of attempts made.
     pub number: u64,
-    /// The number of calls of the history.
+    /// The number of attempts of the history.
     pub count: u64,
     /// Whether an assertion failed, and whose.
     pub outcome: Outcome,
@@ -234,7 +234,7 @@ fn threads_of<'a>(
 }
 
 /// Returns the facts of the state of the session, which stands after this history, a prefix of one
-/// of `count` calls. Fails only on allocation.
+/// of `count` attempts. Fails only on allocation.
 pub fn facts_of_state<'a>(
     alloc: Global,
     program: &ProgramFacts<'a>,

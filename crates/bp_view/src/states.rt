@@ -202,7 +202,7 @@ fn push_state(view: &mut Buffer, format: ViewFormat, state: &StateFacts<'_>)
 }
 
 /// Adds the state of the session, which stands after this history, a prefix of one of `count`
-/// calls.
+/// attempts.
 pub(crate) fn push_state_of(
     alloc: Global,
     view: &mut Buffer,
@@ -224,7 +224,7 @@ pub(crate) fn push_state_of(
     push_state(view, context.options.format, &facts)
 }
 
-/// Returns the state after the first `number` calls of a trace, or after the last if there are
+/// Returns the state after the first `number` attempts of a trace, or after the last if there are
 /// fewer, and the report of the whole trace. The state has the values of the globals, the status of
 /// each thread, and the frames of its stack. A text that is not a trace of the program is refused
 /// as `replay` refuses it.

@@ -1,5 +1,5 @@
 //! The names of the bits of a store, and their values.
-//! The object of a call in JSON, from its facts.
+//! The object of an attempt in JSON, from its facts.
 ghost use Rattle.std.specs.Prelude.{◌≡◌, ◌<◌, ◌+◌, ◌^◌, ◌++◌, ◌∷◌, [], codes, length, option_map, flat_map};
 ghost use Rattle.std.specs.List.{concat};
 ghost use Rattle.bp_text.specs.Pieces.{bit_or_null, bit_text, key_text, string_text, truth_text};
@@ -146,7 +146,7 @@ fn choice_member(choice: Option<bool>) -> &'static [u8]
     }
 }
 
-/// Adds the members of a call that have one value each.
+/// Adds the members of an attempt that have one value each.
 fn push_members(line: &mut Buffer, facts: &CallFacts<'_>)
     ensures { Grown line.old line.new (concat (member_texts (facts_in facts.now))) }
 {
@@ -194,7 +194,7 @@ fn push_bit_items(items: &mut Buffer, bits: &[bool])
     }
 }
 
-/// Adds the values that a call printed, or null.
+/// Adds the values that an attempt printed, or null.
 fn push_printed(line: &mut Buffer, printed: Option<&[bool]>)
     ensures { let printed = printed_text (option_map (λ v. v.now) printed.entry) in
         Grown line.old line.new printed }
@@ -207,7 +207,7 @@ fn push_printed(line: &mut Buffer, printed: Option<&[bool]>)
     line.close_list(start)
 }
 
-/// Adds the object of a call that printed these values, if any.
+/// Adds the object of an attempt that printed these values, if any.
 pub(crate) fn push_object(line: &mut Buffer, facts: &CallFacts<'_>, printed: Option<&[bool]>)
     ensures { let printed = option_map (λ v. v.now) printed.entry in
         Grown line.old line.new (call_object (facts_in facts.now) printed) }

@@ -40,7 +40,7 @@ pub(crate) struct Widths {
     pub(crate) line: Option<usize>,
 }
 
-/// The context in which a view shows its calls.
+/// The context in which a view shows its attempts.
 #[derive(Clone, Copy)]
 pub(crate) struct ViewContext<'a> {
     pub(crate) program: ProgramFacts<'a>,
@@ -50,7 +50,7 @@ pub(crate) struct ViewContext<'a> {
     pub(crate) options: ViewOptions<'a>,
     /// The name of the program's text.
     pub(crate) file: &'a str,
-    /// The calls that are asked for, by the options.
+    /// The attempts that are asked for, by the options.
     pub(crate) filter: CallFilter,
     /// The names of the watched variables, or none.
     pub(crate) names: &'a [&'a [u8]],
@@ -152,8 +152,8 @@ pub(crate) fn shown_trace_of(
     })
 }
 
-/// Replays a trace as `shown_trace_of` does, and keeps the session after its first `after` calls,
-/// or after all if there are fewer.
+/// Replays a trace as `shown_trace_of` does, and keeps the session after its first `after`
+/// attempts, or after all if there are fewer.
 pub(crate) fn shown_trace_to(
     alloc: Global,
     text: &[u8],
@@ -178,7 +178,7 @@ pub(crate) fn shown_trace_to(
     Ok((shown, checkpoint))
 }
 
-/// Returns the number of calls in the `end` line of a trace, or 0.
+/// Returns the number of attempts in the `end` line of a trace, or 0.
 fn told_calls(trace: &[u8]) -> u64 {
     let line = last_line(trace.strip_suffix(b"\n").unwrap_or(trace));
     let Some(counts) = line.strip_prefix(b"end ") else {
@@ -188,9 +188,9 @@ fn told_calls(trace: &[u8]) -> u64 {
     number_of(part_before(counts, size)).unwrap_or(0)
 }
 
-/// Replays a trace as `shown_trace_of` does, and keeps the session before the calls that are asked
-/// for. Their number is known from the last line before the trace is read. If that line were wrong,
-/// the trace would be refused.
+/// Replays a trace as `shown_trace_of` does, and keeps the session before the attempts that are
+/// asked for. Their number is known from the last line before the trace is read. If that line were
+/// wrong, the trace would be refused.
 pub(crate) fn shown_trace_before(
     alloc: Global,
     text: &[u8],
@@ -215,7 +215,7 @@ pub(crate) fn shown_trace_before(
 }
 
 impl ShownTrace {
-    /// Returns the context of a view of all calls, without watched names.
+    /// Returns the context of a view of all attempts, without watched names.
     pub(crate) fn context<'a>(&'a self, checked: &'a Checked, format: ViewFormat) -> ViewContext<'a>
         ensures known { (text : List ℕ)
             → AreSourceStatements text checked.now self.now.statements.items

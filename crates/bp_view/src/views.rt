@@ -32,7 +32,7 @@ use bp_trace::ReplayError;
 use std::alloc::{AllocError, Global};
 use std::io::Write;
 
-/// Refuses a missing thread, if only the calls of one thread are to be shown.
+/// Refuses a missing thread, if only the attempts of one thread are to be shown.
 fn check_thread(options: ViewOptions<'_>, setup: &Setup) -> Result<(), ViewError>
     ensures { MatchResult result
         (λ _. IsThere options.entry.thread (threads setup.now))
@@ -44,8 +44,8 @@ fn check_thread(options: ViewOptions<'_>, setup: &Setup) -> Result<(), ViewError
     }
 }
 
-/// Writes the head of a view, the line of each call that the writer has not made, and the end. The
-/// calls that it made have no lines. Each line is written before the next call is made.
+/// Writes the head of a view, the line of each attempt that the writer has not made, and the end.
+/// The attempts that it made have no lines. Each line is written before the next attempt is made.
 fn write_parts<W: Write>(
     alloc: Global,
     writer: &mut ViewWriter<'_>,
@@ -70,7 +70,7 @@ fn write_parts<W: Write>(
     let history = writer.context.history;
     put(out, head)?;
     for n in writer.made as usize..history.len() {
-        // A call of a history that may be played is refused only for memory.
+        // An attempt of a history that may be played is refused only for memory.
         let Ok(()) = writer.make_line(&history[n]) else {
             return Err(ViewError::Memory);
         };
@@ -82,7 +82,7 @@ fn write_parts<W: Write>(
 }
 
 /// Writes the view of a trace that was replayed, or refuses a missing thread, or else a watched
-/// name that no variable has. The calls after the checkpoint, before which none has a line, are
+/// name that no variable has. The attempts after the checkpoint, before which none has a line, are
 /// made once more.
 fn write_view<W: Write>(
     alloc: Global,
@@ -143,10 +143,10 @@ fn write_view<W: Write>(
 }
 
 /// Writes a view of the history of a trace of a program, and returns its report. The view has the
-/// setup, a line for each call that is shown, and the foot. The state after the last call follows
-/// if it is asked for. The places in the foot have the name of the program's text before them. The
-/// lines are written as they are made, after the trace was replayed, with the calls made once more,
-/// from the first that is asked for.
+/// setup, a line for each attempt that is shown, and the foot. The state after the last attempt
+/// follows if it is asked for. The places in the foot have the name of the program's text before
+/// them. The lines are written as they are made, after the trace was replayed, with the attempts
+/// made once more, from the first that is asked for.
 ///
 /// A text that is not a trace of the program is refused as `replay` refuses it. Then a missing
 /// thread is refused, and then a watched name that no variable has. Nothing is written of a refused
@@ -196,7 +196,7 @@ fn push_gap(view: &mut Buffer, format: ViewFormat)
 }
 
 /// Adds the state of the session after a foot, if it is asked for. The session stands after the
-/// last call.
+/// last attempt.
 fn push_state(alloc: Global, view: &mut Buffer, context: &ViewContext<'_>, session: &Session)
     ensures { let t = session.now.code.tree in (text : List ℕ) (h : List Answered)
         → IsViewContextOf t text context.now

@@ -1,5 +1,5 @@
-//! The lines of a view, each made by a session that makes the call once more. The lines of the
-//! calls that are shown. The calls that a view shows, by its options.
+//! The lines of a view, each made by a session that makes the attempt once more. The lines of the
+//! attempts that are shown. The attempts that a view shows, by its options.
 ghost use Rattle.std.specs.Prelude.{◌≡◌, ◌++◌, ◌∷◌, [], ℕ, List, option_map, MatchResult, OnOk, None};
 ghost use Rattle.bp_language.specs.Ast.{Program};
 ghost use Rattle.bp_machine.specs.declared.calls.Call.{Call as Answered};
@@ -43,29 +43,29 @@ fn next_print(
     }
 }
 
-/// Makes the lines of a view, one for each call of its history.
+/// Makes the lines of a view, one for each attempt of its history.
 #[derive(Drop)]
 pub(crate) struct ViewWriter<'a> {
     pub(crate) context: ViewContext<'a>,
-    /// It stands after the calls that were made.
+    /// It stands after the attempts that were made.
     pub(crate) session: Session,
     /// The line of the last of them, or nothing if it is not shown.
     pub(crate) line: Buffer,
     /// The fields that lines have in common with the lines before.
     pub(crate) prefix: Prefix,
-    /// Room for the changes of a call.
+    /// Room for the changes of an attempt.
     pub(crate) changes: Vec<Change<'a>>,
     /// The thread of the last step.
     pub(crate) last: Option<u32>,
-    /// The number of calls made.
+    /// The number of attempts made.
     pub(crate) made: u64,
 }
 
 impl ViewWriter<'_> {
     ghost use Rattle.bp_view.specs.Views.{HasMade, IsShownLine};
 
-    /// Makes the next call of the history, which is the recorded one, and its line. No call of a
-    /// history that may be played is refused, unless for memory.
+    /// Makes the next attempt of the history, which is the recorded one, and its line. No attempt
+    /// of a history that may be played is refused, unless for memory.
     pub(crate) fn make_line(&mut self, recorded: &Call) -> Result<(), AskError>
         ensures made { (t : Program) (h : List Answered)
             → HasMade t h self.old
@@ -107,8 +107,8 @@ impl ViewWriter<'_> {
     }
 }
 
-/// Adds the line of a call in the format of the view, which stands for this number of calls; the
-/// call printed these values, if any. `prefix` has parts of another line that are kept.
+/// Adds the line of an attempt in the format of the view, which stands for this number of attempts;
+/// the attempt printed these values, if any. `prefix` has parts of another line that are kept.
 fn push_line_in(
     view: &mut Buffer,
     prefix: &mut Prefix,
@@ -133,9 +133,9 @@ fn push_line_in(
     }
 }
 
-/// Adds the line of a call, if it is shown: it is asked for, it changed a watched variable, and its
-/// line stands for a call. `prefix` has parts of another line that are kept, and `changes` is room
-/// for the call's changes.
+/// Adds the line of an attempt, if it is shown: it is asked for, it changed a watched variable, and
+/// its line stands for an attempt. `prefix` has parts of another line that are kept, and `changes`
+/// is room for the attempt's changes.
 pub(crate) fn push_shown<'a>(
     view: &mut Buffer,
     prefix: &mut Prefix,
@@ -171,7 +171,7 @@ pub(crate) fn push_shown<'a>(
     push_line_in(view, prefix, context, &facts, calls, printed)
 }
 
-/// Returns options for all calls, without colours.
+/// Returns options for all attempts, without colours.
 pub(crate) fn all_calls<'a>(format: ViewFormat) -> ViewOptions<'a>
     ensures { (result.format ≡ format) × (result.watch ≡ None) × (result.columns ≡ None) }
 {
@@ -190,7 +190,7 @@ pub(crate) fn all_calls<'a>(format: ViewFormat) -> ViewOptions<'a>
     }
 }
 
-/// Returns the calls that are asked for. Equal waits have one line only in columns.
+/// Returns the attempts that are asked for. Equal waits have one line only in columns.
 pub(crate) fn filter_of(options: &ViewOptions<'_>) -> CallFilter
     ensures { result ≡ filter_of options.now }
 {
