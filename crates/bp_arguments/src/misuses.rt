@@ -40,7 +40,7 @@ pub enum Misuse {
     BadVerdict,
     /// With the first of these options, the second has no effect.
     Together(OptionName, OptionName),
-    /// The first call to show, this one, comes after the last, that one.
+    /// The first attempt to show, this one, comes after the last, that one.
     Backwards(u64, u64),
 }
 
@@ -136,7 +136,7 @@ fn first_given<'p>(
     pairs.iter().find(|pair| are_on_line(arguments, **pair))
 }
 
-/// Returns the first and the last call to show, if the first comes after the last.
+/// Returns the first and the last attempt to show, if the first comes after the last.
 fn backwards_in(arguments: &ArgMatches<'_>) -> Option<(u64, u64)>
     ensures { result ≡ backwards_in (rows_of (found_of arguments.now)) }
 {

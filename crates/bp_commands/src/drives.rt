@@ -81,8 +81,8 @@ impl PairCommand for DriveTask<'_> {
 pub type BundleError = Error;
 
 /// Reads a bundle, a program and a schedule, drives the program by the schedule, and writes the
-/// trace: one thread begins with `main`, all globals are 0, and at most 2 contexts and 1,000 calls
-/// are allowed. Reads at most 1,048,577 bytes.
+/// trace: one thread begins with `main`, all globals are 0, and at most 2 contexts and 1,000
+/// attempts are allowed. Reads at most 1,048,577 bytes.
 pub fn drive_bundle<R: Read, W: Write>(
     alloc: Global,
     bundle: &mut Source<R>,

@@ -32,7 +32,7 @@ pub struct EndFacts {
     pub complete: bool,
     /// Why not everything was explored, if so.
     pub reason: Option<Reason>,
-    /// The calls of the trace, or of the thread that makes too many for one.
+    /// The attempts of the trace, or of the thread that makes too many for one.
     pub calls: Option<u64>,
     /// Whether a trace of the finding is written.
     pub trace: bool,

@@ -58,7 +58,7 @@ fn kept_end(alloc: Global, session: &Session) -> Result<HistoryEnd, Error>
 }
 
 /// `shrink`: writes the trace of a history with the failure or the deadlock of a trace, by no more
-/// calls and no more contexts.
+/// attempts and no more contexts.
 pub(crate) fn shrink_trace<W: Write>(
     alloc: Global,
     code: &Code,

@@ -1,5 +1,5 @@
-//! The command `show`: the calls of a trace, a state, its contexts or its steps, also of the
-//! accepted calls of a trace that is refused.
+//! The command `show`: the attempts of a trace, a state, its contexts or its steps, also of the
+//! accepted attempts of a trace that is refused.
 ghost use Rattle.std.specs.Prelude.{◌≡◌};
 ghost use Rattle.bp_text.specs.Writing.{Writes};
 ghost use Rattle.bp_code.specs.WellFormedTexts.{IsWellFormedText};
@@ -45,8 +45,8 @@ fn on_screen<'a>(options: ViewOptions<'a>, screen: Screen) -> ViewOptions<'a>
     }
 }
 
-/// `show --at`: writes the state after one of the calls of a trace: the values of the globals, and
-/// for each thread its status and the frames of its stack.
+/// `show --at`: writes the state after one of the attempts of a trace: the values of the globals,
+/// and for each thread its status and the frames of its stack.
 fn show_state<W: Write>(
     alloc: Global,
     text: &[u8],
@@ -66,7 +66,7 @@ fn show_state<W: Write>(
 }
 
 /// `show --contexts`: writes a line for each context of a trace: its thread, its first and its last
-/// call, their places, and the globals that it changed.
+/// attempt, their places, and the globals that it changed.
 fn show_contexts<W: Write>(
     alloc: Global,
     text: &[u8],
@@ -102,8 +102,8 @@ fn show_steps<W: Write>(
     Ok(found.report)
 }
 
-/// Shows a trace: the state after a number of calls, its contexts, its steps, or its calls, by the
-/// first of these that is asked for.
+/// Shows a trace: the state after a number of attempts, its contexts, its steps, or its attempts,
+/// by the first of these that is asked for.
 fn show_part<W: Write>(
     alloc: Global,
     text: &[u8],
@@ -133,7 +133,7 @@ fn show_part<W: Write>(
     Ok(report)
 }
 
-/// Writes that a trace is refused after this number of calls.
+/// Writes that a trace is refused after this number of attempts.
 fn put_refusal<W: Write>(format: ViewFormat, calls: u64, out: &mut W) -> Result<(), WriteError>
     ensures { Writes (W.contents out.old) (W.contents out.new) (refusal_text format calls) result }
 {
@@ -157,9 +157,9 @@ fn put_refusal<W: Write>(format: ViewFormat, calls: u64, out: &mut W) -> Result<
     }
 }
 
-/// `show`: shows a trace, or with `--valid` its accepted calls. If the trace is refused after some
-/// calls, the trace of these is shown, a last line gives their number, and then the trace is
-/// refused.
+/// `show`: shows a trace, or with `--valid` its accepted attempts. If the trace is refused after
+/// some attempts, the trace of these is shown, a last line gives their number, and then the trace
+/// is refused.
 pub(crate) fn show_trace<W: Write>(
     alloc: Global,
     text: &[u8],

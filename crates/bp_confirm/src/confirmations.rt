@@ -82,7 +82,7 @@ pub(crate) fn told_lines<'a>(
 }
 
 /// Confirms a text of reported steps of the program of a text: the history that takes them, one
-/// call for each step, in the setup of its trace. A thread whose last step is at a `?` takes the
+/// attempt for each step, in the setup of its trace. A thread whose last step is at a `?` takes the
 /// bit of a deadlock, if the threads are deadlocked after such bits, and else 0.
 pub fn confirm(
     alloc: Global,
@@ -128,7 +128,7 @@ pub struct Difference {
 pub enum StepReason {
     /// Its thread is not at its location.
     Elsewhere,
-    /// Its thread makes no more calls: its assertion failed, or its calls are used up.
+    /// Its thread makes no more attempts: its assertion failed, or its attempts are used up.
     Finished,
     /// The machine does not grant it, and gives this reply.
     Refused(Reply),

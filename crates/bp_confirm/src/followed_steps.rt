@@ -44,10 +44,10 @@ pub(crate) struct Followed {
     pub(crate) asks: bool,
 }
 
-/// Why a thread is not called.
+/// Why a thread makes no attempt.
 #[derive(Clone, Copy)]
 pub(crate) enum NotCalled {
-    /// It has made its last call.
+    /// It has made its last attempt.
     Finished,
     /// There was not enough memory.
     Memory,
@@ -117,7 +117,7 @@ fn bit_at(
     )
 }
 
-/// Makes the call of an existing thread.
+/// Makes the attempt of an existing thread.
 fn call_of(session: &mut Session, thread: u32, bit: bool) -> Result<Call, NotCalled>
     requires thread { thread < threads session.old.setup }
     requires unseeded { session.old.setup.seed ≡ None }
@@ -156,8 +156,8 @@ fn refusal_of(
     })
 }
 
-/// Returns the first of the values of a line that its thread does not see after the call of its
-/// step. The call follows the history.
+/// Returns the first of the values of a line that its thread does not see after the attempt of its
+/// step. The attempt follows the history.
 fn first_difference(
     alloc: Global,
     checked: &Checked,
@@ -290,7 +290,7 @@ fn asks_now(asks: bool, session: &Session, lines: &StepLines, next: u32, thread:
     location_in(lines, next).is_none() && is_at_fork(session, thread)
 }
 
-/// Adds a call to a history.
+/// Adds an attempt to a history.
 fn keep(history: &mut Vec<Call>, call: Call) -> Result<(), StepError>
     ensures kept { OnOk result (history.new.items ≡ history.old.items ++ call ∷ []) }
     ensures memory { IfErr result (λ f. f ≡ StepError.Memory) }
@@ -301,7 +301,7 @@ fn keep(history: &mut Vec<Call>, call: Call) -> Result<(), StepError>
     Ok(())
 }
 
-/// Takes the steps of all lines in a session before any call, with these last bits.
+/// Takes the steps of all lines in a session before any attempt, with these last bits.
 pub(crate) fn take_steps(
     alloc: Global,
     checked: &Checked,

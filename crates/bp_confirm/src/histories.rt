@@ -19,11 +19,11 @@ use bp_flat::Code;
 use bp_machine::{Call, Session, Setup};
 use std::alloc::{AllocError, Global};
 
-/// The history that takes reported steps, a call for each.
+/// The history that takes reported steps, an attempt for each.
 #[derive(Drop)]
 pub struct Confirmed {
     pub history: Vec<Call>,
-    /// The session after the last call. Its setup is that of the trace.
+    /// The session after the last attempt. Its setup is that of the trace.
     pub session: Session,
     /// The bits of last steps at a `?` on which its deadlock depends, in the order of the threads.
     pub choices: Vec<LastChoice>,
@@ -138,9 +138,9 @@ fn confirmed_with(taken: Taken, choices: Vec<LastChoice>) -> Confirmed
 }
 
 /// Confirms the steps of these lines in the program of a text: returns the history that takes them,
-/// one call for each, with the inferred choice bits; or the first line whose step no history takes
-/// after those before it. A thread whose last step is at a `?` takes the bit of a deadlock, if the
-/// threads are deadlocked after such bits, and else 0.
+/// one attempt for each, with the inferred choice bits; or the first line whose step no history
+/// takes after those before it. A thread whose last step is at a `?` takes the bit of a deadlock,
+/// if the threads are deadlocked after such bits, and else 0.
 pub(crate) fn confirm_lines(
     alloc: Global,
     text: &[u8],

@@ -32,12 +32,12 @@ pub struct OwnStep {
 /// The steps of a history, and its report.
 #[derive(Drop)]
 pub struct OwnSteps {
-    /// A step for each call that makes one, in their order.
+    /// A step for each attempt that makes one, in their order.
     pub steps: Vec<OwnStep>,
     pub report: Report,
 }
 
-/// Returns whether a call with this reply made a step.
+/// Returns whether an attempt with this reply made a step.
 pub(crate) fn is_granted(reply: Reply) -> bool
     ensures { result ≡ is_granted reply }
 {

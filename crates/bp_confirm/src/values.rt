@@ -185,7 +185,7 @@ pub(crate) fn last_seen_after(before: LastSeen, seen: Option<bool>, n: u32) -> L
     }
 }
 
-/// Returns a thread's view of a variable after a history, by making the calls of the history again.
+/// Returns a thread's view of a variable after a history, whose attempts it makes again.
 pub(crate) fn last_seen_of(
     alloc: Global,
     checked: &Checked,
@@ -212,7 +212,7 @@ pub(crate) fn last_seen_of(
         changed: None,
     };
     for (n, call) in history.iter().enumerate() {
-        // The history is legal, so a call is refused only for memory.
+        // The history is legal, so an attempt is refused only for memory.
         let Ok(_made) = again.ask_as_recorded(call.thread, call.bit) else {
             return Err(AllocError);
         };

@@ -1,4 +1,4 @@
-//! Sentences on a call of a trace that is not the machine's own.
+//! Sentences on an attempt of a trace that is not the machine's own.
 
 use crate::sources::{Source, ThreadPlaceText, source_of};
 use crate::traces::RefusedLine;
@@ -10,7 +10,7 @@ use bp_text::line_of;
 use bp_trace::Due;
 use std::alloc::AllocError;
 
-/// Returns the verb for a thread whose call has a reply of this letter.
+/// Returns the verb for a thread whose attempt has a reply of this letter.
 fn verb_of(letter: u8) -> Option<&'static str> {
     match letter {
         b'x' => Some("is stopped: an assertion failed before"),
@@ -38,7 +38,7 @@ fn thread_place_of(source: &Source<'_>, session: &Session, thread: u32) -> Threa
 }
 
 impl RefusedLine<'_, '_> {
-    /// Says that a call is expected in place of that of the line.
+    /// Says that an attempt is expected in place of that of the line.
     fn due(&self, call: Call) -> Result<String, AllocError> {
         let (alloc, thread, bit) = (self.alloc, call.thread, u8::from(call.bit));
         let letter = char::from(call.reply.letter());
@@ -49,13 +49,13 @@ impl RefusedLine<'_, '_> {
         }
     }
 
-    /// Says that a call of the line has another choice bit than the seed.
+    /// Says that an attempt of the line has another choice bit than the seed.
     pub(crate) fn other_bit(&self, due: Due) -> Result<String, AllocError> {
         let (alloc, expected) = (self.alloc, self.due(due.call)?);
         format!(in alloc; "{expected}: the choice bit is that of the seed")
     }
 
-    /// Says that a call of the line is of a thread that has made its last one.
+    /// Says that an attempt of the line is of a thread that has made its last one.
     pub(crate) fn finished(&self) -> Result<String, AllocError> {
         let alloc = self.alloc;
         match line_of(self.trace, self.number).and_then(|line| number_at_front(line.text)) {
@@ -64,7 +64,7 @@ impl RefusedLine<'_, '_> {
         }
     }
 
-    /// Gives the position of the thread of a call, with the values that its statement reads.
+    /// Gives the position of the thread of an attempt, with the values that its statement reads.
     fn standing(&self, thread: u32) -> Result<String, AllocError> {
         let alloc = self.alloc;
         let nothing = String::new(alloc);
@@ -82,13 +82,13 @@ impl RefusedLine<'_, '_> {
         format!(in alloc; "is at {here}{read} and ")
     }
 
-    /// Returns the verb of the line for the thread of its call.
+    /// Returns the verb of the line for the thread of its attempt.
     fn told_verb(&self) -> Option<&'static str> {
         let (_, reply_at) = self.call()?;
         verb_of(*self.trace.get(reply_at)?)
     }
 
-    /// Says that a call of the line has another reply than the machine's own, with the verb of
+    /// Says that an attempt of the line has another reply than the machine's own, with the verb of
     /// each.
     pub(crate) fn other_reply(&self, due: Due) -> Result<String, AllocError> {
         let (alloc, expected, thread) = (self.alloc, self.due(due.call)?, due.call.thread);

@@ -150,7 +150,7 @@ impl RefusedLine<'_, '_> {
         }
     }
 
-    /// Gives the expected form of the line, which is neither a line of calls nor an end.
+    /// Gives the expected form of the line, which is neither a line of attempts nor an end.
     pub(crate) fn body_sentence(&self) -> Result<String, AllocError> {
         let alloc = self.alloc;
         let before = self.text_of(self.number.saturating_sub(1));

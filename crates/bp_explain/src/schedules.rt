@@ -1,4 +1,4 @@
-//! Explanations of the errors of schedules. The call of a schedule that finished a thread, and why.
+//! Explanations of the errors of schedules. The attempt that finished a thread, and why.
 ghost use Rattle.std.specs.Prelude.{IfOk};
 ghost use Rattle.bp_advice.specs.Explanations.{IsExplanationOf};
 ghost use Rattle.bp_explain.specs.ExplainedErrors.{ExplainsSchedule};
@@ -29,8 +29,8 @@ fn line_sentence(alloc: Global, line: Line<'_>) -> Result<String, AllocError> {
     }
 }
 
-/// Returns the line of the last call of a thread on these lines of a schedule, and the reply to it,
-/// in the runs of a program from this start; None if the program, start or a line is refused.
+/// Returns the line of the last attempt of a thread on these lines of a schedule, and the reply to
+/// it, in the runs of a program from this start; None if the program, start or a line is refused.
 fn last_call(
     alloc: Global,
     program: &[u8],
@@ -60,7 +60,7 @@ fn last_call(
     Ok(last.map(|(index, call)| (index.saturating_add(1), call.reply)))
 }
 
-/// Explains why a thread was terminated by a call with this reply, in a run from this start.
+/// Explains why a thread was terminated by an attempt with this reply, in a run from this start.
 fn cause(alloc: Global, start: &Start, thread: u32, reply: Reply) -> Result<String, AllocError> {
     let (contexts, calls) = (start.contexts, start.calls);
     let verb = |number: u32| if number == 1 { "is" } else { "are" };
@@ -81,7 +81,7 @@ fn cause(alloc: Global, start: &Start, thread: u32, reply: Reply) -> Result<Stri
     }
 }
 
-/// Names the call that finished a thread, in a run from this start, and why: that of a line of a
+/// Names the attempt that finished a thread, in a run from this start, and why: that of a line of a
 /// schedule or of steps, with this reply.
 pub(crate) fn last_sentence(
     alloc: Global,
@@ -101,7 +101,7 @@ pub(crate) fn last_sentence(
     format!(in alloc; "thread {thread} {answer} at line {line}: {cause}")
 }
 
-/// Names the call that finished the thread on the line of this number of a schedule, and why, if
+/// Names the attempt that finished the thread on the line of this number of a schedule, and why, if
 /// that is known.
 fn finished(
     alloc: Global,
@@ -128,9 +128,9 @@ fn finished(
 }
 
 /// Explains this error of a schedule of the program of a text, which runs from this start, at its
-/// line. For a thread that has made its last call the schedule is played up to that line. Nothing
-/// explains a schedule that is too long, refused memory, or an output that failed. Fails only on
-/// allocation.
+/// line. For a thread that has made its last attempt the schedule is played up to that line.
+/// Nothing explains a schedule that is too long, refused memory, or an output that failed. Fails
+/// only on allocation.
 pub fn explain_schedule<'a>(
     alloc: Global,
     program: &[u8],

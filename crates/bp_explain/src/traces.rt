@@ -1,4 +1,4 @@
-//! Explanations of the errors of traces. The number of accepted calls of a refused trace.
+//! Explanations of the errors of traces. The number of accepted attempts of a refused trace.
 ghost use Rattle.std.specs.Prelude.{IfOk};
 ghost use Rattle.bp_advice.specs.Explanations.{ExplainsLine, IsExplanationOf};
 ghost use Rattle.bp_explain.specs.ExplainedErrors.{ExplainsTrace};
@@ -29,7 +29,7 @@ impl RefusedLine<'_, '_> {
         self.head.is_some_and(|head| head.version == Version::Two)
     }
 
-    /// Returns the places in the trace of the choice bit and of the reply's letter, of the call
+    /// Returns the places in the trace of the choice bit and of the reply's letter, of the attempt
     /// that the error names. In version 1 a space is between them.
     pub(crate) fn call(&self) -> Option<(usize, usize)> {
         let mut before = match self.error {
@@ -57,7 +57,7 @@ impl RefusedLine<'_, '_> {
         Some((bit_at, bit_at.saturating_add(size.saturating_sub(1))))
     }
 
-    /// Returns the trace of the accepted calls, if it has the head of a setup that the program
+    /// Returns the trace of the accepted attempts, if it has the head of a setup that the program
     /// accepts.
     pub(crate) fn accepted_part(&self, code: &Code) -> Result<Option<AcceptedTrace>, AllocError> {
         match accepted_trace(self.alloc, code, self.trace) {
@@ -67,7 +67,7 @@ impl RefusedLine<'_, '_> {
         }
     }
 
-    /// Returns the number of accepted calls of the trace, if any could be.
+    /// Returns the number of accepted attempts of the trace, if any could be.
     fn accepted_calls(&self) -> Result<Option<u64>, AllocError> {
         match self.error {
             ReplayError::AfterFinish(_, made) => Ok(Some(*made)),
@@ -107,7 +107,7 @@ impl RefusedLine<'_, '_> {
         }
     }
 
-    /// Explains the mistake in the line, and gives the number of accepted calls of the trace.
+    /// Explains the mistake in the line, and gives the number of accepted attempts of the trace.
     fn sentence(&self) -> Result<String, AllocError> {
         let (alloc, line) = (self.alloc, self.line_sentence()?);
         let Some(calls) = self.accepted_calls()? else {
@@ -150,7 +150,7 @@ fn explain_line<'a>(
 }
 
 /// Explains this error of a trace of the program of a text, at its line, with a caret below the
-/// place in a call that is not the machine's own. Nothing explains a trace that is too long, or
+/// place in an attempt that is not the machine's own. Nothing explains a trace that is too long, or
 /// refused memory. Fails only on allocation.
 pub fn explain_trace<'a, 't>(
     alloc: Global,

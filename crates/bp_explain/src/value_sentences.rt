@@ -41,15 +41,15 @@ pub(crate) fn values(
     Ok(words)
 }
 
-/// Records the last call of a replay that changed a thread's view of a variable.
+/// Records the last attempt of a replay that changed a thread's view of a variable.
 #[derive(Drop)]
 struct ChangeWatcher<'a> {
     source: &'a Source<'a>,
     thread: u32,
     name: &'a [u8],
-    /// The number of calls made.
+    /// The number of attempts made.
     made: usize,
-    /// The last of them that changed it, from 1; None if no call did.
+    /// The last of them that changed it, from 1; None if no attempt did.
     changed: Option<usize>,
 }
 
@@ -77,7 +77,7 @@ impl Watcher for ChangeWatcher<'_> {
     }
 }
 
-/// Returns the last call of a trace that changed a thread's view of a variable, from 1.
+/// Returns the last attempt of a trace that changed a thread's view of a variable, from 1.
 fn last_change(
     alloc: Global,
     source: &Source<'_>,

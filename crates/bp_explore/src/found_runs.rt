@@ -74,7 +74,7 @@ pub(crate) struct Replay {
     pub(crate) made: u32,
 }
 
-/// Returns the number of calls of this thread.
+/// Returns the number of attempts of this thread.
 fn calls_of(thread: u32, calls: &[Call]) -> usize
     ensures { result ≡ length (calls_of_thread thread calls.now) }
 {
@@ -87,7 +87,7 @@ fn calls_of(thread: u32, calls: &[Call]) -> usize
     count
 }
 
-/// Returns the largest number of calls of one thread.
+/// Returns the largest number of attempts of one thread.
 pub(crate) fn most_calls(threads: u32, calls: &[Call]) -> usize
     ensures { result ≡ most_calls threads calls.now }
 {
@@ -109,8 +109,8 @@ fn is_same_step(made: Reply, reply: Reply) -> bool
     }
 }
 
-/// Makes these calls on a session, and returns the number of listed steps that they make. Returns
-/// None if one is not the machine's own granted step, or comes after all listed steps.
+/// Makes these attempts on a session, and returns the number of listed steps that they make.
+/// Returns None if one is not the machine's own granted step, or comes after all listed steps.
 fn play<O: Observer>(session: &mut Session, observer: &O, calls: &[Call]) -> Option<u32>
     requires stands { Stands session.old.code.tree session.old [] }
     requires some { 0 < (O.listed observer.now).count }
@@ -146,7 +146,7 @@ fn play<O: Observer>(session: &mut Session, observer: &O, calls: &[Call]) -> Opt
     Some(made)
 }
 
-/// Plays a run within this number of contexts, in the setup of its trace. The most calls of one
+/// Plays a run within this number of contexts, in the setup of its trace. The most attempts of one
 /// thread are given.
 pub(crate) fn replay_of<O: Observer>(
     alloc: Global,

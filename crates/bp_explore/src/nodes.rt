@@ -262,7 +262,7 @@ impl Nodes {
         self.spare.has_full_stack(code)
     }
 
-    /// Returns the call of the step that led to a node, or None if no step did.
+    /// Returns the attempt of the step that led to a node, or None if no step did.
     pub(crate) fn call(&self, at: usize) -> Option<Call> {
         let thread = self.last(at)?;
         let step = self.steps.get(at).copied().unwrap_or(0);

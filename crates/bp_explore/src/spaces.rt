@@ -22,7 +22,7 @@ pub(crate) struct Step {
 }
 
 impl Step {
-    /// Returns the call of the step, with its reply.
+    /// Returns the attempt of the step, with its reply.
     pub(crate) fn call(&self, reply: Reply) -> Call {
         Call {
             thread: self.thread,
@@ -550,7 +550,7 @@ impl Space {
         most
     }
 
-    /// Returns the calls of the run that leads to a node, in order.
+    /// Returns the attempts of the run that leads to a node, in order.
     pub(crate) fn calls_to(&self, alloc: Global, at: usize) -> Result<Vec<Call>, AllocError> {
         let mut calls = Vec::new(alloc);
         let mut at = at;

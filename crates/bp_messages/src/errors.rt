@@ -42,7 +42,7 @@ pub enum Error {
     /// The reported steps are refused.
     #[error("{0}")]
     Steps(ConfirmError),
-    /// Only the calls of this thread were asked for, and the trace does not have it.
+    /// Only the attempts of this thread were asked for, and the trace does not have it.
     #[error("the trace has no thread {0}")]
     NoThread(u32),
     /// No variable of the program has this one of the watched names, from 1.

@@ -26,7 +26,7 @@ struct Notes {
     no_assertion_reached: bool,
     /// Many runs ended too early for want of contexts.
     out_of_contexts: bool,
-    /// Many runs ended too early for want of calls.
+    /// Many runs ended too early for want of attempts.
     cut_off: bool,
     /// Many runs ended too early because a stack was full.
     full_stack: bool,

@@ -3,10 +3,10 @@
 /// The default seed of a run, or of the first run of a test.
 pub const DEFAULT_SEED: u64 = 42;
 
-/// The default number of calls of a worker in a turn.
+/// The default number of attempts of a worker in a turn.
 pub const DEFAULT_TURN: u32 = 1;
 
-/// The default number of calls that the ring of a run holds.
+/// The default number of attempts that the ring of a run holds.
 pub const DEFAULT_RING: u32 = 1024;
 
 /// The default number of runs of a test.

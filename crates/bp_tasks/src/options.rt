@@ -8,11 +8,11 @@ use std::marker::Model;
 pub struct RunOptions {
     /// The start of each run.
     pub start: Start,
-    /// The most calls of a worker while it holds the lock of the board: 1 to 64.
+    /// The most attempts of a worker while it holds the lock of the board: 1 to 64.
     pub turn: u32,
     /// The seed of the choice bits.
     pub seed: u64,
-    /// The number of calls of the ring through which the history leaves the board: 1 to 65,536.
+    /// The number of attempts of the ring through which the history leaves the board: 1 to 65,536.
     pub ring: u32,
 }
 
@@ -63,16 +63,16 @@ pub enum ViewFormat {
     Json,
 }
 
-/// The calls that a view shows, and their form.
+/// The attempts that a view shows, and their form.
 #[derive(Clone, Copy)]
 pub struct ViewOptions<'a> {
     /// Only those of this thread.
     pub thread: Option<u32>,
-    /// The number of the last calls of the history that are shown.
+    /// The number of the last attempts of the history that are shown.
     pub last: Option<u64>,
-    /// The number of the first call that is shown.
+    /// The number of the first attempt that is shown.
     pub from: Option<u64>,
-    /// The number of the last call that is shown.
+    /// The number of the last attempt that is shown.
     pub to: Option<u64>,
     /// Only those that change a variable of one of these names, as `watched_names` of `bp_view`
     /// reads them. It is a global, or a formal or a local of any procedure. A step that enters a
@@ -81,13 +81,13 @@ pub struct ViewOptions<'a> {
     /// Whether more than three equal waits of a thread in succession have one line. Objects are
     /// never folded.
     pub fold: bool,
-    /// Whether the state after the last call follows the foot.
+    /// Whether the state after the last attempt follows the foot.
     pub has_state: bool,
     /// Whether the setup is left out.
     pub is_brief: bool,
     /// With the colours of a terminal.
     pub has_colour: bool,
-    /// The most columns of a line of a call; None if it has as many as it needs.
+    /// The most columns of a line of an attempt; None if it has as many as it needs.
     pub columns: Option<usize>,
     pub format: ViewFormat,
 }

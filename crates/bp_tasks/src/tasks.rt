@@ -116,23 +116,23 @@ pub struct TraceTask<'a> {
     pub explain: Explaining,
 }
 
-/// A program, a trace of it, and its view: the state after a number of calls, the contexts, the
-/// steps, or the calls, by the first of these that is asked for.
+/// A program, a trace of it, and its view: the state after a number of attempts, the contexts, the
+/// steps, or the attempts, by the first of these that is asked for.
 #[derive(Drop)]
 pub struct ShowTask<'a> {
     /// The path of the program's text.
     pub program: &'a str,
     /// The path of the trace.
     pub trace: &'a str,
-    /// The number of calls after which the state is shown.
+    /// The number of attempts after which the state is shown.
     pub at: Option<u64>,
     /// Whether a line for each context is shown.
     pub contexts: bool,
     /// Whether the steps are shown as `confirm` takes them.
     pub steps: bool,
-    /// Whether the accepted calls are shown of a trace that is refused.
+    /// Whether the accepted attempts are shown of a trace that is refused.
     pub valid: bool,
-    /// The calls that are shown, and their form. In JSON an error is an object too.
+    /// The attempts that are shown, and their form. In JSON an error is an object too.
     pub options: ViewOptions<'a>,
     pub explain: Explaining,
 }

@@ -1,3 +1,3 @@
-//! Tests of `bp_machine`: sessions by hand, and their calls if memory is refused.
+//! Tests of `bp_machine`: sessions by hand, and their attempts if memory is refused.
 mod growths;
 mod sessions;

@@ -29,7 +29,7 @@ pub(crate) fn calls() -> &'static [u8] {
     CALLS
 }
 
-/// Makes the setup of this number of threads with 20 calls each, with the seed 42 or without one.
+/// Makes the setup of this number of threads with 20 attempts each, with the seed 42 or none.
 pub(crate) fn setup(
     alloc: Global,
     code: &Code,

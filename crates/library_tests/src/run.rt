@@ -1,4 +1,4 @@
-//! Tests of `bp_run`: desks and boards by hand, gathering, workers and gates, and their calls if
+//! Tests of `bp_run`: desks and boards by hand, gathering, workers and gates, and their attempts if
 //! memory is refused.
 mod board;
 pub(crate) mod growths;

@@ -32,7 +32,7 @@ fn tells_frames(session: &Session) -> bool {
         && session.top_below(1, 1).is_none()
 }
 
-/// Makes a call of thread 1. The session has this code and setup, and stands after the call.
+/// Makes an attempt of thread 1. The session has this code and setup, and stands after the attempt.
 fn makes(rt: &HostRuntime, session: &mut Session, code: &Code, setup: &Setup) -> Result<(), Fail> {
     begin(rt)?;
     let call = session.ask(1)?;
@@ -86,7 +86,7 @@ fn has_choices(code: &Code, setup: &Setup) -> bool {
         && first == [true, true, true, false]
 }
 
-/// The text of a copy of a code, and of two calls of a setup.
+/// The text of a copy of a code, and of two attempts of a setup.
 const WRITTEN: &[u8] = b"proc main 0 0\n0 call 2 1\n1 return\n\
     proc f 1 0\n2 call 2 3\n3 return\n\
     -\n\
@@ -94,7 +94,7 @@ const WRITTEN: &[u8] = b"proc main 0 0\n0 call 2 1\n1 return\n\
     btrace 1\nentry main\ninit 00\ncontexts 1000\ncalls 20\nseed 42\n0 1 s\n0 1 s\nend 2 1\n\
     btrace 2\nentry main\ninit 00\ncontexts 1000\ncalls 20\nseed 42\n0 1s1s\nend 2 1\n";
 
-/// Writes the listing of a code, and the trace of two calls by its parts, whole, and in version 2.
+/// Writes the listing of a code, and the trace of two attempts by parts, whole, and in version 2.
 fn writes(code: &Code, setup: &Setup, out: &mut Vec<u8>) -> Result<(), bp_code::WriteError> {
     let call = Call {
         thread: 0,

@@ -1,4 +1,4 @@
-//! Sessions and their calls: after a refusal a session makes the calls that it makes without one.
+//! Sessions and their attempts: after a refusal a session makes the same attempts as without one.
 ghost use Rattle.bp_machine.specs.Setups.{Fits};
 
 use crate::common::code_of;
@@ -8,7 +8,7 @@ use bp_machine::{AskError, Call, Session, Setup};
 use std::alloc::Global;
 use std::test::Fail;
 
-/// The kind of a call.
+/// The kind of an attempt.
 #[derive(Clone, Copy, PartialEq, Eq)]
 enum Way {
     Ask,
@@ -43,7 +43,7 @@ fn session_of(alloc: Global, text: &[u8], seed: Option<u64>) -> Result<Session, 
     Ok(Session::new(alloc, &code, &setup)?)
 }
 
-/// Returns the next call of thread 0.
+/// Returns the next attempt of thread 0.
 fn call(session: &mut Session, way: Way) -> Result<Call, AskError> {
     match way {
         Way::Ask => session.ask(0),
@@ -51,7 +51,7 @@ fn call(session: &mut Session, way: Way) -> Result<Call, AskError> {
     }
 }
 
-/// Makes calls of thread 0, once more if one is refused memory, and returns whether one was. A
+/// Makes attempts of thread 0, once more if one is refused memory, and returns whether one was. A
 /// refusal has to leave the report as it was.
 fn make_calls(session: &mut Session, way: Way, made: &mut [Option<Call>]) -> Result<bool, Fail> {
     let mut was_refused = false;
@@ -68,7 +68,7 @@ fn make_calls(session: &mut Session, way: Way, made: &mut [Option<Call>]) -> Res
     Ok(was_refused)
 }
 
-/// Makes the 20 calls of a session, and those of another one with refusals. They have to be the
+/// Makes the 20 attempts of a session, and those of another one with refusals. They have to be the
 /// same.
 fn are_alike(
     rt: &HostRuntime,

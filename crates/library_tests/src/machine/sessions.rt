@@ -1,4 +1,4 @@
-//! Sessions by hand, and their refusals. Cases of the commands show what calls do.
+//! Sessions by hand, and their refusals. Cases of the commands show what attempts do.
 
 use crate::common::{code_of, mains};
 use bp_machine::{AskError, Call, Reply, Session, Setup, SetupError};
@@ -8,7 +8,7 @@ use std::test::Fail;
 /// A loop with a choice.
 const LOOP: &[u8] = b"main() begin while (?) do skip; od end";
 
-/// The choice bit of a call.
+/// The choice bit of an attempt.
 #[derive(Clone, Copy)]
 enum Ask {
     /// With the bit that the seed draws.
@@ -17,7 +17,7 @@ enum Ask {
     Given(bool),
 }
 
-/// The choice bit of a call, its thread, and the result.
+/// The choice bit of an attempt, its thread, and the result.
 type Row = (Ask, u32, Result<Call, AskError>);
 
 /// A step of thread 0 with the bit 1.
@@ -34,7 +34,7 @@ const ZERO: Result<Call, AskError> = Ok(Call {
     reply: Reply::Stepped,
 });
 
-/// The results of a session without a seed, whose thread has one call.
+/// The results of a session without a seed, whose thread has one attempt.
 const UNSEEDED: [Row; 6] = [
     (Ask::Drawn, 1, Err(AskError::NoThread)),
     (Ask::Drawn, 0, Err(AskError::Unseeded)),
@@ -44,7 +44,7 @@ const UNSEEDED: [Row; 6] = [
     (Ask::Given(false), 1, Err(AskError::NoThread)),
 ];
 
-/// The results by the seed 42, up to the last of seven calls. Refused calls use no bit.
+/// The results by the seed 42, up to the last of seven attempts. Refused attempts use no bit.
 const SEEDED: [Row; 10] = [
     (Ask::Drawn, 1, Err(AskError::NoThread)),
     (Ask::Given(true), 0, Err(AskError::Seeded)),
@@ -76,7 +76,7 @@ fn answers(session: &mut Session, rows: &[Row]) -> bool {
     matches!(session.next_print(1), Err(AskError::NoThread))
 }
 
-/// Returns whether a session of the loop has these results, within these calls and with this seed.
+/// Returns whether a session of the loop has these results, within these attempts, with this seed.
 fn is_so(alloc: Global, calls: u32, seed: Option<u64>, rows: &[Row]) -> Result<bool, Fail> {
     let code = code_of(alloc, LOOP)?;
     let entries = mains(alloc, 1)?;

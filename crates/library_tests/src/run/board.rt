@@ -19,8 +19,8 @@ const LOOP: &[u8] = b"main() begin while (?) do skip; od end";
 /// An assumption that never holds.
 const WAIT: &[u8] = b"main() begin assume (0); end";
 
-/// Makes a setup of threads that begin with `main`, with these numbers of contexts and calls of a
-/// thread, and the seed 42.
+/// Makes a setup of threads that begin with `main`, with these numbers of contexts and attempts of
+/// a thread, and the seed 42.
 fn setup_of(
     alloc: Global,
     code: &Code,

@@ -30,7 +30,7 @@ struct Numbers {
     ring: u32,
 }
 
-/// One thread, ten calls, and turns of one call.
+/// One thread, ten attempts, and turns of one attempt.
 const ONE: Numbers = Numbers {
     threads: 1,
     contexts: 1000,
@@ -67,7 +67,7 @@ fn runs<W: Write, G: Gate, R: Threads + Wait + Clock + Sync>(
     run(rt, alloc, text, &options, gate, out)
 }
 
-/// Returns the number of calls of a run with these numbers; None if refused or a line is open.
+/// Returns the number of attempts of a run with these numbers; None if refused or a line is open.
 fn calls<W: Write, G: Gate, R: Threads + Wait + Clock + Sync>(
     rt: &R,
     alloc: Global,
@@ -80,7 +80,7 @@ fn calls<W: Write, G: Gate, R: Threads + Wait + Clock + Sync>(
     (done.report.left_live == 0).then_some(done.report.calls)
 }
 
-/// Returns the threads of the calls of a trace, in order, each as its digit. There are at most ten.
+/// Returns the threads of a trace's attempts, in order, each as its digit. There are at most ten.
 fn order_of(alloc: Global, trace: &[u8]) -> Result<Vec<u8>, AllocError> {
     let mut order = Vec::new(alloc);
     for line in trace.split(|byte| *byte == b'\n') {

@@ -6,7 +6,7 @@ use bp_trace::{Watched, Watcher, replay_watched};
 use std::alloc::AllocError;
 use std::test::Fail;
 
-/// A watcher that counts the calls that it makes.
+/// A watcher that counts the attempts that it makes.
 #[derive(Drop)]
 struct Counter {
     begun: bool,
@@ -34,7 +34,7 @@ const PROGRAM: &[u8] = b"main() begin skip; end";
 const TRACE: &[u8] =
     b"btrace 1\nentry main\ninit -\ncontexts 1\ncalls 9\nseed none\n0 0 s\n0 0 s\n0 0 e\nend 3 0\n";
 
-/// Returns whether each of the three calls was made by the watcher.
+/// Returns whether each of the three attempts was made by the watcher.
 fn is_watched(watched: &Watched<Counter>) -> bool {
     watched.watcher.begun
         && watched.watcher.calls == 3

@@ -1,4 +1,4 @@
-//! Desks by hand: turns and single calls. A board's turn is a desk's, under its lock.
+//! Desks by hand: turns and single attempts. A board's turn is a desk's, under its lock.
 
 ghost use Rattle.std.specs.Prelude.{◌≡◌, true, is_some};
 ghost use Rattle.bp_machine.specs.Setups.{threads, Fits};
@@ -18,9 +18,9 @@ use std::test::Fail;
 /// The request of a seat.
 #[derive(Clone, Copy)]
 enum Ask {
-    /// For one call.
+    /// For one attempt.
     Call,
-    /// For a turn of three calls.
+    /// For a turn of three attempts.
     Three,
     /// For the longest turn.
     Most,
@@ -29,13 +29,13 @@ enum Ask {
 /// An action, and its expected result.
 #[derive(Clone, Copy)]
 enum Act {
-    /// The seat asks: the result, and its number of calls.
+    /// The seat asks: the result, and its number of attempts.
     Ask(Ask, Result<Reply, AskError>, u64),
-    /// A look at the tap: the call that it gives.
+    /// A look at the tap: the attempt that it gives.
     Take(Option<Call>),
 }
 
-/// Each of the first three calls of the loop.
+/// Each of the first three attempts of the loop.
 const FIRST: Option<Call> = Some(Call {
     thread: 0,
     bit: true,
@@ -49,7 +49,7 @@ const TURNS: [Act; 3] = [
     Act::Ask(Ask::Three, Err(AskError::Terminated), 9),
 ];
 
-/// Single calls, if four are allowed.
+/// Single attempts, if four are allowed.
 const CALLS: [Act; 6] = [
     Act::Ask(Ask::Call, Ok(Reply::Stepped), 1),
     Act::Ask(Ask::Call, Ok(Reply::Stepped), 2),
@@ -59,7 +59,7 @@ const CALLS: [Act; 6] = [
     Act::Take(FIRST),
 ];
 
-/// Turns and calls, if the ring has four places.
+/// Turns and attempts, if the ring has four places.
 const BUSY: [Act; 7] = [
     Act::Ask(Ask::Most, Err(AskError::Busy), 4),
     Act::Ask(Ask::Call, Err(AskError::Busy), 4),
@@ -70,7 +70,7 @@ const BUSY: [Act; 7] = [
     Act::Take(FIRST),
 ];
 
-/// A turn if two calls are allowed, and looks at the tap until it is empty.
+/// A turn if two attempts are allowed, and looks at the tap until it is empty.
 const FEW: [Act; 5] = [
     Act::Ask(Ask::Most, Ok(Reply::Stepped), 2),
     Act::Ask(Ask::Three, Err(AskError::Terminated), 2),
@@ -79,7 +79,7 @@ const FEW: [Act; 5] = [
     Act::Take(None),
 ];
 
-/// Turns at an assumption of 0, if three calls are allowed.
+/// Turns at an assumption of 0, if three attempts are allowed.
 const WAITS: [Act; 4] = [
     Act::Ask(Ask::Most, Ok(Reply::Blocked), 1),
     Act::Ask(Ask::Most, Ok(Reply::Blocked), 2),
@@ -142,7 +142,7 @@ fn is_seen_at<C: Calls, O: Ledger>(
     }
 }
 
-/// Returns whether they do at a desk of one thread of a program, within this number of calls.
+/// Returns whether they do at a desk of one thread of a program, within this number of attempts.
 fn plays(alloc: Global, text: &[u8], calls: u32, ring: u32, acts: &[Act]) -> Result<bool, Fail> {
     let code = code_of(alloc, text)?;
     let setup = setup_of(alloc, &code, 1, 1, calls)?;

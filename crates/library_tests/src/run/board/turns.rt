@@ -1,4 +1,4 @@
-//! Turns at a board, and the calls and the report with which it is gathered.
+//! Turns at a board, and the attempts and the report with which it is gathered.
 
 ghost use Rattle.std.specs.Prelude.{◌≡◌, true, is_some};
 ghost use Rattle.bp_machine.specs.Setups.{threads, Fits};
@@ -18,26 +18,26 @@ use std::sync::Wait;
 use std::sync::ledger::Ledger;
 use std::test::Fail;
 
-/// The calls that a turn may make, and its result.
+/// The attempts that a turn may make, and its result.
 type Turn = (u32, Result<Reply, AskError>);
 
 /// Turns of the only thread of a program, and the result of gathering the board after them.
 #[derive(Clone, Copy)]
 struct Play {
     text: &'static [u8],
-    /// The numbers of contexts and calls allowed.
+    /// The numbers of contexts and attempts allowed.
     bounds: (u32, u32),
     ring: u32,
     turns: &'static [Turn],
-    /// The number of calls taken before the board is gathered.
+    /// The number of attempts taken before the board is gathered.
     taken: usize,
-    /// The bit and the letter of each call.
+    /// The bit and the letter of each attempt.
     history: &'static [u8],
     /// The contexts that are used, and the outcome.
     used: (u32, Outcome),
 }
 
-/// The loop by the seed 42, in turns of three calls, of the most, and of one.
+/// The loop by the seed 42, in turns of three attempts, of the most, and of one.
 const LOOP_BY_TURNS: Play = Play {
     text: LOOP,
     bounds: (1, 10),
@@ -59,7 +59,7 @@ const WHOLE_LOOP: Play = Play {
     ..LOOP_BY_TURNS
 };
 
-/// Turns at an assumption of 0, up to the last allowed call.
+/// Turns at an assumption of 0, up to the last allowed attempt.
 const WAITS: Play = Play {
     text: WAIT,
     bounds: (1, 3),
@@ -93,7 +93,7 @@ const FAILURE: Play = Play {
     ..LOOP_BY_TURNS
 };
 
-/// Of the whole loop two calls or all are taken while the board is open.
+/// Of the whole loop two attempts or all are taken while the board is open.
 const PLAYS: [Play; 6] = [
     LOOP_BY_TURNS,
     Play {
@@ -109,7 +109,7 @@ const PLAYS: [Play; 6] = [
     FAILURE,
 ];
 
-/// Returns whether a call of thread 0 has the bit and the letter.
+/// Returns whether an attempt of thread 0 has the bit and the letter.
 fn is_call(call: Option<Call>, symbol: &[u8]) -> bool {
     match call {
         Some(call) => {
@@ -120,7 +120,7 @@ fn is_call(call: Option<Call>, symbol: &[u8]) -> bool {
     }
 }
 
-/// Returns whether the tap gives these calls of thread 0.
+/// Returns whether the tap gives these attempts of thread 0.
 fn gives<C: Calls>(tap: &mut Tap<C>, history: &[u8]) -> bool {
     for symbol in history.chunks(2) {
         if !is_call(tap.next(), symbol) {
@@ -146,7 +146,7 @@ fn turns_are_answered<C: Calls, O: Ledger, R: Wait + Runtime>(
 }
 
 /// Returns whether a board is gathered with the report of a whole play, after this number of its
-/// calls were taken; the tap then gives the others.
+/// attempts were taken; the tap then gives the others.
 fn is_gathered<C: Calls, O: Ledger>(
     board: Board<C, O>,
     seats: Vec<Seat<C, O>>,

@@ -1,4 +1,4 @@
-//! Desks and boards: the calls before a refusal are kept, and the thread continues after it.
+//! Desks and boards: the attempts before a refusal are kept, and the thread continues after it.
 ghost use Rattle.std.specs.Prelude.{◌≡◌, true, is_some, IfOk};
 ghost use Rattle.bp_machine.specs.Setups.{threads, Fits};
 ghost use Rattle.bp_run.specs.Desks.{IsNamed};
@@ -16,14 +16,14 @@ use std::sync::Wait;
 use std::sync::ledger::Ledger;
 use std::test::Fail;
 
-/// The kind of the calls of a thread.
+/// The kind of the attempts of a thread.
 #[derive(Clone, Copy, PartialEq, Eq)]
 pub(crate) enum Way {
-    /// Single calls at a desk.
+    /// Single attempts at a desk.
     Asks,
-    /// Turns of three calls at a desk.
+    /// Turns of three attempts at a desk.
     DeskTurns,
-    /// Turns of three calls at a board.
+    /// Turns of three attempts at a board.
     BoardTurns,
     /// The work of a worker at a board.
     Work,
@@ -41,7 +41,7 @@ fn make_board_parts(rt: HostRuntime) -> Result<(), Fail> {
     wants(!is_refused || BoardParts::new(rt.alloc(), 3, 64).is_ok())
 }
 
-/// Returns whether a tap gives the first calls of thread 0 of a session, and nothing more.
+/// Returns whether a tap gives the first attempts of thread 0 of a session, and nothing more.
 fn gives_calls_of<C: Calls>(tap: &mut Tap<C>, session: &mut Session) -> bool {
     for _ in 0..20 {
         let call = session.ask(0).ok();
@@ -52,7 +52,7 @@ fn gives_calls_of<C: Calls>(tap: &mut Tap<C>, session: &mut Session) -> bool {
     tap.next().is_none()
 }
 
-/// Makes the calls of a seat at a desk, and returns whether one was refused.
+/// Makes the attempts of a seat at a desk, and returns whether one was refused.
 fn play_at_desk<C: Calls, O: Ledger>(
     desk: &mut Desk<C, O>,
     seat: &mut Seat<C, O>,
@@ -82,8 +82,8 @@ fn is_refused<C: Calls, O: Ledger, R: Wait + Runtime>(
     }
 }
 
-/// Makes the calls of a seat at a board, once more if that is refused. The tap gives all of them;
-/// with no memory left the seat is open.
+/// Makes the attempts of a seat at a board, once more if that is refused. The tap gives all of
+/// them; with no memory left the seat is open.
 fn plays<C: Calls, O: Ledger, R: Wait + Runtime>(
     rt: &R,
     board: &Board<C, O>,
@@ -104,7 +104,7 @@ fn plays<C: Calls, O: Ledger, R: Wait + Runtime>(
     wants(gives_calls_of(tap, session))
 }
 
-/// Makes a turn of two calls of thread 1 of two, takes one of them, gathers the board, and takes
+/// Makes a turn of two attempts of thread 1 of two, takes one of them, gathers the board, and takes
 /// the other one.
 fn gathers<C: Calls, O: Ledger, R: Wait + Runtime>(
     rt: &R,
@@ -129,8 +129,8 @@ fn gathers<C: Calls, O: Ledger, R: Wait + Runtime>(
     wants(matches!(taken, (Some(first), Some(_), None) if first.thread == 1))
 }
 
-/// Makes the calls of thread 0 at a board of these parts, which have to be those of the session, or
-/// gathers the board.
+/// Makes the attempts of thread 0 at a board of these parts, which have to be those of the session,
+/// or gathers the board.
 fn at_a_board<C: Calls, O: Ledger, R: Wait + Runtime>(
     rt: &R,
     alloc: Global,
@@ -157,8 +157,8 @@ fn at_a_board<C: Calls, O: Ledger, R: Wait + Runtime>(
     }
 }
 
-/// Makes the calls of thread 0 at a desk of these parts, which have to be those of the session. The
-/// desk itself may be refused.
+/// Makes the attempts of thread 0 at a desk of these parts, which have to be those of the session.
+/// The desk itself may be refused.
 fn at_a_desk<C: Calls, O: Ledger, R: Runtime>(
     rt: &R,
     alloc: Global,
@@ -222,7 +222,7 @@ fn board_parts(alloc: Global, setup: &Setup) -> Result<BoardParts, AllocError>
     BoardParts::new(alloc, setup.threads(), 64)
 }
 
-/// Makes the calls at a desk or a board of the program that calls itself.
+/// Makes the attempts at a desk or a board of the program that calls itself.
 pub(crate) fn makes_calls<R: Wait + Runtime>(rt: &R, alloc: Global, way: Way) -> Result<(), Fail> {
     let code = code_of(alloc, calls())?;
     let threads = if way == Way::Gathered { 2 } else { 1 };

@@ -1,5 +1,5 @@
 //! A run in which only one worker pushes frames, after the others were started. If it is refused
-//! one, the others end, and its thread stays live after the calls that it made.
+//! one, the others end, and its thread stays live after the attempts that it made.
 use crate::common::{code_of, names};
 use crate::ready::{begin, say, wants};
 use bp_code::{CheckError, ProgramError};
@@ -16,13 +16,13 @@ use std::thread;
 use std::thread::Threads;
 use std::time::Clock;
 
-/// The threads of `a` make four calls each; that of `b` pushes a frame with each of its ten.
+/// The threads of `a` make four attempts each; that of `b` pushes a frame with each of its ten.
 const PROGRAM: &[u8] = b"decl x; a() begin x := 1; x := 0; end b() begin b(); end";
 
 /// The thread of `b`.
 const CALLER: u32 = 1;
 
-/// The number of calls of the other two threads.
+/// The number of attempts of the other two threads.
 const OTHERS: u64 = 8;
 
 /// A gate that holds the thread of `b` ahead of its first turn until the thread after it comes, and
@@ -81,7 +81,7 @@ impl Gate for Held {
     }
 }
 
-/// Returns the options for ten calls of each thread, by turns of one.
+/// Returns the options for ten attempts of each thread, by turns of one.
 fn options(alloc: Global) -> Result<RunOptions, AllocError> {
     Ok(RunOptions {
         start: Start {
@@ -96,8 +96,8 @@ fn options(alloc: Global) -> Result<RunOptions, AllocError> {
     })
 }
 
-/// Returns whether a run is right after this number of answered turns of `b`, each of one call. It
-/// made all its calls, or its thread is live after those that it made. Its worker counted the same.
+/// Returns whether a run is right after this number of answered turns of `b`, one attempt each. It
+/// made all its attempts, or its thread is live after those it made. Its worker counted the same.
 fn is_right(done: &RunReport, own: u64) -> bool {
     let count = WorkerCount {
         thread: CALLER,
@@ -111,7 +111,7 @@ fn is_right(done: &RunReport, own: u64) -> bool {
         && done.report.left_live == u32::from(count.is_open)
 }
 
-/// Returns the number of calls of the thread of `b` in a trace.
+/// Returns the number of attempts of the thread of `b` in a trace.
 fn calls_of_caller(trace: &[u8]) -> u64 {
     let mut count: u64 = 0;
     for line in trace.split(|byte| *byte == b'\n') {
@@ -159,7 +159,7 @@ fn looks(
     }
 }
 
-/// Returns the word of the line for a run: whether all calls were made, the worker of `b` was
+/// Returns the word of the line for a run: whether all attempts were made, the worker of `b` was
 /// refused memory, or the run.
 fn word_of(done: &Result<RunReport, RunError>) -> &'static str {
     match done {

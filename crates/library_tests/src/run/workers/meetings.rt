@@ -9,10 +9,10 @@ use std::test::Fail;
 use std::thread::Threads;
 use std::time::Clock;
 
-/// The least program: each thread makes three calls.
+/// The least program: each thread makes three attempts.
 const SKIP: &[u8] = b"main() begin skip; end";
 
-/// Returns the number of calls that these threads of the least program make, with a ring of one.
+/// Returns the number of attempts that these threads of the least program make, with a ring of one.
 /// The trace goes to the end of `trace`.
 fn skips<G: Gate, R: Threads + Wait + Clock + Sync>(
     rt: &R,
@@ -94,8 +94,8 @@ impl Gate for Behind {
     }
 }
 
-/// Returns whether this one of two threads waits at its gate while the other makes all its calls.
-/// The trace goes to the end of `trace`.
+/// Returns whether this one of two threads waits at its gate while the other makes all its
+/// attempts. The trace goes to the end of `trace`.
 fn is_behind<R: Threads + Wait + Clock + Sync>(
     rt: &R,
     alloc: Global,

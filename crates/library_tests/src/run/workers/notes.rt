@@ -11,9 +11,9 @@ use std::time::Clock;
 /// A loop with a choice: by the seed it makes eight steps and ends.
 const LOOP: &[u8] = b"main() begin while (?) do skip; od end";
 
-/// A gate that records a digit each time: ahead of a turn the number of calls, and after it 1 for
-/// Stepped, 2 for Ended, 3 for Blocked and 5 for another reply. Once the thread takes no more turns
-/// it records a 4.
+/// A gate that records a digit each time: ahead of a turn the number of attempts, and after it 1
+/// for Stepped, 2 for Ended, 3 for Blocked and 5 for another reply. Once the thread takes no more
+/// turns it records a 4.
 #[derive(Drop)]
 struct Notes {
     digits: AtomicU64,
@@ -63,10 +63,10 @@ fn digits<R: Threads + Wait + Clock + Sync>(
     gate.digits.load(Ordering::SeqCst)
 }
 
-/// A program, the allowed number of calls of its thread and of each turn, and the digits.
+/// A program, the allowed number of attempts of its thread and of each turn, and the digits.
 type Row = (&'static [u8], u32, u32, u64);
 
-/// The loop by three kinds of turns; turns that are cut when no call is left; waits.
+/// The loop by three kinds of turns; turns that are cut when no attempt is left; waits.
 const ROWS: [Row; 5] = [
     (LOOP, 10, 1, 111_213_141_516_171_824),
     (LOOP, 10, 3, 131_624),

@@ -48,7 +48,7 @@ fn lines_of_first(alloc: Global, trace: &[u8]) -> Result<Vec<u8>, AllocError> {
     Ok(lines)
 }
 
-/// Returns whether a run of three workers made all its calls, and has this trace.
+/// Returns whether a run of three workers made all its attempts, and has this trace.
 fn is_traced(alloc: Global, done: &RunReport, trace: &[u8]) -> Result<bool, Fail> {
     let code = code_of(alloc, BUMPS)?;
     let replayed = replay(alloc, &code, trace)?;
@@ -90,7 +90,7 @@ fn three_workers_make_all_their_calls(rt: HostRuntime) -> Result<(), Fail> {
     Ok(())
 }
 
-/// Returns the number of calls of one worker, by turns of `turn`, at a board with a ring of four.
+/// Returns the number of one worker's attempts, by turns of `turn`, at a board with a ring of four.
 fn calls_by_turns_of<R: Threads + Wait + Clock + Sync>(
     rt: &R,
     alloc: Global,

@@ -32,7 +32,7 @@ impl<'a> Write for Flagged<'a> {
     }
 }
 
-/// A gate that waits, ahead of the call of this number, for the word to have this value.
+/// A gate that waits, ahead of the attempt of this number, for the word to have this value.
 #[derive(Drop)]
 struct Reader<'a> {
     call: u64,
@@ -51,7 +51,7 @@ impl<'a> Gate for Reader<'a> {
     fn after(&self, _thread: u32, _reply: Reply) {}
 }
 
-/// Returns whether, with this ring, `wanted` bytes are written and handed on before this call is
+/// Returns whether, with this ring, `wanted` bytes are written and handed on before this attempt is
 /// made.
 fn is_written<R: Threads + Wait + Clock + Sync>(
     rt: &R,
@@ -112,7 +112,7 @@ impl<'a> Write for Held<'a> {
     }
 }
 
-/// A gate for one worker. The first number of calls that it is told twice goes to the word: the
+/// A gate for one worker. The first number of attempts that it is told twice goes to the word: the
 /// ring has no room for one more.
 #[derive(Drop)]
 struct Full<'a> {
@@ -131,7 +131,7 @@ impl<'a> Gate for Full<'a> {
     fn after(&self, _thread: u32, _reply: Reply) {}
 }
 
-/// Returns whether a worker makes as many calls as its ring holds while nobody takes them, and
+/// Returns whether a worker makes as many attempts as its ring holds while nobody takes them, and
 /// makes the others later.
 fn fills_its_ring<R: Threads + Wait + Clock + Sync>(rt: &R, alloc: Global, ring: u32) -> bool {
     let word = AtomicU64::new(0);
