@@ -1,5 +1,5 @@
 //! Asks of one thread at a session, at a desk and at a board. Each ask has to be a step, and the
-//! tap has to give all calls.
+//! tap has to give all attempts.
 
 use crate::cases::{Case, unmeasured};
 use crate::rounds::measure;
@@ -25,7 +25,7 @@ fn print<R: Runtime>(rt: &R, cases: &[Case], has_times: bool) -> io::Result<()> 
 
 /// Makes `rounds` rounds, and prints a line for each case with the number of asks. If times are
 /// asked for, it also prints the seconds of the asks, and of the looks at the tap by which their
-/// calls were taken from the ring.
+/// attempts were taken from the ring.
 pub fn ask<R: Wait + Clock>(
     host: &HostRuntime,
     rt: &R,

@@ -31,7 +31,7 @@ pub fn unexpected() -> io::Error {
     io::Error::from(io::ErrorKind::InvalidData)
 }
 
-/// Takes the calls of the ring, and returns whether these were as many as it holds.
+/// Takes the attempts of the ring, and returns whether these were as many as it holds.
 fn is_emptied<C: Calls>(tap: &mut Tap<C>) -> bool {
     for _ in 0..RING {
         if tap.next().is_none() {

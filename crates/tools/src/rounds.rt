@@ -18,7 +18,7 @@ use std::time::{Clock, Instant};
 /// A thread that steps as often as it is asked.
 const PROGRAM: &[u8] = b"main() begin while (1) do skip; od end";
 
-/// The number of calls that a thread may make.
+/// The number of attempts that a thread may make.
 const CALLS: u32 = 100_000;
 
 /// The number of times that a round fills the ring.
@@ -46,7 +46,7 @@ fn fills_session(session: &mut Session) -> bool {
     true
 }
 
-/// Fills the ring by single calls, and returns whether each was a step.
+/// Fills the ring by single attempts, and returns whether each was a step.
 fn fills_desk<C: Calls, O: Ledger>(desk: &mut Desk<C, O>, seat: &mut Seat<C, O>) -> bool {
     for _ in 0..RING {
         if desk.ask(seat) != Ok(Reply::Stepped) {
@@ -56,7 +56,7 @@ fn fills_desk<C: Calls, O: Ledger>(desk: &mut Desk<C, O>, seat: &mut Seat<C, O>)
     true
 }
 
-/// Fills the ring by turns of the most calls, and returns whether the last call of each was a step.
+/// Fills the ring by turns of the most attempts, and returns whether the last of each was a step.
 fn fills_board<C: Calls, O: Ledger, R: Wait>(
     rt: &R,
     board: &Board<C, O>,

@@ -5,7 +5,7 @@ use bp_code::code_of;
 use bp_machine::{AskError, Report, Session};
 use std::alloc::Global;
 
-/// Makes a call of each thread that is live.
+/// Makes an attempt of each thread that is live.
 fn ask_each(session: &mut Session, threads: u32) -> Result<(), AskError> {
     for thread in 0..threads {
         match session.ask_with(thread, false) {
