@@ -32,7 +32,7 @@ pub use Rattle.bp_trace.specs.TraceText.{text_of, trace_text, trace_text_2}
 pub use Rattle.bp_trace.specs.declared.traces.Version.TheVariants.{One}
 pub use Rattle.bp_view.proofs.BegunViews.{copied}
 pub use Rattle.bp_view.specs.CallFacts.{AreProgramFacts}
-pub use Rattle.bp_view.specs.FootFacts.{condition_in, foot_in}
+pub use Rattle.bp_view.specs.FooterFacts.{condition_in, footer_in}
 pub use Rattle.bp_view.specs.Views.{IsViewOfTrace, IsViewRefusal, IsViewed, outcome_text, waits_text}
 pub use Rattle.std.proofs.Common.{Err, IfOk, List, None, Ok, Option, Result, Some, Vec, [], add-one, ap, append-nil, arith, drop, false, flat_map, get_or, if◌then◌else◌, inl, inr, length, length-append, length-take, length-take-le, map, nat_le, nat_lt, option_map, refl, rules, subst, sym, take, take-append-drop, take-suc, true, ℕ, ◌++◌, ◌+◌, ◌-◌, ◌<◌, ◌==◌, ◌^◌, ◌∙◌, ◌∷◌, ◌≡◌, ◌≢◌, ◌≤◌, ◌⊎◌}
 pub use Rattle.std.proofs.KnownBytes.{Appends-nil, Consumes-trans, Keeps-refl}

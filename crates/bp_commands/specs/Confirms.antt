@@ -10,7 +10,7 @@ use Rattle.bp_trace.specs.TraceText.{trace_text}
 use Rattle.bp_confirm.specs.declared.confirmations.ConfirmError.{ConfirmError}
 use Rattle.bp_confirm.specs.declared.choices.LastChoice.{LastChoice}
 use Rattle.bp_confirm.specs.ConfirmedTexts.{IsConfirmedText, IsStepsRefusal}
-use Rattle.bp_view.specs.FootFacts.{AreFootFacts, ShownFoot}
+use Rattle.bp_view.specs.FooterFacts.{AreFooterFacts, ShownFooter}
 use Rattle.bp_tasks.specs.declared.tasks.ConfirmTask.{ConfirmTask}
 use Rattle.bp_tasks.specs.declared.tasks.Verdict.{Verdict}
 use Rattle.bp_tasks.specs.declared.tasks.Verdict.TheVariants.{Failure, Deadlock, Run}
@@ -25,7 +25,7 @@ use Rattle.bp_commands.specs.ErrorReports.{AnswerRule}
 use Rattle.bp_commands.specs.declared.confirmations.Confirmation.{Confirmation}
 
 -- the verdict on a run, by the facts of its end
-abbrev pub verdict_of : ShownFoot → Verdict
+abbrev pub verdict_of : ShownFooter → Verdict
 verdict_of x = if is_some x.failure then Failure else if x.deadlocked then Deadlock else Run
 
 abbrev pub verdict_word : Verdict → List ℕ
@@ -112,8 +112,8 @@ pub record IsConfirmation
   pub expected_is : x.expected ≡ task.expected
   pub json_is : x.json ≡ task.json
   pub reported : IsReport s h x.report
-  pub facts : ShownFoot
-  pub facts_are : AreFootFacts t text s h x.report facts
+  pub facts : ShownFooter
+  pub facts_are : AreFooterFacts t text s h x.report facts
   pub verdict : x.verdict ≡ verdict_of facts
   pub failure : x.failure.items ≡ outcome_text Json [] facts.deadlocked facts.failure
   pub waits : x.waits.items ≡ waits_text Json [] facts.waits

@@ -175,7 +175,7 @@ module _ {X : Type 0} (inputs : Inputs X) (Explains : X → Error → Explanatio
 
 -- The report of a refusal on standard error, in each format.
 
--- The error is reported in this format: its line was written, or one of these objects instead; the
+-- The error is reported in this format: its line was written, or else one of these objects; the
 -- result tells whether it was written whole.
 abbrev pub IsReported
     : ErrorFormat → (Error → List ℕ → Type 0) → Error

@@ -4,7 +4,7 @@ use Rattle.bp_language.specs.Ast.{Program}
 use Rattle.bp_explore.specs.declared.explorations.Ending.{Ending}
 use Rattle.bp_explore.specs.declared.explorations.Ending.TheVariants.{Found}
 use Rattle.bp_explore.specs.Explorations.{IsExploration}
-use Rattle.bp_view.specs.FootFacts.{AreFootFacts, ShownFoot}
+use Rattle.bp_view.specs.FooterFacts.{AreFooterFacts, ShownFooter}
 use Rattle.bp_flat.specs.Flat.{Flat}
 use Rattle.bp_flat.specs.StandsFor.{StandsFor}
 use Rattle.bp_machine.specs.declared.calls.Call.{Call}
@@ -57,8 +57,8 @@ module _ (text : List ℕ) (t : Program) (x : ExploreTask) (outcome waits : List
     pub report : Report
     pub reported : IsReport s h report
     pub failed_is : failed ≡ report_failed report
-    pub facts : ShownFoot
-    pub facts_are : AreFootFacts t text s h report facts
+    pub facts : ShownFooter
+    pub facts_are : AreFooterFacts t text s h report facts
     pub outcome_is :
         outcome ≡ outcome_text (format_of x.json) x.program.now facts.deadlocked facts.failure
     pub waits_are : waits ≡ waits_text (format_of x.json) x.program.now facts.waits

@@ -29,7 +29,7 @@ use Rattle.bp_commands.specs.declared.shows.Screen.{Screen}
 use Rattle.bp_commands.specs.declared.trace_commands.TraceCommand.{TraceCommand}
 use Rattle.bp_commands.specs.declared.trace_commands.TraceCommand.TheVariants.{Replay, Migrate, Shrink, Show}
 
--- the view of a history with these options, whose foot has its report
+-- the view of a history with these options, whose footer has its report
 pub record IsViewText
     (o : ViewOptions) (file : List ℕ) (text : List ℕ) (t : Program) (s : SetupOf)
     (h : List Call) (written : List ℕ)

@@ -34,7 +34,7 @@ pub trait ProgramCommand {
             (W.contents out.old) (W.contents out.new) result };
 
     /// Returns the start of the runs of the program, if it is run.
-    fn start(&self) -> Option<NamedStart<'_>> {
+    fn named_start(&self) -> Option<NamedStart<'_>> {
         None
     }
 
@@ -75,7 +75,7 @@ pub trait PairCommand {
         ensures { result ≡ second_input self.now };
 
     /// Returns the start of the run, unless the input has it.
-    fn start(&self) -> Option<NamedStart<'_>> {
+    fn named_start(&self) -> Option<NamedStart<'_>> {
         None
     }
 

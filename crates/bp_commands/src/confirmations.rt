@@ -1,6 +1,6 @@
 //! The command `confirm`.
 ghost use Rattle.std.specs.Prelude.{◌≡◌, ◌++◌, IfOk, OnOk};
-ghost use Rattle.bp_view.specs.FootFacts.{foot_in};
+ghost use Rattle.bp_view.specs.FooterFacts.{footer_in};
 ghost use Rattle.bp_machine.specs.Sessions.{Stands};
 ghost use Rattle.bp_commands.specs.Confirms.{choice_text, choices_text, deadlock_lead, deadlock_line, of_confirm, status_of_verdict, verdict_line, verdict_of, verdict_word, IsConfirmation};
 ghost use Rattle.bp_text.specs.Writing.{Writes};
@@ -18,7 +18,7 @@ use bp_text::Piece::{Bit, Bytes, Number};
 use bp_text::{WriteError, part_from, push_pieces, put, put_pieces};
 use bp_trace::limits::MAX_SCHEDULE;
 use bp_trace::{Version, write_with_live_threads};
-use bp_view::{FootFacts, facts_of_foot, facts_of_program, outcome_text, waits_text};
+use bp_view::{FooterFacts, facts_of_footer, facts_of_program, outcome_text, waits_text};
 use std::alloc::{AllocError, Global};
 use std::io::Write;
 
@@ -43,13 +43,13 @@ pub struct Confirmation {
 }
 
 /// Returns the verdict on steps whose run ends with these facts.
-fn verdict_of(foot: &FootFacts<'_>) -> Verdict
-    ensures { result ≡ verdict_of (foot_in foot.now) }
+fn verdict_of(footer: &FooterFacts<'_>) -> Verdict
+    ensures { result ≡ verdict_of (footer_in footer.now) }
 {
-    if foot.failure.is_some() {
+    if footer.failure.is_some() {
         return Verdict::Failure;
     }
-    if foot.deadlocked {
+    if footer.deadlocked {
         Verdict::Deadlock
     } else {
         Verdict::Run
@@ -204,13 +204,19 @@ fn confirmation_of(
     let statements = source_statements_of(alloc, text, checked)?;
     let program = facts_of_program(statements.as_slice(), checked);
     let report = confirmed.session.report();
-    let foot = facts_of_foot(alloc, &program, &confirmed.session, report)?;
+    let footer = facts_of_footer(alloc, &program, &confirmed.session, report)?;
     let format = ViewFormat::Json;
-    let failure = outcome_text(alloc, format, "", foot.deadlocked, foot.failure.as_ref())?;
-    let waits = waits_text(alloc, format, "", foot.waits.as_slice())?;
+    let failure = outcome_text(
+        alloc,
+        format,
+        "",
+        footer.deadlocked,
+        footer.failure.as_ref(),
+    )?;
+    let waits = waits_text(alloc, format, "", footer.waits.as_slice())?;
     let choices = choices_text(alloc, task.json, confirmed.choices.as_slice())?;
     Ok(Confirmation {
-        verdict: verdict_of(&foot),
+        verdict: verdict_of(&footer),
         report,
         failure,
         waits,
@@ -258,7 +264,7 @@ impl PairCommand for ConfirmTask<'_> {
         SecondInput::Steps
     }
 
-    fn start(&self) -> Option<NamedStart<'_>> {
+    fn named_start(&self) -> Option<NamedStart<'_>> {
         Some(NamedStart {
             start: &self.start,
             named: &self.named,

@@ -69,7 +69,7 @@ impl PairCommand for DriveTask<'_> {
         SecondInput::Schedule
     }
 
-    fn start(&self) -> Option<NamedStart<'_>> {
+    fn named_start(&self) -> Option<NamedStart<'_>> {
         Some(NamedStart {
             start: &self.start,
             named: &self.named,

@@ -21,7 +21,7 @@ use bp_source::source_statements_of;
 use bp_tasks::{ContextBound, ExploreTask, NamedStart, ViewFormat};
 use bp_text::WriteError;
 use bp_trace::write_trace;
-use bp_view::{facts_of_foot, facts_of_program, outcome_text, waits_text};
+use bp_view::{facts_of_footer, facts_of_program, outcome_text, waits_text};
 use std::alloc::{AllocError, Global};
 use std::io::Write;
 
@@ -98,10 +98,16 @@ pub(crate) fn texts_of_run(
     let statements = source_statements_of(alloc, text, checked)?;
     let program = facts_of_program(statements.as_slice(), checked);
     let report = session.report();
-    let foot = facts_of_foot(alloc, &program, session, report)?;
+    let footer = facts_of_footer(alloc, &program, session, report)?;
     let (format, file) = (format_of(task.json), task.program);
-    let outcome = outcome_text(alloc, format, file, foot.deadlocked, foot.failure.as_ref())?;
-    let waits = waits_text(alloc, format, file, foot.waits.as_slice())?;
+    let outcome = outcome_text(
+        alloc,
+        format,
+        file,
+        footer.deadlocked,
+        footer.failure.as_ref(),
+    )?;
+    let waits = waits_text(alloc, format, file, footer.waits.as_slice())?;
     Ok(EndTexts {
         outcome,
         waits,
@@ -197,7 +203,7 @@ impl<'a, P: Watcher> ProgramCommand for Explore<'a, P> {
         })
     }
 
-    fn start(&self) -> Option<NamedStart<'_>> {
+    fn named_start(&self) -> Option<NamedStart<'_>> {
         Some(NamedStart {
             start: &self.task.start,
             named: &self.task.named,

@@ -39,7 +39,7 @@ pub(crate) fn open(
     if let Some(number) = named.unknown(checked) {
         return Err(Error::NoVariable(number));
     }
-    let start = named.start(alloc, checked, start)?;
+    let start = named.start_by_names(alloc, checked, start)?;
     let setup = start.setup(alloc, &code, None)?;
     Ok(Opened { code, setup })
 }
@@ -63,5 +63,5 @@ pub(crate) fn start_of_run(
     if named.unknown(&checked).is_some() {
         return Ok(None);
     }
-    Ok(Some(named.start(alloc, &checked, start)?))
+    Ok(Some(named.start_by_names(alloc, &checked, start)?))
 }

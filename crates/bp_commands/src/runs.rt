@@ -103,7 +103,7 @@ pub fn run_on_program<'a, C: ProgramCommand, F: Files, W: Write + Drop, E: Write
         text: &program.bytes,
     };
     let unread = program.reader.unread();
-    let context = context_of(given, unread, command.numbers(), command.start());
+    let context = context_of(given, unread, command.numbers(), command.named_start());
     finish(io.alloc, io.format, &given, done, context, streams)
 }
 
@@ -180,14 +180,14 @@ pub fn run_on_pair<'a, C: PairCommand, F: Files, W: Write + Drop, E: Write + Dro
             text: &input.bytes,
         },
         second_input: command.second_input(),
-        start: command.start(),
+        start: command.named_start(),
     };
     let context = ErrorContext {
         unread,
         numbers: OptionNumbers::NONE,
         asked: Asked {
             program: given.program.text,
-            start: command.start(),
+            start: command.named_start(),
             watch: command.watch(),
         },
         program: path,

@@ -125,7 +125,7 @@ impl<R: Threads + Sync, P: Progress> ProgramCommand for Test<'_, R, P> {
         })
     }
 
-    fn start(&self) -> Option<NamedStart<'_>> {
+    fn named_start(&self) -> Option<NamedStart<'_>> {
         Some(NamedStart {
             start: &self.task.start,
             named: &self.task.named,

@@ -105,7 +105,7 @@ impl<'a, P: Watcher> PairCommand for Explore<'a, P> {
         SecondInput::Steps
     }
 
-    fn start(&self) -> Option<NamedStart<'_>> {
+    fn named_start(&self) -> Option<NamedStart<'_>> {
         Some(NamedStart {
             start: &self.task.start,
             named: &self.task.named,

@@ -152,7 +152,7 @@ abbrev pub is_terminated : SetupOf → List Call → ℕ → Bool
 is_terminated s h i =
     ends_with_last (calls_of_thread i h) || nat_le s.calls (length (calls_of_thread i h))
 
--- the number of lines that the attempt x finishes after h
+-- the number of threads that the attempt x terminates after h
 abbrev pub terminated_by : SetupOf → List Call → Call → ℕ
 terminated_by s h x = if is_terminated s (h ++ x ∷ []) x.thread then 1 else 0
 

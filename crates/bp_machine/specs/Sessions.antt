@@ -189,12 +189,12 @@ pub record IsNextCall
 abbrev pub given_bit : SetupOf → Bool → Option Bool
 given_bit s bit = if is_some s.seed then None else Some bit
 
--- thread i exists, and its thread is live
+-- thread i exists, and is live
 abbrev pub IsLiveThread : SetupOf → List Call → ℕ → Type 0
 IsLiveThread s h i = (i < threads s) × (is_terminated s h i ≡ false)
 
 -- Why an attempt of thread i is refused after the history h with this given bit, or none: there is
--- no such thread; else its thread has terminated; else a bit was given although the setup has a
+-- no such thread; else it has terminated; else a bit was given although the setup has a
 -- seed, or none although it has none. Memory may be refused only if its step is a call.
 module _ (t : Program) (s : SetupOf) (h : List Call) (i : ℕ) (given : Option Bool) where
   abbrev pub IsAskRefusal : AskError → Type 0

@@ -12,7 +12,7 @@ pub trait Gate: Sync {
     /// Called after each turn that was answered, with its reply. A refused turn has none.
     fn after(&self, thread: u32, reply: Reply);
 
-    /// Called once the thread takes no more turns: its thread has terminated, its worker was
+    /// Called once the thread takes no more turns: it has terminated, its worker was
     /// refused memory or was told to stop, or no worker could be started for it.
     fn finished(&self, _thread: u32) {}
 }

@@ -15,7 +15,7 @@ use std::sync::ledger::{Book, Ledger, Share};
 
 /// A gathered board: the seats; the tap, which gives the attempts not taken yet; the report of the
 /// history; the first thread that is live although its next step is not a call; and whether each
-/// seat agrees with the machine on its thread's attempts and on whether its thread has terminated.
+/// seat agrees with the machine on its thread's attempts and on whether it has terminated.
 #[derive(Drop)]
 pub struct Gathered<C: Calls, O: Ledger> {
     pub seats: Vec<Seat<C, O>>,

@@ -241,7 +241,7 @@ impl NamedBits<'_> {
 
     /// Returns this start, in which each global of the program has the initial bit of its name, or
     /// 0 if it is not named. Fails only on allocation.
-    pub fn start(
+    pub fn start_by_names(
         &self,
         alloc: Global,
         checked: &Checked,

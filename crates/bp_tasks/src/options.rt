@@ -81,7 +81,7 @@ pub struct ViewOptions<'a> {
     /// Whether more than three equal waits of a thread in succession have one line. Objects are
     /// never folded.
     pub fold: bool,
-    /// Whether the state after the last attempt follows the foot.
+    /// Whether the state after the last attempt follows the footer.
     pub has_state: bool,
     /// Whether the setup is left out.
     pub is_brief: bool,

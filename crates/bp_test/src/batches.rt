@@ -35,7 +35,7 @@ struct Batch {
 
 impl Batch {
     /// Returns the start of this block, which is the end of the block before.
-    fn start(&self, block: u64) -> u64
+    fn first_run(&self, block: u64) -> u64
         ensures { let w = self.now in result ≡ start_of_block w.from w.size block w.runs }
     {
         let before = block.saturating_mul(self.size);
@@ -68,8 +68,8 @@ fn blocks_of<R: Threads + Sync, C: Clock + Sync>(
             ensures { let c = code.entry.now in let s = setup.entry.now in let p = plan.entry.now in
                 IsBlock c s p batch.from batch.size batch.runs n result }
         {
-            let start = batch.start(n as u64);
-            let end = batch.start(n as u64 + 1);
+            let start = batch.first_run(n as u64);
+            let end = batch.first_run(n as u64 + 1);
             first_found(clock, alloc, code, setup, plan, start, end)
         },
     )
@@ -164,7 +164,7 @@ pub(crate) fn search<R: Threads + Sync, C: Clock + Sync, P: Progress>(
         let began = millis(rt.clock);
         let blocks = blocks_of(rt, alloc, code, setup, plan, batch)?;
         let BatchEnd { end, found } = first_of(from, blocks, &mut tally)?;
-        let next = batch.start(jobs as u64);
+        let next = batch.first_run(jobs as u64);
         if found.is_some() || end != next {
             return Ok(Block {
                 from: 0,

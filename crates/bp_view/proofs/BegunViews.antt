@@ -1,5 +1,5 @@
 -- The text written of a view, attempt by attempt, is the beginning of a whole one.
-use Rattle.bp_view.proofs.Common.{◌≡◌, ◌∙◌, ◌<◌, ◌≤◌, ◌++◌, ◌-◌, ℕ, zero, suc, Bool, true, false, cond, List, [], ◌∷◌, codes, take, length, length-append, length-take, get_or, map, max, min, ap, refl, arith, slice_get, Some, ◌+◌, Option, drop, add-one, sym, subst, drop-cons, take-append-drop, ◌&&◌, ◌⊎◌, inl, inr, None, nat_le, unwrap_or, append-nil, add-zero, Bor, nat_lt, option_map, rules, nat_tests, take_all, take_more, length-take-le, slice_get-get_or, AppendsAll, part_of_each, both_added, HasParts, IsKind, part_written, Procedure, Program, Name, Place, StandsFor, places_of, Flat, binding, Call, Report, configuration_after, IsLegal, outcome_of, SetupOf, Stands, IsPlayable, front, SourceStatement, place_text, AreSourceStatementsAt, AreSourceStatements, shown_texts, texts_are, ViewFormat, ViewOptions, Columns, printed_by, calls_of, before_last, is_asked, is_between, is_late, is_of_thread, skipped, CallFilter, shortened, longest, variables_text, Widths, filter_of, foot_text, IsFoot, has_line, line_in, IsShownLine, IsViewLine, IsViewLineIf, after_foot, IsEnd, IsStateIf, IsViewContextOf, HasMade, IsView, IsViewable, state_text, IsStateText, ViewContext, view_head, globals_line, thread_line, thread_lines}
+use Rattle.bp_view.proofs.Common.{◌≡◌, ◌∙◌, ◌<◌, ◌≤◌, ◌++◌, ◌-◌, ℕ, zero, suc, Bool, true, false, cond, List, [], ◌∷◌, codes, take, length, length-append, length-take, get_or, map, max, min, ap, refl, arith, slice_get, Some, ◌+◌, Option, drop, add-one, sym, subst, drop-cons, take-append-drop, ◌&&◌, ◌⊎◌, inl, inr, None, nat_le, unwrap_or, append-nil, add-zero, Bor, nat_lt, option_map, rules, nat_tests, take_all, take_more, length-take-le, slice_get-get_or, AppendsAll, part_of_each, both_added, HasParts, IsKind, part_written, Procedure, Program, Name, Place, StandsFor, places_of, Flat, binding, Call, Report, configuration_after, IsLegal, outcome_of, SetupOf, Stands, IsPlayable, front, SourceStatement, place_text, AreSourceStatementsAt, AreSourceStatements, shown_texts, texts_are, ViewFormat, ViewOptions, Columns, printed_by, calls_of, before_last, is_asked, is_between, is_late, is_of_thread, skipped, CallFilter, shortened, longest, variables_text, Widths, filter_of, footer_text, IsFooter, has_line, line_in, IsShownLine, IsViewLine, IsViewLineIf, after_footer, IsEnd, IsStateIf, IsViewContextOf, HasMade, IsView, IsViewable, state_text, IsStateText, ViewContext, view_head, globals_line, thread_line, thread_lines}
 use Rattle.std.proofs.KnownBytes.{Appends-nil}
 use Rattle.std.specs.Option.{option_copied}
 use Rattle.bp_flat.proofs.ProceduresOfPlaces.{starts}
@@ -74,13 +74,13 @@ module _ (c : Flat) (t : Program) (code : StandsFor c t) (text : List ℕ) (stat
         → (line : List ℕ) × ((x : Call) → slice_get whole k ≡ Some x → IsShownLine t text s o w whole (take k whole) x line)
     each_line = part_of_each (λ k x line. IsShownLine t text s o w whole (take k whole) x line) whole (λ k x at. shown_line (take k whole) x)
 
-  pub some_foot : (h : List Call) (format : ViewFormat) (file : List ℕ) → IsLegal t s h → (r : Report) → r.outcome ≡ outcome_of h
-      → (foot : List ℕ) × IsFoot format file t text s h r foot
-  some_foot h format file legal r is =
-      let (x, x_are) = facts.some_foot c t code text statements are s h legal r is in
-      (foot_text format file x, record { facts = x; facts_are = x_are; is = refl })
+  pub some_footer : (h : List Call) (format : ViewFormat) (file : List ℕ) → IsLegal t s h → (r : Report) → r.outcome ≡ outcome_of h
+      → (footer : List ℕ) × IsFooter format file t text s h r footer
+  some_footer h format file legal r is =
+      let (x, x_are) = facts.some_footer c t code text statements are s h legal r is in
+      (footer_text format file x, record { facts = x; facts_are = x_are; is = refl })
 
--- Each history has an end of a view, since its state and its foot have facts.
+-- Each history has an end of a view, since its state and its footer have facts.
 
 module _ (c : Flat) (t : Program) (code : StandsFor c t) (text : List ℕ) (statements : List SourceStatement)
     (are : AreSourceStatements text t statements) (s : SetupOf) where
@@ -91,14 +91,14 @@ module _ (c : Flat) (t : Program) (code : StandsFor c t) (text : List ℕ) (stat
         (state_text format x, record { facts = x; facts_are = x_are; is = refl })
 
     state_if : (format : ViewFormat) (asked : Bool) → (said : List ℕ) × IsStateIf format t text s h asked said
-    state_if format true = let (state, state_is) = some_state format in (after_foot format state, (state, refl, state_is))
+    state_if format true = let (state, state_is) = some_state format in (after_footer format state, (state, refl, state_is))
     state_if format false = ([], refl)
 
   pub some_end : (o : ViewOptions) (file : List ℕ) (h : List Call) → IsLegal t s h → (r : Report) → r.outcome ≡ outcome_of h → (end : List ℕ) × IsEnd o file t text s h r end
   some_end o file h legal r is =
-      let (foot, foot_is) = some_foot c t code text statements are s h o.format file legal r is in
+      let (footer, footer_is) = some_footer c t code text statements are s h o.format file legal r is in
       let (state, state_is) = state_if h o.format o.has_state in
-      (foot ++ state, record { foot = foot; foot_is = foot_is; state = state; state_is = state_is; is = refl })
+      (footer ++ state, record { footer = footer; footer_is = footer_is; state = state; state_is = state_is; is = refl })
 
 module _ (t : Program) (text : List ℕ) (s : SetupOf) (x : ViewContext) where
   abbrev pub head : List ℕ

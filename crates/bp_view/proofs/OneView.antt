@@ -1,5 +1,5 @@
 -- A history has one view, one state, and one list of its contexts, since the facts that they show are single.
-use Rattle.bp_view.proofs.Common.{◌≡◌, ◌∙◌, ℕ, List, ap, sym, ◌<◌, ◌++◌, Bool, true, false, Some, length, map, slice_get, take, ap₂, subst, refl, suc, None, if◌then◌else◌, [], ◌∷◌, Option, IsTrue, ◌↔◌, arith, rules, IsInParts, item_at, one_of_parts, Program, places_of, starts_of, Call, Report, SetupOf, threads, configuration_after, granted_threads, stack_of, least_opened, place_text, one_list_of_statements, ViewFormat, ViewOptions, IsNextOf, foot_text, IsFoot, after_foot, IsEnd, IsStateIf, has_line, AreLines, IsShownLine, IsView, IsViewLineIf, state_text, IsStateText, Widths, view_head, extent, AreWidths, Extent, context_text, contexts_head, AreContextLines, IsContextLine, changes_within, AreContextFacts, IsContextOf, ShownContext, All, All-head, All-tail, Configuration, Outcome, Clean, Failed, waiting, AreFailureFacts, AreFootFacts, AreStandingFacts, ShownCondition, ShownFoot}
+use Rattle.bp_view.proofs.Common.{◌≡◌, ◌∙◌, ℕ, List, ap, sym, ◌<◌, ◌++◌, Bool, true, false, Some, length, map, slice_get, take, ap₂, subst, refl, suc, None, if◌then◌else◌, [], ◌∷◌, Option, IsTrue, ◌↔◌, arith, rules, IsInParts, item_at, one_of_parts, Program, places_of, starts_of, Call, Report, SetupOf, threads, configuration_after, granted_threads, stack_of, least_opened, place_text, one_list_of_statements, ViewFormat, ViewOptions, IsNextOf, footer_text, IsFooter, after_footer, IsEnd, IsStateIf, has_line, AreLines, IsShownLine, IsView, IsViewLineIf, state_text, IsStateText, Widths, view_head, extent, AreWidths, Extent, context_text, contexts_head, AreContextLines, IsContextLine, changes_within, AreContextFacts, IsContextOf, ShownContext, All, All-head, All-tail, Configuration, Outcome, Clean, Failed, waiting, AreFailureFacts, AreFooterFacts, AreStandingFacts, ShownCondition, ShownFooter}
 use Rattle.bp_view.proofs.SingleFacts as states
 use Rattle.bp_view.proofs.SingleFacts.{one_call, one_next}
 use Rattle.bp_view.proofs.FailedConditions.{one_assertion, one_condition, one_decision, one_frame, one_place, same_condition}
@@ -71,8 +71,8 @@ module _ (t : Program) (text : List ℕ) (s : SetupOf) (h : List Call) where
   one_failure (Failed i) (Some x) None a b = elim b [ ]
   one_failure (Failed i) (Some x) (Some y) a b = ap Some (one_assertion t s h text x y (a.0 ∙ sym b.0) a.1 b.1)
 
-  pub one_foot_facts : (r : Report) (x y : ShownFoot) → AreFootFacts t text s h r x → AreFootFacts t text s h r y → x ≡ y
-  one_foot_facts r x y a b =
+  pub one_footer_facts : (r : Report) (x y : ShownFooter) → AreFooterFacts t text s h r x → AreFooterFacts t text s h r y → x ≡ y
+  one_footer_facts r x y a b =
       let now = configuration_after t s h in
       let deadlocked = one_answer _ x.deadlocked y.deadlocked a.decides b.decides in
       let failure = one_failure r.outcome x.failure y.failure a.failure b.failure in
@@ -86,11 +86,11 @@ module _ (t : Program) (text : List ℕ) (s : SetupOf) (h : List Call) where
         waits = stand i;
       }
 
--- A foot has one text, since it has one set of facts.
+-- A footer has one text, since it has one set of facts.
 
-pub one_foot : (format : ViewFormat) (file : List ℕ) (t : Program) (text : List ℕ) (s : SetupOf) (h : List Call) (r : Report) (v w : List ℕ)
-    → IsFoot format file t text s h r v → IsFoot format file t text s h r w → v ≡ w
-one_foot format file t text s h r v w x y = x.is ∙ ap (foot_text format file) (one_foot_facts t text s h r x.facts y.facts x.facts_are y.facts_are) ∙ sym y.is
+pub one_footer : (format : ViewFormat) (file : List ℕ) (t : Program) (text : List ℕ) (s : SetupOf) (h : List Call) (r : Report) (v w : List ℕ)
+    → IsFooter format file t text s h r v → IsFooter format file t text s h r w → v ≡ w
+one_footer format file t text s h r v w x y = x.is ∙ ap (footer_text format file) (one_footer_facts t text s h r x.facts y.facts x.facts_are y.facts_are) ∙ sym y.is
 
 -- A state has one text, since it has one set of facts.
 
@@ -117,12 +117,12 @@ module _ (t : Program) (text : List ℕ) (s : SetupOf) (o : ViewOptions) (w : Wi
 module _ (t : Program) (text : List ℕ) (s : SetupOf) (h : List Call) (r : Report) (o : ViewOptions) (file : List ℕ) where
   state_if : (asked : Bool) (v w : List ℕ) → IsStateIf o.format t text s h asked v → IsStateIf o.format t text s h asked w → v ≡ w
   state_if false v w x y = x ∙ sym y
-  state_if true v w (a, v_is, a_is) (b, w_is, b_is) = v_is ∙ ap (after_foot o.format) (one_state o.format t text s h (length h) a b a_is b_is) ∙ sym w_is
+  state_if true v w (a, v_is, a_is) (b, w_is, b_is) = v_is ∙ ap (after_footer o.format) (one_state o.format t text s h (length h) a b a_is b_is) ∙ sym w_is
 
   one_end : (v w : List ℕ) → IsEnd o file t text s h r v → IsEnd o file t text s h r w → v ≡ w
   one_end v w x y =
-      let foot = one_foot o.format file t text s h r x.foot y.foot x.foot_is y.foot_is in
-      x.is ∙ ap₂ (λ a b. a ++ b) foot (state_if o.has_state x.state y.state x.state_is y.state_is) ∙ sym y.is
+      let footer = one_footer o.format file t text s h r x.footer y.footer x.footer_is y.footer_is in
+      x.is ∙ ap₂ (λ a b. a ++ b) footer (state_if o.has_state x.state y.state x.state_is y.state_is) ∙ sym y.is
 
 pub one_view : (t : Program) (text : List ℕ) (s : SetupOf) (h : List Call) (r : Report) (o : ViewOptions) (file : List ℕ) (v w : List ℕ)
     → IsView t text s h r o file v → IsView t text s h r o file w → v ≡ w

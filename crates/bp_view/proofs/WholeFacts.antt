@@ -1,5 +1,5 @@
 -- Each attempt and each end of a history has facts.
-use Rattle.bp_view.proofs.Common.{◌≡◌, ◌⊎◌, inl, inr, ℕ, zero, suc, ◌≤◌, Bool, true, false, [], length, ap, refl, subst, add-one, if◌then◌else◌, ◌∙◌, ◌+◌, ◌++◌, List, ◌∷◌, Some, slice_get, take, sym, arith, Option, None, drop, IsTrue, ◌↔◌, option_map, rules, cases_lt, get_or_past, map-append, All-push, All-nil, slice_get_within, position_at, Program, Configuration, Frame, frame_store, Flat, StandsFor, place, places_of, start_of_block, has_frames, is_left, IsDeadlocked, waits, Call, SetupOf, threads, Outcome, Clean, Failed, Report, stack_of, configuration_after, granted_threads, IsLegal, is_granted, outcome_of, IsRealFailure, opened, opened_least, real, SourceStatement, variables_read, AreSourceStatements, IsStatementAt, place_text, IsStatement, source_statement_at, SourceStatementAt, waiting, AreStandingFacts, AreWaitsFacts, ShownCondition, named_entries, AreFailureFacts, AreFootFacts, IsAtCondition, ShownFoot, AreFrameFacts, AreStackFacts, AreThreadFacts, AreThreadsFacts, ShownFrame, ShownThread, status, AreStateFacts, ShownState, changes_by, nothing_next, AreCallFacts, IsNextOf, Next, ShownCall, is_switch, IsContext}
+use Rattle.bp_view.proofs.Common.{◌≡◌, ◌⊎◌, inl, inr, ℕ, zero, suc, ◌≤◌, Bool, true, false, [], length, ap, refl, subst, add-one, if◌then◌else◌, ◌∙◌, ◌+◌, ◌++◌, List, ◌∷◌, Some, slice_get, take, sym, arith, Option, None, drop, IsTrue, ◌↔◌, option_map, rules, cases_lt, get_or_past, map-append, All-push, All-nil, slice_get_within, position_at, Program, Configuration, Frame, frame_store, Flat, StandsFor, place, places_of, start_of_block, has_frames, is_left, IsDeadlocked, waits, Call, SetupOf, threads, Outcome, Clean, Failed, Report, stack_of, configuration_after, granted_threads, IsLegal, is_granted, outcome_of, IsRealFailure, opened, opened_least, real, SourceStatement, variables_read, AreSourceStatements, IsStatementAt, place_text, IsStatement, source_statement_at, SourceStatementAt, waiting, AreStandingFacts, AreWaitsFacts, ShownCondition, named_entries, AreFailureFacts, AreFooterFacts, IsAtCondition, ShownFooter, AreFrameFacts, AreStackFacts, AreThreadFacts, AreThreadsFacts, ShownFrame, ShownThread, status, AreStateFacts, ShownState, changes_by, nothing_next, AreCallFacts, IsNextOf, Next, ShownCall, is_switch, IsContext}
 use Rattle.bp_machine.proofs.Deadlocks.{not_waiting, seen_ended, seen_none, seen_waiting, AreSeen}
 use Rattle.bp_view.proofs.FailedConditions.{assertion_facts, at_assertion, at_assumption}
 use Rattle.bp_view.proofs.PlacedStacks.{stack_placed, ArePlaced, IsPlaced, frame_facts, frame_with}
@@ -178,8 +178,8 @@ module _ (c : Flat) (t : Program) (code : StandsFor c t) (text : List ℕ) (stat
     some_stuck true = some_waits (threads s)
     some_stuck false = ([], record { each = All-nil _; of = refl })
 
-    pub some_foot : IsLegal t s h → (r : Report) → r.outcome ≡ outcome_of h → (x : ShownFoot) × AreFootFacts t text s h r x
-    some_foot legal r is =
+    pub some_footer : IsLegal t s h → (r : Report) → r.outcome ≡ outcome_of h → (x : ShownFooter) × AreFooterFacts t text s h r x
+    some_footer legal r is =
         let (deadlocked, decides) = decided t (configuration_after t s h) in
         let (failure, failure_is) = some_failure legal r.outcome is in
         let (stuck, stuck_are) = some_stuck deadlocked in (

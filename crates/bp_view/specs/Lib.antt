@@ -6,6 +6,6 @@ pub mod Views
 pub mod SetupLines
 pub mod CallFacts
 pub mod Filters
-pub mod FootFacts
+pub mod FooterFacts
 pub mod Laws
 pub mod StateFacts

@@ -14,7 +14,7 @@ use Rattle.bp_trace.specs.Replays.{IsReplayed}
 use Rattle.bp_source.specs.Listings.{column_of, line_of}
 use Rattle.bp_tasks.specs.declared.options.ViewFormat.{ViewFormat}
 use Rattle.bp_tasks.specs.declared.options.ViewFormat.TheVariants.{Columns, Json}
-use Rattle.bp_view.specs.FootFacts.{ShownCondition}
+use Rattle.bp_view.specs.FooterFacts.{ShownCondition}
 use Rattle.bp_view.specs.StateFacts.{ShownFrame, AreStateFacts, ShownState, ShownThread}
 use Rattle.bp_view.specs.declared.state_facts.Status.{Status}
 use Rattle.bp_view.specs.declared.state_facts.Status.TheVariants as status

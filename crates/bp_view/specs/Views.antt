@@ -21,7 +21,7 @@ use Rattle.bp_source.specs.SourceStatements.{AreSourceStatements, place_text, Ar
 use Rattle.bp_tasks.specs.declared.options.ViewFormat.{ViewFormat}
 use Rattle.bp_tasks.specs.declared.options.ViewFormat.TheVariants.{Columns, Json}
 use Rattle.bp_tasks.specs.declared.options.ViewOptions.{ViewOptions}
-use Rattle.bp_view.specs.FootFacts.{AreFootFacts, ShownCondition, ShownFoot}
+use Rattle.bp_view.specs.FooterFacts.{AreFooterFacts, ShownCondition, ShownFooter}
 use Rattle.bp_view.specs.declared.filters.CallFilter.{CallFilter}
 use Rattle.bp_view.specs.CallFacts.{AreProgramFacts, changes_by, printed_by, AreCallFacts, ShownCall}
 use Rattle.bp_view.specs.Filters.{watched_names, calls_of, is_asked, is_seen, AreDeclared, IsUndeclared}
@@ -36,7 +36,7 @@ use Rattle.bp_view.specs.SetupLines.{under_headings, view_head}
 use Rattle.bp_view.specs.Lines.{call_object, column_line, extent, extent_of, AreWidths}
 use Rattle.bp_view.specs.ContextLines.{AreContextLines}
 
--- The text of the foot of a view, from its facts: the report of the history.
+-- The text of the footer of a view, from its facts: the report of the history.
 
 -- the thread whose assertion failed, and the text of the assertion, which is in this file
 abbrev pub failure_text : ViewFormat → (file : List ℕ) → ShownCondition → List ℕ
@@ -71,14 +71,14 @@ waits_text format file xs = flat_map (wait_text format file) xs
 
 -- the attempts of a history, the contexts of its steps, and the threads that may continue; this
 -- text of its outcome, and this one of the threads that wait
-abbrev pub foot_in_format : ViewFormat → Report → (outcome waits : List ℕ) → List ℕ
-foot_in_format Columns r outcome waits =
+abbrev pub footer_in_format : ViewFormat → Report → (outcome waits : List ℕ) → List ℕ
+footer_in_format Columns r outcome waits =
     concat (
     codes "\n" ∷ decimal r.calls
     ∷ codes " calls, contexts " ∷ decimal r.contexts
     ∷ codes ", open threads " ∷ decimal r.left_live
     ∷ codes "\n" ∷ outcome ∷ waits ∷ codes "\n" ∷ [])
-foot_in_format Json r outcome waits =
+footer_in_format Json r outcome waits =
     concat (
     codes "{\"kind\":\"end\""
     ∷ key_text (codes "calls") ∷ decimal r.calls
@@ -88,26 +88,26 @@ foot_in_format Json r outcome waits =
     ∷ key_text (codes "deadlock") ∷ list_text waits
     ∷ codes "}\n" ∷ [])
 
-abbrev pub foot_text : ViewFormat → (file : List ℕ) → ShownFoot → List ℕ
-foot_text format file x =
+abbrev pub footer_text : ViewFormat → (file : List ℕ) → ShownFooter → List ℕ
+footer_text format file x =
     let outcome = outcome_text format file x.deadlocked x.failure in
-    foot_in_format format x.report outcome (waits_text format file x.waits)
+    footer_in_format format x.report outcome (waits_text format file x.waits)
 
--- of a program and its text, in a setup: the foot at the end of the history h, with its report
-pub record IsFoot
+-- of a program and its text, in a setup: the footer at the end of the history h, with its report
+pub record IsFooter
     (format : ViewFormat) (file : List ℕ)
-    (t : Program) (text : List ℕ) (s : SetupOf) (h : List Call) (r : Report) (foot : List ℕ)
+    (t : Program) (text : List ℕ) (s : SetupOf) (h : List Call) (r : Report) (footer : List ℕ)
     : Type 0 where
-  pub facts : ShownFoot
-  pub facts_are : AreFootFacts t text s h r facts
-  pub is : foot ≡ foot_text format file facts
+  pub facts : ShownFooter
+  pub facts_are : AreFooterFacts t text s h r facts
+  pub is : footer ≡ footer_text format file facts
 
--- The end of a view: its foot, and the state after the last attempt if that is asked for.
+-- The end of a view: its footer, and the state after the last attempt if that is asked for.
 
--- a state after a foot: for people there is an empty line between them
-abbrev pub after_foot : ViewFormat → List ℕ → List ℕ
-after_foot Columns state = codes "\n" ++ state
-after_foot Json state = state
+-- a state after a footer: for people there is an empty line between them
+abbrev pub after_footer : ViewFormat → List ℕ → List ℕ
+after_footer Columns state = codes "\n" ++ state
+after_footer Json state = state
 
 -- Of a program and its text, in a setup; at the end of the history h.
 module _ (format : ViewFormat) (t : Program) (text : List ℕ) (s : SetupOf) (h : List Call) where
@@ -115,20 +115,20 @@ module _ (format : ViewFormat) (t : Program) (text : List ℕ) (s : SetupOf) (h 
   abbrev pub IsStateIf : Bool → List ℕ → Type 0
   IsStateIf true said =
       (state : List ℕ)
-      × (said ≡ after_foot format state)
+      × (said ≡ after_footer format state)
       × IsStateText format t text s h (length h) state
   IsStateIf false said = said ≡ []
 
--- the foot with the report of a history, and the state after its last attempt if that is asked for
+-- the footer with the report of a history, and, if asked for, the state after its last attempt
 pub record IsEnd
     (o : ViewOptions) (file : List ℕ)
     (t : Program) (text : List ℕ) (s : SetupOf) (h : List Call) (r : Report) (end : List ℕ)
     : Type 0 where
-  pub foot : List ℕ
-  pub foot_is : IsFoot o.format file t text s h r foot
+  pub footer : List ℕ
+  pub footer_is : IsFooter o.format file t text s h r footer
   pub state : List ℕ
   pub state_is : IsStateIf o.format t text s h o.has_state state
-  pub is : end ≡ foot ++ state
+  pub is : end ≡ footer ++ state
 
 -- The attempts that a view shows, by its options.
 

@@ -3,12 +3,12 @@
 ghost use Rattle.std.specs.Prelude.{◌≡◌, [], map};
 ghost use Rattle.bp_tasks.specs.declared.options.ViewFormat.TheVariants.{Columns, Json};
 ghost use Rattle.bp_view.specs.Buffers.{Grown};
-ghost use Rattle.bp_view.specs.FootFacts.{condition_in};
+ghost use Rattle.bp_view.specs.FooterFacts.{condition_in};
 ghost use Rattle.bp_view.specs.StateFacts.{frame_in};
 ghost use Rattle.bp_view.specs.States.{condition_object, condition_text, frame_text, frames_text, lead, locals_text};
 
 use crate::buffers::Buffer;
-use crate::foot_facts::ConditionFacts;
+use crate::footer_facts::ConditionFacts;
 use crate::lines::push_changed;
 use crate::state_facts::FrameFacts;
 use crate::variables::push_values;

@@ -9,7 +9,7 @@ mod checkpoints;
 mod contexts;
 mod errors;
 mod filters;
-mod foot_facts;
+mod footer_facts;
 mod frames;
 mod laws;
 mod lines;
@@ -36,7 +36,7 @@ pub use checkpoints::{
 pub use contexts::contexts_of;
 pub use errors::ViewError;
 pub use filters::{CallFilter, calls_to};
-pub use foot_facts::{ConditionFacts, FootFacts, facts_of_foot};
+pub use footer_facts::{ConditionFacts, FooterFacts, facts_of_footer};
 pub use laws::{changes_replay, lines_stand_for_each_call_once, views_are_single};
 pub use outcomes::{outcome_text, waits_text};
 pub use program_facts::{ProgramFacts, facts_of_program, has_watched, undeclared, watched_names};

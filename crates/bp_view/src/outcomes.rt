@@ -1,15 +1,15 @@
-//! The text of the foot of a view, from its facts: the report of the history.
+//! The text of the footer of a view, from its facts: the report of the history.
 ghost use Rattle.std.specs.Prelude.{◌≡◌, ℕ, List, map, option_map, IfOk};
 ghost use Rattle.bp_machine.specs.declared.calls.Call.{Call as Answered};
 ghost use Rattle.bp_machine.specs.Histories.{outcome_of};
 ghost use Rattle.bp_machine.specs.Sessions.{Stands};
 ghost use Rattle.bp_view.specs.Buffers.{Gains, Grown};
-ghost use Rattle.bp_view.specs.FootFacts.{condition_in, foot_in};
+ghost use Rattle.bp_view.specs.FooterFacts.{condition_in, footer_in};
 ghost use Rattle.bp_tasks.specs.declared.options.ViewFormat.TheVariants.{Columns, Json};
-ghost use Rattle.bp_view.specs.Views.{clean_text, failure_text, foot_text, outcome_text, wait_text, waits_text, IsFoot, IsViewContextOf};
+ghost use Rattle.bp_view.specs.Views.{clean_text, failure_text, footer_text, outcome_text, wait_text, waits_text, IsFooter, IsViewContextOf};
 
 use crate::buffers::Buffer;
-use crate::foot_facts::{ConditionFacts, FootFacts, facts_of_foot};
+use crate::footer_facts::{ConditionFacts, FooterFacts, facts_of_footer};
 use crate::frames::{push_condition_lines, push_condition_object};
 use crate::view_contexts::ViewContext;
 use bp_machine::{Report, Session};
@@ -127,10 +127,10 @@ pub fn waits_text(
 
 /// Adds the counts of a report after an empty line, its outcome and the threads that wait, for
 /// people.
-fn push_foot_lines(view: &mut Buffer, file: &str, foot: &FootFacts<'_>)
-    ensures { Grown view.old view.new (foot_text Columns file.now (foot_in foot.now)) }
+fn push_footer_lines(view: &mut Buffer, file: &str, footer: &FooterFacts<'_>)
+    ensures { Grown view.old view.new (footer_text Columns file.now (footer_in footer.now)) }
 {
-    let report = foot.report;
+    let report = footer.report;
     view.put_pieces(&[
         Bytes(b"\n"),
         Number(report.calls),
@@ -141,16 +141,22 @@ fn push_foot_lines(view: &mut Buffer, file: &str, foot: &FootFacts<'_>)
         Bytes(b"\n"),
     ]);
     let format = ViewFormat::Columns;
-    push_outcome(view, format, file, foot.deadlocked, foot.failure.as_ref());
-    push_waits(view, format, file, foot.waits.as_slice());
+    push_outcome(
+        view,
+        format,
+        file,
+        footer.deadlocked,
+        footer.failure.as_ref(),
+    );
+    push_waits(view, format, file, footer.waits.as_slice());
     view.put(Bytes(b"\n"))
 }
 
 /// Adds the object of a report, its outcome and the threads that wait.
-fn push_foot_object(view: &mut Buffer, file: &str, foot: &FootFacts<'_>)
-    ensures { Grown view.old view.new (foot_text Json file.now (foot_in foot.now)) }
+fn push_footer_object(view: &mut Buffer, file: &str, footer: &FooterFacts<'_>)
+    ensures { Grown view.old view.new (footer_text Json file.now (footer_in footer.now)) }
 {
-    let report = foot.report;
+    let report = footer.report;
     view.put_pieces(&[
         Bytes(b"{\"kind\":\"end\""),
         Key(b"calls"),
@@ -162,27 +168,33 @@ fn push_foot_object(view: &mut Buffer, file: &str, foot: &FootFacts<'_>)
         Key(b"failure"),
     ]);
     let format = ViewFormat::Json;
-    push_outcome(view, format, file, foot.deadlocked, foot.failure.as_ref());
+    push_outcome(
+        view,
+        format,
+        file,
+        footer.deadlocked,
+        footer.failure.as_ref(),
+    );
     view.put(Key(b"deadlock"));
     let start = view.len();
-    push_waits(view, format, file, foot.waits.as_slice());
+    push_waits(view, format, file, footer.waits.as_slice());
     view.close_list(start);
     view.put(Bytes(b"}\n"))
 }
 
-/// Adds the foot of a view in this format: a report, its outcome and the threads that wait.
-fn push_foot(view: &mut Buffer, format: ViewFormat, file: &str, foot: &FootFacts<'_>)
-    ensures { Grown view.old view.new (foot_text format file.now (foot_in foot.now)) }
+/// Adds the footer of a view in this format: a report, its outcome and the threads that wait.
+fn push_footer(view: &mut Buffer, format: ViewFormat, file: &str, footer: &FooterFacts<'_>)
+    ensures { Grown view.old view.new (footer_text format file.now (footer_in footer.now)) }
 {
     match format {
-        ViewFormat::Columns => push_foot_lines(view, file, foot),
-        ViewFormat::Json => push_foot_object(view, file, foot),
+        ViewFormat::Columns => push_footer_lines(view, file, footer),
+        ViewFormat::Json => push_footer_object(view, file, footer),
     }
 }
 
 /// Adds the report of the history after which the session stands, and the text on an assertion that
 /// failed in it, or on the threads that are deadlocked after it.
-pub(crate) fn push_foot_of(
+pub(crate) fn push_footer_of(
     alloc: Global,
     view: &mut Buffer,
     context: &ViewContext<'_>,
@@ -194,11 +206,11 @@ pub(crate) fn push_foot_of(
         → Stands t session.now h
         → report.outcome ≡ outcome_of h
         → let format = context.now.options.format in
-        let foot = IsFoot format context.now.file.now t text session.now.setup h report in
-        Gains foot view.old view.new }
+        let footer = IsFooter format context.now.file.now t text session.now.setup h report in
+        Gains footer view.old view.new }
 {
-    let Ok(foot) = facts_of_foot(alloc, &context.program, session, report) else {
+    let Ok(footer) = facts_of_footer(alloc, &context.program, session, report) else {
         return view.refuse();
     };
-    push_foot(view, context.options.format, context.file, &foot)
+    push_footer(view, context.options.format, context.file, &footer)
 }

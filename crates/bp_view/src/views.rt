@@ -9,13 +9,13 @@ ghost use Rattle.bp_machine.specs.Sessions.{Stands};
 ghost use Rattle.bp_view.specs.Buffers.{Gains, Grown};
 ghost use Rattle.bp_view.specs.CallFacts.{IsCheckpoint};
 ghost use Rattle.bp_view.specs.Filters.{skipped, watched_names};
-ghost use Rattle.bp_view.specs.Views.{after_foot, filter_of, IsShownTrace, HasMade, IsMissing, IsStopped, IsThere, IsView, IsViewRefusal, IsViewable, IsViewed, IsEnd, IsStateIf, IsViewContextOf};
+ghost use Rattle.bp_view.specs.Views.{after_footer, filter_of, IsShownTrace, HasMade, IsMissing, IsStopped, IsThere, IsView, IsViewRefusal, IsViewable, IsViewed, IsEnd, IsStateIf, IsViewContextOf};
 ghost use Rattle.bp_view.specs.SetupLines.{view_head};
 
 use crate::buffers::Buffer;
 use crate::checkpoints::Checkpoint;
 use crate::errors::ViewError;
-use crate::outcomes::push_foot_of;
+use crate::outcomes::push_footer_of;
 use crate::prefixes::Prefix;
 use crate::program_facts::{undeclared, watched_names};
 use crate::setup_lines::head_of;
@@ -143,8 +143,8 @@ fn write_view<W: Write>(
 }
 
 /// Writes a view of the history of a trace of a program, and returns its report. The view has the
-/// setup, a line for each attempt that is shown, and the foot. The state after the last attempt
-/// follows if it is asked for. The places in the foot have the name of the program's text before
+/// setup, a line for each attempt that is shown, and the footer. The state after the last attempt
+/// follows if it is asked for. The places in the footer have the name of the program's text before
 /// them. The lines are written as they are made, after the trace was replayed, with the attempts
 /// made once more, from the first that is asked for.
 ///
@@ -186,16 +186,16 @@ pub fn view<W: Write>(
     Ok(shown.replayed.report)
 }
 
-/// Adds the text between a foot and a state: an empty line for people.
+/// Adds the text between a footer and a state: an empty line for people.
 fn push_gap(view: &mut Buffer, format: ViewFormat)
-    ensures { Grown view.old view.new (after_foot format []) }
+    ensures { Grown view.old view.new (after_footer format []) }
 {
     if let ViewFormat::Columns = format {
         view.put(Bytes(b"\n"));
     }
 }
 
-/// Adds the state of the session after a foot, if it is asked for. The session stands after the
+/// Adds the state of the session after a footer, if it is asked for. The session stands after the
 /// last attempt.
 fn push_state(alloc: Global, view: &mut Buffer, context: &ViewContext<'_>, session: &Session)
     ensures { let t = session.now.code.tree in (text : List ℕ) (h : List Answered)
@@ -214,7 +214,7 @@ fn push_state(alloc: Global, view: &mut Buffer, context: &ViewContext<'_>, sessi
     push_state_of(alloc, view, context, session, history, history.len() as u64)
 }
 
-/// Returns the foot of the view of a history with this report, and the state after it if that is
+/// Returns the footer of the view of a history with this report, and the state after it if that is
 /// asked for. The session stands after the history.
 pub(crate) fn end_of(
     alloc: Global,
@@ -232,7 +232,7 @@ pub(crate) fn end_of(
         IfOk result (λ v. IsEnd context.now.options file t text s h report v.items) }
 {
     let mut end = Buffer::new(alloc);
-    push_foot_of(alloc, &mut end, context, session, report);
+    push_footer_of(alloc, &mut end, context, session, report);
     push_state(alloc, &mut end, context, session);
     end.into_bytes()
 }

@@ -1,5 +1,5 @@
 use Rattle.bp_flat.specs.Flat.{Flat}
-use Rattle.bp_commands.proofs.Common.{◌≡◌, ◌∙◌, ap, refl, [], map, option_map, condition_in, foot_in, AreProgramFacts, outcome_text, waits_text, copied, choices_text}
+use Rattle.bp_commands.proofs.Common.{◌≡◌, ◌∙◌, ap, refl, [], map, option_map, condition_in, footer_in, AreProgramFacts, outcome_text, waits_text, copied, choices_text}
 use Rattle.bp_tasks.specs.declared.options.ViewFormat.TheVariants.{Json}
 use Rattle.bp_commands.proofs.confirmations.confirmation_of.Goals as goal
 
@@ -16,14 +16,14 @@ returns c = λ stands.
       globals = c.facts_of_program-program.ensures.globals ∙ ap (λ p. p.globals) tree;
       procedures = c.facts_of_program-program.ensures.procedures ∙ ap (λ p. p.procedures) tree;
     } in
-    let foot = c.in_ok-foot.foot in
+    let footer = c.in_ok-footer.footer in
     let failed = copied condition_in c.as_ref.result ∙ ap (option_map condition_in) c.as_ref.ensures.value in
     record {
       reported = reported;
-      facts = foot_in foot;
-      facts_are = c.in_ok-foot.ensures text h are stands reported.outcome;
+      facts = footer_in footer;
+      facts_are = c.in_ok-footer.ensures text h are stands reported.outcome;
       verdict = c.verdict_of.ensures;
-      failure = c.in_ok-failure.ensures ∙ ap (outcome_text Json [] foot.deadlocked) failed;
+      failure = c.in_ok-failure.ensures ∙ ap (outcome_text Json [] footer.deadlocked) failed;
       waits = c.in_ok-waits.ensures ∙ ap (λ x. waits_text Json [] (map condition_in x)) c.as_slice-2.ensures.value;
       choices_are = c.in_ok-choices.ensures ∙ ap (choices_text c.args.task.now.json) c.as_slice-3.ensures.value;
       expected_is = refl;

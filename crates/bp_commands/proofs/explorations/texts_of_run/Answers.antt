@@ -1,5 +1,5 @@
 use Rattle.bp_flat.specs.Flat.{Flat}
-use Rattle.bp_commands.proofs.Common.{◌≡◌, ◌∙◌, ap, map, option_map, condition_in, foot_in, AreProgramFacts, outcome_text, waits_text, copied}
+use Rattle.bp_commands.proofs.Common.{◌≡◌, ◌∙◌, ap, map, option_map, condition_in, footer_in, AreProgramFacts, outcome_text, waits_text, copied}
 use Rattle.bp_commands.proofs.explorations.texts_of_run.Goals as goal
 
 pub returns : goal.returns
@@ -14,7 +14,7 @@ returns c = λ h stands.
       globals = c.facts_of_program-program.ensures.globals ∙ ap (λ p. p.globals) tree;
       procedures = c.facts_of_program-program.ensures.procedures ∙ ap (λ p. p.procedures) tree;
     } in
-    let foot = c.in_ok-foot.foot in
+    let footer = c.in_ok-footer.footer in
     let failed = copied condition_in c.as_ref.result ∙ ap (option_map condition_in) c.as_ref.ensures.value in
     let format = c.format_of-format.ensures in
     let file = c.args.task.now.program.now in
@@ -22,14 +22,14 @@ returns c = λ h stands.
       report = c.report-report.result;
       reported = reported;
       failed_is = c.has_failed.ensures;
-      facts = foot_in foot;
-      facts_are = c.in_ok-foot.ensures text h are stands reported.outcome;
+      facts = footer_in footer;
+      facts_are = c.in_ok-footer.ensures text h are stands reported.outcome;
       outcome_is =
           c.in_ok-outcome.ensures
-          ∙ ap (outcome_text c.format_of-format.result file foot.deadlocked) failed
-          ∙ ap (λ f. outcome_text f file foot.deadlocked (option_map condition_in foot.failure)) format;
+          ∙ ap (outcome_text c.format_of-format.result file footer.deadlocked) failed
+          ∙ ap (λ f. outcome_text f file footer.deadlocked (option_map condition_in footer.failure)) format;
       waits_are =
           c.in_ok-waits.ensures
           ∙ ap (λ x. waits_text c.format_of-format.result file (map condition_in x)) c.as_slice-2.ensures.value
-          ∙ ap (λ f. waits_text f file (map condition_in foot.waits.items)) format;
+          ∙ ap (λ f. waits_text f file (map condition_in footer.waits.items)) format;
     }

@@ -15,7 +15,7 @@ returns-then-is_some g c =
     let here : from ≡ start_of_block from size 0 c.args.runs = omega (arith, within) in
     let batch = c.in_ok-end.ensures c.args.code.now s p from size c.args.runs c.in_ok-blocks.ensures.blocks here was.runs was.tallied in
     let high = batch.0.1 in
-    let next = c.start-next.ensures in
+    let next = c.first_run-next.ensures in
     let count = c.in_ok-blocks.ensures.count in (
       (
         omega arith,
@@ -32,7 +32,7 @@ returns-then-is_some g c =
 
 pub loop-from-preserved : goal.loop-from-preserved
 loop-from-preserved g c = record {
-  within = let next = c.start-next.ensures in omega (arith, next);
+  within = let next = c.first_run-next.ensures in omega (arith, next);
   some = c.next_size-size.ensures.some c.loop-from.invariant.some;
   short = c.next_size-size.ensures.most;
   tallied =

@@ -1,5 +1,5 @@
 use Rattle.bp_view.proofs.Common.{◌≡◌, ◌∙◌, ◌++◌, ◌∷◌, [], ℕ, List, Bool, Option, Some, None, map, ap, append-nil, refl, sym, rules, option_map, map-append, Name, Procedure, bits_of, named_store, variables, Bits, first_index, value_of_slot, entry_of, Entry, named_entry, resolved}
-use Rattle.bp_view.proofs.foot_facts.add_variable.Goals as goal
+use Rattle.bp_view.proofs.footer_facts.add_variable.Goals as goal
 
 -- the variable that a name means, by the slots of the local and of the global of that name
 by_slots : (globals : List Name) (p : Procedure) (a b : Bits) (name : List ℕ) (l g : Option ℕ)

@@ -1,5 +1,5 @@
 use Rattle.bp_view.proofs.Common.{List, ℕ, map, Call, configuration_after, Stands, condition_in, waiting, AreWaitsFacts, AreProgramFacts}
-use Rattle.bp_view.proofs.foot_facts.waits_of.Given as goal
+use Rattle.bp_view.proofs.footer_facts.waits_of.Given as goal
 
 abbrev pub invariant-loop-thread : goal.invariant-loop-thread
 invariant-loop-thread l =

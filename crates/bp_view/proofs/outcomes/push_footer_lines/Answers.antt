@@ -1,7 +1,7 @@
 use Rattle.bp_view.proofs.Common.{condition_in}
 use Rattle.bp_view.proofs.BegunViews.{copied}
 use Rattle.bp_view.proofs.Growth.{and_then}
-use Rattle.bp_view.proofs.outcomes.push_foot_lines.Goals as goal
+use Rattle.bp_view.proofs.outcomes.push_footer_lines.Goals as goal
 
 pub returns : goal.returns
 returns c =

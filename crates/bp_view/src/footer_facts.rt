@@ -12,7 +12,7 @@ ghost use Rattle.bp_machine.specs.Setups.{threads};
 ghost use Rattle.bp_machine.specs.Runs.{IsTop};
 ghost use Rattle.bp_source.specs.Names.{variables_read};
 ghost use Rattle.bp_view.specs.CallFacts.{entry_of, AreProgramFacts};
-ghost use Rattle.bp_view.specs.FootFacts.{condition_in, foot_in, named_entries, named_entry, waiting, AreFailureFacts, AreFootFacts, AreStandingFacts, AreWaitsFacts, IsAtCondition};
+ghost use Rattle.bp_view.specs.FooterFacts.{condition_in, footer_in, named_entries, named_entry, waiting, AreFailureFacts, AreFooterFacts, AreStandingFacts, AreWaitsFacts, IsAtCondition};
 
 use crate::change_facts::Change;
 use crate::program_facts::{ProgramFacts, source_statement_of};
@@ -38,7 +38,7 @@ pub struct ConditionFacts<'a> {
 
 /// The shown facts of the end of a history.
 #[derive(Drop)]
-pub struct FootFacts<'a> {
+pub struct FooterFacts<'a> {
     pub report: Report,
     /// Whether the threads are deadlocked.
     pub deadlocked: bool,
@@ -227,23 +227,23 @@ fn failure_of<'a>(
 
 /// Returns the facts of the end of the history with this report, after which the session stands.
 /// Fails only on allocation.
-pub fn facts_of_foot<'a>(
+pub fn facts_of_footer<'a>(
     alloc: Global,
     program: &ProgramFacts<'a>,
     session: &Session,
     report: Report,
-) -> Result<FootFacts<'a>, AllocError>
+) -> Result<FooterFacts<'a>, AllocError>
     ensures { let t = session.now.code.tree in (text : List ℕ) (h : List Answered)
         → AreProgramFacts t text program.now
         → Stands t session.now h
         → report.outcome ≡ outcome_of h
         → let s = session.now.setup in
-        IfOk result (λ x. AreFootFacts t text s h report (foot_in x)) }
+        IfOk result (λ x. AreFooterFacts t text s h report (footer_in x)) }
 {
     let deadlocked = session.is_deadlocked();
     let failure = failure_of(alloc, program, session, report.outcome)?;
     let waits = waits_of(alloc, program, session, deadlocked)?;
-    Ok(FootFacts {
+    Ok(FooterFacts {
         report,
         deadlocked,
         failure,

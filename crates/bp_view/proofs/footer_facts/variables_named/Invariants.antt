@@ -1,5 +1,5 @@
 use Rattle.bp_view.proofs.Common.{◌≡◌, flat_map, map, take, store_of, named_store, entry_of, named_entry}
-use Rattle.bp_view.proofs.foot_facts.variables_named.Given as goal
+use Rattle.bp_view.proofs.footer_facts.variables_named.Given as goal
 
 abbrev pub invariant-loop-name : goal.invariant-loop-name
 invariant-loop-name l =

@@ -1,7 +1,7 @@
 use Rattle.bp_view.proofs.Common.{◌≡◌, ◌∙◌, ℕ, List, Option, sym, option_map, IsSomeAnd, rules, IfOk-weaker, Program, Call, Failed, configuration_after, outcome_of, IsRealFailure, SetupOf, real, condition_in, AreFailureFacts, AreStandingFacts}
-use Rattle.bp_view.specs.declared.foot_facts.ConditionFacts.{ConditionFacts}
+use Rattle.bp_view.specs.declared.footer_facts.ConditionFacts.{ConditionFacts}
 use Rattle.bp_view.proofs.FailedConditions.{assertion_facts, at_assertion}
-use Rattle.bp_view.proofs.foot_facts.failure_of.Goals as goal
+use Rattle.bp_view.proofs.footer_facts.failure_of.Goals as goal
 
 shown_failure : (t : Program) (text : List ℕ) (s : SetupOf) (h : List Call) (i : ℕ) → IsRealFailure t s h i → (o : Option ConditionFacts)
     → IsSomeAnd o (λ x. (x.thread ≡ i) × AreStandingFacts text (configuration_after t s h) (condition_in x))

@@ -1,7 +1,7 @@
 use Rattle.bp_view.proofs.Common.{◌≡◌, ◌∙◌, ◌++◌, ◌∷◌, [], suc, true, map, subst, sym, rules, map-append, configuration_after, waits, condition_in, waiting, AreWaitsFacts}
 use Rattle.bp_view.proofs.WholeFacts.{one_wait_more}
 use Rattle.bp_view.proofs.FailedConditions.{at_assumption}
-use Rattle.bp_view.proofs.foot_facts.add_wait.Goals as goal
+use Rattle.bp_view.proofs.footer_facts.add_wait.Goals as goal
 
 pub returns-in_default : goal.returns-in_default
 returns-in_default c = λ text h set stands are.

@@ -15,8 +15,8 @@ use Rattle.bp_text.specs.declared.lines.Position.{Position}
 use Rattle.bp_text.specs.Lines.{position_at}
 use Rattle.bp_source.specs.Names.{next_decision, variables_read}
 use Rattle.bp_source.specs.SourceStatements.{IsStatement}
-use Rattle.bp_view.specs.declared.foot_facts.ConditionFacts.{ConditionFacts}
-use Rattle.bp_view.specs.declared.foot_facts.FootFacts.{FootFacts}
+use Rattle.bp_view.specs.declared.footer_facts.ConditionFacts.{ConditionFacts}
+use Rattle.bp_view.specs.declared.footer_facts.FooterFacts.{FooterFacts}
 use Rattle.bp_view.specs.CallFacts.{entry_of, Entry}
 
 -- The shown facts of a condition, which is an assertion or an assumption: the thread that is at it,
@@ -29,7 +29,7 @@ pub record ShownCondition : Type 0 where
 
 -- The shown facts of the end: the report, whether the threads are deadlocked, the assertion that
 -- failed, and the assumptions at which threads wait in a deadlock.
-pub record ShownFoot : Type 0 where
+pub record ShownFooter : Type 0 where
   pub report : Report
   pub deadlocked : Bool
   pub failure : Option ShownCondition
@@ -45,8 +45,8 @@ condition_in x =
       values = map entry_of x.values.items;
     }
 
-abbrev pub foot_in : FootFacts → ShownFoot
-foot_in x =
+abbrev pub footer_in : FooterFacts → ShownFooter
+footer_in x =
     record {
       report = x.report;
       deadlocked = x.deadlocked;
@@ -127,7 +127,7 @@ module _ (t : Program) (text : List ℕ) (s : SetupOf) (h : List Call) where
   AreFailureFacts (Failed i) (Some x) = (x.thread ≡ i) × AreAssertionFacts x
 
   -- these are the facts of the end, with this report
-  pub record AreFootFacts (r : Report) (x : ShownFoot) : Type 0 where
+  pub record AreFooterFacts (r : Report) (x : ShownFooter) : Type 0 where
     pub report : x.report ≡ r
     pub decides : IsTrue x.deadlocked ↔ IsDeadlocked t (configuration_after t s h)
     pub failure : AreFailureFacts r.outcome x.failure

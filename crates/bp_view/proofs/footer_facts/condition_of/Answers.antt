@@ -1,7 +1,7 @@
 use Rattle.bp_view.proofs.Common.{◌≡◌, ◌∙◌, Some, ap, is_some, refl, sym, false≢true, place, stack_of, configuration_after, next_decision}
 use Rattle.bp_language.specs.Views.{decision_of}
 use Rattle.bp_view.proofs.FailedConditions.{decision_is, position_is, standing_facts}
-use Rattle.bp_view.proofs.foot_facts.condition_of.Goals as goal
+use Rattle.bp_view.proofs.footer_facts.condition_of.Goals as goal
 
 pub returns-in_default-source_statement_of : goal.returns-in_default-source_statement_of
 returns-in_default-source_statement_of c = λ text h set stands at.

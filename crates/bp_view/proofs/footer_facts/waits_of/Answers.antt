@@ -1,5 +1,5 @@
 use Rattle.bp_view.proofs.Common.{◌≡◌, ◌∙◌, map, subst, sym, ap, add-one, arith, configuration_after, threads, condition_in, waiting, AreWaitsFacts}
-use Rattle.bp_view.proofs.foot_facts.waits_of.Goals as goal
+use Rattle.bp_view.proofs.footer_facts.waits_of.Goals as goal
 
 pub loop-thread-preserved : goal.loop-thread-preserved
 loop-thread-preserved c = λ text h set stands.

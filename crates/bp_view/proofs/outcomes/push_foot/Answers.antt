@@ -1,4 +1,0 @@
-use Rattle.bp_view.proofs.outcomes.push_foot.Goals as goal
-
-pub returns-in-Json : goal.returns-in-Json
-returns-in-Json c = rw c.in-Json.is c.push_foot_object.ensures
