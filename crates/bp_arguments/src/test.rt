@@ -16,13 +16,13 @@ use std::alloc::{AllocError, Global};
 
 pub static TEST: Subcommand<'static> = Subcommand {
     name: "test",
-    about: "Test a program by runs with drawn schedules and print the first that fails",
+    about: "Test a program by random schedules and print the trace of the first failing run",
     notes: "\
     Each run switches between the threads at places that are drawn by its seed, within the\n\
     contexts that are allowed. The seed of run r, from 0, is that of the first run plus r. A run\n\
     ends if an assertion fails, or if no thread can continue. The trace of the first run in which\n\
     an assertion failed is printed, and 'btrun replay' accepts it. A summary on standard\n\
-    error says what was found, and what the runs reached. The first error is one line there.\n\
+    error says what was found, and what the runs reached. An error is one line there.\n\
     With --json each line on standard error is a JSON object.\n\
     What is found and printed does not depend on the number of jobs. With --time the first runs\n\
     are made, as many as there is time for, and are always the same.\n\n\

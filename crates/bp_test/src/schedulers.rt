@@ -92,9 +92,9 @@ fn draw_length(generator: &mut Lcg64Xsh32, lengths: &[u64]) -> u64 {
     }
 }
 
-/// Draws the number of switches of a run of this length. The most are one less than the contexts
-/// that are allowed, and seven eighths of the length less one. One schedule of five has one switch,
-/// one of twenty has two, and the others more than half of the most.
+/// Draws the number of switches of a run of this length: at most `contexts - 1`, and at most
+/// `length - length / 8 - 1`. One schedule of five has one switch, one of twenty has two, and the
+/// others more than half of the most.
 fn draw_switches(generator: &mut Lcg64Xsh32, contexts: u32, length: u64) -> u32 {
     if contexts < 2 {
         return 0;
@@ -111,10 +111,10 @@ fn draw_switches(generator: &mut Lcg64Xsh32, contexts: u32, length: u64) -> u32 
     }
 }
 
-/// Draws the number of places for this number of switches: from half of the steps at which they may
-/// be to all of these. For one schedule of two that is the whole length, and for the other one the
-/// share of as many threads as there are switches: before the last switch no more threads than that
-/// make steps.
+/// Draws the number of places for this number of switches, from `steps / 2` to `steps`. In one
+/// schedule of two `steps` is the length of the run, and in the other it is
+/// `length * min(switches, threads) / threads`, because before the last switch no more than
+/// `switches` threads make steps.
 fn draw_places(generator: &mut Lcg64Xsh32, length: u64, switches: u32, threads: u32) -> u64 {
     let is_whole = below(generator, 2) == 0;
     let steps = if is_whole {

@@ -187,7 +187,7 @@ state_text Columns x = state_lines x (threads_text Columns x.threads)
 state_text Json x = state_object x (threads_text Json x.threads)
 
 -- Of a program and its text, in a setup: the state after the attempts h, which begin a history of
--- this many attempts.
+-- `count` attempts.
 pub record IsStateText
     (format : ViewFormat)
     (t : Program) (text : List ℕ) (s : SetupOf) (h : List Call) (count : ℕ) (said : List ℕ)
