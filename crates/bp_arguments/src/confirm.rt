@@ -16,7 +16,8 @@ pub static CONFIRM: Subcommand<'static> = Subcommand {
     about: "Confirm the steps that a model checker reports and print the trace of the run",
     notes: "\
     A line of the steps is 'THREAD PLACE', and then any number of ' NAME=BIT'. The place is that\n\
-    of the thread before the step: 'LINE', 'LINE:COLUMN', or '-' for a procedure's end. The values\n\
+    of the thread before the step: 'LINE', 'LINE:COLUMN', or '-' for a procedure's end. \
+    The values\n\
     are those that the thread sees after the step; NAME is the name of a variable, or that of a\n\
     procedure, a dot and the name of its local. Choice bits are left out.\n\
     The first error is one line on standard error.\n\n\
