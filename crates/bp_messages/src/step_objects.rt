@@ -214,7 +214,7 @@ pub fn put_verdict<'a, W: Write>(facts: VerdictFacts<'a>, out: &mut W) -> Result
     put_pieces(out, &verdict_pieces(facts))
 }
 
-/// Writes the object of the verdict on steps of which a run makes the first `steps`.
+/// Writes the object of a refutation: a run makes the first `steps` steps of the list.
 pub(crate) fn put_refuted<W: Write>(steps: u64, sink: &mut Sink<'_, W>)
     ensures { Given W.contents sink.old sink.new (verdict_object (refuted_after steps)) }
 {

@@ -23,7 +23,7 @@ use bp_trace::limits::MAX_TRACE;
 use bp_trace::{ReplayError, Replayed, replay};
 use std::alloc::Global;
 
-/// The most frames of the stack for each of which a statement is moved to the right by two columns.
+/// The most frames of a stack that indent a statement, by two columns each.
 pub(crate) const MAX_INDENTS: usize = 8;
 
 /// The widths of the columns.

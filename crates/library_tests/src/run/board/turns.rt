@@ -1,4 +1,4 @@
-//! Turns at a board, and the attempts and the report with which it is gathered.
+//! Turns at a board, and its attempts and report once it is gathered.
 
 ghost use Rattle.std.specs.Prelude.{◌≡◌, true, is_some};
 ghost use Rattle.bp_machine.specs.Setups.{threads, Fits};
