@@ -35,7 +35,7 @@ module _ (C O : RattleType) (calls : Calls.Ghosts C.Denot) (made : Ledger.Ghosts
       (recorded_send _ _ _ (Inside.the_type C O calls made live).to_one
       (struct_send (structs.shape (Inside.the_type C O calls made live)) (
         search (sendable, crosses, session_send) depth 5,
-        (search (sendable, crosses, End.the_send) depth 40, (Book.the_send C made, (Book.the_send O live, tt))),
+        (search (sendable, crosses, End.the_send) depth 40, (search (sendable, crosses) depth 40, (Book.the_send C made, (Book.the_send O live, tt)))),
       )))
 
   pub board_sync : IsSync (Board.the_row C O calls made live)

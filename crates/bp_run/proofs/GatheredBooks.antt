@@ -1,8 +1,8 @@
 -- The books of a desk once its seats and its tap are joined with it.
-use Rattle.bp_run.proofs.Common.{◌≡◌, Bool, true, false, sym, ◌∙◌, ap, ℕ, ◌+◌, ◌*◌, ◌<◌, ◌≤◌, ◌^◌, cond, List, [], ◌∷◌, ◌++◌, None, is_some, subst, arith, length-append, ◌↔◌, IsTrue, length, Option, Some, rules, Call, is_terminated, terminated_by, live_threads, IsLegal, IsReport, HasSeededBits, SessionOf, Stands, IsNextCall, threads, Fits, IsInRange, SetupOf, Report, live_at_start, live_threads-append, IsInBooks, SeatOf, TapOf, calls_of_seats, open_seats, AreOnePerThread, AreSeatsOf, IsGathered, TellsEarly}
+use Rattle.bp_run.proofs.Common.{◌≡◌, Bool, true, false, sym, ◌∙◌, ap, ℕ, ◌+◌, ◌<◌, ◌^◌, cond, List, [], ◌∷◌, ◌++◌, None, is_some, subst, arith, length-append, ◌↔◌, IsTrue, length, Option, Some, rules, Call, is_terminated, terminated_by, live_threads, IsLegal, IsReport, HasSeededBits, SessionOf, Stands, IsNextCall, threads, Fits, IsInRange, SetupOf, Report, live_at_start, live_threads-append, IsInBooks, SeatOf, TapOf, calls_of_seats, open_seats, AreOnePerThread, AreSeatsOf, IsGathered, TellsEarly}
 use Rattle.std.proofs.Math.Nat.{mul-le-mul_left, mul-le-mul_right}
 use Rattle.bp_flat.specs.Flat.{Flat}
-use Rattle.bp_machine.specs.declared.limits.TheConstants.{MAX_THREADS, MAX_CALLS}
+use Rattle.bp_machine.specs.declared.limits.TheConstants.{MAX_THREADS}
 use Rattle.bp_machine.proofs.HistoriesAreRuns.{legal_length}
 
 -- The books of a desk at the start, and after one more attempt.
@@ -19,7 +19,7 @@ module _ (x new : SessionOf) (h : List Call) (made live i : ℕ) (call : Call) (
     live_with : live_threads x.setup (h ++ call ∷ []) + terminated_by x.setup h call ≡ live_threads x.setup h
     live_with = live_threads-append x.code.tree x.setup h call next.allowed
 
-    books_with : (more less : ℕ) → more ≡ made + 1 → less + terminated_by x.setup h call ≡ live → IsInBooks new (h ++ call ∷ []) more less
+    pub books_with : (more less : ℕ) → more ≡ made + 1 → less + terminated_by x.setup h call ≡ live → IsInBooks new (h ++ call ∷ []) more less
     books_with more less given1 given2 = grind (arith, length-append, live_with)
 
     -- a thread that the attempt terminates

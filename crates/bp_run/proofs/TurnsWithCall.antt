@@ -94,7 +94,7 @@ module _ (x : SessionOf) (h : List Call) (i : ℕ) (within : i < threads x.setup
 
 -- A turn that is cut short before one more attempt.
 
-steps_more : (i : ℕ) (steps : List Call) (last : Call) → AreSteps i steps → last.thread ≡ i → last.reply ≡ Stepped → AreSteps i (steps ++ last ∷ [])
+pub steps_more : (i : ℕ) (steps : List Call) (last : Call) → AreSteps i steps → last.thread ≡ i → last.reply ≡ Stepped → AreSteps i (steps ++ last ∷ [])
 steps_more i [] last stepped thread reply = ((thread, reply), tt)
 steps_more i (x ∷ xs) last stepped thread reply = (stepped.0, steps_more i xs last stepped.1 thread reply)
 

@@ -1,5 +1,5 @@
 -- The results of an attempt and of a turn at a desk, and what the seat tells of them.
-use Rattle.std.specs.Prelude.{◌≡◌, ◌⊎◌, ℕ, ◌≤◌, ◌+◌, false, true, List, [], ◌∷◌, ◌++◌, None, length, not, ◌≢◌, ◌<◌, ⊤}
+use Rattle.std.specs.Prelude.{◌≡◌, ◌⊎◌, ℕ, ◌≤◌, ◌+◌, false, true, List, [], ◌∷◌, ◌++◌, None, length, not, ◌≢◌, ◌<◌, ⊤, cond}
 use Rattle.std.specs.List.{AllByRecursion}
 use Rattle.bp_language.specs.Ast.{Program}
 use Rattle.bp_machine.specs.declared.calls.Call.{Call}
@@ -7,10 +7,10 @@ use Rattle.bp_machine.specs.declared.calls.Reply.{Reply}
 use Rattle.bp_machine.specs.declared.calls.AskError.{AskError}
 use Rattle.bp_machine.specs.declared.calls.AskError.TheVariants as error
 use Rattle.bp_machine.specs.Histories.{is_terminated, is_last}
-use Rattle.bp_machine.specs.Sessions.{IsLiveThread, IsNextCall, IsAskRefusal}
+use Rattle.bp_machine.specs.Sessions.{IsLiveThread, IsNextCall, IsAskRefusal, SessionOf, Stands}
 use Rattle.bp_machine.specs.Setups.{SetupOf}
 use Rattle.bp_machine.specs.declared.calls.Reply.TheVariants.{Stepped}
-use Rattle.bp_run.specs.Desks.{DeskOf, SeatOf}
+use Rattle.bp_run.specs.Desks.{DeskOf, IsInBooks, SeatOf}
 
 -- The result of an attempt at a desk.
 
@@ -60,11 +60,37 @@ IsDeskRefusal d seat error.Memory = IsOpen d seat × MayLackMemory d seat
 IsDeskRefusal d seat error.Busy = IsOpen d seat × (d.free ≡ 0)
 IsDeskRefusal d seat f = ⊥
 
--- The result of a turn at a desk: the attempts that it appends.
-
 -- the attempts are steps of this thread
 abbrev pub AreSteps : ℕ → List Call → Type 0
 AreSteps i cs = AllByRecursion (λ x. (x.thread ≡ i) × (x.reply ≡ Stepped)) cs
+
+-- Some attempts of thread i, made one after the other by a session that was in its books after the
+-- history h. The thread is live before each of them.
+module _ (x : SessionOf) (h : List Call) (made live i n : ℕ) (cs : List Call) where
+  -- The last has this reply, and those before it are steps. There are n, or the last is no step, or
+  -- it terminates the thread. The session is in its books if they count it.
+  pub record AreMade (reply : Reply) : Type 0 where
+    pub steps : List Call
+    pub last : Call
+    pub are : cs ≡ steps ++ last ∷ []
+    pub stepped : AreSteps i steps
+    pub thread : last.thread ≡ i
+    pub answered : last.reply ≡ reply
+    pub most : length steps + 1 ≤ n
+    pub stands : Stands x.code.tree x (h ++ cs)
+    pub books : (less : ℕ)
+        → less + cond (is_terminated x.setup (h ++ cs) i) 1 0 ≡ live
+        → IsInBooks x (h ++ cs) (made + length cs) less
+
+  -- all are steps, and the thread is live after them, but its next attempt is refused
+  pub record AreCut (f : AskError) : Type 0 where
+    pub stepped : AreSteps i cs
+    pub fewer : length cs < n
+    pub books : IsInBooks x (h ++ cs) (made + length cs) live
+    pub still_live : is_terminated x.setup (h ++ cs) i ≡ false
+    pub refused : IsAskRefusal x.code.tree x.setup (h ++ cs) i None f
+
+-- The result of a turn at a desk: the attempts that it appends.
 
 -- The turn ended with this reply: after n attempts, or because the reply is not Stepped, or because
 -- the thread has terminated. The attempts before the last are steps.

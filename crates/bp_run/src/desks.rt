@@ -1,15 +1,18 @@
 //! The desk: the machine, and the end of the ring to which its history is sent. An attempt is made
 //! and sent, or neither. Whether a session has stopped: its live threads are before calls.
-ghost use Rattle.std.specs.Prelude.{◌≡◌, ◌≤◌, ◌<◌, ◌↔◌, [], true, None, is_some, IfOk, OnErr, MatchResult, ◌+◌, ◌∷◌, ◌++◌};
+ghost use Rattle.std.specs.Prelude.{◌≡◌, ◌≤◌, ◌<◌, ◌↔◌, [], true, None, is_some, IfOk, OnErr, MatchResult, ◌+◌, ◌∷◌, ◌++◌, ℕ, List, false, vec_len, vec_capacity};
 ghost use Rattle.rtrb.specs.Ring.{sent, known_free, SameProducer};
 ghost use Rattle.bp_machine.specs.Setups.{threads, Fits};
+ghost use Rattle.bp_machine.specs.Histories.{is_terminated};
+ghost use Rattle.bp_machine.specs.declared.calls.Call.{Call as Answered};
 ghost use Rattle.bp_machine.specs.Sessions.{Stands, IsNextCall, AfterEach};
 ghost use Rattle.bp_run.specs.declared.limits.TheConstants.{MAX_TURN};
-ghost use Rattle.bp_run.specs.Turns.{IsAsked, IsShut, IsDeskRefusal, IsUnchanged, IsTurn, IsCutTurn, IsSendRefusal};
-ghost use Rattle.bp_run.specs.Desks.{IsLegalDesk, IsNewDesk, IsNamed, AreNewSeats};
+ghost use Rattle.bp_run.specs.Turns.{AreMade, AreCut, IsAsked, IsShut, IsDeskRefusal, IsUnchanged, IsTurn, IsCutTurn, IsSendRefusal};
+ghost use Rattle.bp_run.specs.Desks.{IsInBooks, IsLegalDesk, IsNewDesk, IsNamed, AreNewSeats};
 ghost use Rattle.bp_run.specs.Gatherings.{is_at_call, TellsEarly};
 
 use crate::boards::{BoardParts, Calls};
+use crate::limits::MAX_TURN;
 use crate::seats::{Seat, Tap, new_seats};
 use bp_flat::{Code, Kind};
 use bp_machine::{AskError, Call, Reply, Session, Setup};
@@ -26,14 +29,17 @@ use std::sync::ledger::{Book, Ledger};
 pub struct Desk<C: Calls, O: Ledger> {
     pub(crate) session: Session,
     pub(crate) to: Producer<Call>,
+    /// Room for the attempts of a turn, which are sent together. It is empty between turns.
+    pub(crate) unsent: Vec<Call>,
     pub(crate) made: Book<C>,
     pub(crate) live: Book<O>,
 }
 
 impl<C: Calls, O: Ledger> Model for Desk<C, O> {
-    ghost use Rattle.std.specs.Prelude.{◌≡◌};
+    ghost use Rattle.std.specs.Prelude.{◌≡◌, ◌≤◌, [], vec_capacity};
     ghost use Rattle.rtrb.specs.Ring.{sent, known_free};
     ghost use Rattle.bp_machine.specs.Setups.{threads};
+    ghost use Rattle.bp_run.specs.declared.limits.TheConstants.{MAX_TURN};
     ghost use Rattle.bp_run.specs.Desks.{DeskOf, desk_of, IsInBooks, producer_ring, coded_desk};
 
     ghost Value = { DeskOf };
@@ -48,7 +54,9 @@ impl<C: Calls, O: Ledger> Model for Desk<C, O> {
         × (threads d.session.setup ≡ C.parts)
         × (threads d.session.setup ≡ O.parts)
         × (d.session.code ≡ C.code)
-        × (d.session.setup ≡ C.setup) };
+        × (d.session.setup ≡ C.setup)
+        × (d.unsent.items ≡ [])
+        × (MAX_TURN ≤ vec_capacity d.unsent) };
 }
 
 impl<C: Calls, O: Ledger> Desk<C, O> {
@@ -83,9 +91,11 @@ impl<C: Calls, O: Ledger> Desk<C, O> {
         let (mut live, mut all_live) = live.open::<O>();
         live.add(&mut all_live, u64::from(threads));
         let seats = new_seats(alloc, threads, all_made, all_live)?;
+        let unsent = Vec::with_capacity(alloc, MAX_TURN as usize)?;
         let desk = Desk {
             session,
             to,
+            unsent,
             made,
             live,
         };
@@ -127,6 +137,46 @@ impl<C: Calls, O: Ledger> Desk<C, O> {
         Ok(call.reply)
     }
 
+    /// Begins a turn: makes as many of its attempts as there are places known to be free, and sends
+    /// them together. Returns the last reply, and how many attempts were made.
+    fn begin(&mut self, seat: &mut Seat<C, O>, n: u32) -> Result<(Reply, u32), AskError>
+        requires some { 0 < n }
+        requires few { n ≤ MAX_TURN }
+        ensures answer { MatchResult result
+            (λ r. IsTurn self.old self.new seat.old seat.new r.1 r.0)
+            (IsCutTurn self.old self.new seat.old seat.new n) }
+        ensures count { IfOk result (λ r.
+            (r.1 ≤ n) × (seat.new.calls ≡ seat.old.calls + r.1)) }
+        ensures terminated { (result ≡ Err AskError.Terminated) ↔ IsShut self.old seat.old }
+        ensures kept { (self.new.code ≡ self.old.code) × (self.new.setup ≡ self.old.setup) }
+    {
+        if n == 1 {
+            return Ok((self.ask(seat)?, 1));
+        }
+        self.session.setup().is_in_range();
+        if !seat.is_open || self.session.is_terminated(seat.thread) {
+            return Err(AskError::Terminated);
+        }
+        let free = self.to.slots();
+        if free == 0 {
+            return Err(AskError::Busy);
+        }
+        let most = free.min(n as usize);
+        let answer = make(&mut self.session, &mut self.unsent, seat.thread, most);
+        let _sent = self.to.push_entire_slice(self.unsent.as_slice());
+        let made = self.unsent.len() as u32;
+        self.unsent.clear();
+        self.made.add(&mut seat.made, u64::from(made));
+        self.made.audit(&mut seat.made);
+        seat.calls += u64::from(made);
+        let reply = answer?;
+        if self.session.is_terminated(seat.thread) {
+            self.live.sub(&mut seat.own_live, 1);
+            seat.is_open = false;
+        }
+        Ok((reply, made))
+    }
+
     /// Makes attempts of the seat's thread until there were `n`, one had another reply than
     /// Stepped, its thread has terminated, or one is refused. Returns the last reply, or the
     /// refusal; the attempts before a refusal are kept.
@@ -139,8 +189,8 @@ impl<C: Calls, O: Ledger> Desk<C, O> {
         ensures terminated { (result ≡ Err AskError.Terminated) ↔ IsShut self.old seat.old }
         ensures kept { (self.new.code ≡ self.old.code) × (self.new.setup ≡ self.old.setup) }
     {
-        let mut last = self.ask(seat)?;
-        for _made in 1..n {
+        let (mut last, made) = self.begin(seat, n)?;
+        for _made in made..n {
             if last != Reply::Stepped || !seat.is_open() {
                 return Ok(last);
             }
@@ -148,6 +198,39 @@ impl<C: Calls, O: Ledger> Desk<C, O> {
         }
         Ok(last)
     }
+}
+
+/// Makes attempts of a thread until there were `n`, one had another reply than Stepped, the thread
+/// has terminated, or one is refused. Returns the last reply, or the refusal.
+fn make(
+    session: &mut Session,
+    calls: &mut Vec<Call>,
+    thread: u32,
+    n: usize,
+) -> Result<Reply, AskError>
+    requires thread { thread < threads session.old.setup }
+    requires some { 0 < n }
+    requires empty { calls.old.items ≡ [] }
+    requires room { n ≤ vec_capacity calls.old }
+    ensures answer { let cs = calls.new.items in
+        (h : List Answered) (made live : ℕ)
+        → IsInBooks session.old h made live
+        → is_terminated session.old.setup h thread ≡ false
+        → MatchResult result
+        (AreMade session.new h made live thread n cs)
+        (AreCut session.new h made live thread n cs) }
+    ensures kept { (session.new.code ≡ session.old.code) × (session.new.setup ≡ session.old.setup) }
+    ensures room { vec_capacity calls.new ≡ vec_capacity calls.old }
+    ensures few { vec_len calls.new ≤ n }
+{
+    for _made in 0..n {
+        let call = session.ask(thread)?;
+        calls.push_reserved(call);
+        if call.reply != Reply::Stepped || session.is_terminated(thread) {
+            return Ok(call.reply);
+        }
+    }
+    Ok(Reply::Stepped)
 }
 
 /// Makes the next attempt of a thread with the seed's bit, and sends it. At a refusal neither is

@@ -116,6 +116,7 @@ fn joined<C: Calls, O: Ledger>(
     let Desk {
         session,
         mut to,
+        unsent: _,
         mut made,
         mut live,
     } = desk;

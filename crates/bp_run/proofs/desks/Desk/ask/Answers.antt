@@ -84,6 +84,8 @@ invariant_of-self-then-is_terminated g c =
       rw (setup_is g d) c.self.invariant.3,
       code_is g d ∙ c.self.invariant.4,
       setup_is g d ∙ c.self.invariant.5,
+      c.self.invariant.6,
+      c.self.invariant.7,
     )
 
 pub invariant_of-self-else-is_terminated : goal.invariant_of-self-else-is_terminated
@@ -100,6 +102,8 @@ invariant_of-self-else-is_terminated g c =
       rw (setup_is g d) c.self.invariant.3,
       code_is g d ∙ c.self.invariant.4,
       setup_is g d ∙ c.self.invariant.5,
+      c.self.invariant.6,
+      c.self.invariant.7,
     )
 
 pub returns-then-is_terminated-clause-terminated : goal.returns-then-is_terminated-clause-terminated

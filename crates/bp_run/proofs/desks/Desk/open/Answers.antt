@@ -14,4 +14,4 @@ invariant_of-desk g c =
     let books = books_at_start x c.open-made.result.0.total c.add.new.self.total (rw (code, setup) c.requires.fits) (rw setup c.requires.seeded)
     (rw (← code) at c.in_ok-session.ensures.stands) (rw setup c.is_in_range.ensures.one) c.open-made.ensures.total
     (c.add.ensures.total ∙ total_is c.open-live.result.0.total c.from.result (threads x.setup) c.open-live.ensures.total many) in
-    (rw c.board_parts.invariant.unsent books, search rules, search rules, search rules, code ∙ c.requires.code, setup ∙ c.requires.setup)
+    (rw c.board_parts.invariant.unsent books, search rules, search rules, search rules, code ∙ c.requires.code, setup ∙ c.requires.setup, search rules, search rules)
