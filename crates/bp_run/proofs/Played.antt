@@ -13,7 +13,7 @@ pub lines_append : (cs ds : List Call) → lines_of (cs ++ ds) ≡ lines_of cs +
 lines_append cs ds = flat_map-append call_line cs ds
 
 module _ {W : Type 0} (contents : W → Option (List ℕ)) where
-  given_line : (a b c : Sink W) (cs : List Call) (x : Call)
+  pub given_line : (a b c : Sink W) (cs : List Call) (x : Call)
       → Given contents a b (lines_of cs) → Given contents b c (call_line x) → Given contents a c (lines_of (cs ++ x ∷ []))
   given_line a b c cs x given1 given2 = search (rules, lines_append, append-nil, and_then)
 

@@ -1,6 +1,6 @@
 //! The seats of guest threads at a board.
 //! The tap: the end of the ring from which the history is taken.
-ghost use Rattle.std.specs.Prelude.{◌≡◌, IfOk, ◌++◌, ◌∷◌, [], None, IfSome, IfNone};
+ghost use Rattle.std.specs.Prelude.{◌≡◌, ◌≤◌, IfOk, ◌++◌, ◌∷◌, [], None, IfSome, IfNone, length, take};
 ghost use Rattle.rtrb.specs.Ring.{received};
 ghost use Rattle.bp_run.specs.Desks.{AreNewSeats, consumer_ring, IsTakenOf};
 
@@ -119,6 +119,18 @@ impl<C: Calls> Tap<C> {
             left: None,
             of: PhantomData,
         }
+    }
+
+    /// Takes attempts of the history from the ring to the start of the slice, as many as there are
+    /// and as it holds, and returns how many. Once the board is gathered, it takes none.
+    pub(crate) fn take(&mut self, calls: &mut [Call]) -> usize
+        ensures few { result ≤ length calls.old }
+        ensures taken { self.new.taken ≡ self.old.taken ++ take result calls.new }
+    {
+        if self.left.is_some() {
+            return 0;
+        }
+        self.from.pop_partial_slice(calls)
     }
 
     /// Returns the next attempt of the history, if there is one in the ring. Once the board is

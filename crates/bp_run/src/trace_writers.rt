@@ -4,12 +4,12 @@ ghost use Rattle.std.specs.Prelude.{◌≡◌, [], true, Some, is_some, ◌||◌
 ghost use Rattle.bp_text.specs.Writing.{Given};
 ghost use Rattle.bp_trace.specs.TraceText.{head_text, call_line, end_line};
 ghost use Rattle.bp_trace.specs.declared.traces.Version.TheVariants.{One};
-ghost use Rattle.bp_run.specs.Works.{AreCallsWritten, IsStaged, IsRestWritten};
+ghost use Rattle.bp_run.specs.Works.{AreCallsWritten, IsStaged, IsRestWritten, lines_of};
 
 use crate::boards::Calls;
 use crate::seats::Tap;
 use crate::signals::{Idle, Signals};
-use bp_machine::{Call, Setup};
+use bp_machine::{Call, Reply, Setup};
 use bp_text::Sink;
 use bp_trace::{put_call, put_end, put_head};
 use std::io::Write;
@@ -19,6 +19,16 @@ use std::time::Clock;
 /// The number of times that the writer thread dozes before it sleeps. While attempts come in quick
 /// succession it is not worth a wake-up for each.
 const DOZES: u32 = 8;
+
+/// The most attempts that the writer thread takes at once.
+const TAKEN: usize = 64;
+
+/// What stands in the place of an attempt that is still to be taken.
+const NO_CALL: Call = Call {
+    thread: 0,
+    bit: false,
+    reply: Reply::Stepped,
+};
 
 /// Takes attempts and writes their lines, until the workers have ended and no attempt is seen. Each
 /// time the ring is empty, wakes as many workers that wait for room as there were attempts. If the
@@ -34,28 +44,27 @@ fn write_calls<W: Write, C: Calls, R: Wait + Clock>(
         tap.new.taken }
 {
     let mut idle = Idle::new(&signals.calls, DOZES);
+    let mut calls = [NO_CALL; TAKEN];
     let mut room = 0u64;
     for _ in rt.forever() {
         if writer.has_failed() {
             signals.halt();
             return;
         }
-        match tap.next() {
-            Some(call) => {
-                idle = Idle::new(&signals.calls, DOZES);
-                room = room.saturating_add(1);
-                writer.line(&call);
-            }
-            None => {
-                signals.room.ring(room);
-                room = 0;
-                writer.flush();
-                if signals.have_ended(started) {
-                    return;
-                }
-                idle.rest(rt);
-            }
+        let count = tap.take(&mut calls);
+        if count > 0 {
+            idle = Idle::new(&signals.calls, DOZES);
+            room = room.saturating_add(count as u64);
+            writer.lines(&calls[..count]);
+            continue;
         }
+        signals.room.ring(room);
+        room = 0;
+        writer.flush();
+        if signals.have_ended(started) {
+            return;
+        }
+        idle.rest(rt);
     }
     unreachable!()
 }
@@ -138,6 +147,17 @@ impl<'a, W: Write> TraceWriter<'a, W> {
     {
         put_call(call, &mut self.sink);
         self.is_wet = true;
+    }
+
+    /// Writes the lines of attempts.
+    pub fn lines(&mut self, calls: &[Call])
+        ensures given { Given W.contents self.old.sink self.new.sink (lines_of calls.now) }
+        ensures wet { self.new.is_wet ≡ true }
+    {
+        self.is_wet = true;
+        for call in calls {
+            put_call(call, &mut self.sink);
+        }
     }
 
     /// Writes the line that ends a trace.
