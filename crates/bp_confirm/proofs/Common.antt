@@ -2,7 +2,7 @@
 pub use Rattle.bp_code.specs.WellFormedTexts.{IsWellFormedText}
 pub use Rattle.bp_confirm.specs.ConfirmedTexts.{AreDeclared, AreDeclaredLines, AreKnown, AreRead, HasFitLength, IsConfirmedText, IsDeclared, IsFirstUndeclaredLine, IsFirstUndeclared, IsOfNoThread, IsOfNoVariable, IsSetupFor, IsStepsRefusal, contexts_allowed, thread_of}
 pub use Rattle.bp_confirm.specs.Confirms.{ForStuck, GoesOnAt, IsAnswered, IsDifference, IsLastChange, IsNotFollowed, IsReason, IsStepRefusal, IsStuck, IsUnclear, SeesOther, StandsAtPlace, seen_after, seen_by, thread_place_at_point, thread_place_at_start, thread_place_in, thread_place_of}
-pub use Rattle.bp_confirm.specs.FollowedSteps.{IsInferred, IsInferredOn, IsNotTaken, IsRefusedHere, NextNumbers, TellsNext, are_both_there, bit_of_effects, bit_of_instruction, bit_towards_number, is_fork, is_fork_block, is_fork_on, is_point_at, is_there, last_bits, points_from, refusal_of, source_points_of, splits}
+pub use Rattle.bp_confirm.specs.FollowedSteps.{IsInferred, IsInferredOn, IsNotTaken, IsRefusedHere, NextNumbers, TellsNext, inferred_bit, inferred_way, is_fork, is_fork_block, is_fork_on, is_point_at, is_there, last_bits, points_from, refusal_of, source_points_of}
 pub use Rattle.bp_confirm.specs.InferredBits.{AreBothAt, AreBothWays, EndsDeadlocked, EndsOtherwise, FollowAfter, Follows, IsAmbiguous, IsAmbiguousOnStack, IsClear, IsClearOnStack, IsClearWay, IsConfirmed, IsFollowed, IsTaken, LastBits, TakeEach, bit_of_block, bit_of_stack, bit_towards, deciding, differ, ones, some_follow, waiting_bits, waits_after, zeros}
 pub use Rattle.bp_confirm.specs.KeptLines.{AreWithin, GrowsByOne, IsKeptLine, IsStepThere, kept_lines, lines_at, no_line}
 pub use Rattle.bp_confirm.specs.Laws.{DeadlockIsTaken, IsMoveOf, IsRunOfSteps, MovesTake, NoRefusalOfConfirmed, OneConfirmed, OneRefusal, OnlyLinesAreAmbiguous, OwnDeadlockIsConfirmed, OwnLinesAreConfirmed, OwnTextIsConfirmed, RefusedFrontHasNoRun, RefusedHasNoRun, RefusedIsNotTaken}

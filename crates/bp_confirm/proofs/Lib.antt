@@ -1,7 +1,7 @@
 pub mod Common
 pub mod Agreement
 pub mod StepMoves
-pub mod BitsOfEffects
+pub mod BitsOfInstructions
 pub mod ValuesSeen
 pub mod NextLocations
 pub mod ReadLines

@@ -1,5 +1,5 @@
 -- The location of a thread before its next step is that of the place of the next step.
-use Rattle.bp_confirm.proofs.Common.{◌≡◌, ◌≢◌, ◌==◌, ◌<◌, ◌+◌, ◌-◌, ◌∙◌, ℕ, zero, suc, Bool, true, false, cond, List, [], ◌∷◌, length, drop, get_or, map, replicate, set, Option, None, Some, refl, ap, sym, option_map, arith, subst, nat_lt, slice_get, rules, AllByRecursion, nat_tests, slice_get-get_or, slice_get_past, drop-set, length-map, map-set, set_other, set_same, drop-length, false≢true, position_at, Block, Done, Then, Program, IsTextOf, Configuration, chain, place, start_of_block, starts_of, MAX_THREADS, stack_of, configuration_after, Location, LastBits, some_follow, AreBothAt, AreBothWays, IsAmbiguous, IsAmbiguousOnStack, TellsNext, place_of, StepLineOf, step_of, steps_of, location_in, next_location, next_locations, next_place, Place, End, Line, Column, GoesOnAt, IsReason, OnlyLinesAreAmbiguous}
+use Rattle.bp_confirm.proofs.Common.{◌≡◌, ◌≢◌, ◌==◌, ◌<◌, ◌+◌, ◌-◌, ◌∙◌, ℕ, zero, suc, Bool, true, false, cond, List, [], ◌∷◌, length, drop, get_or, map, replicate, set, Option, None, Some, refl, ap, sym, option_map, arith, subst, nat_lt, slice_get, rules, AllByRecursion, nat_tests, slice_get-get_or, slice_get_past, drop-set, length-map, map-set, set_other, set_same, drop-length, false≢true, position_at, Block, Done, Then, Program, IsTextOf, Configuration, chain, start_of_block, starts_of, MAX_THREADS, stack_of, configuration_after, Location, LastBits, some_follow, AreBothAt, AreBothWays, IsAmbiguous, IsAmbiguousOnStack, TellsNext, place_of, StepLineOf, step_of, steps_of, location_in, next_location, next_locations, next_place, Place, End, Line, Column, GoesOnAt, IsReason, OnlyLinesAreAmbiguous}
 use Rattle.bp_confirm.proofs.Elements.{all_at_place, rest_at}
 use Rattle.bp_confirm.proofs.OnePosition.{IsFull, full_place, one_byte_each}
 use Rattle.bp_confirm.proofs.StartsInOrder.{start_within, starts_distinct}

@@ -1,5 +1,5 @@
 -- Steps have at most one refusal, and none if a history confirms them.
-use Rattle.bp_confirm.proofs.Common.{◌≡◌, ◌≢◌, ◌∙◌, ℕ, zero, suc, Bool, true, List, [], ◌∷◌, ◌++◌, length, Option, None, Some, refl, ap, sym, subst, ◌+◌, arith, length-append, rules, false≢true, append-nil, map-append, map_push, regrouped, Block, Done, Then, Program, Configuration, chain, Valuation, place, start_of_block, Call, Reply, stack_of, configuration_after, is_terminated, SetupOf, IsWellFormedText, Difference, StepReason, Elsewhere, Ambiguous, Finished, Refused, Differs, seen_by, seen_after, IsLastChange, GoesOnAt, IsAnswered, IsReason, IsUnclear, SeesOther, StandsAtPlace, ForStuck, IsStepRefusal, thread_place_of, AreBothAt, AreBothWays, IsAmbiguous, IsAmbiguousOnStack, IsClear, IsClearOnStack, IsClearWay, LastBits, Follows, FollowAfter, IsFollowed, Place, StepOf, value_seen, IsFirstMismatch, StepLineOf, step_of, steps_of, Takes, StepRefusal}
+use Rattle.bp_confirm.proofs.Common.{◌≡◌, ◌≢◌, ◌∙◌, ℕ, zero, suc, Bool, true, List, [], ◌∷◌, ◌++◌, length, Option, None, Some, refl, ap, sym, subst, ◌+◌, arith, length-append, rules, false≢true, append-nil, map-append, map_push, regrouped, Block, Done, Then, Program, Configuration, chain, Valuation, start_of_block, Call, Reply, stack_of, configuration_after, is_terminated, SetupOf, IsWellFormedText, Difference, StepReason, Elsewhere, Ambiguous, Finished, Refused, Differs, seen_by, seen_after, IsLastChange, GoesOnAt, IsAnswered, IsReason, IsUnclear, SeesOther, StandsAtPlace, ForStuck, IsStepRefusal, thread_place_of, AreBothAt, AreBothWays, IsAmbiguous, IsAmbiguousOnStack, IsClear, IsClearOnStack, IsClearWay, LastBits, Follows, FollowAfter, IsFollowed, Place, StepOf, value_seen, IsFirstMismatch, StepLineOf, step_of, steps_of, Takes, StepRefusal}
 use Rattle.bp_confirm.proofs.OnePosition.{IsFull, full_place}
 use Rattle.bp_confirm.proofs.StepMoves.{other_values, seen_same}
 use Rattle.bp_confirm.proofs.LastChanges.{one_change}

@@ -4,10 +4,10 @@ use Rattle.bp_trace.specs.Replays.{IsPlayable}
 use Rattle.bp_trace.proofs.PlayableFronts.{front, own_is}
 use Rattle.bp_confirm.specs.Steps as point
 use Rattle.bp_confirm.specs.declared.choices.Inferred.{Inferred}
-use Rattle.bp_confirm.specs.declared.followed_steps.Next.{Next}
+use Rattle.bp_confirm.specs.declared.choices.Next.{Next}
 use Rattle.bp_confirm.specs.declared.confirmations.StepError.{StepError}
 use Rattle.bp_confirm.proofs.Elements.{parts_at, rest_at, take_got}
-use Rattle.bp_confirm.proofs.BitsOfEffects.{fork_is}
+use Rattle.bp_confirm.proofs.BitsOfInstructions.{fork_is}
 use Rattle.bp_confirm.proofs.ValuesSeen.{stands_as}
 use Rattle.bp_confirm.proofs.StepMoves.{same_reply, refused_for_all, other_values}
 use Rattle.bp_confirm.proofs.Agreement.{transfer}

@@ -3,7 +3,7 @@ use Rattle.bp_confirm.proofs.Common.{◌≡◌, ◌∙◌, ◌+◌, ℕ, zero, s
 use Rattle.std.proofs.Common.{bytes_eq}
 use Rattle.bp_source.proofs.DecidersOfPlaces.{same_qualified}
 use Rattle.bp_confirm.proofs.Elements.{all_got}
-use Rattle.bp_confirm.proofs.BitsOfEffects.{start_is_at, numbers_at}
+use Rattle.bp_confirm.proofs.BitsOfInstructions.{start_is_at, numbers_at}
 
 -- The point of an instruction has the start of its statement in the text.
 

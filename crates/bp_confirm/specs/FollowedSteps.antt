@@ -1,10 +1,8 @@
 -- Devices: how steps are followed, attempt by attempt.
-use Rattle.std.specs.Prelude.{if◌then◌else◌, ℕ, Bool, true, false, not, ◌&&◌, ◌==◌, List, [], ◌∷◌, Option, None, Some, is_none, ◌+◌, slice_get, ◌≡◌, MatchBool, get_or, option_map}
+use Rattle.std.specs.Prelude.{ℕ, Bool, true, false, not, ◌&&◌, ◌||◌, ◌==◌, List, [], ◌∷◌, Option, None, Some, ◌+◌, slice_get, ◌≡◌, MatchBool, get_or, option_map}
 use Rattle.bp_text.specs.Lines.{position_at}
 use Rattle.bp_language.specs.Ast.{Block, Then, Branches, Loops, Choose, Program}
 use Rattle.bp_flat.specs.Moves.{Frame}
-use Rattle.bp_flat.specs.declared.effects.Effect.{Effect}
-use Rattle.bp_flat.specs.declared.effects.Effect.TheVariants.{Continues, Fails, Blocks}
 use Rattle.bp_flat.specs.Flat.{Instruction, If, While, Assert, Assume}
 use Rattle.bp_flat.specs.StandsFor.{starts_of}
 use Rattle.bp_machine.specs.declared.calls.Call.{Call}
@@ -21,20 +19,12 @@ use Rattle.bp_confirm.specs.declared.confirmations.StepError.{StepError}
 use Rattle.bp_confirm.specs.declared.confirmations.StepError.TheVariants as error
 use Rattle.bp_confirm.specs.declared.confirmations.StepReason.{StepReason}
 use Rattle.bp_confirm.specs.declared.confirmations.StepRefusal.{StepRefusal}
-use Rattle.bp_confirm.specs.declared.followed_steps.Next.{Next}
+use Rattle.bp_confirm.specs.declared.choices.Next.{Next}
 use Rattle.bp_confirm.specs.declared.followed_steps.NotCalled.{NotCalled}
 use Rattle.bp_confirm.specs.declared.followed_steps.NotCalled.TheVariants as call
 use Rattle.bp_confirm.specs.Confirms.{thread_place_in, thread_place_of, GoesOnAt, IsStuck, IsReason, ForStuck}
 
--- A device: the inferred bit by the two effects of an instruction.
-
--- a test decides the effect of the instruction
-abbrev pub has_test : Instruction → Bool
-has_test (If test m e) = true
-has_test (While test m e) = true
-has_test (Assert test m) = true
-has_test (Assume test m) = true
-has_test i = false
+-- A device: the inferred bit of an instruction.
 
 -- a `?` decides its successor
 abbrev pub is_fork : Instruction → Bool
@@ -56,31 +46,21 @@ is_fork_on (f ∷ fs) = is_fork_block f.left
 abbrev pub NextNumbers : Type 0
 NextNumbers = Option (ℕ → Bool)
 
-abbrev pub bit_towards_number : NextNumbers → (taken other : ℕ) → Bool
-bit_towards_number None taken other = false
-bit_towards_number (Some there) taken other = there taken && not (there other)
+-- the way from which the next step goes on, if there is one; without it that of the last bit
+abbrev pub inferred_way : NextNumbers → (last : Bool) → (taken other : ℕ) → Inferred
+inferred_way None last taken other = record { bit = last; is_clear = true }
+inferred_way (Some there) last taken other =
+    record {
+      bit = there taken && not (there other);
+      is_clear = taken == other || not (there taken && there other);
+    }
 
--- the bit, by the effects with the bit 0 and with the bit 1
-abbrev pub bit_of_effects : NextNumbers → Bool → Effect → Effect → Bool
-bit_of_effects next follow Blocks (Continues n w) = true
-bit_of_effects next follow Fails (Continues n w) = follow
-bit_of_effects next follow (Continues m v) (Continues n w) = bit_towards_number next n m
-bit_of_effects next follow d e = false
-
--- the last bit decides at a fork without a next step
-abbrev pub bit_of_instruction
-    : NextNumbers → (last follow : Bool) → Instruction → Effect → Effect → Bool
-bit_of_instruction next last follow i d e =
-    if is_none next && is_fork i then last else bit_of_effects next follow d e
-
--- both ways lead to the place
-abbrev pub are_both_there : NextNumbers → (taken other : ℕ) → Bool
-are_both_there None taken other = false
-are_both_there (Some there) taken other = not (taken == other) && (there taken && there other)
-
-abbrev pub splits : NextNumbers → Effect → Effect → Bool
-splits next (Continues m v) (Continues n w) = are_both_there next n m
-splits next d e = false
+abbrev pub inferred_bit : NextNumbers → (last follow : Bool) → Instruction → Inferred
+inferred_bit next last follow (If None m e) = inferred_way next last m e
+inferred_bit next last follow (While None m e) = inferred_way next last m e
+inferred_bit next last follow (Assert None m) = record { bit = follow; is_clear = true }
+inferred_bit next last follow (Assume None m) = record { bit = true; is_clear = true }
+inferred_bit next last follow i = record { bit = false; is_clear = true }
 
 -- A device: the place and the procedure of the statement of each instruction.
 

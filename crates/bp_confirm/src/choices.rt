@@ -1,18 +1,17 @@
 //! The choice bits that reported steps leave out, and those that threads take if their last step is
 //! at a `?` and no later step shows which way it went.
-ghost use Rattle.std.specs.Prelude.{◌≡◌, ℕ, Bool, List, Option, IfSome, option_map, if◌then◌else◌, ◌++◌, ◌∷◌, [], false, not, get_or, IfOk, OnOk};
-ghost use Rattle.bp_language.specs.Ast.{Block, Procedure, Program};
-ghost use Rattle.bp_flat.specs.StandsFor.{Does, places_of};
+ghost use Rattle.std.specs.Prelude.{◌≡◌, ℕ, option_map, if◌then◌else◌, ◌++◌, ◌∷◌, [], false, not, get_or, IfOk, OnOk};
 ghost use Rattle.bp_machine.specs.Sessions.{AfterEach};
-ghost use Rattle.bp_confirm.specs.FollowedSteps.{bit_of_effects, bit_of_instruction, has_test, is_fork, splits, IsInferred, is_there, source_points_of, last_bits};
-ghost use Rattle.bp_confirm.specs.InferredBits.{bit_of_block, IsClear, deciding, differ, waits_after};
-ghost use Rattle.bp_confirm.specs.Steps.{place_of, Place};
+ghost use Rattle.bp_confirm.specs.FollowedSteps.{inferred_bit, inferred_way, is_fork, is_there, last_bits};
+ghost use Rattle.bp_confirm.specs.InferredBits.{deciding, differ, waits_after};
+ghost use Rattle.bp_confirm.specs.Steps.{location_in};
 
+use crate::kept_lines::StepLines;
 use crate::source_points::{SourcePoint, is_there};
-use crate::step_lines::Location;
+use crate::step_lines::{Location, location_in};
+use bp_flat::Instr;
 use bp_flat::actions::Action;
 use bp_flat::exprs::Test;
-use bp_flat::{Effect, Instr, Kind, Store};
 use bp_machine::Session;
 use std::alloc::{AllocError, Global};
 
@@ -22,6 +21,17 @@ pub(crate) struct Inferred {
     pub(crate) bit: bool,
     /// Whether they tell which way a `?` went.
     pub(crate) is_clear: bool,
+}
+
+/// The information of the later steps on a step: the number of its thread's next step, and whether
+/// any step follows.
+#[derive(Clone, Copy)]
+pub(crate) struct Next {
+    /// From 0; a number of no step if the thread takes none.
+    pub(crate) number: u32,
+    pub(crate) follows: bool,
+    /// The bit that the thread takes at a `?` of its last step.
+    pub(crate) last: bool,
 }
 
 /// Returns whether a `?` decides the successor of an instruction.
@@ -34,110 +44,57 @@ pub(crate) fn is_fork(instr: &Instr) -> bool
     }
 }
 
-/// Returns the inferred bit of an instruction that has these effects with the bits 0 and 1.
-fn bit_of_effects(
-    points: &[SourcePoint],
-    next: Option<Location>,
-    follow: bool,
-    zero: Effect,
-    one: Effect,
-) -> bool
-    ensures { result ≡ bit_of_effects (option_map (is_there points.now) next) follow zero one }
-{
-    match (zero, one) {
-        (Effect::Blocks, Effect::Continues { .. }) => true,
-        (Effect::Fails, Effect::Continues { .. }) => follow,
-        (Effect::Continues { next: other, .. }, Effect::Continues { next: taken, .. }) =>
-            match next {
-                Some(place) => is_there(points, place, taken) && !is_there(points, place, other),
-                None => false,
-            },
-        _ => false,
-    }
-}
-
-/// Returns an instruction's inferred bit, if its thread has this last bit.
-fn bit_of_instruction(
-    instr: &Instr,
+/// Returns the bit of a `?`: 1 if its thread went the first of two ways, as the location of the
+/// thread's next step tells. Without such a step it is the last bit.
+fn inferred_way(
     points: &[SourcePoint],
     next: Option<Location>,
     last: bool,
-    follow: bool,
-    zero: Effect,
-    one: Effect,
-) -> bool
-    ensures { let numbers = option_map (is_there points.now) next in
-        result ≡ bit_of_instruction numbers last follow instr.now zero one }
+    taken: u32,
+    other: u32,
+) -> Inferred
+    ensures { result ≡ inferred_way (option_map (is_there points.now) next) last taken other }
 {
-    if next.is_none() && is_fork(instr) {
-        return last;
-    }
-    bit_of_effects(points, next, follow, zero, one)
-}
-
-/// Returns whether both bits lead to the location of the next step, and to different instructions.
-fn splits(points: &[SourcePoint], next: Option<Location>, zero: Effect, one: Effect) -> bool
-    ensures { result ≡ splits (option_map (is_there points.now) next) zero one }
-{
-    match (zero, one) {
-        (Effect::Continues { next: other, .. }, Effect::Continues { next: taken, .. }) =>
-            match next {
-                Some(place) => {
-                    taken != other
-                        && is_there(points, place, taken)
-                        && is_there(points, place, other)
-                }
-                None => false,
-            },
-        _ => false,
+    let Some(place) = next else {
+        return Inferred {
+            bit: last,
+            is_clear: true,
+        };
+    };
+    let at_taken = is_there(points, place, taken);
+    let at_other = is_there(points, place, other);
+    Inferred {
+        bit: at_taken && !at_other,
+        is_clear: taken == other || !(at_taken && at_other),
     }
 }
 
-/// Returns whether a test decides the effect of an instruction.
-fn has_test(instr: &Instr) -> bool
-    ensures { result ≡ has_test instr.now }
-{
-    matches!(
-        instr.kind(),
-        Kind::If | Kind::While | Kind::Assert | Kind::Assume
-    )
-}
-
-/// Returns the bit of an instruction that no test decides: its effects are the same with both bits.
+/// Returns the inferred bit of an instruction, by what is told of the later ones of these lines.
 #[inline(always)]
-pub(crate) fn plain_bit(instr: &Instr) -> Option<bool>
-    ensures { IfSome result (λ bit.
-        (t : Program) (p : Procedure) (left : Block) (next : Option Place) (last follow : Bool)
-        → Does t (places_of t.procedures) p left instr.now
-        → (bit ≡ bit_of_block left next last follow) × IsClear left next) }
-{
-    if has_test(instr) {
-        return None;
-    }
-    Some(false)
-}
-
-/// Returns the inferred bit of an instruction, if the next step of its thread is at this location,
-/// its last bit is this one, and steps follow or not; and whether the location tells which way a
-/// `?` went.
 pub(crate) fn inferred_bit(
     instr: &Instr,
-    store: Store,
     points: &[SourcePoint],
-    next: Option<Location>,
-    last: bool,
-    follow: bool,
+    lines: &StepLines,
+    next: Next,
 ) -> Inferred
-    ensures { (text : List ℕ) (t : Program) (p : Procedure) (left : Block)
-        → Does t (places_of t.procedures) p left instr.now
-        → points.now ≡ source_points_of text t
-        → IsInferred t left (option_map (place_of text) next) last follow result }
+    ensures { let numbers = option_map (is_there points.now) (location_in lines.now next.number) in
+        result ≡ inferred_bit numbers next.last next.follows instr.now }
 {
-    let zero = instr.effect(store, false);
-    let one = instr.effect(store, true);
+    let bit = match instr.action() {
+        Action::If(branch) | Action::While(branch) => match branch.test {
+            Test::Choice => {
+                let place = location_in(lines, next.number);
+                return inferred_way(points, place, next.last, branch.next, branch.other);
+            }
+            Test::Value(_) => false,
+        },
+        Action::Assert { test, .. } => matches!(test, Test::Choice) && next.follows,
+        Action::Assume { test, .. } => matches!(test, Test::Choice),
+        _ => false,
+    };
     Inferred {
-        bit: bit_of_instruction(instr, points, next, last, follow, zero, one),
-        is_clear: !splits(points, next, zero, one),
+        bit,
+        is_clear: true,
     }
 }
 

@@ -12,9 +12,7 @@ ghost use Rattle.bp_confirm.specs.FollowedSteps.{is_fork_on, IsInferredOn, last_
 ghost use Rattle.bp_confirm.specs.InferredBits.{LastBits, Follows, IsFollowed};
 ghost use Rattle.bp_confirm.specs.Steps.{place_of, stands_at, location_in, next_locations, step_of, steps_of, StepOf, SeesValues};
 
-use crate::choices::{
-    Inferred, LastBits as GivenBits, inferred_bit, is_fork, last_bit_of, plain_bit,
-};
+use crate::choices::{Inferred, LastBits as GivenBits, Next, inferred_bit, is_fork, last_bit_of};
 use crate::confirmations::{Difference, StepError, StepReason, StepRefusal};
 use crate::kept_lines::StepLines;
 use crate::noted_steps::is_granted;
@@ -24,17 +22,6 @@ use crate::values::{first_mismatch, last_seen_after, last_seen_of};
 use bp_code::Checked;
 use bp_machine::{AskError, Call, Session, Top};
 use std::alloc::{AllocError, Global};
-
-/// The information of the later steps on a step: the number of its thread's next step, and whether
-/// any step follows.
-#[derive(Clone, Copy)]
-pub(crate) struct Next {
-    /// From 0; a number of no step if the thread takes none.
-    number: u32,
-    follows: bool,
-    /// The bit that the thread takes at a `?` of its last step.
-    last: bool,
-}
 
 /// The history that takes steps.
 #[derive(Drop)]
@@ -97,24 +84,15 @@ fn bit_at(
         IsTop t now x.thread top
         → IsInferredOn t last x.thread later (stack_of now x.thread) result }
 {
-    let is_clear = true;
     let code = session.code();
     code.is_of_a_program();
     let Some(instr) = code.get(top.number) else {
-        let bit = false;
-        return Inferred { bit, is_clear };
+        return Inferred {
+            bit: false,
+            is_clear: true,
+        };
     };
-    if let Some(bit) = plain_bit(instr) {
-        return Inferred { bit, is_clear };
-    }
-    inferred_bit(
-        instr,
-        top.store,
-        points,
-        location_in(lines, next.number),
-        next.last,
-        next.follows,
-    )
+    inferred_bit(instr, points, lines, next)
 }
 
 /// Makes the attempt of an existing thread.

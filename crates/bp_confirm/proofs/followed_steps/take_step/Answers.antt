@@ -1,5 +1,5 @@
 use Rattle.bp_confirm.proofs.Common.{◌∙◌, ap, Some, refl, sym, source_points_of}
-use Rattle.bp_confirm.proofs.BitsOfEffects.{if_clear, if_unclear}
+use Rattle.bp_confirm.proofs.BitsOfInstructions.{if_clear, if_unclear}
 use Rattle.bp_confirm.proofs.StepsFollowed.{ambiguous, answered, elsewhere, finished, follows, others_seen, tells_same}
 use Rattle.bp_confirm.proofs.followed_steps.take_step.Goals as goal
 
