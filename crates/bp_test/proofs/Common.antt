@@ -14,7 +14,7 @@ pub use Rattle.bp_machine.specs.declared.calls.Outcome.{Outcome}
 pub use Rattle.bp_machine.specs.declared.calls.Outcome.TheVariants.{Clean}
 pub use Rattle.bp_machine.specs.declared.calls.Reply.{Reply}
 pub use Rattle.bp_machine.specs.declared.calls.Report.{Report}
-pub use Rattle.bp_test.specs.Reach.{AreMarks, AreWaiting, HasStep, IsEndKey, IsKey, IsNext, IsNumberOf, IsReachedByCall, IsRunKey, IsTried, IsWait, IsWaitedAt, IsWaiting, MarksGrow, Reaches, has_refusal, is_marked, key_after, marks_after, next_place, no_call, no_thread, one_call, one_thread, place_of, refuses_context, waiting_below}
+pub use Rattle.bp_test.specs.Reach.{AreMarks, AreWaiting, HasStep, IsEndKey, IsKey, IsNext, IsNextOf, IsNumberOf, IsReachedByCall, IsRunKey, IsTried, IsWait, IsWaitedAt, IsWaiting, MarksGrow, Reaches, has_refusal, is_marked, key_after, marks_after, next_place, no_call, no_thread, one_call, one_thread, place_of, refuses_context, waiting_below}
 pub use Rattle.bp_test.specs.Shrinks.{DeadlocksAt, GoesOn, IsDriven, IsEnd, IsNoMore, IsSearch, IsShrunk, IsShrunkOf, with_contexts, unseeded}
 pub use Rattle.bp_test.specs.Tallies.{AreContextsUsed, AreKeys, IsCounted, IsLeastFor, IsTally, MadeRun, alone_before, calls_of, capped, contexts_with, count_of, count_with, ends_of, ends_sum, is_alone, longest_of, made, using_contexts, within_contexts}
 pub use Rattle.bp_test.specs.Tests.{AreBlocks, AreCleanRuns, FailsAt, HasFailed, HaveReturned, IsBlock, IsCleanRun, IsCutRun, IsFirstFound, IsFound, IsFoundRun, IsMadeRun, IsOver, IsSought, IsSoughtRun, IsTallied, IsTalliedAfter, IsWrittenRun, RestsIn, Wait, found_by, found_in, is_sought, setup_of_run, start_of_block}

@@ -1,5 +1,5 @@
 -- Properties of a history with one more attempt: a failed one is its outcome, and it is short.
-use Rattle.bp_test.proofs.Common.{◌≡◌, ◌+◌, ◌*◌, ◌-◌, ◌<◌, ◌≤◌, true, nat_le, List, [], ◌∷◌, ◌++◌, length, refl, ap, arith, ℕ, ◌||◌, Bool, false, cond, sym, ◌∙◌, add-one, count_by, unwrap_or, rules, nat_tests, sum_by-append, map-append, Program, Call, Reply, Outcome, outcome_or, outcome_of, is_failure, stack_of, configuration_after_step, configuration_after_call, configuration_after_calls, configuration_after, granted_threads, IsLegal, is_granted, IsAtFalseAssertion, IsRealFailure, threads, SetupOf, SessionOf, Stands, waits, FailuresAreReal, has_refusal, refuses_context, waiting_below, IsNext, AreWaiting, IsWait, Waiting}
+use Rattle.bp_test.proofs.Common.{◌≡◌, ◌+◌, ◌*◌, ◌-◌, ◌<◌, ◌≤◌, true, nat_le, List, [], ◌∷◌, ◌++◌, length, refl, ap, arith, ℕ, ◌||◌, Bool, false, cond, sym, ◌∙◌, add-one, count_by, unwrap_or, rules, sum_by-append, map-append, Program, Call, Reply, Outcome, outcome_or, outcome_of, is_failure, stack_of, configuration_after_step, configuration_after_call, configuration_after_calls, configuration_after, granted_threads, IsLegal, is_granted, IsAtFalseAssertion, IsRealFailure, threads, SetupOf, SessionOf, Stands, waits, FailuresAreReal, has_refusal, refuses_context, waiting_below, IsNext, AreWaiting, IsWait, Waiting}
 use Rattle.std.proofs.lemmas.List.Elements.{All-push}
 use Rattle.bp_flat.specs.Moves.{Configuration}
 use Rattle.bp_machine.specs.declared.calls.Reply.TheVariants as reply

@@ -9,6 +9,7 @@ use Rattle.bp_machine.specs.declared.calls.Reply.TheVariants.{NoContexts}
 use Rattle.bp_machine.specs.Histories.{stack_of, configuration_after, is_granted}
 use Rattle.bp_machine.specs.Setups.{SetupOf, threads}
 use Rattle.bp_machine.specs.Runs.{waits}
+use Rattle.bp_machine.specs.Sessions.{SessionOf, AfterEach}
 use Rattle.bp_test.specs.declared.runs.TheConstants.{FACTOR, FIRST_KEY, NOWHERE}
 use Rattle.bp_test.specs.declared.waits.Waiting.{Waiting}
 
@@ -103,6 +104,11 @@ IsNumberOf t next number =
     MatchOption number
     (next ≡ None)
     (λ n. (x : Place) × (next ≡ Some x) × (place_of t n ≡ Some x))
+
+-- in the session thread i continues at this instruction, if at any
+abbrev pub IsNextOf : SessionOf → ℕ → Option ℕ → Type 0
+IsNextOf x i number =
+    AfterEach x (λ t h. IsNumberOf t (next_place (configuration_after t x.setup h) i) number)
 
 -- the marks after an instruction was tried with this reply
 abbrev pub marks_after : Option ℕ → Reply → List Bool → List Bool

@@ -5,7 +5,7 @@ ghost use Rattle.bp_machine.specs.declared.calls.Call.{Call as Answered};
 ghost use Rattle.bp_machine.specs.Histories.{configuration_after, outcome_of, is_failure};
 ghost use Rattle.bp_machine.specs.Sessions.{Stands, AfterEach};
 ghost use Rattle.bp_machine.specs.Setups.{threads, Fits};
-ghost use Rattle.bp_test.specs.Reach.{IsEndKey, IsKey, IsRunKey, has_refusal, is_marked, next_place, marks_after, place_of, refuses_context, IsNumberOf, IsReachedByCall, IsWaiting, MarksGrow, Reaches, key_after, key_at_end, key_with};
+ghost use Rattle.bp_test.specs.Reach.{IsEndKey, IsKey, IsRunKey, has_refusal, is_marked, next_place, marks_after, place_of, refuses_context, IsNextOf, IsNumberOf, IsReachedByCall, IsWaiting, MarksGrow, Reaches, key_after, key_at_end, key_with};
 ghost use Rattle.bp_test.specs.Tests.{IsOver};
 ghost use Rattle.bp_test.specs.declared.limits.TheConstants.{MAX_KEYS};
 
@@ -53,25 +53,6 @@ fn refuses_context(reply: Reply) -> bool
     ensures { result ≡ refuses_context reply }
 {
     matches!(reply, Reply::NoContexts)
-}
-
-/// Returns whether an attempt was refused a context, up to one with this reply.
-fn refused_with(was_refused: bool, reply: Reply) -> bool
-    ensures { result ≡ (was_refused || refuses_context reply) }
-{
-    was_refused || refuses_context(reply)
-}
-
-/// Marks an instruction, unless its thread was refused a context.
-fn reach(reached: &mut Vec<bool>, number: Option<u32>, reply: Reply)
-    ensures { reached.new.items ≡ marks_after number reply reached.old.items }
-{
-    if refuses_context(reply) {
-        return;
-    }
-    if let Some(number) = number {
-        mark(reached, number as usize);
-    }
 }
 
 /// Returns whether a place is marked.
@@ -124,6 +105,30 @@ pub(crate) struct FollowedRun {
     pub(crate) was_refused: bool,
 }
 
+/// Records an attempt of this thread at the instruction `number`, with this reply. Marks the
+/// instruction, unless the thread was refused a context.
+#[inline(always)]
+fn note(
+    run: &mut FollowedRun,
+    reached: &mut Vec<bool>,
+    thread: u32,
+    number: Option<u32>,
+    reply: Reply,
+)
+    ensures marks { reached.new.items ≡ marks_after number reply reached.old.items }
+    ensures key { run.new.key ≡ key_after run.old.key thread number reply }
+    ensures refused { run.new.was_refused ≡ (run.old.was_refused || refuses_context reply) }
+{
+    match number {
+        Some(number) if matches!(reply, Reply::Stepped | Reply::Failed) => {
+            mark(reached, number as usize);
+            run.key = key_with(run.key, thread, number);
+        }
+        Some(number) if !refuses_context(reply) => mark(reached, number as usize),
+        _ => run.was_refused = run.was_refused || refuses_context(reply),
+    }
+}
+
 /// Returns the key of a run with this key of its steps, at whose end the session stands.
 fn end_key(session: &Session, steps: u64) -> u64
     ensures { AfterEach session.now (λ t h. let s = session.now.setup in
@@ -146,6 +151,8 @@ fn follow(
     reached: &mut Vec<bool>,
 ) -> Result<FollowedRun, AllocError>
     requires stands { Stands session.old.code.tree session.old [] }
+    requires within { scheduler.old.current < threads session.old.setup }
+    requires here { IsNextOf session.old scheduler.old.current scheduler.old.number }
     ensures stands { OnOk result (Stands session.new.code.tree session.new history.new.items) }
     ensures over { OnOk result
         (IsOver session.new.code.tree session.new.setup history.new.items) }
@@ -159,22 +166,22 @@ fn follow(
     ensures kept { (session.new.code ≡ session.old.code) × (session.new.setup ≡ session.old.setup) }
 {
     history.clear();
-    let mut key = FIRST_KEY;
-    let mut was_refused = false;
+    let mut run = FollowedRun {
+        key: FIRST_KEY,
+        was_refused: false,
+    };
     loop {
         let Some(thread) = scheduler.next(session) else {
-            return Ok(FollowedRun { key, was_refused });
+            return Ok(run);
         };
-        let number = next_number(session, thread);
+        let number = scheduler.number();
         let reply = play(session, history, thread)?;
-        reach(reached, number, reply);
+        note(&mut run, reached, thread, number, reply);
         let next = next_number(session, thread);
         reach_wait(reached, session, thread, next);
         scheduler.note_next(next);
-        key = key_after(key, thread, number, reply);
-        was_refused = refused_with(was_refused, reply);
         if reply == Reply::Failed {
-            return Ok(FollowedRun { key, was_refused });
+            return Ok(run);
         }
     }
 }
@@ -240,18 +247,6 @@ pub(crate) fn key_at_end(key: u64, thread: u32, number: Option<u32>) -> u64
     ensures { result ≡ key_at_end key thread number }
 {
     key_with(key, thread, number.unwrap_or(NOWHERE))
-}
-
-/// Returns the key after an attempt of this thread at the instruction `number`, with this reply.
-pub(crate) fn key_after(key: u64, thread: u32, number: Option<u32>, reply: Reply) -> u64
-    ensures { result ≡ key_after key thread number reply }
-{
-    match number {
-        Some(number) if matches!(reply, Reply::Stepped | Reply::Failed) => key_with(
-            key, thread, number,
-        ),
-        _ => key,
-    }
 }
 
 /// Adds the key of a run to those of the first runs.

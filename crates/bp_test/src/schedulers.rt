@@ -2,6 +2,7 @@
 ghost use Rattle.std.specs.Prelude.{◌≡◌, ◌<◌, ◌≤◌, ℕ, true, IfSome, MatchOption};
 ghost use Rattle.bp_machine.specs.Setups.{threads};
 ghost use Rattle.bp_test.specs.Tests.{RestsIn};
+ghost use Rattle.bp_test.specs.Reach.{IsNextOf};
 
 use crate::runs::next_number;
 use crate::visible_steps::{VisibleSteps, bit};
@@ -65,7 +66,7 @@ pub(crate) struct Scheduler<'a> {
     has_stepped: bool,
     /// The number of switches left.
     switches: u32,
-    /// Candidate switch points.
+    /// Candidate switch points; 0 if no switch is left.
     places: u64,
     /// Whether a thread that had to wait continues as soon as it may step.
     is_resuming: bool,
@@ -157,11 +158,14 @@ impl Others {
 
     /// Adds a thread.
     fn add(&mut self, thread: u32, is_unmoved: bool) {
-        self.all |= bit(thread as usize);
+        let bit = bit(thread as usize);
+        self.all |= bit;
         if is_unmoved {
-            self.unmoved |= bit(thread as usize);
+            self.unmoved |= bit;
         }
-        self.sum = self.sum.saturating_add(self.weight(thread));
+        self.sum = self
+            .sum
+            .saturating_add(if is_unmoved { UNMOVED } else { 1 });
     }
 
     /// Returns the thread at a place, from 0: each has as many places as its weight.
@@ -203,8 +207,12 @@ impl<'a> Scheduler<'a> {
         session: &Session,
         visible: &'a VisibleSteps,
         lengths: &[u64],
-    ) -> Scheduler<'a> {
+    ) -> Scheduler<'a>
+        ensures within { result.current < threads session.now.setup }
+        ensures here { IsNextOf session.now result.current result.number }
+    {
         let setup = session.setup();
+        setup.is_in_range();
         let mut generator = Lcg64Xsh32::new(seed, STREAM);
         let threads = setup.threads();
         let current = below(&mut generator, threads);
@@ -219,21 +227,32 @@ impl<'a> Scheduler<'a> {
             number: next_number(session, current),
             has_stepped: false,
             switches,
-            places,
+            places: if switches == 0 { 0 } else { places },
             is_resuming,
             waiting: 0,
         }
     }
 
     /// Records the next instruction of the current thread after its attempt.
-    pub(crate) fn note_next(&mut self, number: Option<u32>) {
+    pub(crate) fn note_next(&mut self, number: Option<u32>)
+        ensures { self.new ≡ record self.old { number = number } }
+    {
         self.number = number;
+    }
+
+    /// Returns the number of the next instruction of the current thread, if there is one.
+    pub(crate) fn number(&self) -> Option<u32>
+        ensures { result ≡ self.now.number }
+    {
+        self.number
     }
 
     /// Draws whether the schedule switches before the next attempt, which the current thread may
     /// make. Each choice of the places that are left is as likely.
-    fn switches_now(&mut self) -> bool {
-        if self.switches == 0 || self.places == 0 {
+    fn switches_now(&mut self) -> bool
+        ensures { (self.new.current ≡ self.old.current) × (self.new.number ≡ self.old.number) }
+    {
+        if self.places == 0 {
             return false;
         }
         if !self.visible.is_visible(self.current, self.number) {
@@ -249,6 +268,9 @@ impl<'a> Scheduler<'a> {
             return false;
         }
         self.switches -= 1;
+        if self.switches == 0 {
+            self.places = 0;
+        }
         true
     }
 
@@ -267,6 +289,7 @@ impl<'a> Scheduler<'a> {
     }
 
     /// Returns the first thread that was left since it had to wait, and may step now.
+    #[inline(never)]
     fn resumed(&self, session: &Session) -> Option<u32>
         ensures { IfSome result (λ i. i < threads session.now.setup) }
     {
@@ -278,45 +301,32 @@ impl<'a> Scheduler<'a> {
         None
     }
 
-    /// Records that the current thread may not step: it has to wait, unless it has terminated.
-    fn note_wait(&mut self, session: &Session) {
-        let current = self.current;
-        if current >= session.setup().threads() || session.is_terminated(current) {
-            return;
-        }
-        if self.is_resuming {
-            self.waiting |= bit(current as usize);
-        }
-    }
-
     /// Continues with this thread.
-    fn go_to(&mut self, session: &Session, thread: u32) {
+    fn go_to(&mut self, session: &Session, thread: u32)
+        ensures current { self.new.current ≡ thread }
+        ensures here { IsNextOf session.now thread self.new.number }
+    {
         self.current = thread;
         self.number = next_number(session, thread);
         self.has_stepped = self.visible.is_visible(thread, self.number);
         self.waiting &= !bit(thread as usize);
     }
 
-    /// Returns the thread that makes the next attempt: one that may step, if there is one.
-    pub(crate) fn next(&mut self, session: &Session) -> Option<u32>
-        ensures { let count = threads session.now.setup in
+    /// Continues with another thread that may step, or with the current one if none does and it may
+    /// go on. Else it has to wait, unless it has terminated.
+    #[inline(always)]
+    fn leave(&mut self, session: &Session, may_go_on: bool) -> Option<u32>
+        requires { self.old.current < threads session.now.setup }
+        ensures next { let count = threads session.now.setup in
             MatchOption result
             ((i : ℕ) → i < count → RestsIn session.now i)
             (λ i. i < count) }
+        ensures current { IfSome result (λ i. self.new.current ≡ i) }
+        ensures here { IfSome result (λ i. IsNextOf session.now i self.new.number) }
     {
-        if self.waiting != 0 {
-            if let Some(thread) = self.resumed(session) {
-                self.go_to(session, thread);
-                return Some(thread);
-            }
-        }
         let current = self.current;
-        let may_go_on = may_step_at(session, current, self.number);
-        if may_go_on && !self.switches_now() {
-            return Some(current);
-        }
-        if !may_go_on {
-            self.note_wait(session);
+        if !may_go_on && self.is_resuming && !session.is_terminated(current) {
+            self.waiting |= bit(current as usize);
         }
         let next = match self.drawn(session) {
             Some(thread) => thread,
@@ -325,5 +335,30 @@ impl<'a> Scheduler<'a> {
         };
         self.go_to(session, next);
         Some(next)
+    }
+
+    /// Returns the thread that makes the next attempt: one that may step, if there is one.
+    #[inline(always)]
+    pub(crate) fn next(&mut self, session: &Session) -> Option<u32>
+        requires within { self.old.current < threads session.now.setup }
+        requires here { IsNextOf session.now self.old.current self.old.number }
+        ensures next { let count = threads session.now.setup in
+            MatchOption result
+            ((i : ℕ) → i < count → RestsIn session.now i)
+            (λ i. i < count) }
+        ensures current { IfSome result (λ i. self.new.current ≡ i) }
+        ensures here { IfSome result (λ i. IsNextOf session.now i self.new.number) }
+    {
+        if self.waiting != 0 {
+            if let Some(thread) = self.resumed(session) {
+                self.go_to(session, thread);
+                return Some(thread);
+            }
+        }
+        let may_go_on = may_step_at(session, self.current, self.number);
+        if may_go_on && !self.switches_now() {
+            return Some(self.current);
+        }
+        self.leave(session, may_go_on)
     }
 }

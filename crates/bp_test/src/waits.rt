@@ -37,14 +37,9 @@ fn is_assumption(session: &Session, number: Option<u32>) -> bool {
 /// live, and it does not wait.
 #[inline(always)]
 pub(crate) fn may_step_at(session: &Session, thread: u32, number: Option<u32>) -> bool
-    ensures there { result ≡ true → thread < threads session.now.setup }
-    ensures rests { result ≡ false
-        → thread < threads session.now.setup
-        → RestsIn session.now thread }
+    requires { thread < threads session.now.setup }
+    ensures { result ≡ false → RestsIn session.now thread }
 {
-    if thread >= session.setup().threads() {
-        return false;
-    }
     if session.is_terminated(thread) {
         return false;
     }
@@ -53,10 +48,8 @@ pub(crate) fn may_step_at(session: &Session, thread: u32, number: Option<u32>) -
 
 /// Returns whether a thread may step.
 pub(crate) fn may_step(session: &Session, thread: u32) -> bool
-    ensures there { result ≡ true → thread < threads session.now.setup }
-    ensures rests { result ≡ false
-        → thread < threads session.now.setup
-        → RestsIn session.now thread }
+    requires { thread < threads session.now.setup }
+    ensures { result ≡ false → RestsIn session.now thread }
 {
     may_step_at(session, thread, next_number(session, thread))
 }

@@ -1,5 +1,6 @@
-use Rattle.bp_test.proofs.Common.{◌≡◌, [], rules, refl, ap, ◌∙◌, sym, subst, Stands, no_call, IsKey, has_refusal, place_of, IsReachedByCall, MarksGrow}
+use Rattle.bp_test.proofs.Common.{◌≡◌, [], rules, refl, ap, ◌∙◌, subst, Stands, no_call, IsKey, has_refusal, place_of, IsReachedByCall, MarksGrow}
 use Rattle.bp_test.specs.declared.runs.TheConstants.{FIRST_KEY}
+use Rattle.bp_test.specs.declared.schedulers.Scheduler.{Scheduler}
 use Rattle.bp_test.proofs.TallyLemmas.{key_of_call}
 use Rattle.bp_test.proofs.Plays.{smaller, refusal_of_call}
 use Rattle.bp_test.proofs.ReachedPlaces.{marks_of_call, none_by_call}
@@ -12,6 +13,8 @@ loop-thread-init c =
       stands = subst (Stands t c.args.session.now) none c.requires.stands;
       code = refl;
       setup = refl;
+      within = c.requires.within;
+      here = c.requires.here;
       marks =
           subst
           (λ h. MarksGrow (place_of t) (IsReachedByCall t c.args.session.now.setup h) c.args.reached.now.items c.args.reached.now.items)
@@ -29,11 +32,11 @@ pub returns-then-eq-clause-marks : goal.returns-then-eq-clause-marks
 returns-then-eq-clause-marks c =
     let t = c.loop-thread.session.code.tree in
     rw c.play.ensures.kept.0 (marks_of_call t c.loop-thread.session.setup c.play.new.session.setup c.loop-thread.history.items
-    c.play.new.history.items _ _ _ c.args.reached.now.items c.loop-thread.reached.items c.reach.new.reached.items
+    c.play.new.history.items _ _ _ c.args.reached.now.items c.loop-thread.reached.items c.note.new.reached.items
     c.reach_wait.new.reached.items
     c.play.ensures.kept.1 c.in_ok-reply.ensures.grown
-    (c.next_number-number.ensures c.loop-thread.history.items c.loop-thread.invariant.stands)
-    c.reach.ensures (rw c.play.ensures.kept.0 at (c.reach_wait.ensures c.play.new.history.items c.in_ok-reply.ensures.stands
+    (rw c.number-number.ensures (c.in-Some.ensures.here c.loop-thread.history.items c.loop-thread.invariant.stands))
+    c.note.ensures.marks (rw c.play.ensures.kept.0 at (c.reach_wait.ensures c.play.new.history.items c.in_ok-reply.ensures.stands
     (c.next_number-next.ensures c.play.new.history.items c.in_ok-reply.ensures.stands)))
     c.loop-thread.invariant.marks)
 
@@ -42,26 +45,30 @@ loop-thread-preserved c = record {
   stands = c.in_ok-reply.ensures.stands;
   code = c.play.ensures.kept.0 ∙ c.loop-thread.invariant.code;
   setup = c.play.ensures.kept.1 ∙ c.loop-thread.invariant.setup;
+  within = rw (ap (λ (x : Scheduler). x.current) c.note_next.ensures, c.in-Some.ensures.current, c.play.ensures.kept.1) c.in-Some.ensures.next;
+  here = λ h stands.
+      rw (ap (λ (x : Scheduler). x.current) c.note_next.ensures, c.in-Some.ensures.current, ap (λ (x : Scheduler). x.number) c.note_next.ensures)
+      (c.next_number-next.ensures h stands);
   marks =
       let t = c.loop-thread.session.code.tree in
       rw c.play.ensures.kept.0 (marks_of_call t c.loop-thread.session.setup c.play.new.session.setup c.loop-thread.history.items
-      c.play.new.history.items _ _ _ c.args.reached.now.items c.loop-thread.reached.items c.reach.new.reached.items
+      c.play.new.history.items _ _ _ c.args.reached.now.items c.loop-thread.reached.items c.note.new.reached.items
       c.reach_wait.new.reached.items
       c.play.ensures.kept.1 c.in_ok-reply.ensures.grown
-      (c.next_number-number.ensures c.loop-thread.history.items c.loop-thread.invariant.stands)
-      c.reach.ensures (rw c.play.ensures.kept.0 at (c.reach_wait.ensures c.play.new.history.items c.in_ok-reply.ensures.stands
+      (rw c.number-number.ensures (c.in-Some.ensures.here c.loop-thread.history.items c.loop-thread.invariant.stands))
+      c.note.ensures.marks (rw c.play.ensures.kept.0 at (c.reach_wait.ensures c.play.new.history.items c.in_ok-reply.ensures.stands
       (c.next_number-next.ensures c.play.new.history.items c.in_ok-reply.ensures.stands)))
       c.loop-thread.invariant.marks);
   key =
       let t = c.loop-thread.session.code.tree in
       rw c.play.ensures.kept.0 (key_of_call t c.loop-thread.session.setup c.play.new.session.setup c.loop-thread.history.items
-      c.play.new.history.items _ _ _ c.loop-thread.key _
+      c.play.new.history.items _ _ _ c.loop-thread.run.key _
       c.play.ensures.kept.1 c.in_ok-reply.ensures.grown
-      (c.next_number-number.ensures c.loop-thread.history.items c.loop-thread.invariant.stands)
-      c.key_after-key.ensures c.loop-thread.invariant.key);
+      (rw c.number-number.ensures (c.in-Some.ensures.here c.loop-thread.history.items c.loop-thread.invariant.stands))
+      c.note.ensures.key c.loop-thread.invariant.key);
   refused =
-      refusal_of_call c.loop-thread.history.items c.play.new.history.items _ _ c.loop-thread.was_refused _ c.in_ok-reply.ensures.grown
-      c.refused_with-was_refused.ensures c.loop-thread.invariant.refused;
+      refusal_of_call c.loop-thread.history.items c.play.new.history.items _ _ c.loop-thread.run.was_refused _ c.in_ok-reply.ensures.grown
+      c.note.ensures.refused c.loop-thread.invariant.refused;
 }
 
 pub returns-then-eq-clause-key : goal.returns-then-eq-clause-key
