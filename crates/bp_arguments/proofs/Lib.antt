@@ -2,3 +2,4 @@ pub mod Common
 mod NoHelpEntered
 mod GivenArguments
 mod ArgumentErrors
+mod OneCommand

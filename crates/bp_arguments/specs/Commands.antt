@@ -1,7 +1,7 @@
 -- The task for the arguments of the command line. The rules of `clap` divide them into commands,
 -- options and values.
 use Rattle.std.specs.Prelude.{◌≡◌, true, List, [], ◌∷◌, Option, Some, None, codes, map, pos}
-use Rattle.clap.specs.Faults.{fault_of}
+use Rattle.clap.specs.Faults.{fault_of, is_simple_and_free}
 use Rattle.clap.specs.Kinds.{Kinds, or_else}
 use Rattle.clap.specs.Lexer.{usize_max}
 use Rattle.clap.specs.Walk.{Row, Rule, Text}
@@ -194,6 +194,12 @@ with_commands a (c ∷ cs) = with_commands (with_subcommand a c.top) cs
 -- all commands
 abbrev pub btrun_app : App
 btrun_app = with_commands program_app (map command_app NAMED)
+
+-- A device: both programs read these arguments alike, and the rules of `clap` cover the first.
+pub record ReadsAlike (a b : App) (arguments : List Text) : Type 0 where
+  pub exact : is_simple_and_free a ≡ true
+  pub kinds : fault_of a arguments ≡ fault_of b arguments
+  pub rows : subcommand_of a arguments ≡ subcommand_of b arguments
 
 -- the arguments name no command, or an existing one
 abbrev pub IsOurs : Option (Text × List Row) → Type 0

@@ -1,7 +1,7 @@
 //! The arguments of the command line.
 ghost use Rattle.std.specs.Prelude.{◌≡◌, ◌∷◌, map, string_bytes, IfOk};
 ghost use Rattle.clap.specs.Words.{FailsBy, app_of, found_of, kind_of, rows_of, subcommand_of, subcommand_rows_of};
-ghost use Rattle.bp_arguments.specs.Commands.{btrun_app, program_app, arguments_error, IsOurs, IsTaskOf, IsTaskOfCommand};
+ghost use Rattle.bp_arguments.specs.Commands.{btrun_app, command_app, program_app, with_commands, arguments_error, IsOurs, IsTaskOf, IsTaskOfCommand, ReadsAlike};
 ghost use Rattle.bp_arguments.specs.Misuses.{misuse_kind};
 
 use crate::check::check_arguments;
@@ -46,16 +46,30 @@ fn program<'a>(alloc: Global) -> Command<'a>
         .after_help(NOTES)
 }
 
-/// Makes the program with its commands.
-fn command<'a>(alloc: Global) -> Result<Command<'a>, AllocError>
-    ensures { IfOk result (λ c. app_of c ≡ btrun_app) }
+/// Makes the program with these commands.
+fn program_with<'a>(alloc: Global, commands: &[Named]) -> Result<Command<'a>, AllocError>
+    ensures { let app = with_commands program_app (map command_app commands.now) in
+        IfOk result (λ c. app_of c ≡ app) }
 {
     let mut program = program(alloc);
-    let all = NAMED;
-    for command in &all {
+    for command in commands {
         program = program.subcommand(with_help(alloc, *command)?)?;
     }
     Ok(program)
+}
+
+/// Makes the program with the commands that these arguments may ask for: all, or only the one that
+/// the first argument after the program's name names. To make all takes most of a start.
+fn program_for<'a>(alloc: Global, arguments: &[String]) -> Result<Command<'a>, AllocError>
+    ensures { let arguments = map string_bytes arguments.now in
+        IfOk result (λ c. ReadsAlike (app_of c) btrun_app arguments) }
+{
+    if let Some(name) = arguments.get(1) {
+        if let Some(command) = command_named(name.as_str()) {
+            return program_with(alloc, &[command]);
+        }
+    }
+    program_with(alloc, &NAMED)
 }
 
 /// Reads the task of the arguments of a command.
@@ -106,8 +120,8 @@ pub(crate) fn task_of_arguments<'a>(
         (λ t. IsTaskOf (subcommand_of btrun_app (map string_bytes arguments.now)) t) }
     ensures refusal { FailsBy (arguments_error (map string_bytes arguments.now)) result }
 {
-    let command = command(alloc)?;
-    let matches = command.try_get_matches_from(arguments)?;
+    let program = program_for(alloc, arguments)?;
+    let matches = program.try_get_matches_from(arguments)?;
     if let Some(misuse) = misuse_of(&matches) {
         return Err(misuse_error(alloc, misuse)?);
     }
@@ -118,7 +132,7 @@ pub(crate) fn task_of_arguments<'a>(
 pub(crate) fn error_of(alloc: Global, kind: ErrorKind, message: &str) -> Result<Error, AllocError>
     ensures { IfOk result (λ e. kind_of e ≡ kind) }
 {
-    command(alloc)?.error(kind, message)
+    program_with(alloc, &NAMED)?.error(kind, message)
 }
 
 /// Makes the error of options that `clap` accepts one by one.
