@@ -6,7 +6,8 @@ Usage: bench/counting.py [PROGRAM]
 PROGRAM is the built program, crates/btrun/out/btrun if left out. 64 threads make 200 and then 1,100 calls each, in turns
 of 100; a call takes the difference of the two totals, divided by the calls between them, so what starting costs is left
 out. The yardsticks are the programs of bench/plain; for `show` a replay, and for `confirm` a drive of the same calls.
-An aim is the most that the ratio may be. The row of `test` is that of bench/drawing.py.
+An aim is the most that the ratio may be. The row of `test` is that of bench/drawing.py. The last line says what a short
+check takes in all, without the system's loader.
 """
 import os
 import re
@@ -33,9 +34,9 @@ def schedule(calls, last):
             yield b"%d 1\n" % thread * (TURN - ends) + b"%d 0\n" % thread * ends
 
 
-def total(command):
+def total(command, *flags):
     """The instructions of a run."""
-    words = ["valgrind", "--tool=callgrind", "--callgrind-out-file=/dev/null", *command]
+    words = ["valgrind", "--tool=callgrind", "--callgrind-out-file=/dev/null", *flags, *command]
     ran = subprocess.run(words, stdout=subprocess.DEVNULL, stderr=subprocess.PIPE)
     assert ran.returncode == 0, ran.stderr.decode()
     return int(re.search(r"Collected : (\d+)", ran.stderr.decode())[1])
@@ -88,11 +89,14 @@ def print_counts(program):
         for words, aim in (([], "2.50"), (["--json"], "-"), (["--last", "20"], "1.30")):
             show = each(lambda size: [program, "show", "r.bp", "one%d.trace" % size, *words])
             rows.append((" ".join(["show", *words]), show, replays[0], aim))
+        driving.write("s.bp", [b"decl x; main() begin while (1) do skip; od end\n"])
+        start = total([program, "check", "s.bp"], "--toggle-collect=main")
         test = drawing.instructions(program)
         rows.append(("test, short runs", test, drawing.instructions(os.path.abspath("plain")), "0.50"))
     print("%-22s %9s %9s %6s %6s" % ("instructions a call", "btrun", "yardstick", "ratio", "aim"))
     for work, own, yardstick, aim in rows:
         print("%-22s %9.0f %9.0f %6.2f %6s" % (work, own, yardstick, own / yardstick, aim))
+    print("start, a check of a short program: %d instructions after the loader" % start)
 
 
 def main():
