@@ -217,8 +217,8 @@ fn push_end(line: &mut Buffer, colour: Colour)
     }
 }
 
-/// Adds the line of an attempt and of those folded into it, `calls` in all. It is coloured if wanted
-/// and the attempt is a failure or a switch. `prefix` has the fields of another line.
+/// Adds the line of an attempt and of those folded into it, `calls` in all. It is coloured if
+/// wanted and the attempt is a failure or a switch. `prefix` has the fields of another line.
 pub(crate) fn push_line(
     line: &mut Buffer,
     prefix: &mut Prefix,
