@@ -35,10 +35,11 @@ Frame = namedtuple("Frame", "number locals")
 
 
 class Writer:
-    """Writes a program at random: its text, and its instructions beside it."""
+    """Writes a program at random: its text, and its instructions beside it. Each procedure begins with this number of polls."""
 
-    def __init__(self, draw):
+    def __init__(self, draw, polls):
         self.draw, self.text, self.code, self.entries = draw, "", [], {}
+        self.polls = polls
         self.scope, self.labels = [], {}
         self.add("decl %s;\n" % ", ".join(GLOBALS))
         for name, (formals, declared) in PROCEDURES.items():
@@ -63,6 +64,8 @@ class Writer:
         self.scope, self.labels = [*formals, *declared], {}
         self.entries[name] = len(self.code)
         self.add("%s(%s) begin decl %s;\n" % (name, ", ".join(formals), ", ".join(declared)))
+        for _ in range(self.polls):
+            self.poll()
         self.block(self.draw.randint(3, 6), 0)
         self.add("end\n")
         self.emit("return", None)
@@ -82,8 +85,17 @@ class Writer:
             label = "label%d" % len(self.labels)
             self.labels[label] = len(self.code)
             self.add(label + ": ")
-        place = (self.text.count("\n") + 1, len(self.text) - self.text.rfind("\n"))
-        self.draw.choice(kinds)(place, depth)
+        self.draw.choice(kinds)(self.place(), depth)
+
+    def place(self):
+        """The line and the column of what is added next."""
+        return self.text.count("\n") + 1, len(self.text) - self.text.rfind("\n")
+
+    def poll(self):
+        """Negates a global, mostly the first one."""
+        name = self.draw.choice([GLOBALS[0]] * 20 + GLOBALS)
+        self.emit("assign", self.place(), [lambda value: 1 - value[name]], [name])
+        self.add("%s := !%s;\n" % (name, name))
 
     def expression(self, depth=0):
         """The text of an expression, and the function that gives its value."""
@@ -205,8 +217,8 @@ class Program:
         return with_stack(state._replace(globals=tuple(globals_.items())), thread, frames)
 
 
-def random_program(draw):
-    writer = Writer(draw)
+def random_program(draw, polls=0):
+    writer = Writer(draw, polls)
     return Program(writer.text, writer.code, writer.entries, GLOBALS, PROCEDURES)
 
 

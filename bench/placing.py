@@ -4,8 +4,9 @@
 Usage: bench/placing.py [RUNS [NAME..]]
 
 Each program whose name begins with a NAME, or each, is run within several numbers K of contexts by each way of
-bench/plain/ways.rs: RUNS runs, 100,000 if left out. The way `btrun` draws as `btrun test` does. Beside it are a random
-walk and priorities with 1, 2 or 4 changes, over all steps and over visible ones.
+bench/plain/ways.rs: RUNS runs, 100,000 if left out. The way `btrun` draws as `btrun test` does, and `btrun-whole` so
+without a focus. Beside them are a random walk, one weighted by the visible steps that each thread has left, and
+priorities with 1, 2 or 4 changes, over all steps and over visible ones.
 """
 import os
 import subprocess
@@ -14,7 +15,7 @@ import tempfile
 from concurrent.futures import ThreadPoolExecutor
 
 TOP = os.path.dirname(os.path.dirname(os.path.abspath(__file__)))
-WAYS = ["btrun", "walk", "walk-visible", "pct2", "pct3", "pct2-visible", "pct3-visible", "pct5-visible"]
+WAYS = ["btrun", "btrun-whole", "walk", "walk-visible", "weighted", "pct2", "pct3", "pct2-visible", "pct3-visible", "pct5-visible"]
 KS = (2, 3, 4, 6, 8, 16, 32, 64)
 CALLS = 1000
 
@@ -47,6 +48,65 @@ def meet(steps):
 def flag(steps):
     """A flag is up for one step of many."""
     return "decl up;\n" + proc("first", work(steps) + "up := 1; up := 0; " + work(steps)) + proc("second", work(steps) + "assert (!up);")
+
+
+def polls(steps):
+    """Accesses to a variable that does not matter."""
+    return "c := !c; " * steps
+
+
+def polled_race(steps):
+    return "decl ready, data, c;\n" + proc("writer", polls(steps) + "ready := 1; data := 1;" + polls(steps)) + proc(
+        "reader", polls(steps) + "if (ready) then assert (data); else skip; fi " + polls(steps))
+
+
+def polled_meet(steps):
+    first = polls(steps) + "x := 1; " + polls(steps) + "y := 1; " + polls(steps) + "x := 0;"
+    second = polls(steps) + "assume (x); " + polls(steps) + "assert (!(x & y));"
+    return "decl x, y, c;\n" + proc("first", first) + proc("second", second)
+
+
+def polled_flag(steps):
+    return "decl up, c;\n" + proc("first", polls(steps) + "up := 1; up := 0; " + polls(steps)) + proc("second", polls(steps) + "assert (!up);" + polls(steps))
+
+
+def polled_reorder(steps):
+    return "decl a, b, c;\n" + proc("setter", polls(steps) + "a := 1; b := 1;" + polls(steps)) + proc(
+        "checker", polls(steps) + "x := a; y := b; assert (x = y);" + polls(steps), "x, y")
+
+
+def alternating(count):
+    """Each step of one thread falls between two of the other's."""
+    bits = [(n + 1) % 2 for n in range(count)]
+    first = " ".join("x := %d;" % bit for bit in bits)
+    names = ["s%d" % n for n in range(count)]
+    seen = " & ".join(("" if bit else "!") + name for bit, name in zip(bits, names))
+    second = " ".join("%s := x;" % name for name in names) + " assert (!(%s));" % seen
+    return "decl x;\n" + proc("first", first) + proc("second", second, ", ".join(names))
+
+
+def late_writer(steps):
+    """Only one thread polls, before it writes."""
+    reader = "if (ready) then assert (data); else skip; fi c := !c;"
+    return "decl ready, data, c;\n" + proc("writer", polls(steps) + "ready := 1; data := 1;") + proc("reader", reader)
+
+
+def late_reader(steps):
+    return "decl ready, data, c;\n" + proc("writer", "c := !c; ready := 1; data := 1;") + proc("reader", polls(steps) + "if (ready) then assert (data); else skip; fi")
+
+
+def locked(rounds):
+    """A lock around each of many updates, and one update without it."""
+    update = "while (!g) do g, lock := !lock, 1; od x := n; n := !x; lock, g := 0, 0; "
+    first, second = (update * rounds + each + update * rounds for each in ("up := 1; up := 0; ", "assert (!up); "))
+    return "decl lock, n, up;\n" + proc("first", first, "g, x") + proc("second", second, "g, x")
+
+
+def lost_update(rounds):
+    """A counter of two bits, to which two threads add in rounds."""
+    body = "x, y := n1, n0; n1, n0 := x ^ y, !y; " * rounds
+    workers = "".join(proc("worker%d" % n, body + "d%d := 1;" % n, "x, y") for n in (1, 2))
+    return "decl n1, n0, d1, d2;\n" + workers + proc("check", "assume (d1 & d2); assert (n1 | n0);")
 
 
 REORDER = "decl a, b;\n" + proc("setter", "a := 1; b := 1;") + proc("checker", "x := a; y := b; assert (x = y);", "x, y")
@@ -144,6 +204,19 @@ PROGRAMS = [
     ("meet, 200 steps", meet(200), ["first", "second"], ""),
     ("flag, 10 steps", flag(10), ["first", "second"], ""),
     ("flag, 400 steps", flag(400), ["first", "second"], ""),
+    ("polled race 100", polled_race(100), ["writer", "reader"], ""),
+    ("polled race 300", polled_race(300), ["writer", "reader"], ""),
+    ("polled meet 50", polled_meet(50), ["first", "second"], ""),
+    ("polled flag 100", polled_flag(100), ["first", "second"], ""),
+    ("polled flag 300", polled_flag(300), ["first", "second"], ""),
+    ("polled reorder 3", polled_reorder(50), ["setter"] * 2 + ["checker"], ""),
+    ("polled reorder 5", polled_reorder(50), ["setter"] * 4 + ["checker"], ""),
+    ("late writer 100", late_writer(100), ["writer", "reader"], ""),
+    ("late reader 100", late_reader(100), ["writer", "reader"], ""),
+    ("locked 10", locked(10), ["first", "second"], ""),
+    ("locked 20", locked(20), ["first", "second"], ""),
+    ("alternating 4", alternating(4), ["first", "second"], ""),
+    ("lost update 5", lost_update(5), ["worker1", "worker2", "check"], ""),
 ]
 
 

@@ -1,6 +1,7 @@
 //! Ways to draw schedules, for bench/placing.py: it makes runs of a program by each way, and prints the share of those
 //! in which an assertion failed, in percent. The way `btrun` draws as `btrun test` does, draw for draw, so the first run
-//! that fails is the same. The others are a random walk (`walk`), and priorities with D - 1 changes (`pctD`). They have a
+//! that fails is the same; `btrun-whole` draws no focus. The others are a random walk (`walk`), one that draws
+//! a thread by its visible steps left (`weighted`), and priorities with D - 1 changes (`pctD`). They have a
 //! `-visible` form too, in which a thread is left only before a visible step. No error of a text is told.
 //!
 //! Usage: ways FILE ENTRY,.. INIT CONTEXTS CALLS SEED RUNS WAY..
@@ -13,6 +14,8 @@ const WITH_ONE: u32 = 4;
 const WITH_FEW: u32 = 5;
 const RESUMING: u32 = 14;
 const UNMOVED: u32 = 3;
+const LONG: u64 = 100;
+const FOCUSED: u32 = 7;
 const SCHEDULE_STREAM: u64 = 118;
 const BITS_STREAM: u64 = 54;
 
@@ -426,6 +429,8 @@ struct Thread {
     choices: Generator,
     word: u32,
     place: u32,
+    /// How many visible steps it made.
+    seen: u64,
 }
 
 struct Machine<'a> {
@@ -442,6 +447,8 @@ struct Machine<'a> {
     /// How many calls were made, and how many visible steps.
     made: u64,
     seen: u64,
+    /// How many visible steps each instruction made.
+    visits: Vec<u64>,
 }
 
 impl Machine<'_> {
@@ -450,6 +457,7 @@ impl Machine<'_> {
         self.used = 0;
         self.last = None;
         (self.made, self.seen) = (0, 0);
+        self.visits.fill(0);
         for (number, thread) in self.threads.iter_mut().enumerate() {
             thread.frames.clear();
             thread.frames.push((self.entries[number], 0));
@@ -458,6 +466,7 @@ impl Machine<'_> {
             thread.choices = Generator::new(seed, BITS_STREAM + number as u64);
             thread.word = thread.choices.word();
             thread.place = 0;
+            thread.seen = 0;
         }
     }
 
@@ -517,7 +526,10 @@ impl Machine<'_> {
             Do::Assume(test) if !holds(test) => return Reply::Stepped,
             _ => (self.used, self.last) = (used, Some(thread)),
         }
-        self.seen += self.visible[*number] >> thread & 1;
+        let is_seen = self.visible[*number] >> thread & 1;
+        self.seen += is_seen;
+        self.visits[*number] += is_seen;
+        guest.seen += is_seen;
         *number = instr.next;
         match &instr.what {
             Do::Assert(test) if !holds(test) => return Reply::Failed,
@@ -541,11 +553,32 @@ impl Machine<'_> {
     }
 }
 
-/// How many calls each pilot made, and how many visible steps.
+/// Globals before whose accesses alone a run switches, and how many steps of pilots access one of them.
+#[derive(Clone, Copy)]
+struct Focus {
+    globals: u128,
+    steps: u64,
+}
+
+/// How many calls each pilot made, and how many visible steps, in all and by thread, and the focuses of long runs.
 #[derive(Clone, Copy)]
 struct Lengths<'a> {
     all: &'a [u64],
     visible: &'a [u64],
+    by_thread: &'a [Vec<u64>],
+    focuses: &'a [Focus],
+}
+
+/// For each global that steps access, those that no more of them access.
+fn focuses_of(code: &[Instr], visits: &[u64]) -> Vec<Focus> {
+    let steps_on = |globals: u128| {
+        let touching = code.iter().zip(visits).filter(|(instr, _)| (instr.reads() | instr.writes()) & globals != 0);
+        touching.map(|(_, count)| count).sum::<u64>()
+    };
+    let counts: Vec<u64> = (0..128).map(|slot| steps_on(1 << slot)).collect();
+    let up_to = |most: u64| (0..128).filter(|slot| (1..=most).contains(&counts[*slot])).fold(0, |globals, slot| globals | 1 << slot);
+    let masks = counts.iter().filter(|count| **count > 0).map(|count| up_to(*count));
+    masks.map(|globals| Focus { globals, steps: steps_on(globals) }).collect()
 }
 
 /// Who makes the next call.
@@ -557,6 +590,7 @@ trait Way {
 /// thread that had to wait as soon as it may step.
 struct Spread {
     generator: Generator,
+    focus: Option<u128>,
     current: usize,
     has_stepped: bool,
     switches: u32,
@@ -567,29 +601,42 @@ struct Spread {
 }
 
 impl Spread {
-    fn new(seed: u64, machine: &Machine, lengths: &[u64]) -> Spread {
+    fn new(seed: u64, machine: &Machine, lengths: Lengths) -> Spread {
         let mut generator = Generator::new(seed, SCHEDULE_STREAM);
         let threads = machine.threads.len() as u32;
         let current = generator.below(threads) as usize;
-        let drawn = generator.below(lengths.len() as u32);
-        let length = match lengths.get(drawn as usize) {
+        let drawn = generator.below(lengths.visible.len() as u32);
+        let mut length = match lengths.visible.get(drawn as usize) {
             Some(length) => *length,
             None => 8 << generator.below(POWERS),
         };
+        let mut focus = None;
+        if length >= LONG && !lengths.focuses.is_empty() && generator.below(LOTS) < FOCUSED {
+            let drawn = lengths.focuses[generator.below(lengths.focuses.len() as u32) as usize];
+            length = (length * drawn.steps / lengths.visible.iter().sum::<u64>()).max(1);
+            focus = Some(drawn.globals);
+        }
         let switches = switches(&mut generator, machine.contexts, length);
         let places = places(&mut generator, length, switches, threads);
         let is_resuming = generator.below(LOTS) < RESUMING;
-        Spread { generator, current, has_stepped: false, switches, places, is_resuming, waiting: 0 }
+        Spread { generator, focus, current, has_stepped: false, switches, places, is_resuming, waiting: 0 }
+    }
+
+    /// Whether a switch before the next step of a thread may matter.
+    fn matters(&self, machine: &Machine, thread: usize) -> bool {
+        let next = machine.threads[thread].frames.last().map(|(number, _)| &machine.code[*number]);
+        let is_in = |globals: u128| next.is_some_and(|instr| (instr.reads() | instr.writes()) & globals != 0);
+        machine.is_visible(thread) && self.focus.is_none_or(is_in)
     }
 
     fn go_to(&mut self, machine: &Machine, thread: usize) {
         self.current = thread;
-        self.has_stepped = machine.is_visible(thread);
+        self.has_stepped = self.matters(machine, thread);
         self.waiting &= !(1 << thread);
     }
 
     fn switches_now(&mut self, machine: &Machine) -> bool {
-        if self.switches == 0 || self.places == 0 || !machine.is_visible(self.current) {
+        if self.switches == 0 || self.places == 0 || !self.matters(machine, self.current) {
             return false;
         }
         if !self.has_stepped {
@@ -692,6 +739,50 @@ impl Way for Walk {
     }
 }
 
+/// Each visible step is one of a thread drawn by how many it still has before it, by a pilot. No thread is left once the
+/// contexts are used up.
+struct Weighted {
+    generator: Generator,
+    current: usize,
+    has_stepped: bool,
+    lengths: Vec<u64>,
+}
+
+impl Weighted {
+    fn new(seed: u64, machine: &Machine, lengths: Lengths) -> Weighted {
+        let mut generator = Generator::new(seed, SCHEDULE_STREAM);
+        let drawn = generator.below(lengths.by_thread.len() as u32) as usize;
+        let lengths = lengths.by_thread.get(drawn).cloned().unwrap_or(vec![1; machine.threads.len()]);
+        Weighted { generator, current: 0, has_stepped: false, lengths }
+    }
+
+    fn weight(&self, machine: &Machine, thread: usize) -> u32 {
+        let left = self.lengths[thread].saturating_sub(machine.threads[thread].seen);
+        if machine.may_step(thread) { left.max(1) as u32 } else { 0 }
+    }
+}
+
+impl Way for Weighted {
+    fn next(&mut self, machine: &Machine) -> Option<usize> {
+        let may_stay = machine.may_step(self.current) && machine.last == Some(self.current);
+        let is_visible = may_stay && machine.is_visible(self.current);
+        if may_stay && (machine.used >= machine.contexts || !is_visible || !self.has_stepped) {
+            self.has_stepped |= is_visible;
+            return Some(self.current);
+        }
+        let mut threads = 0..machine.threads.len();
+        let mut left = self.generator.below(threads.clone().map(|thread| self.weight(machine, thread)).sum());
+        let next = threads.find(|thread| {
+            let weight = self.weight(machine, *thread);
+            let is_it = left < weight;
+            left = left.saturating_sub(weight);
+            is_it
+        })?;
+        (self.current, self.has_stepped) = (next, machine.is_visible(next));
+        Some(next)
+    }
+}
+
 /// Of the threads that may step, the one of the highest priority. At each of some steps that are drawn among as many as
 /// a pilot made, the running thread gets the least.
 struct Priorities {
@@ -746,7 +837,11 @@ fn way_of(name: &str, seed: u64, machine: &Machine, lengths: Lengths) -> Box<dyn
     if kind == "walk" {
         return Box::new(Walk { generator: Generator::new(seed, SCHEDULE_STREAM), current: 0, only_visible });
     }
-    Box::new(Spread::new(seed, machine, lengths.visible))
+    if kind == "weighted" {
+        return Box::new(Weighted::new(seed, machine, lengths));
+    }
+    let focuses = if form == "whole" { &[] } else { lengths.focuses };
+    Box::new(Spread::new(seed, machine, Lengths { focuses, ..lengths }))
 }
 
 /// Whether an assertion failed.
@@ -787,6 +882,7 @@ fn main() {
         choices: Generator::new(0, 0),
         word: 0,
         place: 0,
+        seen: 0,
     };
     let threads = (0..entries.len()).map(thread).collect();
     let mut machine = Machine {
@@ -802,16 +898,20 @@ fn main() {
         last: None,
         made: 0,
         seen: 0,
+        visits: vec![0; code.len()],
     };
-    let (mut all, mut seen) = (Vec::new(), Vec::new());
+    let (mut all, mut seen, mut by_thread, mut visits) = (Vec::new(), Vec::new(), Vec::new(), vec![0; code.len()]);
     for pilot in (0..PILOTS).map(|pilot| seed.wrapping_add(pilot)) {
-        run(&mut machine, pilot, "btrun", Lengths { all: &[], visible: &[] });
+        run(&mut machine, pilot, "btrun", Lengths { all: &[], visible: &[], by_thread: &[], focuses: &[] });
         if machine.threads.iter().all(|thread| thread.calls < calls) && machine.seen > 0 {
             all.push(machine.made);
             seen.push(machine.seen);
+            by_thread.push(machine.threads.iter().map(|thread| thread.seen).collect());
+            visits.iter_mut().zip(&machine.visits).for_each(|(sum, count)| *sum += count);
         }
     }
-    let lengths = Lengths { all: &all, visible: &seen };
+    let focuses = if seen.iter().any(|length| *length >= LONG) { focuses_of(&code, &visits) } else { Vec::new() };
+    let lengths = Lengths { all: &all, visible: &seen, by_thread: &by_thread, focuses: &focuses };
     for way in &words[8..] {
         let mut is_failed = |number: u64| run(&mut machine, seed.wrapping_add(number), way, lengths);
         let failed: Vec<u64> = (0..runs).filter(|number| is_failed(*number)).collect();

@@ -254,9 +254,9 @@ pub fn first_found<C: Clock>(
             });
         }
         let seed = plan.seed.wrapping_add(run);
-        let (visible, lengths) = (&plan.visible, plan.lengths.as_slice());
+        let (visible, pilots) = (&plan.visible, &plan.pilots);
         let reached = &mut tally.reached;
-        let followed = run_once(&mut session, seed, visible, lengths, &mut history, reached)?;
+        let followed = run_once(&mut session, seed, visible, pilots, &mut history, reached)?;
         let report = session.report();
         let is_deadlocked = session.is_deadlocked();
         let has_returned = have_returned(&session);

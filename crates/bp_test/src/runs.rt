@@ -10,6 +10,7 @@ ghost use Rattle.bp_test.specs.Tests.{IsOver};
 ghost use Rattle.bp_test.specs.declared.limits.TheConstants.{MAX_KEYS};
 
 use crate::limits::MAX_KEYS;
+use crate::pilots::Pilots;
 use crate::schedulers::Scheduler;
 use crate::tallies::mark;
 use crate::visible_steps::VisibleSteps;
@@ -187,13 +188,13 @@ fn follow(
 }
 
 /// Makes a run with this seed, in the memory of earlier ones, and returns its facts. Its schedule
-/// switches before visible steps, whose number is estimated from pilots, by these lengths. Marks
-/// the instructions that are reached.
+/// switches before visible steps, whose number is estimated from pilots. Marks the instructions
+/// that are reached.
 pub(crate) fn run_once(
     session: &mut Session,
     seed: u64,
     visible: &VisibleSteps,
-    lengths: &[u64],
+    pilots: &Pilots,
     history: &mut Vec<Call>,
     reached: &mut Vec<bool>,
 ) -> Result<FollowedRun, AllocError>
@@ -213,7 +214,7 @@ pub(crate) fn run_once(
         (session.new.setup ≡ record session.old.setup { seed = Some seed }) }
 {
     session.restart(Some(seed))?;
-    let mut scheduler = Scheduler::new(seed, session, visible, lengths);
+    let mut scheduler = Scheduler::new(seed, session, visible, pilots);
     reach_waits(reached, session);
     let steps = follow(session, &mut scheduler, history, reached)?;
     reach_waits(reached, session);

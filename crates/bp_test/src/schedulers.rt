@@ -4,6 +4,7 @@ ghost use Rattle.bp_machine.specs.Setups.{threads};
 ghost use Rattle.bp_test.specs.Tests.{RestsIn};
 ghost use Rattle.bp_test.specs.Reach.{IsNextOf};
 
+use crate::pilots::{Focus, LONG, Pilots};
 use crate::runs::next_number;
 use crate::visible_steps::{VisibleSteps, bit};
 use crate::waits::{may_step, may_step_at};
@@ -36,6 +37,12 @@ const WITH_FEW: u32 = 5;
 /// The share of schedules that return to a thread that had to wait as soon as it may step.
 const RESUMING: u32 = 14;
 
+/// The share of schedules with a focus, of long runs.
+const FOCUSED: u32 = 7;
+
+/// The most focuses among which one is drawn.
+const MAX_FOCUSES: usize = 128;
+
 /// The weight of a thread that has not made an attempt, against one that has.
 const UNMOVED: u32 = 3;
 
@@ -53,11 +60,13 @@ struct Others {
 /// which they are spread. A place is before a visible step of the current thread, except the first
 /// since the last switch: a switch there would have been better made at once. The thread to which
 /// it switches is drawn among those that may step. Some schedules return to a thread that had to
-/// wait as soon as it may step.
+/// wait as soon as it may step. Some of long runs have a focus.
 #[derive(Drop)]
 pub(crate) struct Scheduler<'a> {
     generator: Lcg64Xsh32,
     visible: &'a VisibleSteps,
+    /// The globals before whose accesses alone it switches, if it has a focus.
+    focus: Option<u128>,
     /// The thread of the last attempt, or of the first one.
     current: u32,
     /// Its next instruction, if there is one.
@@ -91,6 +100,24 @@ fn draw_length(generator: &mut Lcg64Xsh32, lengths: &[u64]) -> u64 {
         Some(length) => (*length).min(LONGEST),
         None => 8 << below(generator, POWERS),
     }
+}
+
+/// Draws the focus of a run of this length, if it has one.
+fn draw_focus(generator: &mut Lcg64Xsh32, length: u64, pilots: &Pilots) -> Option<Focus> {
+    let count = pilots.focuses.len().min(MAX_FOCUSES) as u32;
+    if length < LONG || count == 0 || below(generator, LOTS) >= FOCUSED {
+        return None;
+    }
+    let n = below(generator, count);
+    pilots.focuses.get(n as usize).copied()
+}
+
+/// Returns the number of steps that access globals of the focus, of a run of this length.
+fn length_within(focus: Option<Focus>, length: u64, pilots: &Pilots) -> u64 {
+    let Some(focus) = focus else {
+        return length;
+    };
+    (length.saturating_mul(focus.steps) / pilots.steps.max(1)).max(1)
 }
 
 /// Draws the number of switches of a run of this length: at most `contexts - 1`, and at most
@@ -201,12 +228,12 @@ fn first(session: &Session) -> Option<u32>
 
 impl<'a> Scheduler<'a> {
     /// Draws the schedule of a seed for a session before any attempt. It switches before visible
-    /// steps, whose number is estimated from pilots, by these lengths.
+    /// steps, whose number is estimated from pilots.
     pub(crate) fn new(
         seed: u64,
         session: &Session,
         visible: &'a VisibleSteps,
-        lengths: &[u64],
+        pilots: &Pilots,
     ) -> Scheduler<'a>
         ensures within { result.current < threads session.now.setup }
         ensures here { IsNextOf session.now result.current result.number }
@@ -216,13 +243,16 @@ impl<'a> Scheduler<'a> {
         let mut generator = Lcg64Xsh32::new(seed, STREAM);
         let threads = setup.threads();
         let current = below(&mut generator, threads);
-        let length = draw_length(&mut generator, lengths);
+        let length = draw_length(&mut generator, pilots.lengths.as_slice());
+        let focus = draw_focus(&mut generator, length, pilots);
+        let length = length_within(focus, length, pilots);
         let switches = draw_switches(&mut generator, setup.contexts(), length);
         let places = draw_places(&mut generator, length, switches, threads);
         let is_resuming = below(&mut generator, LOTS) < RESUMING;
         Scheduler {
             generator,
             visible,
+            focus: focus.map(|focus| focus.globals),
             current,
             number: next_number(session, current),
             has_stepped: false,
@@ -247,6 +277,18 @@ impl<'a> Scheduler<'a> {
         self.number
     }
 
+    /// Returns whether a switch before the step of a thread at this instruction may matter.
+    #[inline(always)]
+    fn matters(&self, thread: u32, number: Option<u32>) -> bool {
+        if !self.visible.is_visible(thread, number) {
+            return false;
+        }
+        match self.focus {
+            Some(globals) => self.visible.accesses(number, globals),
+            None => true,
+        }
+    }
+
     /// Draws whether the schedule switches before the next attempt, which the current thread may
     /// make. Each choice of the places that are left is as likely.
     fn switches_now(&mut self) -> bool
@@ -255,7 +297,7 @@ impl<'a> Scheduler<'a> {
         if self.places == 0 {
             return false;
         }
-        if !self.visible.is_visible(self.current, self.number) {
+        if !self.matters(self.current, self.number) {
             return false;
         }
         if !self.has_stepped {
@@ -308,7 +350,7 @@ impl<'a> Scheduler<'a> {
     {
         self.current = thread;
         self.number = next_number(session, thread);
-        self.has_stepped = self.visible.is_visible(thread, self.number);
+        self.has_stepped = self.matters(thread, self.number);
         self.waiting &= !bit(thread as usize);
     }
 

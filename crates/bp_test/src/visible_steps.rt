@@ -14,6 +14,8 @@ pub struct VisibleSteps {
     /// The bit of thread t has the weight 2 to the t. Empty if no step is visible: then each counts
     /// as visible.
     masks: Vec<u64>,
+    /// The globals that each instruction accesses, also empty if no step is visible.
+    globals: Vec<u128>,
 }
 
 /// Adds an instruction to those that are left, unless it was seen before.
@@ -122,20 +124,23 @@ impl VisibleSteps {
     ) -> Result<VisibleSteps, AllocError> {
         let touched = touched_by_threads(alloc, code, setup)?;
         let others = others_of(alloc, touched.as_slice())?;
-        let mut masks = Vec::new(alloc);
+        let (mut masks, mut globals) = (Vec::new(alloc), Vec::new(alloc));
         let mut all = 0;
         for number in 0..u32::MAX {
             let Some(instr) = code.get(number) else {
                 break;
             };
-            let mask = seeing(instr.touched(), others.as_slice());
+            let touched = instr.touched();
+            let mask = seeing(touched, others.as_slice());
             all |= mask;
             masks.push(mask)?;
+            globals.push(touched.read | touched.written)?;
         }
         if all == 0 {
             masks.clear();
+            globals.clear();
         }
-        Ok(VisibleSteps { masks })
+        Ok(VisibleSteps { masks, globals })
     }
 
     /// Returns whether the step of a thread at the instruction of this number is visible.
@@ -148,5 +153,27 @@ impl VisibleSteps {
             Some(mask) => mask & bit(thread as usize) != 0,
             None => true,
         }
+    }
+
+    /// Returns whether the instruction of this number accesses any of these globals.
+    pub(crate) fn accesses(&self, number: Option<u32>, globals: u128) -> bool {
+        let Some(number) = number else {
+            return false;
+        };
+        match self.globals.get(number as usize) {
+            Some(accessed) => accessed & globals != 0,
+            None => true,
+        }
+    }
+
+    /// Returns how many steps access any of these globals, by the steps of each instruction.
+    pub(crate) fn accesses_of(&self, steps: &[u64], globals: u128) -> u64 {
+        let mut count: u64 = 0;
+        for (accessed, made) in self.globals.iter().zip(steps) {
+            if accessed & globals != 0 {
+                count = count.saturating_add(*made);
+            }
+        }
+        count
     }
 }

@@ -1,6 +1,6 @@
 use Rattle.bp_test.proofs.Common.{◌≡◌}
 use Rattle.bp_test.proofs.RunsOfTests.{IsReseeded}
-use Rattle.bp_test.proofs.plans.Plan.new.Given as goal
+use Rattle.bp_test.proofs.pilots.Pilots.new.Given as goal
 
 abbrev pub invariant-loop-pilot : goal.invariant-loop-pilot
 invariant-loop-pilot g l = record {

@@ -1,5 +1,5 @@
 use Rattle.bp_test.proofs.Common.{◌≡◌}
-use Rattle.bp_test.proofs.plans.count_visible.Given as goal
+use Rattle.bp_test.proofs.pilots.count_visible.Given as goal
 
 abbrev pub invariant-loop-call : goal.invariant-loop-call
 invariant-loop-call l = record {

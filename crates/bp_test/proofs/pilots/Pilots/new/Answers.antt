@@ -1,6 +1,6 @@
 use Rattle.bp_test.proofs.Common.{◌∙◌, rules}
 use Rattle.bp_test.proofs.RunsOfTests.{fits_again, reseeded}
-use Rattle.bp_test.proofs.plans.Plan.new.Goals as goal
+use Rattle.bp_test.proofs.pilots.Pilots.new.Goals as goal
 
 pub run_once-requires : goal.run_once-requires
 run_once-requires g c = search (rules, fits_again)
@@ -24,4 +24,12 @@ loop-pilot-preserved g c =
       setup =
           reseeded s made c.count_visible.new.session _
           (reseeded s c.loop-pilot.session made _ c.loop-pilot.invariant.setup now.setup) (counted.1 ∙ again.setup);
+    }
+
+pub loop-pilot-preserved-then-is_cut_off : goal.loop-pilot-preserved-then-is_cut_off
+loop-pilot-preserved-then-is_cut_off g c =
+    let now = c.in_ok-run_once.ensures in
+    record {
+      code = now.code ∙ c.loop-pilot.invariant.code;
+      setup = reseeded c.args.setup.now c.loop-pilot.session c.run_once.new.session _ c.loop-pilot.invariant.setup now.setup;
     }
