@@ -118,7 +118,7 @@ impl<R: Threads + Sync, P: Progress> ProgramCommand for Test<'_, R, P> {
             positions,
             statements,
             counts,
-            distinct: distinct_of(keys),
+            distinct: distinct_of(self.threads, options.jobs, keys),
             lines,
             reached,
             json: task.json,

@@ -1,10 +1,14 @@
 //! The counts of a tally that people read. The number of different runs of a test.
 ghost use Rattle.std.specs.Prelude.{◌≡◌, ◌<◌, ◌^◌, List, length};
+ghost use Rattle.std.specs.Ordering.{nat_cmp};
+ghost use Rattle.std.specs.List.Sorted.{IsPermutation, IsSorted};
 ghost use Rattle.bp_machine.specs.Setups.{SetupOf};
 ghost use Rattle.bp_test.specs.Tallies.{share_of_marks, AreCounts, MadeRun, IsCounted, alone_before, is_alone, AreDistinct};
 
 use crate::tallies::{ContextsUsed, Ends, Tally};
 use bp_flat::{Code, Kind};
+use rayon::prelude::par_sort_unstable;
+use std::thread::Threads;
 
 /// The number of things reached, among all of a kind.
 #[derive(Clone, Copy, Debug, PartialEq, Eq)]
@@ -154,12 +158,25 @@ fn count_alone(keys: &[u64]) -> u64
     count
 }
 
-/// Returns the number of different runs with these keys.
-pub fn distinct_of(keys: Vec<u64>) -> Distinct
+/// Sorts keys, with several jobs on several threads.
+fn sort_keys<R: Threads + Sync>(threads: &R, jobs: u32, keys: &mut Vec<u64>)
+    ensures permutation { IsPermutation keys.old.items keys.new.items }
+    ensures sorted { IsSorted nat_cmp keys.new.items }
+{
+    if jobs > 1 {
+        par_sort_unstable(threads, keys);
+    } else {
+        keys.sort_unstable();
+    }
+}
+
+/// Returns the number of different runs with these keys, which a test with this number of jobs
+/// made.
+pub fn distinct_of<R: Threads + Sync>(threads: &R, jobs: u32, keys: Vec<u64>) -> Distinct
     ensures { AreDistinct keys.items result }
 {
     let mut keys = keys;
-    keys.sort_unstable();
+    sort_keys(threads, jobs, &mut keys);
     let of = keys.len() as u64;
     let once = count_alone(keys.as_slice());
     keys.dedup();
