@@ -15,12 +15,11 @@ pub use Rattle.bp_language.specs.declared.tokens.TokenKind.{TokenKind}
 pub use Rattle.bp_syntax.specs.Lexer.{IsFirst, IsFirstLexeme, IsNameless, IsScanError, TakesLexeme, comment, first_symbol, first_too_deep, first_too_many, is_continuation, run, token_list, unbraced_lexeme}
 pub use Rattle.bp_syntax.specs.ParserState.{AnyExprsThen, AnyNamesThen, ArgumentsThen, AssertThen, AssignThen, AssumeThen, BinaryThen, BodyThen, CallThen, Complete, ConditionThen, DeciderThen, ExprThen, ExprsThen, FormAfter, FormThen, FormalsThen, Got, GotoThen, IfThen, IsParseError, IsStop, KeywordThen, ListedThen, MoreDecls, MoreExprs, MoreImplied, MoreNames, MoreOperands, MoreProcs, MoreStmts, MoreTighter, NameThen, NamesThen, OperandThen, ParseResult, PrintThen, ProcThen, ReadsBy, StmtAfter, StmtThen, StmtsThen, StmtsTo, Stops, TargetsThen, UnThen, ValuesThen, Wanted, WhileThen, WordThen, is_at, is_at_expr, is_at_form, is_form_start, is_same_kind, is_un_start, kind_ahead, operator, operator_ahead, parse_result, place_ahead, place_or, procedure_of, program_at_end, program_of, result_after, result_at_end, wanted_after, wanted_after_name, wanted_after_un, wanted_by_operator, wanted_in_form, wanted_in_stmt, wanted_in_un, whole_program}
 pub use Rattle.bp_syntax.specs.Refusals.{BreaksAt, HasSyntaxError, IsRefusal, Opens, read_error_number}
-pub use Rattle.bp_syntax.specs.Spellings.{some_token, spelling}
+pub use Rattle.bp_syntax.specs.Spellings.{some_token}
 pub use Rattle.bp_syntax.specs.declared.errors.ReadError.{ReadError}
 pub use Rattle.bp_syntax.specs.declared.lexemes.FirstLexeme.{FirstLexeme}
 pub use Rattle.bp_syntax.specs.declared.parser.operators.Precedence.{Precedence}
 pub use Rattle.bp_syntax.specs.declared.parser.operators.Precedence.TheVariants.{Conjunction, Disjunction, Equality, Exclusion}
-pub use Rattle.bp_syntax.specs.declared.tokens.TheConstants.{RESERVED}
 pub use Rattle.std.proofs.Common.{Bool, Bor, Err, IfSome, IsErrAnd, List, MatchOption, MatchResult, None, Ok, Option, Result, Some, [], ap, append-nil, arith, bytes_eq, cond, drop, drop-drop, false, false-eqb, get_or, if◌then◌else◌, inl, inr, is_some, length, length-append, length-drop, map, nat_eq, nat_le, nat_lt, refl, rules, slice_get, subst, suc, sym, take, take_all, true, zero, ℕ, ⊎_elim, ◌&&◌, ◌*◌, ◌++◌, ◌+◌, ◌-◌, ◌<◌, ◌==◌, ◌||◌, ◌∙◌, ◌∷◌, ◌≡◌, ◌≢◌, ◌≤◌, ◌⊎◌}
 pub use Rattle.std.proofs.lemmas.Bool.{cases_eq, cases_lt, eqb-true, false≢true, leb-false, leb-true, ltb-false, ltb-true, ne_eqb}
 pub use Rattle.std.proofs.lemmas.Option.{slice_get-get_or, slice_get_past, slice_get_read, slice_get_within}

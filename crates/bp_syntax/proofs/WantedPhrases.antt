@@ -1,6 +1,5 @@
 -- The phrases of the grammar that the parser expects.
-use Rattle.bp_syntax.proofs.Common.{◌≡◌, ℕ, List, refl, subst, ◌<◌, ◌+◌, false, Option, Some, bytes_eq, drop, get_or, length, map, [], ◌∷◌, ◌++◌, None, arith, rules, lookup, Name, Expression, Operation, Decision, Block, Done, Then, Statement, Procedure, Program, Op, regrouped, Token, IsReal, TokenKind, name_of, IsNames, one_name, more_names, IsAnyNames, IsExpr, of_or, implication, IsOr, of_xor, disjunction, IsXor, of_and, exclusion, IsAnd, of_eq, conjunction, IsEq, of_un, equality, difference, IsUn, IsExprs, one_expr, more_exprs, IsAnyExprs, IsDecider, IsForm, IsStmt, IsStmts, one_stmt, more_stmts, IsDecls, IsProcs, first_word, first_name, spelling, some_token, Wanted, Complete, WordThen, NameThen, MoreNames, AnyNamesThen, UnThen, MoreOperands, MoreImplied, MoreExprs, AnyExprsThen, DeciderThen, FormThen, FormAfter, StmtThen, StmtAfter, MoreStmts, MoreDecls, MoreProcs, NamesThen, ExprThen, ExprsThen, OperandThen, operator, Precedence, Equality, Conjunction, Exclusion, Disjunction}
-use Rattle.std.proofs.lemmas.List.{drop_more}
+use Rattle.bp_syntax.proofs.Common.{◌≡◌, ℕ, List, refl, subst, Option, Some, [], ◌∷◌, ◌++◌, None, arith, rules, Name, Expression, Operation, Decision, Block, Done, Then, Statement, Procedure, Program, Op, regrouped, Token, IsReal, TokenKind, name_of, IsNames, one_name, more_names, IsAnyNames, IsExpr, of_or, implication, IsOr, of_xor, disjunction, IsXor, of_and, exclusion, IsAnd, of_eq, conjunction, IsEq, of_un, equality, difference, IsUn, IsExprs, one_expr, more_exprs, IsAnyExprs, IsDecider, IsForm, IsStmt, IsStmts, one_stmt, more_stmts, IsDecls, IsProcs, first_word, first_name, some_token, Wanted, Complete, WordThen, NameThen, MoreNames, AnyNamesThen, UnThen, MoreOperands, MoreImplied, MoreExprs, AnyExprsThen, DeciderThen, FormThen, FormAfter, StmtThen, StmtAfter, MoreStmts, MoreDecls, MoreProcs, NamesThen, ExprThen, ExprsThen, OperandThen, operator, Precedence, Equality, Conjunction, Exclusion, Disjunction}
 use Rattle.bp_language.specs.declared.exprs.Op.TheVariants as op
 use Rattle.bp_language.specs.declared.tokens.TokenKind.TheVariants as kind
 
@@ -8,20 +7,6 @@ use Rattle.bp_language.specs.declared.tokens.TokenKind.TheVariants as kind
 
 pub some_real : (k : TokenKind) → IsReal (some_token k)
 some_real k = grind (arith)
-
--- The reserved words are the spellings of their kinds, in order.
-
-abbrev pub spelled : TokenKind → List ℕ × TokenKind
-spelled k = (spelling k, k)
-
--- the kind of the first of these that is spelled so
-abbrev pub first_spelled : List ℕ → List TokenKind → Option TokenKind
-first_spelled s ks = lookup (bytes_eq s) (map spelled ks)
-
--- the next one is spelled otherwise
-pub go_on : (s : List ℕ) (ks : List TokenKind) (i : ℕ) (k d : TokenKind) → i < length ks → get_or ks i d ≡ k → bytes_eq s (spelling k) ≡ false
-    → first_spelled s (drop i ks) ≡ first_spelled s (drop (i + 1) ks)
-go_on s ks i k d less is differs = rw (drop_more ks i d less, is, differs) refl
 
 -- an operand of the operators of a strength, and operands with such operators between them
 abbrev pub IsOperand : Precedence → List Token → Expression → List Token → Type 0

@@ -95,40 +95,29 @@ pub(crate) fn long_symbol(b: u8, c: u8) -> Option<TokenKind>
     }
 }
 
-/// The number of reserved words.
-const WORDS: usize = 16;
-
-/// The kinds of the reserved words.
-const RESERVED: [TokenKind; WORDS] = [
-    TokenKind::Decl,
-    TokenKind::Begin,
-    TokenKind::End,
-    TokenKind::Skip,
-    TokenKind::Goto,
-    TokenKind::Return,
-    TokenKind::If,
-    TokenKind::Then,
-    TokenKind::Else,
-    TokenKind::Fi,
-    TokenKind::While,
-    TokenKind::Do,
-    TokenKind::Od,
-    TokenKind::Assert,
-    TokenKind::Print,
-    TokenKind::Assume,
-];
-
 /// Returns the kind of the reserved word with these bytes.
 fn reserved_word(text: &[u8]) -> Option<TokenKind>
     ensures { result ≡ spelling.reserved_word text.now }
 {
-    let words = RESERVED;
-    for kind in &words {
-        if text == word_of(*kind).as_bytes() {
-            return Some(*kind);
-        }
+    match text {
+        b"decl" => Some(TokenKind::Decl),
+        b"begin" => Some(TokenKind::Begin),
+        b"end" => Some(TokenKind::End),
+        b"skip" => Some(TokenKind::Skip),
+        b"goto" => Some(TokenKind::Goto),
+        b"return" => Some(TokenKind::Return),
+        b"if" => Some(TokenKind::If),
+        b"then" => Some(TokenKind::Then),
+        b"else" => Some(TokenKind::Else),
+        b"fi" => Some(TokenKind::Fi),
+        b"while" => Some(TokenKind::While),
+        b"do" => Some(TokenKind::Do),
+        b"od" => Some(TokenKind::Od),
+        b"assert" => Some(TokenKind::Assert),
+        b"print" => Some(TokenKind::Print),
+        b"assume" => Some(TokenKind::Assume),
+        _ => None,
     }
-    None
 }
 
 /// Returns whether the bytes are a reserved word.

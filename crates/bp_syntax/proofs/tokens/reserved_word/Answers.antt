@@ -1,12 +1,13 @@
-use Rattle.bp_syntax.proofs.Common.{◌≡◌, ◌∙◌, true, false, bytes_eq, get_or, rules, refl, sym, RESERVED, spelling}
-use Rattle.bp_language.specs.declared.tokens.TokenKind.TheVariants as kind
-use Rattle.bp_syntax.proofs.WantedPhrases.{go_on}
+use Rattle.bp_syntax.proofs.Common.{sym, ap, arith, reserved_word}
+use Rattle.std.specs.Prelude.{codes}
+use Rattle.std.proofs.lemmas.Slice.Eq.{text_from_reads}
 use Rattle.bp_syntax.proofs.tokens.reserved_word.Goals as goal
 
-pub loop-kind-preserved : goal.loop-kind-preserved
-loop-kind-preserved c =
-    let i = c.loop-kind.kind-index in
-    let text = c.args.text.now in
-    let next = get_or RESERVED i kind.Name in
-    let differs : bytes_eq text (spelling next) ≡ false = search rules in
-    sym (go_on text RESERVED i next kind.Name c.loop-kind-test.true refl differs) ∙ c.loop-kind.invariant
+pub returns-in-return : goal.returns-in-return
+returns-in-return c = sym (ap reserved_word (text_from_reads c.args.text.now (codes "return") (omega arith) (omega arith, (omega arith, (omega arith, (omega arith, (omega arith, (omega arith, tt))))))))
+
+pub returns-in-assert : goal.returns-in-assert
+returns-in-assert c = sym (ap reserved_word (text_from_reads c.args.text.now (codes "assert") (omega arith) (omega arith, (omega arith, (omega arith, (omega arith, (omega arith, (omega arith, tt))))))))
+
+pub returns-in-assume : goal.returns-in-assume
+returns-in-assume c = sym (ap reserved_word (text_from_reads c.args.text.now (codes "assume") (omega arith) (omega arith, (omega arith, (omega arith, (omega arith, (omega arith, (omega arith, tt))))))))
