@@ -6,18 +6,22 @@ Usage: bench/all.py [PROGRAM [ASKING [RUNS]]]
 PROGRAM and ASKING are the built programs, crates/btrun/out/btrun and crates/tools/out/tools if left out. Each bench
 is run with few rounds, 5 if RUNS is left out: what it measures, and how, its own page says. Processor seconds, but for
 'by the clock'. The ratio is that of the program to its yardstick: a plain program, a replay for 'show', a session for
-a desk, and a desk for a board. An aim is the most that the ratio may be. The machine should have nothing else to do.
+a desk, a desk for a board, and four tests side by side for one with four jobs. An aim is the most that the ratio may be. The machine should have nothing else to do.
 Then follows the table of bench/counting.py: instructions a call, which do not depend on the machine.
 """
 import datetime
 import os
 import sys
+import tempfile
 
 import asking
+import compiling
 import counting
 import driving
+import exploring
 import replaying
 import running
+import scaling
 import showing
 
 TOP = os.path.dirname(os.path.dirname(os.path.abspath(__file__)))
@@ -68,6 +72,24 @@ def print_asks(program, runs):
     print_row("Board::turn 64, us by the clock", desk, each["Board::turn 64"], "1.0", "-")
 
 
+def print_explorations(program):
+    with tempfile.TemporaryDirectory() as room:
+        (plain, _), (own, memory), states, _ = exploring.measured_counters(program, room, "3")
+    print_row("explore, %d states" % states, plain, own, "-", "%.0f" % memory)
+
+
+def print_jobs(program, runs):
+    shared, apart = scaling.measured(program, scaling.PROGRAMS[1], 4, runs)
+    print_row("test, 4 jobs, by the clock", apart, shared, "1.05", "-")
+
+
+def print_texts(program, runs):
+    """Nanoseconds a byte of the longest text of the slowest kind."""
+    for kind, checked, compiled in compiling.measured_kinds(program, ["long assignments"], runs):
+        print_row("check, %s, ns a byte" % kind, None, checked[-1], "-", "-")
+        print_row("compile, %s, ns a byte" % kind, None, compiled[-1], "-", "-")
+
+
 def main():
     program = os.path.abspath(sys.argv[1] if len(sys.argv) > 1 else os.path.join(TOP, "crates/btrun/out/btrun"))
     asker = os.path.abspath(sys.argv[2] if len(sys.argv) > 2 else os.path.join(TOP, "crates/tools/out/tools"))
@@ -85,6 +107,9 @@ def main():
     print_runs(program, runs)
     os.chdir(TOP)
     print_asks(asker, runs)
+    print_explorations(program)
+    print_jobs(program, runs)
+    print_texts(program, runs)
     print()
     counting.print_counts(program)
 

@@ -97,20 +97,26 @@ def least(program, texts, runs):
     return best
 
 
-def main():
-    program = sys.argv[1] if len(sys.argv) > 1 else "crates/btrun/out/btrun"
-    runs = int(sys.argv[2]) if len(sys.argv) > 2 else 20
-    texts = [text(size) for text in KINDS.values() for size in SIZES]
+def measured_kinds(program, kinds, runs):
+    """Each kind of text with the nanoseconds a byte to read and check it, and those to compile it, for each size."""
+    texts = [KINDS[kind](size) for kind in kinds for size in SIZES]
     nothing, *best = least(program, [b"main() begin skip; end\n"] + texts, runs)
-    print("%-24s %17s %17s" % ("", "read and checked", "compiled"))
-    print("%-24s" % "kind" + " %8d" * 4 % (SIZES + SIZES))
-    for kind in KINDS:
+    for kind in kinds:
         checked, compiled = [], []
         for size in SIZES:
             first, second = best.pop(0)
             spent = first - nothing[0]
             checked.append(max(spent, 0.0) * 1e9 / size)
             compiled.append(max(second - nothing[1] - spent, 0.0) * 1e9 / size)
+        yield kind, checked, compiled
+
+
+def main():
+    program = sys.argv[1] if len(sys.argv) > 1 else "crates/btrun/out/btrun"
+    runs = int(sys.argv[2]) if len(sys.argv) > 2 else 20
+    print("%-24s %17s %17s" % ("", "read and checked", "compiled"))
+    print("%-24s" % "kind" + " %8d" * 4 % (SIZES + SIZES))
+    for kind, checked, compiled in measured_kinds(program, KINDS, runs):
         print("%-24s" % kind + " %8.1f" * 4 % tuple(checked + compiled))
 
 

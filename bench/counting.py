@@ -86,13 +86,13 @@ def print_counts(program):
             plain = each(lambda size: ["./plain_replay", "r.bp", "%s%d.trace" % (name, size)])
             rows.append(("replay, version %d" % version, replay, plain, "1.05"))
             replays.append(replay)
-        for words, aim in (([], "2.50"), (["--json"], "-"), (["--last", "20"], "1.30")):
+        for words, aim in (([], "2.50"), (["--json"], "5.00"), (["--last", "20"], "1.30")):
             show = each(lambda size: [program, "show", "r.bp", "one%d.trace" % size, *words])
             rows.append((" ".join(["show", *words]), show, replays[0], aim))
         driving.write("s.bp", [b"decl x; main() begin while (1) do skip; od end\n"])
         start = total([program, "check", "s.bp"], "--toggle-collect=main")
         test = drawing.instructions(program)
-        rows.append(("test, short runs", test, drawing.instructions(os.path.abspath("plain")), "0.50"))
+        rows.append(("test, short runs", test, drawing.instructions(os.path.abspath("plain")), "1.10"))
     print("%-22s %9s %9s %6s %6s" % ("instructions a call", "btrun", "yardstick", "ratio", "aim"))
     for work, own, yardstick, aim in rows:
         print("%-22s %9.0f %9.0f %6.2f %6s" % (work, own, yardstick, own / yardstick, aim))

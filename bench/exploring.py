@@ -77,21 +77,27 @@ def words_of(file):
     return words, init
 
 
+def measured_counters(program, room, threads):
+    """The seconds and megabytes of the plain program and of an exploration, the states and the contexts of both."""
+    plain, file = Path(room) / "plain", Path(room) / "counters.bp"
+    file.write_text(COUNTERS)
+    subprocess.run(["rustc", "-O", "-o", plain, TOP / "bench/plain/explore.rs"], check=True, stderr=subprocess.DEVNULL)
+    seconds, megabytes, said, _ = measured([plain, threads])
+    states, contexts = map(int, re.findall(r"\d+", said))
+    own, memory, found = explored(program, file, ["counter"] * int(threads))
+    if (found["states"], found["contexts"]) != (states, contexts):
+        sys.exit("the plain program counts otherwise: %d states, contexts %d" % (states, contexts))
+    return (seconds, megabytes), (own, memory), states, contexts
+
+
 def main():
     program = os.path.abspath(sys.argv[1] if len(sys.argv) > 1 else TOP / "crates/btrun/out/btrun")
     threads = sys.argv[2] if len(sys.argv) > 2 else "3"
     print("%-34s %7s %10s %8s %8s %10s %9s" % ("program", "threads", "states", "contexts", "seconds", "a second", "bytes"))
     with tempfile.TemporaryDirectory() as room:
-        plain, file = Path(room) / "plain", Path(room) / "counters.bp"
-        file.write_text(COUNTERS)
-        subprocess.run(["rustc", "-O", "-o", plain, TOP / "bench/plain/explore.rs"], check=True, stderr=subprocess.DEVNULL)
-        seconds, megabytes, said, _ = measured([plain, threads])
-        states, contexts = map(int, re.findall(r"\d+", said))
-        print_row("counters, plain Rust", threads, seconds, megabytes, states, contexts)
-        own, memory, found = explored(program, file, ["counter"] * int(threads))
-        print_row("counters", threads, own, memory, found["states"], found["contexts"])
-        if (found["states"], found["contexts"]) != (states, contexts):
-            sys.exit("the plain program counts otherwise: %d states, contexts %d" % (states, contexts))
+        plain, own, states, contexts = measured_counters(program, room, threads)
+        print_row("counters, plain Rust", threads, *plain, states, contexts)
+        print_row("counters", threads, *own, states, contexts)
         if shutil.which("spin") and shutil.which("cc"):
             print_spin(room, threads)
     for file in sorted(TOP.glob("examples/*/*.bp")):

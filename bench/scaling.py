@@ -28,17 +28,23 @@ def passed(commands):
     return time.monotonic() - start
 
 
+def measured(program, kind, jobs, times):
+    """The least seconds of a test with as many jobs, and of as many tests with one job each, side by side."""
+    file, words, runs = kind
+    share = runs // jobs
+    test = lambda made, seed, jobs: [program, "test", file, *words, "--runs", str(made), "--seed", str(seed), "--jobs", str(jobs)]
+    shared = min(passed([test(runs, 42, jobs)]) for _ in range(times))
+    return shared, min(passed([test(share, 42 + share * n, 1) for n in range(jobs)]) for _ in range(times))
+
+
 def main():
     program = os.path.abspath(sys.argv[1] if len(sys.argv) > 1 else "crates/btrun/out/btrun")
     times = int(sys.argv[2]) if len(sys.argv) > 2 else 5
     print("%-32s %5s %8s %7s %14s %7s" % ("program", "jobs", "seconds", "faster", "side by side", "faster"))
-    for file, words, runs in PROGRAMS:
-        test = lambda made, seed, jobs: [program, "test", file, *words, "--runs", str(made), "--seed", str(seed), "--jobs", str(jobs)]
-        alone = None
+    for kind in PROGRAMS:
+        file, alone = kind[0], None
         for jobs in JOBS:
-            share = runs // jobs
-            shared = min(passed([test(runs, 42, jobs)]) for _ in range(times))
-            apart = min(passed([test(share, 42 + share * n, 1) for n in range(jobs)]) for _ in range(times))
+            shared, apart = measured(program, kind, jobs, times)
             alone = alone or shared
             print("%-32s %5d %8.2f %7.2f %14.2f %7.2f" % (file, jobs, shared, alone / shared, apart, alone / apart), flush=True)
 
