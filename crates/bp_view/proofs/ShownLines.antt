@@ -1,9 +1,11 @@
 -- The line of an attempt, if it has one, or nothing.
-use Rattle.bp_view.proofs.Common.{if◌then◌else◌, ◌≡◌, ◌∙◌, ◌+◌, ◌-◌, ◌<◌, ◌++◌, ℕ, suc, true, List, [], ◌∷◌, codes, nat_lt, take, length, ap, ap₂, refl, sym, arith, ◌≤◌, length-append, append-nil, ◌/◌, ◌%◌, ◌^◌, ◌==◌, ◌⊎◌, inl, inr, false, decimal, append_assoc, max, Bool, Option, None, ◌&&◌, subst, slice_set, rules, nat_tests, concat, cases_lt, replicate-append-replicate, spaces, at_right, at_left, regrouped, Program, Configuration, Call, is_granted, configuration_after, SetupOf, ViewFormat, ViewOptions, ShownCall, changes_by, AreCallFacts, IsReplayedCall, CallFilter, calls_at, calls_of, is_asked, is_seen, watched_names, shortened, prefix_text, tens_digits, tens_text, field_texts, mark_text, Widths, line_in, next_print_in, printed_in, filter_of, has_line, IsShownLine, IsViewLineIf, Gains, Grown, Buffer, ViewContext}
+use Rattle.bp_view.proofs.Common.{if◌then◌else◌, ◌≡◌, ◌∙◌, ◌+◌, ◌-◌, ◌<◌, ◌++◌, ℕ, suc, true, List, [], ◌∷◌, codes, nat_lt, take, length, ap, ap₂, refl, sym, arith, ◌≤◌, length-append, ◌/◌, ◌%◌, ◌^◌, ◌==◌, ◌⊎◌, inl, inr, false, decimal, append_assoc, max, Bool, Option, None, ◌&&◌, subst, slice_set, rules, nat_tests, concat, cases_lt, replicate-append-replicate, spaces, at_right, at_left, regrouped, Program, Configuration, Call, is_granted, configuration_after, SetupOf, ViewFormat, ViewOptions, ShownCall, changes_by, AreCallFacts, IsReplayedCall, CallFilter, calls_at, calls_of, is_asked, is_seen, watched_names, shortened, prefix_text, first_members, members_text, number_text, tens_digits, tens_text, field_texts, mark_text, Widths, line_in, next_print_in, printed_in, filter_of, has_line, IsShownLine, IsViewLineIf, Gains, Grown, Buffer, ViewContext}
+use Rattle.bp_text.specs.Pieces.{key_text, number_or_null}
 use Rattle.std.proofs.lemmas.Fmt.{decimal_digit, decimal_step}
 use Rattle.std.proofs.Math.ListN.{length-replicate}
 use Rattle.bp_view.specs.declared.checkpoints.ReplayedCall.{ReplayedCall}
 use Rattle.bp_view.specs.declared.prefixes.PrefixKey.{PrefixKey}
+use Rattle.bp_view.specs.declared.first_members.MembersKey.{MembersKey}
 use Rattle.bp_view.proofs.Growth.{gains, nothing}
 
 -- The first bytes of a line, and a text that is cut.
@@ -28,29 +30,46 @@ key_of w f =
       context_width = w.context;
     }
 
--- a number in its column is its digits before the last, in a column that is one narrower, and the last
-number_split : (width n : ℕ) → n < 2 ^ 64 → at_right (width - 1) (tens_digits (n / 10)) ++ (48 + n % 10) ∷ [] ≡ at_right width (decimal n)
-number_split width n fits = by_size (cases_lt n 10)
+-- a number is its digits before the last, and the last
+digits_split : (n : ℕ) → n < 2 ^ 64 → tens_digits (n / 10) ++ (48 + n % 10) ∷ [] ≡ decimal n
+digits_split n fits = by_size (cases_lt n 10)
   where
-    by_size : (n < 10) ⊎ (10 ≤ n) → at_right (width - 1) (tens_digits (n / 10)) ++ (48 + n % 10) ∷ [] ≡ at_right width (decimal n)
+    by_size : (n < 10) ⊎ (10 ≤ n) → tens_digits (n / 10) ++ (48 + n % 10) ∷ [] ≡ decimal n
     by_size (inl few) =
         let none : n / 10 ≡ 0 = omega arith in
         let own : n % 10 ≡ n = omega arith in
-        let digit = decimal_digit n few in
-        let gap : (width - 1) - 0 ≡ width - 1 = omega arith in
-        ap₂ (λ t d. at_right (width - 1) (tens_digits t) ++ (48 + d) ∷ []) none own
-        ∙ ap (λ xs. xs ++ (48 + n) ∷ []) (append-nil (spaces ((width - 1) - 0)) ∙ ap spaces gap)
-        ∙ ap (at_right width) (sym digit)
+        ap₂ (λ t d. tens_digits t ++ (48 + d) ∷ []) none own ∙ sym (decimal_digit n few)
     by_size (inr many) =
         let tens = n / 10 in
         let some : (tens == 0) ≡ false = let more : 1 ≤ tens = omega arith in grind (arith, nat_tests, more) in
-        let front = decimal tens in
-        let last = (48 + n % 10) ∷ [] in
-        let gap : (width - 1) - length front ≡ width - length (front ++ last) = omega (arith, length-append front last) in
-        ap (λ b. at_right (width - 1) (if b then [] else front) ++ last) some
-        ∙ append_assoc (spaces ((width - 1) - length front)) front last
-        ∙ ap (λ k. spaces k ++ (front ++ last)) gap
-        ∙ ap (at_right width) (sym (decimal_step n many fits))
+        ap (λ b. (if b then [] else decimal tens) ++ (48 + n % 10) ∷ []) some ∙ sym (decimal_step n many fits)
+
+-- in its column, with the digits before the last in a column that is one narrower
+number_split : (width n : ℕ) → n < 2 ^ 64 → at_right (width - 1) (tens_digits (n / 10)) ++ (48 + n % 10) ∷ [] ≡ at_right width (decimal n)
+number_split width n fits =
+    let front = tens_digits (n / 10) in
+    let last = (48 + n % 10) ∷ [] in
+    let gap : (width - 1) - length front ≡ width - length (front ++ last) = omega (arith, length-append front last) in
+    append_assoc (spaces ((width - 1) - length front)) front last
+    ∙ ap (λ k. spaces k ++ (front ++ last)) gap
+    ∙ ap (at_right width) (digits_split n fits)
+
+abbrev pub members_key_of : ShownCall → MembersKey
+members_key_of f =
+    record {
+      tens = f.number / 10;
+      thread = f.call.thread;
+      context = f.context;
+    }
+
+-- the first members of an attempt
+pub members_are : (f : ShownCall) (digit : ℕ) → f.number < 2 ^ 64 → digit ≡ 48 + f.number % 10
+    → members_text (members_key_of f) digit ≡ concat (first_members f)
+members_are f digit fits is =
+    let front = tens_digits (f.number / 10) in
+    let rest = concat (key_text (codes "thread") ∷ decimal f.call.thread ∷ key_text (codes "context") ∷ number_or_null f.context ∷ []) in
+    let number = sym (append_assoc front ((48 + f.number % 10) ∷ []) rest) ∙ ap (λ xs. xs ++ rest) (digits_split f.number fits) in
+    ap (λ xs. codes "{\"kind\":\"call\",\"number\":" ++ xs) (ap (λ d. front ++ d ∷ rest) is ∙ number)
 
 -- the fields of an attempt
 pub fields_are : (w : Widths) (f : ShownCall) (mark digit : ℕ) → f.number < 2 ^ 64
@@ -66,6 +85,10 @@ digit_put (x ∷ a) d e b = ap (λ ys. x ∷ ys) (digit_put a d e b)
 pub parts_put : (k : PrefixKey) (text : List ℕ) (m d mark digit last : ℕ) → text ≡ prefix_text k m d → last ≡ suc (length (tens_text k))
     → slice_set (slice_set text 0 mark) last digit ≡ prefix_text k mark digit
 parts_put k text m d mark digit last given1 given2 = search (rules, digit_put)
+
+pub member_put : (k : MembersKey) (text : List ℕ) (d digit last : ℕ) → text ≡ members_text k d → last ≡ length (number_text k)
+    → slice_set text last digit ≡ members_text k digit
+member_put k text d digit last given1 given2 = search (rules, digit_put)
 
 -- The place of an attempt and its statement, the spaces between, and the length of its column.
 

@@ -17,6 +17,7 @@ use Rattle.bp_view.specs.declared.statement_columns.TheConstants.{LEAST_STATEMEN
 use Rattle.bp_view.specs.declared.view_contexts.TheConstants.{MAX_INDENTS}
 use Rattle.bp_view.specs.declared.view_contexts.Widths.{Widths}
 use Rattle.bp_view.specs.declared.prefixes.PrefixKey.{PrefixKey}
+use Rattle.bp_view.specs.declared.first_members.MembersKey.{MembersKey}
 use Rattle.bp_view.specs.declared.view_contexts.ViewContext.{ViewContext}
 
 -- The colours of a view's lines, for a terminal.
@@ -216,15 +217,19 @@ reply_name Blocked = codes "waits"
 reply_name Failed = codes "failed"
 reply_name Stepped = codes "stepped"
 
--- the texts of the members of an attempt that have one value each: its own, its thread's next
--- statement, and the reply
-abbrev pub member_texts : ShownCall → List (List ℕ)
-member_texts f =
+-- the texts of the first members of an attempt
+abbrev pub first_members : ShownCall → List (List ℕ)
+first_members f =
     codes "{\"kind\":\"call\""
     ∷ key_text (codes "number") ∷ decimal f.number
     ∷ key_text (codes "thread") ∷ decimal f.call.thread
-    ∷ key_text (codes "context") ∷ number_or_null f.context
-    ∷ key_text (codes "switch") ∷ truth_text f.switch
+    ∷ key_text (codes "context") ∷ number_or_null f.context ∷ []
+
+-- those of the others that have one value each: of the step, its thread's next statement, and the
+-- reply
+abbrev pub member_texts : ShownCall → List (List ℕ)
+member_texts f =
+    key_text (codes "switch") ∷ truth_text f.switch
     ∷ key_text (codes "line") ∷ number_or_null (line_of f.next.position)
     ∷ key_text (codes "column") ∷ number_or_null (column_of f.next.position)
     ∷ key_text (codes "procedure") ∷ string_or_null f.next.procedure
@@ -245,7 +250,7 @@ printed_text (Some values) = list_text (flat_map bit_item values)
 abbrev pub call_object : ShownCall → (printed : Option (List Bool)) → List ℕ
 call_object f printed =
     concat (
-    concat (member_texts f)
+    concat (first_members f) ∷ concat (member_texts f)
     ∷ key_text (codes "changes") ∷ list_text (entries_text Json f.changes)
     ∷ key_text (codes "printed") ∷ printed_text printed
     ∷ codes "}\n" ∷ [])
@@ -270,6 +275,21 @@ turn_texts k =
 -- all of them, with this sign before them, and with this last digit of the number
 abbrev pub prefix_text : PrefixKey → (mark digit : ℕ) → List ℕ
 prefix_text k mark digit = mark ∷ (tens_text k ++ digit ∷ concat (turn_texts k))
+
+-- A device: the first members of an object, whose text is kept for the next one.
+
+-- those up to the last digit of the number
+abbrev pub number_text : MembersKey → List ℕ
+number_text k = codes "{\"kind\":\"call\",\"number\":" ++ tens_digits k.tens
+
+-- all of them, with this last digit of the number
+abbrev pub members_text : MembersKey → (digit : ℕ) → List ℕ
+members_text k digit =
+    number_text k
+    ++ digit
+    ∷ concat (
+    key_text (codes "thread") ∷ decimal k.thread
+    ∷ key_text (codes "context") ∷ number_or_null k.context ∷ [])
 
 -- The widths of the columns of a view: one width of each for all its lines.
 

@@ -8,15 +8,16 @@ ghost use Rattle.bp_flat.specs.StandsFor.{valuation_of};
 ghost use Rattle.bp_tasks.specs.declared.options.ViewFormat.TheVariants.{Json};
 ghost use Rattle.bp_view.specs.Buffers.{Grown};
 ghost use Rattle.bp_view.specs.CallFacts.{facts_in};
-ghost use Rattle.bp_view.specs.Lines.{owner_text, variable_object, variable_text, assignment_text, variables_text, bit_item, call_object, member_texts, printed_text, reply_name};
+ghost use Rattle.bp_view.specs.Lines.{owner_text, variable_object, variable_text, assignment_text, variables_text, bit_item, call_object, first_members, member_texts, printed_text, reply_name};
 
 use crate::buffers::Buffer;
 use crate::call_facts::CallFacts;
+use crate::first_members::{FirstMembers, MembersKey};
 use crate::lines::push_changed;
 use bp_flat::bit_of;
 use bp_language::{Name, Proc};
 use bp_machine::Reply;
-use bp_source::{column_of, line_of, wide};
+use bp_source::{column_of, line_of};
 use bp_tasks::ViewFormat;
 use bp_text::Piece::{Bit, Bytes, Number, NumberOrNull, Text, TextOrNull};
 
@@ -146,21 +147,27 @@ fn choice_member(choice: Option<bool>) -> &'static [u8]
     }
 }
 
-/// Adds the members of an attempt that have one value each.
+/// Adds the first members of an attempt: its kind, its number, its thread and its context.
+fn push_first_members(line: &mut Buffer, members: &mut FirstMembers, facts: &CallFacts<'_>)
+    ensures { Grown line.old line.new (concat (first_members (facts_in facts.now))) }
+{
+    let key = MembersKey {
+        tens: facts.number / 10,
+        thread: facts.call.thread,
+        context: facts.context,
+    };
+    let digit = b'0' + (facts.number % 10) as u8;
+    let Ok(()) = members.set(key, digit) else {
+        return line.refuse();
+    };
+    line.put(Bytes(&members.text))
+}
+
+/// Adds the other members of an attempt that have one value each.
 fn push_members(line: &mut Buffer, facts: &CallFacts<'_>)
     ensures { Grown line.old line.new (concat (member_texts (facts_in facts.now))) }
 {
     // A key is one piece with the signs around it, since a piece for each takes longer.
-    line.put_two(
-        Bytes(b"{\"kind\":\"call\",\"number\":"),
-        Number(facts.number),
-    );
-    line.put_four(
-        Bytes(b",\"thread\":"),
-        Number(u64::from(facts.call.thread)),
-        Bytes(b",\"context\":"),
-        NumberOrNull(wide(facts.context)),
-    );
     line.put_three(
         Bytes(switch_member(facts.is_switch)),
         Bytes(b",\"line\":"),
@@ -207,11 +214,17 @@ fn push_printed(line: &mut Buffer, printed: Option<&[bool]>)
     line.close_list(start)
 }
 
-/// Adds the object of an attempt that printed these values, if any.
-pub(crate) fn push_object(line: &mut Buffer, facts: &CallFacts<'_>, printed: Option<&[bool]>)
+/// Adds the object of an attempt that printed these values, if any. `members` are those of another.
+pub(crate) fn push_object(
+    line: &mut Buffer,
+    members: &mut FirstMembers,
+    facts: &CallFacts<'_>,
+    printed: Option<&[bool]>,
+)
     ensures { let printed = option_map (λ v. v.now) printed.entry in
         Grown line.old line.new (call_object (facts_in facts.now) printed) }
 {
+    push_first_members(line, members, facts);
     push_members(line, facts);
     line.put(Bytes(b",\"changes\":"));
     let start = line.len();

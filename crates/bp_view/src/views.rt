@@ -15,6 +15,7 @@ ghost use Rattle.bp_view.specs.SetupLines.{view_head};
 use crate::buffers::Buffer;
 use crate::checkpoints::Checkpoint;
 use crate::errors::ViewError;
+use crate::first_members::FirstMembers;
 use crate::outcomes::push_footer_of;
 use crate::prefixes::Prefix;
 use crate::program_facts::{undeclared, watched_names};
@@ -135,6 +136,7 @@ fn write_view<W: Write>(
         session,
         line: Buffer::new(alloc),
         prefix: Prefix::new(alloc),
+        members: FirstMembers::new(alloc),
         changes: Vec::new(alloc),
         last,
         made,

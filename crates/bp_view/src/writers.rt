@@ -17,6 +17,7 @@ use crate::call_facts::{CallFacts, facts_of_call};
 use crate::change_facts::{Change, fill_changes};
 use crate::checkpoints::{ReplayedCall, last_step, printed_by, replayed_call};
 use crate::filters::CallFilter;
+use crate::first_members::FirstMembers;
 use crate::lines::push_line;
 use crate::prefixes::Prefix;
 use crate::program_facts::has_watched;
@@ -53,6 +54,8 @@ pub(crate) struct ViewWriter<'a> {
     pub(crate) line: Buffer,
     /// The fields that lines have in common with the lines before.
     pub(crate) prefix: Prefix,
+    /// The first members of the last object.
+    pub(crate) members: FirstMembers,
     /// Room for the changes of an attempt.
     pub(crate) changes: Vec<Change<'a>>,
     /// The thread of the last step.
@@ -95,6 +98,7 @@ impl ViewWriter<'_> {
         push_shown(
             &mut self.line,
             &mut self.prefix,
+            &mut self.members,
             &mut self.changes,
             &self.context,
             &replayed,
@@ -108,11 +112,12 @@ impl ViewWriter<'_> {
 }
 
 /// Adds the line of an attempt and of those folded into it, `calls` in all, in the format of the
-/// view. The attempt printed these values, if any. `prefix` has parts of another line that are
-/// kept.
+/// view. The attempt printed these values, if any. `prefix` and `members` have parts of another line
+/// that are kept.
 fn push_line_in(
     view: &mut Buffer,
     prefix: &mut Prefix,
+    members: &mut FirstMembers,
     context: &ViewContext<'_>,
     facts: &CallFacts<'_>,
     calls: usize,
@@ -130,16 +135,17 @@ fn push_line_in(
             let widths = context.widths.under_headings();
             push_line(view, prefix, &widths, options.has_colour, facts, calls)
         }
-        ViewFormat::Json => push_object(view, facts, printed),
+        ViewFormat::Json => push_object(view, members, facts, printed),
     }
 }
 
 /// Adds the line of an attempt, if it is shown: it is asked for, it changed a watched variable, and
-/// its line stands for an attempt. `prefix` has parts of another line that are kept, and `changes`
-/// is room for the attempt's changes.
+/// its line stands for an attempt. `prefix` and `members` have parts of another line that are kept,
+/// and `changes` is room for the attempt's changes.
 pub(crate) fn push_shown<'a>(
     view: &mut Buffer,
     prefix: &mut Prefix,
+    members: &mut FirstMembers,
     changes: &mut Vec<Change<'a>>,
     context: &ViewContext<'a>,
     replayed: &ReplayedCall,
@@ -169,7 +175,7 @@ pub(crate) fn push_shown<'a>(
         return;
     }
     let facts = facts_of_call(&context.program, replayed, changes);
-    push_line_in(view, prefix, context, &facts, calls, printed)
+    push_line_in(view, prefix, members, context, &facts, calls, printed)
 }
 
 /// Returns options for all attempts, without colours.
