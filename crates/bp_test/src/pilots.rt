@@ -37,8 +37,8 @@ pub struct Pilots {
     pub lengths: Vec<u64>,
     /// The sum of the lengths.
     pub steps: u64,
-    /// For each global that visible steps access, those that no more of them access. Empty if no
-    /// pilot is long.
+    /// For each global that visible steps access, the globals that as many of them or fewer access.
+    /// Empty if no pilot is long.
     pub focuses: Vec<Focus>,
 }
 

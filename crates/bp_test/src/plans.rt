@@ -20,6 +20,7 @@ pub struct Plan {
     pub deadline: Option<u64>,
     /// The steps before which runs switch.
     pub visible: VisibleSteps,
+    /// The pilots of the program.
     pub pilots: Pilots,
 }
 

@@ -112,8 +112,8 @@ impl ViewWriter<'_> {
 }
 
 /// Adds the line of an attempt and of those folded into it, `calls` in all, in the format of the
-/// view. The attempt printed these values, if any. `prefix` and `members` have parts of another line
-/// that are kept.
+/// view. The attempt printed these values, if any. `prefix` and `members` have parts of another
+/// line that are kept.
 fn push_line_in(
     view: &mut Buffer,
     prefix: &mut Prefix,
