@@ -1,6 +1,8 @@
 -- The text written of a view, attempt by attempt, is the beginning of a whole one.
-use Rattle.bp_view.proofs.Common.{◌≡◌, ◌∙◌, ◌<◌, ◌≤◌, ◌++◌, ◌-◌, ℕ, zero, suc, Bool, true, false, cond, List, [], ◌∷◌, codes, take, length, length-append, length-take, get_or, map, max, min, ap, refl, arith, slice_get, Some, ◌+◌, Option, drop, add-one, sym, subst, drop-cons, take-append-drop, ◌&&◌, ◌⊎◌, inl, inr, None, nat_le, unwrap_or, append-nil, add-zero, Bor, nat_lt, option_map, rules, nat_tests, take_all, take_more, length-take-le, slice_get-get_or, AppendsAll, part_of_each, both_added, HasParts, IsKind, part_written, Procedure, Program, Name, Place, StandsFor, places_of, Flat, binding, Call, Report, configuration_after, IsLegal, outcome_of, SetupOf, Stands, IsPlayable, front, SourceStatement, place_text, AreSourceStatementsAt, AreSourceStatements, shown_texts, texts_are, ViewFormat, ViewOptions, Columns, printed_by, calls_of, before_last, is_asked, is_between, is_late, is_of_thread, skipped, CallFilter, shortened, longest, variables_text, Widths, filter_of, footer_text, IsFooter, has_line, line_in, IsShownLine, IsViewLine, IsViewLineIf, after_footer, IsEnd, IsStateIf, IsViewContextOf, HasMade, IsView, IsViewable, state_text, IsStateText, ViewContext, view_head, globals_line, thread_line, thread_lines}
-use Rattle.std.proofs.KnownBytes.{Appends-nil}
+use Rattle.bp_view.proofs.Common.{◌≡◌, ◌∙◌, ◌<◌, ◌≤◌, ◌++◌, ◌-◌, ℕ, zero, suc, Bool, true, false, cond, List, [], ◌∷◌, codes, take, length, length-append, length-take, get_or, map, max, min, ap, refl, arith, slice_get, Some, ◌+◌, Option, drop, add-one, sym, subst, drop-cons, take-append-drop, ◌&&◌, ◌⊎◌, inl, inr, None, nat_le, unwrap_or, append-nil, add-zero, Bor, nat_lt, option_map, rules, nat_tests, take_all, take_more, length-take-le, slice_get-get_or, Adds, AppendsAll, AppendsPart, IsBegun, IsCutShort, IsWritten, append_assoc, part_of_each, both_added, HasParts, IsKind, end_written, head_written, part_written, parts_begun, Buffer, Gains, IsSent, Procedure, Program, Name, Place, StandsFor, places_of, Flat, binding, Call, Report, configuration_after, IsLegal, outcome_of, SetupOf, Stands, IsPlayable, front, SourceStatement, place_text, AreSourceStatementsAt, AreSourceStatements, shown_texts, texts_are, ViewFormat, ViewOptions, Columns, printed_by, calls_of, before_last, is_asked, is_between, is_late, is_of_thread, skipped, CallFilter, shortened, longest, variables_text, Widths, filter_of, footer_text, IsFooter, has_line, line_in, IsShownLine, IsViewLine, IsViewLineIf, after_footer, IsEnd, IsStateIf, IsViewContextOf, HasMade, IsView, IsViewable, state_text, IsStateText, ViewContext, view_head, globals_line, thread_line, thread_lines}
+use Rattle.std.proofs.KnownBytes.{Appends-nil, Appends-trans}
+use Rattle.std.specs.Io.KnownBytes.{Appends}
+use Rattle.bp_text.proofs.Givings.{AppendsPart_within, part_then}
 use Rattle.std.specs.Option.{option_copied}
 use Rattle.bp_flat.proofs.ProceduresOfPlaces.{starts}
 use Rattle.bp_view.proofs.WholeFacts as facts
@@ -108,13 +110,16 @@ module _ (t : Program) (text : List ℕ) (s : SetupOf) (x : ViewContext) where
   IsLine k line =
       (call : Call) → slice_get x.history.now k ≡ Some call → IsShownLine t text s x.options x.widths x.history.now (take k x.history.now) call line
 
-  -- the writer has made the first i attempts, and the head and the lines of these were written
+  -- the writer has made the first i attempts, and the head and the lines of these were written, but
+  -- for the text that it has
   pub record HasWritten (i : ℕ) (w : ViewWriter) (a b : Option (List ℕ)) : Type 0 where
     pub made : HasMade t (take i x.history.now) w
     pub setup : w.session.setup ≡ s
     pub context : w.context ≡ x
     pub few : i ≤ length x.history.now
-    pub parts : HasParts IsLine head i a b
+    pub begun : List ℕ
+    pub grown : Appends a b begun
+    pub parts : HasParts IsLine head i (Some []) (Some (begun ++ w.text.bytes.items))
 
 module _ {c : Flat} {t : Program} {text : List ℕ} {s : SetupOf} {r : Report} {x : ViewContext} (can : IsViewable c t text s r x) where
   abbrev h : List Call
@@ -140,18 +145,61 @@ module _ {c : Flat} {t : Program} {text : List ℕ} {s : SetupOf} {r : Report} {
     some_end = some_end c t can.code text x.program.statements.now can.known.program.statements s x.options x.file.now h can.playable.legal r can.outcome;
   }
 
+  -- of the head and the lines of the first i attempts, a beginning was written, and not this rest
+  module _ {i : ℕ} (begun left : List ℕ) (a b : Option (List ℕ)) (grown : Appends a b begun)
+      (parts : HasParts (IsLine t text s x) (head t text s x) i (Some []) (Some (begun ++ left))) where
+    module _ (few : i ≤ length h) where
+      goes_on : (rest : List ℕ) × IsView t text s h r x.options x.file.now (begun ++ (left ++ rest))
+      goes_on =
+          let all = parts_begun kind parts few in
+          let same = ap (λ y. y ++ all.rest) (sym all.written.grown) ∙ append_assoc begun left all.rest in
+          (all.rest, subst (IsView t text s h r x.options x.file.now) same all.is)
+
+      pub begun_so_far : IsBegun (IsView t text s h r x.options x.file.now) a b
+      begun_so_far = record { begun = begun; rest = left ++ goes_on.0; is = goes_on.1; written = record { grown = grown } }
+
+      pub rest_cut : (e : Option (List ℕ)) → AppendsPart b e left → IsCutShort (IsView t text s h r x.options x.file.now) a e
+      rest_cut e part = record {
+        text = begun ++ (left ++ goes_on.0);
+        is = goes_on.1;
+        written = AppendsPart_within a b e begun left goes_on.0 grown part;
+      }
+
+    -- and the end of the view was added
+    module _ (all : i ≡ length h) (given : List ℕ) (end : Adds (IsEnd x.options x.file.now t text s h r) left given) where
+      is_whole : IsView t text s h r x.options x.file.now (begun ++ given)
+      is_whole =
+          let same = ap (λ y. begun ++ y) end.is ∙ sym (append_assoc begun left end.more) in
+          let whole = end_written kind parts all end.more_are {e = Some ((begun ++ left) ++ end.more)} (record { grown = refl }) in
+          subst (IsView t text s h r x.options x.file.now) (sym whole.written.grown ∙ sym same) whole.is
+
+      pub whole_written : (e : Option (List ℕ)) → AppendsAll b e given → IsWritten (IsView t text s h r x.options x.file.now) a e
+      whole_written e done =
+          record { text = begun ++ given; is = is_whole; written = record { grown = Appends-trans a b e begun given grown done.grown } }
+
+      pub whole_cut : (e : Option (List ℕ)) → AppendsPart b e given → IsCutShort (IsView t text s h r x.options x.file.now) a e
+      whole_cut e part =
+          record { text = begun ++ given; is = is_whole; written = part_then a b e begun given (record { grown = grown }) part }
+
   module _ {i : ℕ} {w : ViewWriter} {a b : Option (List ℕ)} (has : HasWritten t text s x i w a b) where
     known_there : IsViewContextOf t text w.context
     known_there = subst (IsViewContextOf t text) (sym has.context) can.known
 
     -- all attempts were made: the end that follows is one of the view
-    pub end_there : {end : List ℕ} → length h ≤ i
+    pub end_there : (u v : Buffer) → length h ≤ i
         → ((text : List ℕ) (g : List Call) → let t = w.session.code.tree in IsViewContextOf t text w.context → Stands t w.session g
-        → w.context.history.now ≡ g → r.outcome ≡ outcome_of g → IsEnd w.context.options w.context.file.now t text w.session.setup g r end)
-        → IsEnd x.options x.file.now t text s h r end
-    end_there past end =
+        → w.context.history.now ≡ g → r.outcome ≡ outcome_of g → Gains (IsEnd w.context.options w.context.file.now t text w.session.setup g r) u v)
+        → Gains (IsEnd x.options x.file.now t text s h r) u v
+    end_there u v past end =
         let made = subst (λ g. HasMade t g w) (take_all i h past) has.made in
         rw (made.program, has.context, has.setup) at (end text h (rw (sym made.program) at known_there) (rw (sym made.program) at made.stands) (ap (λ (y : ViewContext). y.history.now) has.context) can.outcome)
+
+    -- one line more was made
+    pub parts_then : (given : List ℕ) → Adds (IsLine t text s x i) w.text.bytes.items given
+        → HasParts (IsLine t text s x) (head t text s x) (suc i) (Some []) (Some (has.begun ++ given))
+    parts_then given line =
+        part_written has.parts line.more_are
+        (record { grown = ap (λ y. has.begun ++ y) line.is ∙ sym (append_assoc has.begun w.text.bytes.items line.more) })
 
     module _ (d : Call) (within : i < length h) where
       abbrev next : List Call
@@ -164,23 +212,35 @@ module _ {c : Flat} {t : Program} {text : List ℕ} {s : SetupOf} {r : Report} {
           subst (λ y. IsPlayable t y next) (sym has.setup) (front t s next (drop (suc i) h) (subst (IsPlayable t s) (sym all) can.playable))
 
       -- the line that is made of it is one of the view
-      pub line_there : (line : List ℕ)
+      pub line_there : {before after : List ℕ}
           → ((t : Program) (text : List ℕ) (g : List Call) → HasMade t g w
           → IsPlayable t w.session.setup (g ++ get_or h i d ∷ []) → IsViewContextOf t text w.context
-          → IsShownLine t text w.session.setup w.context.options w.context.widths w.context.history.now g (get_or h i d) line)
-          → IsLine t text s x i line
-      line_there line made call at =
-          let here : get_or h i d ≡ call = let own = slice_get-get_or h i d within in cc in
-          rw (has.context, has.setup, here) at (made t text (take i h) has.made playable_next known_there)
+          → Adds (IsShownLine t text w.session.setup w.context.options w.context.widths w.context.history.now g (get_or h i d)) before after)
+          → Adds (IsLine t text s x i) before after
+      line_there {before = before} {after = after} made =
+          let there : Adds (IsShownLine t text s x.options x.widths h (take i h) (get_or h i d)) before after =
+          rw (has.context, has.setup) at (made t text (take i h) has.made playable_next known_there) in
+          record {
+            more = there.more;
+            is = there.is;
+            more_are = λ call at. let here : get_or h i d ≡ call = let own = slice_get-get_or h i d within in cc in rw here at there.more_are;
+          }
 
-      pub line_written : {v : ViewWriter} {e : Option (List ℕ)} {line : List ℕ} → IsLine t text s x i line → HasMade t next v
-          → (v.session.setup ≡ w.session.setup) × (v.context ≡ w.context) → AppendsAll b e line → HasWritten t text s x (i + 1) v a e
-      line_written {v = v} {e = e} line made kept all = record {
-        made = subst (λ g. HasMade t g v) (sym (take_more h i d within)) made;
+      pub line_written : {v : ViewWriter} {left : Buffer} {e : Option (List ℕ)} → Adds (IsLine t text s x i) w.text.bytes.items v.text.bytes.items → HasMade t next v
+          → (v.session.setup ≡ w.session.setup) × (v.context ≡ w.context) → IsSent b e v.text.bytes.items left.bytes.items
+          → HasWritten t text s x (i + 1) (record v { text = left }) a e
+      line_written {v = v} {left = left} {e = e} line made kept batch = record {
+        made =
+            let all = subst (λ g. HasMade t g v) (sym (take_more h i d within)) made in
+            record { program = all.program; stands = all.stands; last = all.last; made = all.made };
         setup = kept.0 ∙ has.setup;
         context = kept.1 ∙ has.context;
         few = omega (arith, within);
-        parts = subst (λ k. HasParts (IsLine t text s x) (head t text s x) k a e) (sym (add-one i)) (part_written has.parts line all);
+        begun = has.begun ++ batch.sent;
+        grown = Appends-trans a b e has.begun batch.sent has.grown batch.grown;
+        parts =
+            let same = ap (λ y. has.begun ++ y) batch.is ∙ sym (append_assoc has.begun batch.sent left.bytes.items) in
+            rw (add-one i, ← same) (parts_then _ line);
       }
 
 -- The attempts before those that are asked for have no lines.
@@ -225,6 +285,20 @@ module _ (t : Program) (text : List ℕ) (s : SetupOf) (x : ViewContext) where
     none_before zero few before = has
     none_before (suc m) few before =
         part_written (none_before m (omega (arith, few)) (omega (arith, before))) (no_line m (omega (arith, few)) before) (record { grown = Appends-nil b })
+
+-- so a writer of the head has written the lines of these attempts, but for its text
+pub written_before : {t : Program} {text : List ℕ} {w : ViewWriter} {a : Option (List ℕ)} → let x = w.context in
+    HasMade t (take w.made x.history.now) w → w.made ≤ length x.history.now → w.made ≤ skipped (filter_of x.options) (length x.history.now)
+    → w.text.bytes.items ≡ head t text w.session.setup x → HasWritten t text w.session.setup x w.made w a a
+written_before {t = t} {text = text} {w = w} {a = a} made few before same = record {
+  made = made;
+  setup = refl;
+  context = refl;
+  few = few;
+  begun = [];
+  grown = Appends-nil a;
+  parts = none_before t text w.session.setup w.context (head_written (record { grown = same })) w.made few before;
+}
 
 -- One thread more, and the line of globals if there are some.
 

@@ -33,7 +33,7 @@ pub use Rattle.bp_text.proofs.Givings.{HasParts, IsKind, begun_as, cut_as, end_c
 pub use Rattle.bp_text.proofs.PartsOfTexts.{both_added, item_at, one_added, one_before, one_last, one_of_parts, part_of_each, regrouped, within}
 pub use Rattle.bp_text.specs.Lines.{Adds, IsInParts, position_at}
 pub use Rattle.bp_text.specs.Pieces.{at_left, at_right, list_text, piece_text, spaces}
-pub use Rattle.bp_text.specs.Writing.{AppendsAll, IsWritten}
+pub use Rattle.bp_text.specs.Writing.{AppendsAll, AppendsPart, IsBegun, IsCutShort, IsWritten}
 pub use Rattle.bp_trace.proofs.PlayableFronts.{front, next_allowed, own_is}
 pub use Rattle.bp_trace.specs.Replays.{IsOwnRefusal, IsPlayable}
 pub use Rattle.bp_view.specs.Buffers.{Gains, Grown, HasTaken, IsEmpty, IsLed, IsListed, then}
@@ -42,10 +42,10 @@ pub use Rattle.bp_view.specs.ContextLines.{AreContextFacts, AreContextLines, Are
 pub use Rattle.bp_view.specs.Filters.{AreDeclared, IsUndeclared, StandForEachOnce, asked_calls, before_last, calls_at, calls_in_line, calls_of, calls_of_lines, is_asked, is_between, is_late, is_of, is_of_thread, is_same_wait, is_seen, is_watched, last_number, owner_name, skipped, trimmed, waits_like, watched_names}
 pub use Rattle.bp_view.specs.FooterFacts.{AreAssertionFacts, AreConditionFacts, AreFailureFacts, AreFooterFacts, AreStandingFacts, AreWaitsFacts, IsAtCondition, ShownCondition, ShownFooter, condition_in, footer_in, named_entries, named_entry, resolved, waiting}
 pub use Rattle.bp_view.specs.Lines.{AreWidths, Extent, bit_item, entry_text, extent, extent_of, field_texts, prefix_text, indented, led, longest, mark_text, note_text, shortened, standing_text, tens_digits, tens_text, variables_text, first_members, members_text, number_text}
-pub use Rattle.bp_view.specs.SetupLines.{globals_line, thread_line, thread_lines, view_head}
+pub use Rattle.bp_view.specs.SetupLines.{AreHeaded, globals_line, thread_line, thread_lines, under_headings, view_head}
 pub use Rattle.bp_view.specs.StateFacts.{AreFrameFacts, AreStackFacts, AreStateFacts, AreThreadFacts, AreThreadsFacts, ShownFrame, ShownState, ShownThread, frame_in, last_reply, status, thread_in}
 pub use Rattle.bp_view.specs.States.{IsStateText, frame_text, state_text, thread_text}
-pub use Rattle.bp_view.specs.Views.{AreLines, HasMade, IsEnd, IsFooter, IsMissing, IsShownLine, IsShownTrace, IsStateIf, IsStopped, IsThere, IsView, IsViewContextOf, IsViewLine, IsViewLineIf, IsViewOfTrace, IsViewRefusal, IsViewable, IsViewed, after_footer, filter_of, footer_text, has_line, line_in, next_print_in, printed_in, wait_text}
+pub use Rattle.bp_view.specs.Views.{AreLines, HasMade, IsEnd, IsFooter, IsMissing, IsShownLine, IsSent, IsShownTrace, IsStateIf, IsStopped, IsThere, IsView, IsViewContextOf, IsViewLine, IsViewLineIf, IsViewOfTrace, IsViewRefusal, IsViewable, IsViewed, after_footer, filter_of, footer_text, has_line, line_in, next_print_in, printed_in, wait_text}
 pub use Rattle.bp_view.specs.declared.buffers.Buffer.{Buffer}
 pub use Rattle.bp_view.specs.declared.change_facts.Change.{Change}
 pub use Rattle.bp_view.specs.declared.errors.ViewError.TheVariants.{Memory, NoThread, NoVariable, Replay, Write}

@@ -1,5 +1,5 @@
 -- A history has one view, one state, and one list of its contexts, since the facts that they show are single.
-use Rattle.bp_view.proofs.Common.{◌≡◌, ◌∙◌, ℕ, List, ap, sym, ◌<◌, ◌++◌, Bool, true, false, Some, length, map, slice_get, take, ap₂, subst, refl, suc, None, if◌then◌else◌, [], ◌∷◌, Option, IsTrue, ◌↔◌, arith, rules, IsInParts, item_at, one_of_parts, Program, places_of, starts_of, Call, Report, SetupOf, threads, configuration_after, granted_threads, stack_of, least_opened, place_text, one_list_of_statements, ViewFormat, ViewOptions, IsNextOf, footer_text, IsFooter, after_footer, IsEnd, IsStateIf, has_line, AreLines, IsShownLine, IsView, IsViewLineIf, state_text, IsStateText, Widths, view_head, extent, AreWidths, Extent, context_text, contexts_head, AreContextLines, IsContextLine, changes_within, AreContextFacts, IsContextOf, ShownContext, All, All-head, All-tail, Configuration, Outcome, Clean, Failed, waiting, AreFailureFacts, AreFooterFacts, AreStandingFacts, ShownCondition, ShownFooter}
+use Rattle.bp_view.proofs.Common.{◌≡◌, ◌∙◌, ℕ, List, ap, sym, ◌<◌, ◌++◌, Bool, true, false, Some, length, map, slice_get, take, ap₂, subst, refl, suc, None, if◌then◌else◌, [], ◌∷◌, Option, IsTrue, ◌↔◌, arith, rules, IsInParts, item_at, one_of_parts, Program, places_of, starts_of, Call, Report, SetupOf, threads, configuration_after, granted_threads, stack_of, least_opened, place_text, one_list_of_statements, ViewFormat, ViewOptions, IsNextOf, footer_text, IsFooter, after_footer, IsEnd, IsStateIf, has_line, AreLines, IsShownLine, IsView, IsViewLineIf, state_text, IsStateText, Widths, view_head, extent, AreHeaded, AreWidths, under_headings, Extent, context_text, contexts_head, AreContextLines, IsContextLine, changes_within, AreContextFacts, IsContextOf, ShownContext, All, All-head, All-tail, Configuration, Outcome, Clean, Failed, waiting, AreFailureFacts, AreFooterFacts, AreStandingFacts, ShownCondition, ShownFooter}
 use Rattle.bp_view.proofs.SingleFacts as states
 use Rattle.bp_view.proofs.SingleFacts.{one_call, one_next}
 use Rattle.bp_view.proofs.FailedConditions.{one_assertion, one_condition, one_decision, one_frame, one_place, same_condition}
@@ -101,6 +101,9 @@ one_state format t text s h count v w x y = x.is ∙ ap (state_text format) (sta
 pub one_widths : (s : SetupOf) (e : Extent) (a b : Widths) → AreWidths s e a → AreWidths s e b → a ≡ b
 one_widths s e a b given1 given2 = grind (arith)
 
+pub one_headed : (s : SetupOf) (e : Extent) (a b : Widths) → AreHeaded s e a → AreHeaded s e b → a ≡ b
+one_headed s e a b x y = x.is ∙ ap under_headings (one_widths s e x.plain y.plain x.are y.are) ∙ sym y.is
+
 module _ (t : Program) (text : List ℕ) (s : SetupOf) (o : ViewOptions) (w : Widths) (whole : List Call) where
   line_if : (b : Bool) (h : List Call) (x : Call) (p q : List ℕ) → IsViewLineIf t text s o w whole b h x p → IsViewLineIf t text s o w whole b h x q → p ≡ q
   line_if b h x p q given1 given2 = search (rules, one_call)
@@ -130,8 +133,8 @@ one_view t text s h r o file v w x y =
     let statements = one_list_of_statements text (places_of t.procedures) x.statements y.statements x.statements_are y.statements_are in
     let places = map (place_text text) (starts_of t) in
     let extent_of_y = λ (texts : List (List ℕ)). extent (length h) places texts (length t.procedures) o.columns in
-    let widths_are = subst (λ texts. AreWidths s (extent_of_y texts) x.widths) statements x.widths_are in
-    let widths = one_widths s (extent_of_y y.statements) x.widths y.widths widths_are y.widths_are in
+    let widths_are = subst (λ texts. AreHeaded s (extent_of_y texts) x.widths) statements x.widths_are in
+    let widths = one_headed s (extent_of_y y.statements) x.widths y.widths widths_are y.widths_are in
     let lines_are = subst (λ z. AreLines t text s o z h (length h) x.lines) widths x.lines_are in
     let lines = one_lines t text s o y.widths h (length h) refl x.lines y.lines lines_are y.lines_are in
     let end = one_end t text s h r o file x.end y.end x.end_is y.end_is in

@@ -1,5 +1,5 @@
 -- A recorded attempt of a history that may be played is refused only for memory.
-use Rattle.bp_view.proofs.Common.{if◌then◌else◌, ◌≡◌, ◌∙◌, ◌<◌, ℕ, ◌+◌, ◌^◌, List, [], ◌∷◌, ◌++◌, Bool, true, Option, None, Some, is_some, length, arith, sym, refl, take, drop, get_or, subst, take-append-drop, ◌≢◌, ap, length-append, rules, false≢true, take_more, take_all, take-append-le, Program, StandsFor, Call, IsPrintRefusal, IsAskRefusal, given_bit, last_thread, Stands, SetupOf, IsInRange, IsLegal, granted_threads, calls_of_thread, calls_other, calls_of_thread-same, IsOwnRefusal, IsPlayable, next_allowed, front, IsCheckpoint, IsKept, last_reply}
+use Rattle.bp_view.proofs.Common.{if◌then◌else◌, ◌≡◌, ◌∙◌, ◌<◌, ℕ, ◌+◌, ◌^◌, List, [], ◌∷◌, ◌++◌, Bool, true, Option, None, Some, is_some, length, arith, sym, refl, take, drop, get_or, subst, take-append-drop, ◌≢◌, ap, length-append, rules, false≢true, take_more, take_all, take-append-le, Program, Call, IsPrintRefusal, IsAskRefusal, given_bit, last_thread, Stands, SetupOf, IsInRange, IsLegal, granted_threads, calls_of_thread, calls_other, calls_of_thread-same, IsOwnRefusal, IsPlayable, next_allowed, front, IsCheckpoint, IsKept, last_reply}
 use Rattle.std.proofs.Math.Nat.{mul-le-mul_left, mul-le-mul_right}
 use Rattle.bp_machine.specs.declared.calls.AskError.{AskError}
 use Rattle.bp_machine.specs.declared.calls.AskError.TheVariants as error

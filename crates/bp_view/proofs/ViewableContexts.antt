@@ -1,6 +1,6 @@
 -- The context of a replayed trace is one in which a view can be made, and its view is one of the
 -- trace.
-use Rattle.bp_view.proofs.Common.{◌≡◌, ℕ, List, Option, refl, subst, sym, suc, None, length, arith, rules, IsWritten, Adds, IsInParts, begun_as, cut_as, written_as, Program, Flat, StandsFor, Call, SetupOf, threads, SourceStatement, AreSourceStatements, texts_are, shown_texts, ViewOptions, watched_names, AreDeclared, IsUndeclared, Memory, NoThread, NoVariable, Replay, Write, Span, AreSpans, contexts_head, AreContextLines, IsContextLine, ViewContext, IsViewContextOf, IsShownTrace, IsMissing, IsStopped, IsThere, IsView, IsViewOfTrace, IsViewRefusal, IsViewable, IsViewed, extent_of, AreWidths}
+use Rattle.bp_view.proofs.Common.{◌≡◌, ℕ, List, Option, refl, subst, sym, suc, None, length, arith, rules, IsWritten, Adds, IsInParts, begun_as, cut_as, written_as, Program, Flat, StandsFor, Call, SetupOf, threads, SourceStatement, AreSourceStatements, texts_are, shown_texts, ViewOptions, watched_names, AreDeclared, IsUndeclared, Memory, NoThread, NoVariable, Replay, Write, Span, AreSpans, contexts_head, AreContextLines, IsContextLine, ViewContext, IsViewContextOf, IsShownTrace, IsMissing, IsStopped, IsThere, IsView, IsViewOfTrace, IsViewRefusal, IsViewable, IsViewed, extent_of, AreWidths, under_headings, IsPlayable, outcome_of}
 use Rattle.bp_flat.specs.StandsFor.{IsOfProgram}
 use Rattle.bp_machine.proofs.SetupInRange.{stands_for_own}
 use Rattle.bp_trace.specs.declared.replays.Replayed.{Replayed}
@@ -16,10 +16,22 @@ module _ {t : Program} {text trace : List ℕ} {shown : ShownTrace} (is : IsShow
   abbrev r : Replayed
   r = shown.replayed
 
+  played : {h : List Call} → h ≡ r.history.items → IsPlayable t r.setup h × (r.report.outcome ≡ outcome_of h)
+  played given1 = grind (arith)
+
   pub viewable : {c : Flat} {x : ViewContext} {statements : List SourceStatement} → StandsFor c t → statements ≡ shown.statements.items
       → (AreSourceStatements text t statements → IsViewContextOf t text x)
-      → AreWidths r.setup (extent_of x) x.widths → x.history.now ≡ r.history.items → IsViewable c t text r.setup r.report x
-  viewable given1 given2 given3 given4 given5 = grind (arith)
+      → AreWidths r.setup (extent_of x) x.widths → x.history.now ≡ r.history.items
+      → IsViewable c t text r.setup r.report (record x { widths = under_headings x.widths })
+  viewable {x = x} code same known widths history =
+      let context = known (subst (AreSourceStatements text t) (sym same) is.statements) in
+      record {
+        code = code;
+        known = record { program = context.program; filter = context.filter; names = context.names };
+        widths = record { plain = x.widths; are = widths; is = refl };
+        playable = (played history).0;
+        outcome = (played history).1;
+      }
 
   module _ (o : ViewOptions) (file : List ℕ) (a : Option (List ℕ)) where
     pub missing : (f : ViewError) → IsMissing o.thread (threads r.setup) f → IsViewRefusal t text trace o file a a f

@@ -1,5 +1,5 @@
 -- The head of a view: the setup of its history.
-use Rattle.std.specs.Prelude.{ℕ, List, [], ◌∷◌, codes, max, if◌then◌else◌, suc, ◌++◌, Option, None, Some, decimal, flat_map}
+use Rattle.std.specs.Prelude.{◌≡◌, ℕ, List, [], ◌∷◌, codes, max, if◌then◌else◌, suc, ◌++◌, Option, None, Some, decimal, flat_map}
 use Rattle.std.specs.List.{concat}
 use Rattle.bp_text.specs.Pieces.{at_left, at_right, key_text, list_text, number_or_null}
 use Rattle.bp_language.specs.Ast.{Name}
@@ -10,7 +10,7 @@ use Rattle.bp_tasks.specs.declared.options.ViewFormat.{ViewFormat}
 use Rattle.bp_tasks.specs.declared.options.ViewFormat.TheVariants.{Columns, Json}
 use Rattle.bp_tasks.specs.declared.options.ViewOptions.{ViewOptions}
 use Rattle.bp_view.specs.declared.view_contexts.Widths.{Widths}
-use Rattle.bp_view.specs.Lines.{variables_text}
+use Rattle.bp_view.specs.Lines.{variables_text, AreWidths, Extent}
 
 -- The headings over the columns of a view.
 
@@ -24,6 +24,12 @@ under_headings w =
       place = max 5 w.place;
     }
 
+-- the widths of the columns of a view with headings
+pub record AreHeaded (s : SetupOf) (e : Extent) (w : Widths) : Type 0 where
+  pub plain : Widths
+  pub are : AreWidths s e plain
+  pub is : w ≡ under_headings plain
+
 -- the headings of columns of these widths
 abbrev pub headings_line : Widths → List ℕ
 headings_line w =
@@ -36,7 +42,7 @@ headings_line w =
 
 -- the headings in this format; objects have none
 abbrev pub headings_in : ViewFormat → Widths → List ℕ
-headings_in Columns w = headings_line (under_headings w)
+headings_in Columns w = headings_line w
 headings_in Json w = []
 
 -- the number of a thread, and the procedure in which it begins

@@ -3,6 +3,7 @@ use Rattle.std.specs.Prelude.{◌≡◌, ℕ, Bool, true, false, List, [], ◌�
 use Rattle.std.specs.List.{concat}
 use Rattle.bp_text.specs.Pieces.{key_text, list_text}
 use Rattle.bp_text.specs.Lines.{IsInParts}
+use Rattle.std.specs.Io.KnownBytes.{Appends}
 use Rattle.bp_text.specs.Writing.{IsBegun, IsCutShort, IsWritten}
 use Rattle.bp_language.specs.Ast.{Program}
 use Rattle.bp_flat.specs.Moves.{Configuration}
@@ -32,8 +33,8 @@ use Rattle.bp_view.specs.declared.view_contexts.ShownTrace.{ShownTrace}
 use Rattle.bp_view.specs.declared.view_contexts.ViewContext.{ViewContext}
 use Rattle.bp_view.specs.declared.view_contexts.Widths.{Widths}
 use Rattle.bp_view.specs.declared.writers.ViewWriter.{ViewWriter}
-use Rattle.bp_view.specs.SetupLines.{under_headings, view_head}
-use Rattle.bp_view.specs.Lines.{call_object, column_line, extent, extent_of, AreWidths}
+use Rattle.bp_view.specs.SetupLines.{view_head, AreHeaded}
+use Rattle.bp_view.specs.Lines.{call_object, column_line, extent, extent_of}
 use Rattle.bp_view.specs.ContextLines.{AreContextLines}
 
 -- The text of the footer of a view, from its facts: the report of the history.
@@ -174,7 +175,7 @@ IsThere (Some i) n = i < n
 abbrev pub line_in
     : ViewFormat → (has_colour : Bool) → Widths → ShownCall → (calls : ℕ)
     → (printed : Option (List Bool)) → List ℕ
-line_in Columns has_colour w f calls printed = column_line has_colour (under_headings w) f calls
+line_in Columns has_colour w f calls printed = column_line has_colour w f calls
 line_in Json has_colour w f calls printed = call_object f printed
 
 -- Of a program and its text, in a setup; the columns have these widths, and this is the whole
@@ -226,7 +227,7 @@ pub record IsView
   pub widths_are :
       let places = map (place_text text) (starts_of t) in
       let e = extent (length h) places statements (length t.procedures) o.columns in
-      AreWidths s e widths
+      AreHeaded s e widths
   pub lines : List ℕ
   pub end : List ℕ
   pub is : view ≡ view_head o t.globals s widths ++ lines ++ end
@@ -306,6 +307,12 @@ pub record HasMade (t : Program) (h : List Call) (w : ViewWriter) : Type 0 where
   pub last : w.last ≡ last_thread (granted_threads h)
   pub made : w.made ≡ length h
 
+-- A device: the first part of a text was appended, and this rest is left.
+pub record IsSent (old new : Option (List ℕ)) (text rest : List ℕ) : Type 0 where
+  pub sent : List ℕ
+  pub grown : Appends old new sent
+  pub is : text ≡ sent ++ rest
+
 -- A device: a view can be made in this context, with this report: a code stands for the program,
 -- and the history may be played.
 pub record IsViewable
@@ -313,7 +320,7 @@ pub record IsViewable
     : Type 0 where
   pub code : StandsFor c t
   pub known : IsViewContextOf t text x
-  pub widths : AreWidths s (extent_of x) x.widths
+  pub widths : AreHeaded s (extent_of x) x.widths
   pub playable : IsPlayable t s x.history.now
   pub outcome : r.outcome ≡ outcome_of x.history.now
 

@@ -198,6 +198,6 @@ pub(crate) fn push_headings(head: &mut Buffer, format: ViewFormat, widths: Width
     ensures { Grown head.old head.new (headings_in format widths) }
 {
     if let ViewFormat::Columns = format {
-        push_line(head, widths.under_headings());
+        push_line(head, widths);
     }
 }

@@ -6,6 +6,7 @@ ghost use Rattle.bp_source.specs.SourceStatements.{AreSourceStatements};
 ghost use Rattle.bp_view.specs.Filters.{watched_names, skipped};
 ghost use Rattle.bp_view.specs.CallFacts.{IsCheckpoint, IsCheckpointAfter};
 ghost use Rattle.bp_view.specs.Views.{IsViewContextOf, IsShownTrace};
+ghost use Rattle.bp_view.specs.SetupLines.{under_headings};
 ghost use Rattle.bp_view.specs.Lines.{shortened, extent_of, longest, AreWidths};
 
 use crate::checkpoints::{Checkpoint, replay_to_checkpoint};
@@ -119,6 +120,18 @@ pub(crate) fn view_context_of<'a>(
         file,
         filter: filter_of(&options),
         names,
+    }
+}
+
+impl<'a> ViewContext<'a> {
+    /// Returns the context, but each column is at least as wide as its heading.
+    pub(crate) fn under_headings(self) -> ViewContext<'a>
+        ensures { result ≡ record self.entry { widths = under_headings self.entry.widths } }
+    {
+        ViewContext {
+            widths: self.widths.under_headings(),
+            ..self
+        }
     }
 }
 

@@ -1,6 +1,7 @@
 //! The view of a trace, and its end.
-ghost use Rattle.std.specs.Prelude.{◌≡◌, ◌≤◌, [], ℕ, List, length, map, take, MatchResult, IfOk};
-ghost use Rattle.bp_text.specs.Writing.{IsWritten};
+ghost use Rattle.std.specs.Prelude.{◌≡◌, ◌≤◌, [], ℕ, List, length, map, take, MatchResult};
+ghost use Rattle.bp_text.specs.Writing.{AppendsPart, IsWritten};
+ghost use Rattle.bp_view.specs.declared.errors.ViewError.{ViewError};
 ghost use Rattle.bp_language.specs.Ast.{Program};
 ghost use Rattle.bp_machine.specs.Setups.{threads};
 ghost use Rattle.bp_machine.specs.declared.calls.Call.{Call as Answered};
@@ -9,7 +10,7 @@ ghost use Rattle.bp_machine.specs.Sessions.{Stands};
 ghost use Rattle.bp_view.specs.Buffers.{Gains, Grown};
 ghost use Rattle.bp_view.specs.CallFacts.{IsCheckpoint};
 ghost use Rattle.bp_view.specs.Filters.{skipped, watched_names};
-ghost use Rattle.bp_view.specs.Views.{after_footer, filter_of, IsShownTrace, HasMade, IsMissing, IsStopped, IsThere, IsView, IsViewRefusal, IsViewable, IsViewed, IsEnd, IsStateIf, IsViewContextOf};
+ghost use Rattle.bp_view.specs.Views.{after_footer, filter_of, IsShownTrace, HasMade, IsMissing, IsSent, IsStopped, IsThere, IsView, IsViewRefusal, IsViewable, IsViewed, IsEnd, IsStateIf, IsViewContextOf};
 ghost use Rattle.bp_view.specs.SetupLines.{view_head};
 
 use crate::buffers::Buffer;
@@ -30,7 +31,7 @@ use bp_tasks::{ViewFormat, ViewOptions};
 use bp_text::Piece::Bytes;
 use bp_text::put;
 use bp_trace::ReplayError;
-use std::alloc::{AllocError, Global};
+use std::alloc::Global;
 use std::io::Write;
 
 /// Refuses a missing thread, if only the attempts of one thread are to be shown.
@@ -45,12 +46,31 @@ fn check_thread(options: ViewOptions<'_>, setup: &Setup) -> Result<(), ViewError
     }
 }
 
-/// Writes the head of a view, the line of each attempt that the writer has not made, and the end.
-/// The attempts that it made have no lines. Each line is written before the next attempt is made.
+/// The bytes of a view that are gathered before they are written.
+const BATCH: usize = 1 << 14;
+
+/// Writes a text and empties it, once it has the bytes of a batch.
+fn put_batch<W: Write>(text: &mut Buffer, out: &mut W) -> Result<(), ViewError>
+    ensures { let old = W.contents out.old in
+        let new = W.contents out.new in
+        let given = text.old.bytes.items in
+        MatchResult result
+        (λ _. IsSent old new given text.new.bytes.items)
+        (λ e. (e ≡ ViewError.Write) × AppendsPart old new given) }
+{
+    if text.len() < BATCH {
+        return Ok(());
+    }
+    put(out, &text.bytes)?;
+    text.clear();
+    Ok(())
+}
+
+/// Writes the text of a writer, which is the head of a view, the line of each attempt that the
+/// writer has not made, and the end. The attempts that it made have no lines.
 fn write_parts<W: Write>(
     alloc: Global,
     writer: &mut ViewWriter<'_>,
-    head: &[u8],
     report: Report,
     out: &mut W,
 ) -> Result<(), ViewError>
@@ -62,23 +82,30 @@ fn write_parts<W: Write>(
         HasMade t (take writer.old.made whole) writer.old
         → writer.old.made ≤ length whole
         → writer.old.made ≤ skipped (filter_of x.options) (length whole)
-        → head.now ≡ view_head x.options x.program.globals.now s x.widths
+        → let head = view_head x.options x.program.globals.now s x.widths in
+        writer.old.text.bytes.items ≡ head
         → let is_view = IsView t text s x.history.now report x.options x.file.now in
         MatchResult result
         (λ _. IsWritten is_view (W.contents out.old) (W.contents out.new))
         (IsStopped is_view (W.contents out.old) (W.contents out.new)) }
 {
     let history = writer.context.history;
-    put(out, head)?;
     for n in writer.made as usize..history.len() {
         // An attempt of a history that may be played is refused only for memory.
         let Ok(()) = writer.make_line(&history[n]) else {
             return Err(ViewError::Memory);
         };
-        put(out, &writer.line.bytes)?;
+        put_batch(&mut writer.text, out)?;
     }
-    let end = end_of(alloc, &writer.context, &writer.session, report)?;
-    put(out, &end)?;
+    let ViewWriter {
+        text,
+        context,
+        session,
+        ..
+    } = writer;
+    push_end(alloc, text, context, session, report);
+    text.finish()?;
+    put(out, &text.bytes)?;
     Ok(())
 }
 
@@ -125,6 +152,7 @@ fn write_view<W: Write>(
         file,
         names,
     );
+    let context = context.under_headings();
     let head = head_of(alloc, &context, setup)?;
     let Checkpoint {
         session,
@@ -134,14 +162,17 @@ fn write_view<W: Write>(
     let mut writer = ViewWriter {
         context,
         session,
-        line: Buffer::new(alloc),
+        text: Buffer {
+            bytes: head,
+            refused: false,
+        },
         prefix: Prefix::new(alloc),
         members: FirstMembers::new(alloc),
         changes: Vec::new(alloc),
         last,
         made,
     };
-    write_parts(alloc, &mut writer, &head, shown.replayed.report, out)
+    write_parts(alloc, &mut writer, shown.replayed.report, out)
 }
 
 /// Writes a view of the history of a trace of a program, and returns its report. The view has the
@@ -216,14 +247,15 @@ fn push_state(alloc: Global, view: &mut Buffer, context: &ViewContext<'_>, sessi
     push_state_of(alloc, view, context, session, history, history.len() as u64)
 }
 
-/// Returns the footer of the view of a history with this report, and the state after it if that is
+/// Adds the footer of the view of a history with this report, and the state after it if that is
 /// asked for. The session stands after the history.
-pub(crate) fn end_of(
+fn push_end(
     alloc: Global,
+    view: &mut Buffer,
     context: &ViewContext<'_>,
     session: &Session,
     report: Report,
-) -> Result<Vec<u8>, AllocError>
+)
     ensures { let t = session.now.code.tree in (text : List ℕ) (h : List Answered)
         → IsViewContextOf t text context.now
         → Stands t session.now h
@@ -231,10 +263,8 @@ pub(crate) fn end_of(
         → report.outcome ≡ outcome_of h
         → let s = session.now.setup in
         let file = context.now.file.now in
-        IfOk result (λ v. IsEnd context.now.options file t text s h report v.items) }
+        Gains (IsEnd context.now.options file t text s h report) view.old view.new }
 {
-    let mut end = Buffer::new(alloc);
-    push_footer_of(alloc, &mut end, context, session, report);
-    push_state(alloc, &mut end, context, session);
-    end.into_bytes()
+    push_footer_of(alloc, view, context, session, report);
+    push_state(alloc, view, context, session)
 }

@@ -7,6 +7,7 @@ ghost use Rattle.bp_machine.specs.Histories.{stack_of, configuration_after};
 ghost use Rattle.bp_machine.specs.Runs.{values_printed};
 ghost use Rattle.bp_machine.specs.Sessions.{IsPrintRefusal, AfterEach};
 ghost use Rattle.bp_machine.specs.Setups.{SetupOf};
+ghost use Rattle.bp_text.specs.Lines.{Adds};
 ghost use Rattle.bp_trace.specs.Replays.{IsPlayable};
 ghost use Rattle.bp_view.specs.Buffers.{Gains, Grown};
 ghost use Rattle.bp_view.specs.CallFacts.{facts_in, IsReplayedCall};
@@ -50,8 +51,8 @@ pub(crate) struct ViewWriter<'a> {
     pub(crate) context: ViewContext<'a>,
     /// It stands after the attempts that were made.
     pub(crate) session: Session,
-    /// The line of the last of them, or nothing if it is not shown.
-    pub(crate) line: Buffer,
+    /// The text that was made and is not yet written.
+    pub(crate) text: Buffer,
     /// The fields that lines have in common with the lines before.
     pub(crate) prefix: Prefix,
     /// The first members of the last object.
@@ -67,7 +68,7 @@ pub(crate) struct ViewWriter<'a> {
 impl ViewWriter<'_> {
     ghost use Rattle.bp_view.specs.Views.{HasMade, IsShownLine};
 
-    /// Makes the next attempt of the history, which is the recorded one, and its line. No attempt
+    /// Makes the next attempt of the history, which is the recorded one, and adds its line. No attempt
     /// of a history that may be played is refused, unless for memory.
     pub(crate) fn make_line(&mut self, recorded: &Call) -> Result<(), AskError>
         ensures made { (t : Program) (h : List Answered)
@@ -83,8 +84,8 @@ impl ViewWriter<'_> {
             → let s = self.old.session.setup in
             let x = self.old.context in
             let whole = x.history.now in
-            let line = self.new.line.bytes.items in
-            OnOk result (IsShownLine t text s x.options x.widths whole h recorded.now line) }
+            let line = IsShownLine t text s x.options x.widths whole h recorded.now in
+            OnOk result (Adds line self.old.text.bytes.items self.new.text.bytes.items) }
         ensures kept { (self.new.session.setup ≡ self.old.session.setup)
             × (self.new.context ≡ self.old.context) }
     {
@@ -94,9 +95,8 @@ impl ViewWriter<'_> {
         let next = next_print(&self.session, format, recorded.thread)?;
         let replayed = replayed_call(&mut self.session, self.last, number, recorded)?;
         let printed = printed_by(next.as_deref(), replayed.call.reply);
-        self.line.clear();
         push_shown(
-            &mut self.line,
+            &mut self.text,
             &mut self.prefix,
             &mut self.members,
             &mut self.changes,
@@ -104,7 +104,7 @@ impl ViewWriter<'_> {
             &replayed,
             printed,
         );
-        self.line.finish()?;
+        self.text.finish()?;
         self.last = last_step(self.last, &replayed.call);
         self.made = number;
         Ok(())
@@ -132,8 +132,8 @@ fn push_line_in(
     let options = context.options;
     match options.format {
         ViewFormat::Columns => {
-            let widths = context.widths.under_headings();
-            push_line(view, prefix, &widths, options.has_colour, facts, calls)
+            let widths = &context.widths;
+            push_line(view, prefix, widths, options.has_colour, facts, calls)
         }
         ViewFormat::Json => push_object(view, members, facts, printed),
     }
@@ -160,7 +160,7 @@ pub(crate) fn push_shown<'a>(
         Gains line view.old view.new }
 {
     let (call, number) = (&replayed.call, replayed.number);
-    let (filter, count) = (context.filter, context.history.len() as u64);
+    let (filter, count) = (&context.filter, context.history.len() as u64);
     if !filter.asks_for(call.thread, number, count) {
         return;
     }

@@ -10,5 +10,5 @@ invariant-loop-n g l =
     let whole = x.history.now in
     (t : Program) (text : List ℕ) → IsViewable w.session.code t text s l.report x
     → HasMade t (take w.made whole) w → w.made ≤ length whole → w.made ≤ skipped (filter_of x.options) (length whole)
-    → l.head ≡ view_head x.options x.program.globals.now s x.widths
+    → w.text.bytes.items ≡ view_head x.options x.program.globals.now s x.widths
     → HasWritten t text s x l.n l.writer (g.W.Write.contents l.fn.out) (g.W.Write.contents l.out)

@@ -1,4 +1,4 @@
-use Rattle.bp_view.proofs.Common.{◌≡◌, ◌∙◌, ◌++◌, ◌∷◌, [], List, map, nat_lt, true, false, ap, ap₂, sym, arith, rules, nat_tests, configuration_after, Change, changes_by, facts_in, entry_of, is_seen, watched_names}
+use Rattle.bp_view.proofs.Common.{◌≡◌, ◌∙◌, ◌++◌, ◌∷◌, [], List, map, nat_lt, true, ap, ap₂, sym, arith, rules, nat_tests, configuration_after, Change, changes_by, facts_in, entry_of, is_seen, watched_names}
 use Rattle.bp_view.proofs.ShownLines.{asked_of, calls_are, hidden, line_if, no_calls, shown}
 use Rattle.bp_view.proofs.writers.push_shown.Goals as goal
 

@@ -1,4 +1,4 @@
-use Rattle.bp_view.proofs.Common.{◌≡◌, ◌∙◌, ◌++◌, ◌∷◌, [], sym, subst, arith, length, ap, rules, Flat}
+use Rattle.bp_view.proofs.Common.{◌≡◌, ◌∙◌, ◌++◌, ◌∷◌, [], arith, length, ap, rules, Flat}
 use Rattle.bp_view.proofs.RecordedCalls.{one_more, still_kept, whole, next_number}
 use Rattle.bp_view.proofs.checkpoints.CheckpointWatcherWatcher.make.Goals as goal
 

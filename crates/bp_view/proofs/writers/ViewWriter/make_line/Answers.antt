@@ -1,6 +1,5 @@
-use Rattle.bp_view.proofs.Common.{if◌then◌else◌, None, ap, ◌≡◌, ◌∙◌, ◌++◌, ◌∷◌, [], suc, length, arith, length-append, subst, sym, option_map, rules, err_from_is_err_and, Flat, last_thread, Stands, configuration_after, granted_threads, is_granted, own_is, next_print_in, IsShownLine}
+use Rattle.bp_view.proofs.Common.{if◌then◌else◌, None, ap, ◌≡◌, ◌∙◌, ◌++◌, ◌∷◌, [], suc, length, arith, length-append, subst, sym, option_map, rules, err_from_is_err_and, Flat, last_thread, Stands, configuration_after, granted_threads, is_granted, own_is, next_print_in, IsShownLine, Adds}
 use Rattle.bp_view.proofs.RecordedCalls.{next_number, own_refused, print_refused}
-use Rattle.bp_view.proofs.Growth.{gained}
 use Rattle.bp_view.proofs.ShownLines.{printed_of}
 use Rattle.bp_view.proofs.writers.ViewWriter.make_line.Goals as goal
 
@@ -38,8 +37,10 @@ returns-clause-line c = λ t text h has playable known.
     let own_next = next ∙ ap (next_print_in context.options.format now) (sym thread) in
     let is = c.printed_by-printed.ensures ∙ ap (λ o. if is_granted y.reply then o else None) c.as_deref.ensures.value in
     let printed = printed_of context.options.format now y _ values own_next is in
-    let shown = gained c.push_shown.new.view c.clear.ensures (c.push_shown.ensures t text s h y known replayed printed) c.in_ok-finish.ensures in
-    subst (λ z. IsShownLine t text s context.options context.widths context.history.now h z c.push_shown.new.view.bytes.items) own shown
+    let old = c.args.self.now.text.bytes.items in
+    let new = c.push_shown.new.view.bytes.items in
+    let shown = (c.push_shown.ensures t text s h y known replayed printed c.in_ok-finish.ensures).1 in
+    subst (λ z. Adds (IsShownLine t text s context.options context.widths context.history.now h z) old new) own shown
 
 pub returns-in_err-next-clause-made : goal.returns-in_err-next-clause-made
 returns-in_err-next-clause-made c = search (rules, err_from_is_err_and, print_refused)
