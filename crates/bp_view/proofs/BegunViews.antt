@@ -1,5 +1,5 @@
 -- The text written of a view, attempt by attempt, is the beginning of a whole one.
-use Rattle.bp_view.proofs.Common.{◌≡◌, ◌∙◌, ◌<◌, ◌≤◌, ◌++◌, ◌-◌, ℕ, zero, suc, Bool, true, false, cond, List, [], ◌∷◌, codes, take, length, length-append, length-take, get_or, map, max, min, ap, refl, arith, slice_get, Some, ◌+◌, Option, drop, add-one, sym, subst, drop-cons, take-append-drop, ◌&&◌, ◌⊎◌, inl, inr, None, nat_le, unwrap_or, append-nil, add-zero, Bor, nat_lt, option_map, rules, nat_tests, take_all, take_more, length-take-le, slice_get-get_or, Adds, AppendsAll, AppendsPart, IsBegun, IsCutShort, IsWritten, append_assoc, part_of_each, both_added, HasParts, IsKind, end_written, head_written, part_written, parts_begun, Buffer, Gains, IsSent, Procedure, Program, Name, Place, StandsFor, places_of, Flat, binding, Call, Report, configuration_after, IsLegal, outcome_of, SetupOf, Stands, IsPlayable, front, SourceStatement, place_text, AreSourceStatementsAt, AreSourceStatements, shown_texts, texts_are, ViewFormat, ViewOptions, Columns, printed_by, calls_of, before_last, is_asked, is_between, is_late, is_of_thread, skipped, CallFilter, shortened, longest, variables_text, Widths, filter_of, footer_text, IsFooter, has_line, line_in, IsShownLine, IsViewLine, IsViewLineIf, after_footer, IsEnd, IsStateIf, IsViewContextOf, HasMade, IsView, IsViewable, state_text, IsStateText, ViewContext, view_head, globals_line, thread_line, thread_lines}
+use Rattle.bp_view.proofs.Common.{◌≡◌, ◌∙◌, ◌<◌, ◌≤◌, ◌++◌, ◌-◌, ℕ, zero, suc, Bool, true, false, cond, List, [], ◌∷◌, codes, take, length, length-append, length-take, get_or, map, max, min, ap, refl, arith, slice_get, Some, ◌+◌, Option, drop, add-one, sym, subst, drop-cons, take-append-drop, ◌&&◌, ◌⊎◌, inl, inr, None, nat_le, unwrap_or, append-nil, add-zero, Bor, nat_lt, option_map, rules, nat_tests, take_all, take_more, length-take-le, slice_get-get_or, Adds, AppendsAll, AppendsPart, IsBegun, IsCutShort, IsWritten, append_assoc, part_of_each, both_added, HasParts, IsKind, end_written, head_written, part_written, parts_begun, Buffer, Gains, IsSent, Procedure, Program, Name, Place, StandsFor, places_of, Flat, binding, Call, Report, configuration_after, IsLegal, outcome_of, SetupOf, Stands, IsPlayable, front, SourceStatement, place_text, AreSourceStatementsAt, AreSourceStatements, shown_texts, texts_are, ViewFormat, ViewOptions, Columns, printed_by, calls_of, before_last, is_asked, is_between, is_late, is_of_thread, skipped, CallFilter, shortened, longest, variables_text, Widths, filter_of, footer_text, IsFooter, has_line, line_in, IsShownLine, IsViewLine, IsViewLineIf, after_footer, IsEnd, IsStateIf, IsViewContextOf, HasMade, HaveMembers, IsView, IsViewable, state_text, IsStateText, ViewContext, view_head, globals_line, thread_line, thread_lines}
 use Rattle.std.proofs.KnownBytes.{Appends-nil, Appends-trans}
 use Rattle.std.specs.Io.KnownBytes.{Appends}
 use Rattle.bp_text.proofs.Givings.{AppendsPart_within, part_then}
@@ -117,6 +117,7 @@ module _ (t : Program) (text : List ℕ) (s : SetupOf) (x : ViewContext) where
     pub setup : w.session.setup ≡ s
     pub context : w.context ≡ x
     pub few : i ≤ length x.history.now
+    pub members : HaveMembers x.options.format x.program w.statements.items
     pub begun : List ℕ
     pub grown : Appends a b begun
     pub parts : HasParts IsLine head i (Some []) (Some (begun ++ w.text.bytes.items))
@@ -214,12 +215,12 @@ module _ {c : Flat} {t : Program} {text : List ℕ} {s : SetupOf} {r : Report} {
       -- the line that is made of it is one of the view
       pub line_there : {before after : List ℕ}
           → ((t : Program) (text : List ℕ) (g : List Call) → HasMade t g w
-          → IsPlayable t w.session.setup (g ++ get_or h i d ∷ []) → IsViewContextOf t text w.context
+          → IsPlayable t w.session.setup (g ++ get_or h i d ∷ []) → IsViewContextOf t text w.context → HaveMembers w.context.options.format w.context.program w.statements.items
           → Adds (IsShownLine t text w.session.setup w.context.options w.context.widths w.context.history.now g (get_or h i d)) before after)
           → Adds (IsLine t text s x i) before after
       line_there {before = before} {after = after} made =
           let there : Adds (IsShownLine t text s x.options x.widths h (take i h) (get_or h i d)) before after =
-          rw (has.context, has.setup) at (made t text (take i h) has.made playable_next known_there) in
+          rw (has.context, has.setup) at (made t text (take i h) has.made playable_next known_there (rw (sym has.context) at has.members)) in
           record {
             more = there.more;
             is = there.is;
@@ -227,7 +228,7 @@ module _ {c : Flat} {t : Program} {text : List ℕ} {s : SetupOf} {r : Report} {
           }
 
       pub line_written : {v : ViewWriter} {left : Buffer} {e : Option (List ℕ)} → Adds (IsLine t text s x i) w.text.bytes.items v.text.bytes.items → HasMade t next v
-          → (v.session.setup ≡ w.session.setup) × (v.context ≡ w.context) → IsSent b e v.text.bytes.items left.bytes.items
+          → (v.session.setup ≡ w.session.setup) × (v.context ≡ w.context) × (v.statements ≡ w.statements) → IsSent b e v.text.bytes.items left.bytes.items
           → HasWritten t text s x (i + 1) (record v { text = left }) a e
       line_written {v = v} {left = left} {e = e} line made kept batch = record {
         made =
@@ -236,6 +237,7 @@ module _ {c : Flat} {t : Program} {text : List ℕ} {s : SetupOf} {r : Report} {
         setup = kept.0 ∙ has.setup;
         context = kept.1 ∙ has.context;
         few = omega (arith, within);
+        members = rw kept.2 has.members;
         begun = has.begun ++ batch.sent;
         grown = Appends-trans a b e has.begun batch.sent has.grown batch.grown;
         parts =
@@ -289,12 +291,13 @@ module _ (t : Program) (text : List ℕ) (s : SetupOf) (x : ViewContext) where
 -- so a writer of the head has written the lines of these attempts, but for its text
 pub written_before : {t : Program} {text : List ℕ} {w : ViewWriter} {a : Option (List ℕ)} → let x = w.context in
     HasMade t (take w.made x.history.now) w → w.made ≤ length x.history.now → w.made ≤ skipped (filter_of x.options) (length x.history.now)
-    → w.text.bytes.items ≡ head t text w.session.setup x → HasWritten t text w.session.setup x w.made w a a
-written_before {t = t} {text = text} {w = w} {a = a} made few before same = record {
+    → w.text.bytes.items ≡ head t text w.session.setup x → HaveMembers x.options.format x.program w.statements.items → HasWritten t text w.session.setup x w.made w a a
+written_before {t = t} {text = text} {w = w} {a = a} made few before same members = record {
   made = made;
   setup = refl;
   context = refl;
   few = few;
+  members = members;
   begun = [];
   grown = Appends-nil a;
   parts = none_before t text w.session.setup w.context (head_written (record { grown = same })) w.made few before;

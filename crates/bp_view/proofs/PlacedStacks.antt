@@ -1,5 +1,5 @@
 -- Each frame of each stack after a history continues at a place of its program.
-use Rattle.bp_view.proofs.Common.{if◌then◌else◌, ◌≡◌, ℕ, zero, suc, Bool, true, false, List, [], ◌∷◌, Option, Some, map, ◌∙◌, drop, drop-cons, slice_get, ap, slice_index_or, slice_set, unwrap_or, arith, rules, slice_get_within, get_or_from_slice_get, Name, Block, Procedure, Program, Frame, Configuration, first_stack, procedure_named, StatementEffect, Leaves, after_effect, call_effect, effect, Valuation, Flat, Heading, Instruction, heading_named, Does, Place, Remains, StandsFor, places_of, place, SameHeading, heading_of_procedure, Call, Reply, configuration_after_call, configuration_after_step, stack_of, configuration_after, configuration_after_calls, is_granted, SetupOf, start, Top, IsTopOf, SourceStatement, name_at, IsSourceStatement, IsNextOf, Next, AreFrameFacts, ShownFrame}
+use Rattle.bp_view.proofs.Common.{next_at, if◌then◌else◌, ◌≡◌, ℕ, zero, suc, Bool, true, false, List, [], ◌∷◌, Option, Some, map, ◌∙◌, drop, drop-cons, slice_get, ap, slice_index_or, slice_set, unwrap_or, arith, rules, slice_get_within, get_or_from_slice_get, Name, Block, Procedure, Program, Frame, Configuration, first_stack, procedure_named, StatementEffect, Leaves, after_effect, call_effect, effect, Valuation, Flat, Heading, Instruction, heading_named, Does, Place, Remains, StandsFor, places_of, place, SameHeading, heading_of_procedure, Call, Reply, configuration_after_call, configuration_after_step, stack_of, configuration_after, configuration_after_calls, is_granted, SetupOf, start, Top, IsTopOf, SourceStatement, IsSourceStatement, IsNextOf, AreFrameFacts, ShownFrame}
 
 -- the frame continues at an instruction of the program
 pub record IsPlaced (t : Program) (f : Frame) : Type 0 where
@@ -79,18 +79,6 @@ module _ (c : Flat) (t : Program) (is : StandsFor c t) where
 -- the rest of a stack begins with the frame at that place
 pub from_here : (stack : List Frame) (n : ℕ) (f : Frame) → slice_get stack n ≡ Some f → drop n stack ≡ f ∷ drop (suc n) stack
 from_here stack n f has = drop-cons stack n f (slice_get_within stack n f has) ∙ ap (λ y. y ∷ drop (suc n) stack) (get_or_from_slice_get stack n f f has)
-
--- the next statement at this top, from a source statement
-abbrev pub next_at : List Procedure → SourceStatement → Top → Next
-next_at ps statement x =
-    record {
-      place = statement.place.items;
-      position = statement.position;
-      procedure = name_at ps statement.procedure;
-      depth = x.depth;
-      text = Some statement.excerpt.text.items;
-      reads = statement.excerpt.reads_choice;
-    }
 
 -- the facts of a frame of this procedure, with these values
 abbrev pub frame_with : (above : ℕ) → Procedure → Valuation → SourceStatement → ShownFrame

@@ -1,8 +1,9 @@
 -- The line of an attempt, if it has one, or nothing.
-use Rattle.bp_view.proofs.Common.{if◌then◌else◌, ◌≡◌, ◌∙◌, ◌+◌, ◌-◌, ◌<◌, ◌++◌, ℕ, suc, true, List, [], ◌∷◌, codes, nat_lt, take, length, ap, ap₂, refl, sym, arith, ◌≤◌, length-append, ◌/◌, ◌%◌, ◌^◌, ◌==◌, ◌⊎◌, inl, inr, false, decimal, append_assoc, max, Bool, Option, None, ◌&&◌, subst, slice_set, rules, nat_tests, concat, cases_lt, replicate-append-replicate, spaces, at_right, at_left, regrouped, Program, Configuration, Call, is_granted, configuration_after, SetupOf, ViewFormat, ViewOptions, ShownCall, changes_by, AreCallFacts, IsReplayedCall, CallFilter, calls_at, calls_of, is_asked, is_seen, watched_names, shortened, prefix_text, first_members, members_text, number_text, tens_digits, tens_text, field_texts, mark_text, Widths, line_in, next_print_in, printed_in, filter_of, has_line, IsShownLine, IsViewLineIf, Gains, Grown, Buffer, ViewContext}
+use Rattle.bp_view.proofs.Common.{AreReady, Next, front_members, text_members, if◌then◌else◌, ◌≡◌, ◌∙◌, ◌+◌, ◌-◌, ◌<◌, ◌++◌, ℕ, suc, true, List, [], ◌∷◌, codes, nat_lt, take, length, ap, ap₂, refl, sym, arith, ◌≤◌, length-append, ◌/◌, ◌%◌, ◌^◌, ◌==◌, ◌⊎◌, inl, inr, false, decimal, append_assoc, max, Bool, Option, None, ◌&&◌, subst, slice_set, rules, nat_tests, concat, cases_lt, replicate-append-replicate, spaces, at_right, at_left, regrouped, Program, Configuration, Call, is_granted, configuration_after, SetupOf, ViewFormat, ViewOptions, ShownCall, changes_by, AreCallFacts, IsReplayedCall, CallFilter, calls_at, calls_of, is_asked, is_seen, watched_names, shortened, prefix_text, first_members, members_text, number_text, tens_digits, tens_text, field_texts, mark_text, Widths, line_in, next_print_in, printed_in, filter_of, has_line, IsShownLine, IsViewLineIf, Gains, Grown, Buffer, ViewContext}
 use Rattle.bp_text.specs.Pieces.{key_text, number_or_null}
 use Rattle.std.proofs.lemmas.Fmt.{decimal_digit, decimal_step}
 use Rattle.std.proofs.Math.ListN.{length-replicate}
+use Rattle.std.proofs.lemmas.List.Folds.{concat-append}
 use Rattle.bp_view.specs.declared.checkpoints.ReplayedCall.{ReplayedCall}
 use Rattle.bp_view.specs.declared.prefixes.PrefixKey.{PrefixKey}
 use Rattle.bp_view.specs.declared.first_members.MembersKey.{MembersKey}
@@ -72,6 +73,14 @@ members_are f digit fits is =
     ap (λ xs. codes "{\"kind\":\"call\",\"number\":" ++ xs) (ap (λ d. front ++ d ∷ rest) is ∙ number)
 
 -- the fields of an attempt
+-- the members of the next statement, its depth, and the rest
+pub with_ready : (n : Next) (before depth : List ℕ) (rest : List (List ℕ)) {front text : List ℕ} → AreReady n front text
+    → before ++ (front ++ (depth ++ (text ++ concat rest))) ≡ before ++ concat (front_members n ++ depth ∷ (text_members n ++ rest))
+with_ready n before depth rest ready =
+    let all = concat-append (front_members n) (depth ∷ (text_members n ++ rest)) in
+    let after = ap (λ y. concat (front_members n) ++ (depth ++ y)) (concat-append (text_members n) rest) in
+    rw (ready.front_is, ready.text_is) (ap (λ y. before ++ y) (sym (all ∙ after)))
+
 pub fields_are : (w : Widths) (f : ShownCall) (mark digit : ℕ) → f.number < 2 ^ 64
     → mark ∷ [] ≡ mark_text f.switch → digit ≡ 48 + f.number % 10 → prefix_text (key_of w f) mark digit ≡ concat (field_texts w f)
 fields_are w f mark digit given1 given2 given3 = search (rules, decimal, append_assoc, number_split)

@@ -1,5 +1,5 @@
 -- An attempt's effects, as plain facts; and the session after the first attempts of a history.
-use Rattle.std.specs.Prelude.{◌≡◌, ℕ, List, if◌then◌else◌, ◌==◌, nat_lt, [], ◌∷◌, length, take, Bool, ◌++◌, Option, None, Some, map, option_map, ◌&&◌, not, suc, false, MatchOption, codes, ◌≤◌, ◌<◌, ◌⊎◌, min}
+use Rattle.std.specs.Prelude.{◌≡◌, ℕ, List, if◌then◌else◌, ◌==◌, nat_lt, [], ◌∷◌, length, take, Bool, ◌++◌, Option, None, Some, map, option_map, ◌&&◌, not, suc, false, MatchOption, slice_get, codes, ◌≤◌, ◌<◌, ◌⊎◌, min}
 use Rattle.bp_text.specs.declared.lines.Position.{Position}
 use Rattle.bp_text.specs.Lines.{IsOneLine, position_at}
 use Rattle.bp_language.specs.Ast.{Program, Procedure}
@@ -12,6 +12,9 @@ use Rattle.bp_machine.specs.Setups.{SetupOf}
 use Rattle.bp_machine.specs.Runs.{IsTop, values_printed}
 use Rattle.bp_machine.specs.declared.calls.Reply.{Reply}
 use Rattle.bp_machine.specs.declared.calls.Reply.TheVariants.{Blocked, Failed, Stepped}
+use Rattle.bp_machine.specs.declared.tops.Top.{Top}
+use Rattle.bp_source.specs.declared.source_statements.SourceStatement.{SourceStatement}
+use Rattle.bp_source.specs.Listings.{name_at}
 use Rattle.bp_source.specs.SourceStatements.{AreSourceStatements, place_text, IsStatementAt}
 use Rattle.bp_view.specs.declared.program_facts.ProgramFacts.{ProgramFacts}
 use Rattle.bp_view.specs.declared.change_facts.Change.{Change}
@@ -156,6 +159,27 @@ nothing_next =
       text = None;
       reads = false;
     }
+
+-- the next statement at this top of a stack, which has this source statement
+abbrev pub next_at : List Procedure → SourceStatement → Top → Next
+next_at ps statement x =
+    record {
+      place = statement.place.items;
+      position = statement.position;
+      procedure = name_at ps statement.procedure;
+      depth = x.depth;
+      text = Some statement.excerpt.text.items;
+      reads = statement.excerpt.reads_choice;
+    }
+
+abbrev pub next_at_if : List Procedure → Top → Option SourceStatement → Next
+next_at_if ps x None = nothing_next
+next_at_if ps x (Some statement) = next_at ps statement x
+
+-- the next statement of a thread with this top of its stack, by the facts of a program
+abbrev pub next_by : ProgramFacts → Option Top → Next
+next_by p None = nothing_next
+next_by p (Some x) = next_at_if p.procs.now x (slice_get p.statements.now x.number)
 
 -- The shown facts of an attempt: its number from 1, the attempt with its reply, its context,
 -- whether the step before was another thread's, its thread's next statement, and its changes.

@@ -10,7 +10,7 @@ use Rattle.bp_machine.specs.Setups.{SetupOf, threads}
 use Rattle.bp_source.specs.Listings.{column_of, line_of}
 use Rattle.bp_tasks.specs.declared.options.ViewFormat.{ViewFormat}
 use Rattle.bp_tasks.specs.declared.options.ViewFormat.TheVariants.{Columns, Json}
-use Rattle.bp_view.specs.CallFacts.{owned, Entry, choice_of, ShownCall}
+use Rattle.bp_view.specs.CallFacts.{owned, Entry, choice_of, Next, ShownCall}
 use Rattle.bp_view.specs.declared.prefixes.Colour.{Colour}
 use Rattle.bp_view.specs.declared.prefixes.Colour.TheVariants.{Plain, Red, Yellow}
 use Rattle.bp_view.specs.declared.statement_columns.TheConstants.{LEAST_STATEMENT, MAX_STATEMENT, OTHER_COLUMNS}
@@ -290,6 +290,28 @@ members_text k digit =
     ∷ concat (
     key_text (codes "thread") ∷ decimal k.thread
     ∷ key_text (codes "context") ∷ number_or_null k.context ∷ [])
+
+-- A device: the members of a thread's next statement, ready to be added to an object.
+
+-- those before its depth, with the key of that, and those after it
+abbrev pub front_members : Next → List (List ℕ)
+front_members n =
+    key_text (codes "line") ∷ number_or_null (line_of n.position)
+    ∷ key_text (codes "column") ∷ number_or_null (column_of n.position)
+    ∷ key_text (codes "procedure") ∷ string_or_null n.procedure
+    ∷ key_text (codes "depth") ∷ []
+
+abbrev pub text_members : Next → List (List ℕ)
+text_members n = key_text (codes "statement") ∷ string_or_null n.text ∷ []
+
+pub record AreReady (n : Next) (front text : List ℕ) : Type 0 where
+  pub front_is : front ≡ concat (front_members n)
+  pub text_is : text ≡ concat (text_members n)
+
+-- a view in columns has none
+abbrev pub AreReadyIn : ViewFormat → Next → (front text : List ℕ) → Type 0
+AreReadyIn Columns n front text = Unit {0}
+AreReadyIn Json n front text = AreReady n front text
 
 -- The widths of the columns of a view: one width of each for all its lines.
 

@@ -24,7 +24,7 @@ use Rattle.bp_tasks.specs.declared.options.ViewFormat.TheVariants.{Columns, Json
 use Rattle.bp_tasks.specs.declared.options.ViewOptions.{ViewOptions}
 use Rattle.bp_view.specs.FooterFacts.{AreFooterFacts, ShownCondition, ShownFooter}
 use Rattle.bp_view.specs.declared.filters.CallFilter.{CallFilter}
-use Rattle.bp_view.specs.CallFacts.{AreProgramFacts, changes_by, printed_by, AreCallFacts, ShownCall}
+use Rattle.bp_view.specs.CallFacts.{next_at, AreProgramFacts, changes_by, printed_by, AreCallFacts, ShownCall}
 use Rattle.bp_view.specs.Filters.{watched_names, calls_of, is_asked, is_seen, AreDeclared, IsUndeclared}
 use Rattle.bp_view.specs.declared.errors.ViewError.{ViewError}
 use Rattle.bp_view.specs.declared.errors.ViewError.TheVariants.{Memory, NoThread, NoVariable, Replay, Write}
@@ -34,7 +34,11 @@ use Rattle.bp_view.specs.declared.view_contexts.ViewContext.{ViewContext}
 use Rattle.bp_view.specs.declared.view_contexts.Widths.{Widths}
 use Rattle.bp_view.specs.declared.writers.ViewWriter.{ViewWriter}
 use Rattle.bp_view.specs.SetupLines.{view_head, AreHeaded}
-use Rattle.bp_view.specs.Lines.{call_object, column_line, extent, extent_of}
+use Rattle.bp_view.specs.Lines.{call_object, column_line, extent, extent_of, AreReady}
+use Rattle.bp_machine.specs.declared.tops.Top.{Top}
+use Rattle.bp_source.specs.declared.source_statements.SourceStatement.{SourceStatement}
+use Rattle.bp_view.specs.declared.program_facts.ProgramFacts.{ProgramFacts}
+use Rattle.bp_view.specs.declared.statement_members.StatementMembers.{StatementMembers}
 use Rattle.bp_view.specs.ContextLines.{AreContextLines}
 
 -- The text of the footer of a view, from its facts: the report of the history.
@@ -306,6 +310,18 @@ pub record HasMade (t : Program) (h : List Call) (w : ViewWriter) : Type 0 where
   pub stands : Stands t w.session h
   pub last : w.last ≡ last_thread (granted_threads h)
   pub made : w.made ≡ length h
+
+-- A device: these are the members of each statement of a program, if a view has objects.
+pub record AreMembers (p : ProgramFacts) (members : List StatementMembers) : Type 0 where
+  pub each : (x : Top) (s : SourceStatement) (m : StatementMembers)
+      → slice_get p.statements.now x.number ≡ Some s
+      → slice_get members x.number ≡ Some m
+      → AreReady (next_at p.procs.now s x) m.front.items m.text.items
+  pub all : length members ≡ length p.statements.now
+
+abbrev pub HaveMembers : ViewFormat → ProgramFacts → List StatementMembers → Type 0
+HaveMembers Columns p members = Unit {0}
+HaveMembers Json p members = AreMembers p members
 
 -- A device: the first part of a text was appended, and this rest is left.
 pub record IsSent (old new : Option (List ℕ)) (text rest : List ℕ) : Type 0 where

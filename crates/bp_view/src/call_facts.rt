@@ -6,7 +6,7 @@ ghost use Rattle.bp_machine.specs.declared.calls.Call.{Call as Answered};
 ghost use Rattle.bp_machine.specs.Histories.{stack_of};
 ghost use Rattle.bp_machine.specs.Setups.{SetupOf};
 ghost use Rattle.bp_machine.specs.Runs.{IsTop};
-ghost use Rattle.bp_view.specs.CallFacts.{changes_by, choice_of, facts_in, is_tried, next_in, AreCallFacts, IsNextOf, entry_of, IsReplayedCall, AreProgramFacts};
+ghost use Rattle.bp_view.specs.CallFacts.{changes_by, choice_of, facts_in, is_tried, next_by, next_in, AreCallFacts, IsNextOf, entry_of, IsReplayedCall, AreProgramFacts};
 ghost use Rattle.bp_view.specs.ContextLines.{changes_within, context_in, AreContextFacts, IsSpan};
 
 use crate::change_facts::{Change, add_differing};
@@ -65,7 +65,8 @@ const NOTHING: Next<'static> = Next {
 
 /// Returns the next statement of a thread with this top of its stack.
 pub(crate) fn next_of<'a>(program: &ProgramFacts<'a>, top: Option<Top>) -> Next<'a>
-    ensures { (t : Program) (text : List ℕ) (c : Configuration) (i : ℕ)
+    ensures is { next_in result ≡ next_by program.now top }
+    ensures next { (t : Program) (text : List ℕ) (c : Configuration) (i : ℕ)
         → AreProgramFacts t text program.now
         → MatchOption top (stack_of c i ≡ []) (IsTop t c i)
         → IsNextOf text (stack_of c i) (next_in result) }
@@ -92,7 +93,8 @@ pub fn facts_of_call<'a>(
     replayed: &ReplayedCall,
     changes: &'a [Change<'a>],
 ) -> CallFacts<'a>
-    ensures { (t : Program) (text : List ℕ) (s : SetupOf) (h : List Answered) (x : Answered)
+    ensures next { next_in result.next ≡ next_by program.now replayed.now.before }
+    ensures facts { (t : Program) (text : List ℕ) (s : SetupOf) (h : List Answered) (x : Answered)
         → AreProgramFacts t text program.now
         → IsReplayedCall t s h x replayed.now
         → map entry_of changes.entry.now ≡ changes_by t s h x

@@ -21,6 +21,7 @@ mod setup_lines;
 mod spans;
 mod state_facts;
 mod statement_columns;
+mod statement_members;
 mod states;
 mod variables;
 mod view_contexts;

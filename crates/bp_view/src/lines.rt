@@ -60,6 +60,7 @@ fn push_fields(line: &mut Buffer, prefix: &mut Prefix, widths: &Widths, facts: &
 
 /// Adds the place of the statement, and the statement, moved to the right by the depth of the
 /// stack; no text if there is none.
+#[inline(always)]
 fn push_statement(line: &mut Buffer, widths: &Widths, next: &Next<'_>)
     ensures { let next = next_in next.now in
         let place = at_left widths.now.place next.place in
@@ -115,6 +116,7 @@ fn push_times(note: &mut Buffer, calls: usize)
 
 /// Adds the note of an attempt: the choice bit if it is read, the reply if it is not a step, the
 /// number of attempts in the line, and the variables that the step changed.
+#[inline(always)]
 fn push_note(line: &mut Buffer, facts: &CallFacts<'_>, calls: usize)
     ensures { Grown line.old line.new (note_text (facts_in facts.now) calls) }
 {
@@ -156,6 +158,7 @@ fn push_call(
 
 /// Adds an attempt in at most `columns` columns: its note, and before it as much of the place and
 /// the statement as there is room for.
+#[inline(never)]
 fn push_narrow_call(
     line: &mut Buffer,
     prefix: &mut Prefix,

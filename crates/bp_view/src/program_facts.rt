@@ -1,5 +1,5 @@
 //! The facts of a program: its source statements and its names. The names of the watched variables.
-ghost use Rattle.std.specs.Prelude.{◌≡◌, ℕ, List, IsSomeAnd, ◌==◌, ◌-◌, false, length, map, option_map, IfOk, MatchOption};
+ghost use Rattle.std.specs.Prelude.{◌≡◌, ℕ, List, IsSomeAnd, slice_get, ◌==◌, ◌-◌, false, length, map, option_map, IfOk, MatchOption};
 ghost use Rattle.std.specs.List.{list_any, prefix_len, suffix_len};
 ghost use Rattle.bp_language.specs.Ast.{Program};
 ghost use Rattle.bp_flat.specs.Moves.{Configuration, Frame};
@@ -50,7 +50,9 @@ pub(crate) fn source_statement_of<'a>(
     program: &ProgramFacts<'a>,
     top: Top,
 ) -> Option<&'a SourceStatement>
-    ensures { (t : Program) (text : List ℕ) (c : Configuration) (frames : List Frame)
+    ensures got { let statements = program.now.statements.now in
+        option_map (λ s. s.now) result ≡ slice_get statements top.number }
+    ensures is { (t : Program) (text : List ℕ) (c : Configuration) (frames : List Frame)
         → AreProgramFacts t text program.now
         → (is : IsTopOf t c frames top)
         → let next = place is.frame.procedure is.frame.left in

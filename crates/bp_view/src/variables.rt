@@ -8,18 +8,18 @@ ghost use Rattle.bp_flat.specs.StandsFor.{valuation_of};
 ghost use Rattle.bp_tasks.specs.declared.options.ViewFormat.TheVariants.{Json};
 ghost use Rattle.bp_view.specs.Buffers.{Grown};
 ghost use Rattle.bp_view.specs.CallFacts.{facts_in};
-ghost use Rattle.bp_view.specs.Lines.{owner_text, variable_object, variable_text, assignment_text, variables_text, bit_item, call_object, first_members, member_texts, printed_text, reply_name};
+ghost use Rattle.bp_view.specs.Lines.{owner_text, variable_object, variable_text, assignment_text, variables_text, bit_item, call_object, AreReady, first_members, member_texts, printed_text, reply_name};
 
 use crate::buffers::Buffer;
 use crate::call_facts::CallFacts;
 use crate::first_members::{FirstMembers, MembersKey};
 use crate::lines::push_changed;
+use crate::statement_members::ReadyMembers;
 use bp_flat::bit_of;
 use bp_language::{Name, Proc};
 use bp_machine::Reply;
-use bp_source::{column_of, line_of};
 use bp_tasks::ViewFormat;
-use bp_text::Piece::{Bit, Bytes, Number, NumberOrNull, Text, TextOrNull};
+use bp_text::Piece::{Bit, Bytes, Number, Text, TextOrNull};
 
 /// Adds the name of a local's procedure and a dot; nothing for a global.
 fn push_owner(line: &mut Buffer, owner: Option<&Proc>)
@@ -163,28 +163,16 @@ fn push_first_members(line: &mut Buffer, members: &mut FirstMembers, facts: &Cal
     line.put(Bytes(&members.text))
 }
 
-/// Adds the other members of an attempt that have one value each.
-fn push_members(line: &mut Buffer, facts: &CallFacts<'_>)
-    ensures { Grown line.old line.new (concat (member_texts (facts_in facts.now))) }
+/// Adds the other members of an attempt that have one value each. Those of its thread's next
+/// statement are ready.
+fn push_members(line: &mut Buffer, facts: &CallFacts<'_>, ready: ReadyMembers<'_>)
+    ensures { let f = facts_in facts.now in
+        AreReady f.next ready.entry.front.now ready.entry.text.now
+        → Grown line.old line.new (concat (member_texts f)) }
 {
+    line.put_two(Bytes(switch_member(facts.is_switch)), Bytes(ready.front));
+    line.put_two(Number(facts.next.depth as u64), Bytes(ready.text));
     // A key is one piece with the signs around it, since a piece for each takes longer.
-    line.put_three(
-        Bytes(switch_member(facts.is_switch)),
-        Bytes(b",\"line\":"),
-        NumberOrNull(line_of(facts.next.position)),
-    );
-    line.put_four(
-        Bytes(b",\"column\":"),
-        NumberOrNull(column_of(facts.next.position)),
-        Bytes(b",\"procedure\":"),
-        TextOrNull(facts.next.procedure),
-    );
-    line.put_four(
-        Bytes(b",\"depth\":"),
-        Number(facts.next.depth as u64),
-        Bytes(b",\"statement\":"),
-        TextOrNull(facts.next.text),
-    );
     line.put_three(
         Bytes(choice_member(facts.choice())),
         Bytes(b",\"reply\":"),
@@ -214,18 +202,23 @@ fn push_printed(line: &mut Buffer, printed: Option<&[bool]>)
     line.close_list(start)
 }
 
-/// Adds the object of an attempt that printed these values, if any. `members` are those of another.
+/// Adds the object of an attempt that printed these values, if any. `members` are those of another,
+/// and those of its thread's next statement are ready.
+#[inline(never)]
 pub(crate) fn push_object(
     line: &mut Buffer,
     members: &mut FirstMembers,
     facts: &CallFacts<'_>,
+    ready: ReadyMembers<'_>,
     printed: Option<&[bool]>,
 )
     ensures { let printed = option_map (λ v. v.now) printed.entry in
-        Grown line.old line.new (call_object (facts_in facts.now) printed) }
+        let f = facts_in facts.now in
+        AreReady f.next ready.entry.front.now ready.entry.text.now
+        → Grown line.old line.new (call_object f printed) }
 {
     push_first_members(line, members, facts);
-    push_members(line, facts);
+    push_members(line, facts, ready);
     line.put(Bytes(b",\"changes\":"));
     let start = line.len();
     push_changed(line, ViewFormat::Json, facts.changes);

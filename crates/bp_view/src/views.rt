@@ -10,20 +10,19 @@ ghost use Rattle.bp_machine.specs.Sessions.{Stands};
 ghost use Rattle.bp_view.specs.Buffers.{Gains, Grown};
 ghost use Rattle.bp_view.specs.CallFacts.{IsCheckpoint};
 ghost use Rattle.bp_view.specs.Filters.{skipped, watched_names};
-ghost use Rattle.bp_view.specs.Views.{after_footer, filter_of, IsShownTrace, HasMade, IsMissing, IsSent, IsStopped, IsThere, IsView, IsViewRefusal, IsViewable, IsViewed, IsEnd, IsStateIf, IsViewContextOf};
+ghost use Rattle.bp_view.specs.Views.{after_footer, filter_of, IsShownTrace, HasMade, IsMissing, HaveMembers, IsSent, IsStopped, IsThere, IsView, IsViewRefusal, IsViewable, IsViewed, IsEnd, IsStateIf, IsViewContextOf};
 ghost use Rattle.bp_view.specs.SetupLines.{view_head};
 
 use crate::buffers::Buffer;
 use crate::checkpoints::Checkpoint;
 use crate::errors::ViewError;
-use crate::first_members::FirstMembers;
 use crate::outcomes::push_footer_of;
-use crate::prefixes::Prefix;
 use crate::program_facts::{undeclared, watched_names};
 use crate::setup_lines::head_of;
+use crate::statement_members::members_of_statements;
 use crate::states::push_state_of;
 use crate::view_contexts::{ShownTrace, ViewContext, shown_trace_before, view_context_of};
-use crate::writers::{ViewWriter, filter_of};
+use crate::writers::{KeptTexts, ViewWriter, filter_of};
 use bp_code::Checked;
 use bp_flat::Code;
 use bp_machine::{Report, Session, Setup};
@@ -84,6 +83,7 @@ fn write_parts<W: Write>(
         → writer.old.made ≤ skipped (filter_of x.options) (length whole)
         → let head = view_head x.options x.program.globals.now s x.widths in
         writer.old.text.bytes.items ≡ head
+        → HaveMembers x.options.format x.program writer.old.statements.items
         → let is_view = IsView t text s x.history.now report x.options x.file.now in
         MatchResult result
         (λ _. IsWritten is_view (W.contents out.old) (W.contents out.new))
@@ -154,6 +154,7 @@ fn write_view<W: Write>(
     );
     let context = context.under_headings();
     let head = head_of(alloc, &context, setup)?;
+    let statements = members_of_statements(alloc, &context.program, options.format)?;
     let Checkpoint {
         session,
         last,
@@ -166,8 +167,8 @@ fn write_view<W: Write>(
             bytes: head,
             refused: false,
         },
-        prefix: Prefix::new(alloc),
-        members: FirstMembers::new(alloc),
+        kept: KeptTexts::new(alloc),
+        statements,
         changes: Vec::new(alloc),
         last,
         made,

@@ -10,8 +10,9 @@ ghost use Rattle.bp_machine.specs.Setups.{SetupOf};
 ghost use Rattle.bp_text.specs.Lines.{Adds};
 ghost use Rattle.bp_trace.specs.Replays.{IsPlayable};
 ghost use Rattle.bp_view.specs.Buffers.{Gains, Grown};
-ghost use Rattle.bp_view.specs.CallFacts.{facts_in, IsReplayedCall};
-ghost use Rattle.bp_view.specs.Views.{IsViewContextOf, next_print_in, line_in, printed_in, IsShownLine, filter_of};
+ghost use Rattle.bp_view.specs.CallFacts.{facts_in, next_by, IsReplayedCall};
+ghost use Rattle.bp_view.specs.declared.program_facts.ProgramFacts.{ProgramFacts as FactsOf};
+ghost use Rattle.bp_view.specs.Views.{HaveMembers, IsViewContextOf, next_print_in, line_in, printed_in, IsShownLine, filter_of};
 
 use crate::buffers::Buffer;
 use crate::call_facts::{CallFacts, facts_of_call};
@@ -22,10 +23,12 @@ use crate::first_members::FirstMembers;
 use crate::lines::push_line;
 use crate::prefixes::Prefix;
 use crate::program_facts::has_watched;
+use crate::statement_members::{StatementMembers, ready_members};
 use crate::variables::push_object;
 use crate::view_contexts::ViewContext;
-use bp_machine::{AskError, Call, Session};
+use bp_machine::{AskError, Call, Session, Top};
 use bp_tasks::{ViewFormat, ViewOptions};
+use std::alloc::Global;
 
 /// Returns the values that the thread's next statement prints, if a view of this format has them.
 fn next_print(
@@ -45,6 +48,25 @@ fn next_print(
     }
 }
 
+/// The texts of a line that most lines after it have too.
+#[derive(Drop)]
+pub(crate) struct KeptTexts {
+    /// The fields before the place.
+    prefix: Prefix,
+    /// The first members of an object.
+    members: FirstMembers,
+}
+
+impl KeptTexts {
+    /// Makes empty ones.
+    pub(crate) fn new(alloc: Global) -> KeptTexts {
+        KeptTexts {
+            prefix: Prefix::new(alloc),
+            members: FirstMembers::new(alloc),
+        }
+    }
+}
+
 /// Makes the lines of a view, one for each attempt of its history.
 #[derive(Drop)]
 pub(crate) struct ViewWriter<'a> {
@@ -53,10 +75,10 @@ pub(crate) struct ViewWriter<'a> {
     pub(crate) session: Session,
     /// The text that was made and is not yet written.
     pub(crate) text: Buffer,
-    /// The fields that lines have in common with the lines before.
-    pub(crate) prefix: Prefix,
-    /// The first members of the last object.
-    pub(crate) members: FirstMembers,
+    /// The texts kept from the last line.
+    pub(crate) kept: KeptTexts,
+    /// The members of each statement, in a view of objects.
+    pub(crate) statements: Vec<StatementMembers>,
     /// Room for the changes of an attempt.
     pub(crate) changes: Vec<Change<'a>>,
     /// The thread of the last step.
@@ -68,8 +90,8 @@ pub(crate) struct ViewWriter<'a> {
 impl ViewWriter<'_> {
     ghost use Rattle.bp_view.specs.Views.{HasMade, IsShownLine};
 
-    /// Makes the next attempt of the history, which is the recorded one, and adds its line. No attempt
-    /// of a history that may be played is refused, unless for memory.
+    /// Makes the next attempt of the history, which is the recorded one, and adds its line. No
+    /// attempt of a history that may be played is refused, unless for memory.
     pub(crate) fn make_line(&mut self, recorded: &Call) -> Result<(), AskError>
         ensures made { (t : Program) (h : List Answered)
             → HasMade t h self.old
@@ -81,13 +103,15 @@ impl ViewWriter<'_> {
             → HasMade t h self.old
             → IsPlayable t self.old.session.setup (h ++ recorded.now ∷ [])
             → IsViewContextOf t text self.old.context
+            → let x = self.old.context in
+            HaveMembers x.options.format x.program self.old.statements.items
             → let s = self.old.session.setup in
-            let x = self.old.context in
             let whole = x.history.now in
             let line = IsShownLine t text s x.options x.widths whole h recorded.now in
             OnOk result (Adds line self.old.text.bytes.items self.new.text.bytes.items) }
         ensures kept { (self.new.session.setup ≡ self.old.session.setup)
-            × (self.new.context ≡ self.old.context) }
+            × (self.new.context ≡ self.old.context)
+            × (self.new.statements ≡ self.old.statements) }
     {
         self.session.setup().is_in_range();
         let number = self.made.saturating_add(1);
@@ -97,10 +121,10 @@ impl ViewWriter<'_> {
         let printed = printed_by(next.as_deref(), replayed.call.reply);
         push_shown(
             &mut self.text,
-            &mut self.prefix,
-            &mut self.members,
+            &mut self.kept,
             &mut self.changes,
             &self.context,
+            self.statements.as_slice(),
             &replayed,
             printed,
         );
@@ -112,47 +136,60 @@ impl ViewWriter<'_> {
 }
 
 /// Adds the line of an attempt and of those folded into it, `calls` in all, in the format of the
-/// view. The attempt printed these values, if any. `prefix` and `members` have parts of another
-/// line that are kept.
+/// view. `before` is the top of its thread's stack before it. The attempt printed these values, if
+/// any.
 fn push_line_in(
     view: &mut Buffer,
-    prefix: &mut Prefix,
-    members: &mut FirstMembers,
+    kept: &mut KeptTexts,
     context: &ViewContext<'_>,
     facts: &CallFacts<'_>,
+    statements: &[StatementMembers],
+    before: &Option<Top>,
     calls: usize,
     printed: Option<&[bool]>,
 )
     ensures { let o = context.now.options in
         let printed = option_map (λ v. v.now) printed.entry in
-        let f = facts_in facts.now in
-        let line = line_in o.format o.has_colour context.now.widths f calls printed in
+        let f = facts_in facts.now in (program : FactsOf)
+        → HaveMembers o.format program statements.now
+        → f.next ≡ next_by program before.now
+        → let line = line_in o.format o.has_colour context.now.widths f calls printed in
         Grown view.old view.new line }
 {
     let options = context.options;
     match options.format {
         ViewFormat::Columns => {
             let widths = &context.widths;
-            push_line(view, prefix, widths, options.has_colour, facts, calls)
+            push_line(
+                view,
+                &mut kept.prefix,
+                widths,
+                options.has_colour,
+                facts,
+                calls,
+            )
         }
-        ViewFormat::Json => push_object(view, members, facts, printed),
+        ViewFormat::Json => {
+            let ready = ready_members(statements, before);
+            push_object(view, &mut kept.members, facts, ready, printed)
+        }
     }
 }
 
 /// Adds the line of an attempt, if it is shown: it is asked for, it changed a watched variable, and
-/// its line stands for an attempt. `prefix` and `members` have parts of another line that are kept,
-/// and `changes` is room for the attempt's changes.
+/// its line stands for an attempt. `changes` is room for the attempt's changes.
 pub(crate) fn push_shown<'a>(
     view: &mut Buffer,
-    prefix: &mut Prefix,
-    members: &mut FirstMembers,
+    kept: &mut KeptTexts,
     changes: &mut Vec<Change<'a>>,
     context: &ViewContext<'a>,
+    statements: &[StatementMembers],
     replayed: &ReplayedCall,
     printed: Option<&[bool]>,
 )
     ensures { (t : Program) (text : List ℕ) (s : SetupOf) (h : List Answered) (x : Answered)
         → IsViewContextOf t text context.now
+        → HaveMembers context.now.options.format context.now.program statements.now
         → IsReplayedCall t s h x replayed.now
         → let o = context.now.options in
         option_map (λ v. v.now) printed.entry ≡ printed_in o.format (configuration_after t s h) x
@@ -175,7 +212,10 @@ pub(crate) fn push_shown<'a>(
         return;
     }
     let facts = facts_of_call(&context.program, replayed, changes);
-    push_line_in(view, prefix, members, context, &facts, calls, printed)
+    let before = &replayed.before;
+    push_line_in(
+        view, kept, context, &facts, statements, before, calls, printed,
+    )
 }
 
 /// Returns options for all attempts, without colours.

@@ -9,7 +9,7 @@ pub returns-in_err-statement : goal.returns-in_err-statement
 returns-in_err-statement c = λ text h f set stands at.
     let t = c.args.session.now.code.tree in
     let now = configuration_after t c.args.session.now.setup h in
-    absurd (c.in_err-statement.ensures t text now (drop c.args.above (stack_of now c.args.thread)) set (c.in_ok-top.ensures h stands))
+    absurd (c.in_err-statement.ensures.is t text now (drop c.args.above (stack_of now c.args.thread)) set (c.in_ok-top.ensures h stands))
 
 pub returns : goal.returns
 returns c = λ text h f set stands at.
@@ -26,7 +26,7 @@ returns c = λ text h f set stands at.
     let here = from_here (stack_of now c.args.thread) n f at in
     let there = top.stack in
     let same : top.frame ≡ f = cc in
-    let facts = frame_facts text t.procedures n top.frame statement (c.in_ok-statement.ensures t text now left set top) in
+    let facts = frame_facts text t.procedures n top.frame statement (c.in_ok-statement.ensures.is t text now left set top) in
     rw (c.as_slice.ensures.value, c.as_slice-2.ensures.value)
     (subst (λ g. AreFrameFacts text n g (frame_with n c.in_ok-proc.proc.now (values c.in_ok-proc.proc.now) statement)) same
     (subst (AreFrameFacts text n top.frame) (ap₂ (λ p l. frame_with n p l statement) own (top.locals ∙ ap values own)) facts))

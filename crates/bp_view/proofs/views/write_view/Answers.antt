@@ -19,5 +19,13 @@ returns-in_err-head g c = λ text trace shown is before names.
     let can = viewable shown (stands_at c.code.ensures c.is_of_a_program.ensures is.program) c.deref.ensures.value (λ are. x.known text are names) x.widths history in
     rw (p.1, p.2) (stopped shown c.in_ok-check_thread.ensures (rw names at c.in_default.ensures) refl history x.options x.file _ _ Memory (none_begun (kind can)))
 
+pub returns-in_err-statements : goal.returns-in_err-statements
+returns-in_err-statements g c = λ text trace shown is before names.
+    let p = err_from_is_err_and c.from_residual-in_err-statements.result c.from_residual-in_err-statements.ensures.1 in
+    let x = c.view_context_of-context.ensures in
+    let history = x.history ∙ c.as_slice-history.ensures.value in
+    let can = viewable shown (stands_at c.code.ensures c.is_of_a_program.ensures is.program) c.deref.ensures.value (λ are. x.known text are names) x.widths history in
+    rw (p.1, p.2) (stopped shown c.in_ok-check_thread.ensures (rw names at c.in_default.ensures) refl history x.options x.file _ _ Memory (none_begun (kind can)))
+
 pub returns : goal.returns
 returns g c = search (rules, viewable, stands_at, length-take-le, viewed, stopped)

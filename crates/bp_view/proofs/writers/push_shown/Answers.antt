@@ -9,7 +9,7 @@ pub returns-then-calls-eq0 : goal.returns-then-calls-eq0
 returns-then-calls-eq0 c = search (rules, calls_are, nat_tests, hidden, no_calls)
 
 pub returns : goal.returns
-returns c = λ t text s h x set of printed.
+returns c = λ t text s h x set members of printed.
     let context = c.args.context.now in
     let m = c.args.replayed.now in
     let wanted = sym c.asks_for.ensures ∙ c.if-not-asks_for.false in
@@ -23,5 +23,5 @@ returns c = λ t text s h x set of printed.
     let some : nat_lt 0 c.calls_in_line-calls.result ≡ true = grind (arith, nat_tests, c.if-calls-eq0.false) in
     let has = line_if t text s context h x true true true asked seen (ap (nat_lt 0) (sym calls) ∙ some) in
     let changes = ap (λ (xs : List Change). map entry_of xs) c.deref-2.ensures.value ∙ filled in
-    let facts = c.facts_of_call-facts.ensures t text s h x set.program of changes in
-    shown t text s context h x has (facts_in c.facts_of_call-facts.result) facts _ printed _ calls _ _ c.push_line_in.ensures
+    let facts = c.facts_of_call-facts.ensures.facts t text s h x set.program of changes in
+    shown t text s context h x has (facts_in c.facts_of_call-facts.result) facts _ printed _ calls _ _ (c.push_line_in.ensures context.program members c.facts_of_call-facts.ensures.next)

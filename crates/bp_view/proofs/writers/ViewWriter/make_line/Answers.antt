@@ -19,7 +19,7 @@ returns-clause-made c = λ t h has playable.
     }
 
 pub returns-clause-line : goal.returns-clause-line
-returns-clause-line c = λ t text h has playable known.
+returns-clause-line c = λ t text h has playable known members.
     let stood = rw (sym has.program) at has.stands in
     let s = c.args.self.now.session.setup in
     let x = c.args.recorded.now in
@@ -39,7 +39,7 @@ returns-clause-line c = λ t text h has playable known.
     let printed = printed_of context.options.format now y _ values own_next is in
     let old = c.args.self.now.text.bytes.items in
     let new = c.push_shown.new.view.bytes.items in
-    let shown = (c.push_shown.ensures t text s h y known replayed printed c.in_ok-finish.ensures).1 in
+    let shown = (c.push_shown.ensures t text s h y known (rw c.as_slice.ensures.value members) replayed printed c.in_ok-finish.ensures).1 in
     subst (λ z. Adds (IsShownLine t text s context.options context.widths context.history.now h z) old new) own shown
 
 pub returns-in_err-next-clause-made : goal.returns-in_err-next-clause-made
