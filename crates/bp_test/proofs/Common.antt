@@ -17,12 +17,12 @@ pub use Rattle.bp_machine.specs.declared.calls.Report.{Report}
 pub use Rattle.bp_test.specs.Reach.{AreMarks, AreWaiting, HasStep, IsEndKey, IsKey, IsNext, IsNextOf, IsNumberOf, IsReachedByCall, IsRunKey, IsTried, IsWait, IsWaitedAt, IsWaiting, MarksGrow, Reaches, has_refusal, is_marked, key_after, marks_after, next_place, no_call, no_thread, one_call, one_thread, place_of, refuses_context, waiting_below}
 pub use Rattle.bp_test.specs.Shrinks.{DeadlocksAt, GoesOn, IsDriven, IsEnd, IsNoMore, IsSearch, IsShrunk, IsShrunkOf, with_contexts, unseeded}
 pub use Rattle.bp_test.specs.Tallies.{AreContextsUsed, AreKeys, IsCounted, IsLeastFor, IsTally, MadeRun, alone_before, calls_of, capped, contexts_with, count_of, count_with, ends_of, ends_sum, is_alone, longest_of, made, using_contexts, within_contexts}
-pub use Rattle.bp_test.specs.Tests.{AreBlocks, AreCleanRuns, FailsAt, HasFailed, HaveReturned, IsBlock, IsCleanRun, IsCutRun, IsFirstFound, IsFound, IsFoundRun, IsMadeRun, IsOver, IsSought, IsSoughtRun, IsTallied, IsTalliedAfter, IsWrittenRun, RestsIn, Wait, found_by, found_in, is_sought, setup_of_run, start_of_block}
-pub use Rattle.bp_test.specs.declared.limits.TheConstants.{LONGEST_BLOCK, MAX_KEYS}
+pub use Rattle.bp_test.specs.Tests.{AreBlocks, AreCleanRuns, FailsAt, HasFailed, HaveReturned, IsBlock, IsCleanRun, IsCutRun, IsFirstFound, IsFound, IsFoundRun, IsMadeRun, IsOver, IsSought, IsSoughtRun, IsTallied, IsWrittenRun, RestsIn, Wait, found_by, found_in, is_sought, setup_of_run}
+pub use Rattle.bp_test.specs.declared.limits.TheConstants.{LARGEST_SHARE, MAX_KEYS}
 pub use Rattle.bp_test.specs.declared.plans.Plan.{Plan}
 pub use Rattle.bp_test.specs.declared.tallies.Tally.{Tally}
 pub use Rattle.bp_test.specs.declared.waits.Waiting.{Waiting}
-pub use Rattle.std.proofs.Common.{Any, Bool, IfNone, IfSome, IsTrue, List, MatchOption, None, Ok, Option, Result, Some, [], add-one, ap, append-nil, arith, below_more, cond, count_by, drop, eqb-true, false, fold, get_or, if◌then◌else◌, inl, inr, is_some, length, map, max, min, nat_eq, nat_le, nat_lt, not, refl, rules, slice_get, slice_index_or, slice_set, subst, suc, sum_by, sym, take, true, unwrap_or, vec_len, zero, ℕ, ◌%◌, ◌&&◌, ◌*◌, ◌++◌, ◌+◌, ◌-◌, ◌/◌, ◌<◌, ◌==◌, ◌^◌, ◌||◌, ◌↔◌, ◌∙◌, ◌∷◌, ◌≡◌, ◌≢◌, ◌≤◌, ◌⊎◌}
+pub use Rattle.std.proofs.Common.{All, Any, Bool, IfNone, IfSome, IsTrue, List, MatchOption, None, Ok, Option, Result, Some, [], add-one, ap, append-nil, arith, below_more, cond, count_by, drop, eqb-true, false, fold, get_or, if◌then◌else◌, inl, inr, is_some, length, map, max, min, nat_eq, nat_le, nat_lt, not, refl, rules, slice_get, slice_index_or, slice_set, subst, suc, sum_by, sym, take, true, unwrap_or, vec_len, zero, ℕ, ◌%◌, ◌&&◌, ◌*◌, ◌++◌, ◌+◌, ◌-◌, ◌/◌, ◌<◌, ◌==◌, ◌^◌, ◌||◌, ◌↔◌, ◌∙◌, ◌∷◌, ◌≡◌, ◌≢◌, ◌≤◌, ◌⊎◌}
 pub use Rattle.std.proofs.Crossing.{crosses}
 pub use Rattle.std.proofs.lemmas.Bool.{cases_lt}
 pub use Rattle.std.proofs.lemmas.Bool.Decides.{nat_tests}

@@ -1,9 +1,9 @@
 -- The finding of a test of a program.
-use Rattle.std.specs.Prelude.{◌≡◌, ℕ, List, ◌⊎◌, ◌<◌, true, [], ◌↔◌, ◌≤◌, ◌+◌, ◌-◌, ◌%◌, ◌^◌, suc, max, min, Bool, ◌∷◌, ◌++◌, Option, None, Some, length, IsTrue, MatchOption, ◌*◌, ◌||◌, ◌&&◌, Result, slice_index_or, IfOk, IfSome}
+use Rattle.std.specs.Prelude.{◌≡◌, ℕ, List, ◌⊎◌, ◌<◌, true, [], ◌↔◌, ◌≤◌, ◌+◌, ◌-◌, ◌%◌, ◌^◌, suc, max, min, Bool, ◌∷◌, ◌++◌, Option, None, Some, All, length, IsTrue, MatchOption, ◌||◌, ◌&&◌, IfSome}
+use Rattle.std.specs.declared.collections.VecDeque.{VecDeque}
 use Rattle.bp_text.specs.Writing.{AppendsAll, AppendsPart}
 use Rattle.bp_language.specs.Ast.{Program}
 use Rattle.bp_flat.specs.Moves.{Configuration}
-use Rattle.bp_flat.specs.Flat.{Flat}
 use Rattle.bp_machine.specs.declared.calls.Call.{Call}
 use Rattle.bp_machine.specs.declared.calls.Outcome.TheVariants.{Failed, Clean}
 use Rattle.bp_machine.specs.declared.tops.Top.{Top}
@@ -240,10 +240,6 @@ module _ (t : Program) (s : SetupOf) (x : TestOptions) (old new : Option (List �
 abbrev pub is_sought : Bool → Report → Bool → Bool
 is_sought with_deadlock r deadlocked = is_failure r.outcome || (with_deadlock && deadlocked)
 
--- the start of block n of a batch with blocks of this size, in a test of this number of runs
-abbrev pub start_of_block : (from size n runs : ℕ) → ℕ
-start_of_block from size n runs = min (from + n * size) runs
-
 -- Runs were to be made from one number to before another, and were made to before `end`: up to the
 -- finding, or all of them if there is no deadline and no finding.
 abbrev pub IsEnd : (deadline : Option ℕ) → (from to : ℕ) → Option FoundRun → (end : ℕ) → Type 0
@@ -253,27 +249,13 @@ IsEnd deadline from to found end =
     × (deadline ≡ None → found ≡ None → end ≡ max from to)
     × IfSome found (λ f. end ≡ f.run + 1)
 
-module _ {E : Type 0} (c : Flat) (s : SetupOf) (p : Plan) (from size runs : ℕ) where
-  -- the result of block n of a batch
-  abbrev pub IsBlock : ℕ → Result Block E → Type 0
-  IsBlock n r =
-      let start = start_of_block from size n runs in
-      let end = start_of_block from size (n + 1) runs in
-      IfOk r (λ block.
-      (block.from ≡ start)
-      × IsEnd p.deadline start end block.found block.end
-      × ((t : Program)
-      → t ≡ c.tree
-      → IsTallied t s p.with_deadlock p.seed start block.end block.found block.tally))
+-- the result of a block of this size, in a batch that ends before run `to`
+pub record IsBlock (t : Program) (s : SetupOf) (p : Plan) (size to : ℕ) (block : Block)
+    : Type 0 where
+  pub end : IsEnd p.deadline block.from (min (block.from + size) to) block.found block.end
+  pub tallied : IsTallied t s p.with_deadlock p.seed block.from block.end block.found block.tally
 
-  -- the blocks of a batch, from block m on
-  abbrev pub AreBlocks : ℕ → List (Result Block E) → Type 0
-  AreBlocks m rs =
-      (n : ℕ) (d : Result Block E) → n < length rs → IsBlock (m + n) (slice_index_or rs n d)
-
--- the finding, and the tally of the runs up to it, after these runs made before
-pub record IsTalliedAfter (before : List MadeRun) (t : Program) (s : SetupOf) (with_deadlock : Bool)
-    (seed from to : ℕ) (found : Option FoundRun) (tally : Tally) : Type 0 where
-  pub runs : List MadeRun
-  pub first : IsFirstFound t s with_deadlock seed from to found runs
-  pub tallied : IsTally t s (before ++ runs) tally
+-- the blocks that each job made
+abbrev pub AreBlocks
+    : {Z : Type 0} → Program → SetupOf → Plan → (size to : ℕ) → List (VecDeque Block Z) → Type 0
+AreBlocks t s p size to = All (λ blocks. All (IsBlock t s p size to) blocks.items)

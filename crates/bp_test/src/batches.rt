@@ -1,13 +1,12 @@
 //! Batches: blocks of runs that are made side by side.
 //! Blocks of runs.
-ghost use Rattle.std.specs.Prelude.{if◌then◌else◌, ◌≡◌, ◌<◌, ◌≤◌, ◌+◌, ◌*◌, ◌^◌, min, ℕ, List, length, IfOk};
-ghost use Rattle.bp_flat.specs.Flat.{Flat};
+ghost use Rattle.std.specs.Prelude.{if◌then◌else◌, ◌≡◌, ◌<◌, ◌≤◌, ◌+◌, ◌*◌, min, ℕ, All, None, IfOk, IfSome};
+ghost use Rattle.bp_language.specs.Ast.{Program};
 ghost use Rattle.bp_machine.specs.Setups.{SetupOf, Fits};
 ghost use Rattle.bp_test.specs.declared.plans.Plan.{Plan as PlanOf};
-ghost use Rattle.bp_test.specs.Tests.{start_of_block, AreBlocks, IsBlock, IsEnd, IsTalliedAfter, IsTallied, is_sought};
-ghost use Rattle.bp_test.specs.Tallies.{MadeRun, IsTally};
+ghost use Rattle.bp_test.specs.Tests.{AreBlocks, IsBlock, IsEnd, IsTallied, is_sought};
 
-use crate::limits::{FIRST_BLOCK, LONGEST_BLOCK, QUICK_BATCH};
+use crate::limits::{BLOCKS_OF_JOB, FIRST_SHARE, LARGEST_SHARE, QUICK_BATCH};
 use crate::plans::Plan;
 use crate::runs::run_once;
 use crate::tallies::Tally;
@@ -16,6 +15,8 @@ use crate::waits::{Waiting, failed_instruction, have_returned, waiting_threads};
 use bp_flat::Code;
 use bp_machine::{Call, Outcome, Report, Session, Setup};
 use std::alloc::{AllocError, Global};
+use std::collections::VecDeque;
+use std::sync::atomic::{AtomicU64, Ordering};
 use std::thread;
 use std::thread::Threads;
 use std::time::Clock;
@@ -25,25 +26,79 @@ use std::time::Clock;
 struct Batch {
     /// The number of its first run.
     from: u64,
-    /// The number of its blocks.
-    blocks: usize,
-    /// The number of runs of a block.
+    /// The number of the run after its last.
+    to: u64,
+    /// The number of runs of a block. The last block may be shorter.
     size: u64,
-    /// The number of runs of the test. A block that reaches it is shorter.
-    runs: u64,
 }
 
 impl Batch {
-    /// Returns the start of this block, which is the end of the block before.
-    fn first_run(&self, block: u64) -> u64
-        ensures { let w = self.now in result ≡ start_of_block w.from w.size block w.runs }
+    /// Returns the batch that begins with this run, and in which each job makes about `share` runs.
+    /// A single job makes them as one block. Several make small ones, so none waits long for the
+    /// last.
+    fn new(from: u64, share: u64, jobs: usize, runs: u64) -> Batch
+        requires runs { from < runs }
+        requires share { 0 < share }
+        requires jobs { 0 < jobs }
+        ensures from { result.from ≡ from }
+        ensures some { from < result.to }
+        ensures within { result.to ≤ runs }
+        ensures size { 0 < result.size }
     {
-        let before = block.saturating_mul(self.size);
-        self.from.saturating_add(before).min(self.runs)
+        let all = share.saturating_mul(jobs as u64);
+        let blocks = if jobs == 1 { 1 } else { BLOCKS_OF_JOB };
+        Batch {
+            from,
+            to: from.saturating_add(all).min(runs),
+            size: share.div_ceil(blocks),
+        }
+    }
+
+    /// Returns the end of the block that begins with this run.
+    fn end_of(&self, start: u64) -> u64
+        ensures { result ≡ min (start + self.now.size) self.now.to }
+    {
+        start.saturating_add(self.size).min(self.to)
     }
 }
 
-/// Makes the blocks of a batch side by side.
+/// Makes blocks of a batch, each from the run `next` on, which is the first that no job has taken.
+/// After a block that found a run or met the deadline no job begins another. A job that is refused
+/// memory ends early.
+fn blocks_of_job<C: Clock>(
+    clock: &C,
+    alloc: Global,
+    code: &Code,
+    setup: &Setup,
+    plan: &Plan,
+    batch: Batch,
+    next: &AtomicU64,
+) -> VecDeque<Block>
+    requires { Fits code.now.tree setup.now }
+    ensures { let t = code.now.tree in
+        All (IsBlock t setup.now plan.now batch.size batch.to) result.items }
+{
+    let mut blocks = VecDeque::new(alloc);
+    for _ in batch.from..batch.to {
+        let start = next.fetch_add(batch.size, Ordering::SeqCst);
+        if start >= batch.to {
+            return blocks;
+        }
+        let end = batch.end_of(start);
+        let Ok(block) = first_found(clock, alloc, code, setup, plan, start, end) else {
+            return blocks;
+        };
+        if block.found.is_some() || block.end != end {
+            next.store(batch.to, Ordering::SeqCst);
+        }
+        if blocks.push_back(block).is_err() {
+            return blocks;
+        }
+    }
+    blocks
+}
+
+/// Makes the blocks of a batch side by side. Returns those of each job, in ascending order.
 fn blocks_of<R: Threads + Sync, C: Clock + Sync>(
     rt: &Runtimes<'_, R, C>,
     alloc: Global,
@@ -51,90 +106,103 @@ fn blocks_of<R: Threads + Sync, C: Clock + Sync>(
     setup: &Setup,
     plan: &Plan,
     batch: Batch,
-) -> Result<Vec<Result<Block, AllocError>>, AllocError>
+    jobs: usize,
+) -> Result<Vec<VecDeque<Block>>, AllocError>
     requires { Fits code.now.tree setup.now }
-    ensures count { IfOk result (λ blocks. length blocks.items ≡ batch.blocks) }
-    ensures blocks { IfOk result (λ blocks.
-        AreBlocks code.now setup.now plan.now batch.from batch.size batch.runs 0 blocks.items) }
+    ensures { IfOk result (λ made.
+        AreBlocks code.now.tree setup.now plan.now batch.size batch.to made.items) }
 {
-    let clock = rt.clock;
+    let (clock, next) = (rt.clock, AtomicU64::new(batch.from));
     thread::map_indices(
         rt.threads,
         alloc,
-        batch.blocks,
-        &|n: usize| -> Result<Block, AllocError>
-            requires few { n + 1 < 2 ^ 64 }
-            requires fits { Fits code.now.tree setup.now }
-            ensures { let c = code.entry.now in let s = setup.entry.now in let p = plan.entry.now in
-                IsBlock c s p batch.from batch.size batch.runs n result }
-        {
-            let start = batch.first_run(n as u64);
-            let end = batch.first_run(n as u64 + 1);
-            first_found(clock, alloc, code, setup, plan, start, end)
-        },
+        jobs,
+        &|_job: usize| -> VecDeque<Block>
+            requires { Fits code.now.tree setup.now }
+            ensures { let t = code.entry.now.tree in
+                let s = setup.entry.now in
+                All (IsBlock t s plan.entry.now batch.size batch.to) result.items }
+        { blocks_of_job(clock, alloc, code, setup, plan, batch, &next) },
     )
 }
 
-/// The result of a batch.
-#[derive(Drop)]
-struct BatchEnd {
-    /// The number of the run after its last.
-    end: u64,
-    found: Option<FoundRun>,
-}
-
-/// Returns the result of these blocks, up to the first that found a run or met the deadline. The
-/// first run has the number `start`. The runs up to the last that counts are added to the tally.
-fn first_of(
-    start: u64,
-    blocks: Vec<Result<Block, AllocError>>,
-    tally: &mut Tally,
-) -> Result<BatchEnd, AllocError>
-    ensures { (c : Flat) (s : SetupOf) (p : PlanOf) (from size runs : ℕ)
-        → AreBlocks c s p from size runs 0 blocks.items
-        → start ≡ start_of_block from size 0 runs
-        → let last = start_of_block from size (length blocks.items) runs in
-        IfOk result (λ batch.
-        let t = c.tree in (before : List MadeRun)
-        → IsTally t s before tally.old
-        → let found = batch.found in
-        IsEnd p.deadline start last found batch.end
-        × IsTalliedAfter before t s p.with_deadlock p.seed start batch.end found tally.new) }
+/// Takes the block that begins with this run, if a job made it.
+fn take_block(made: &mut Vec<VecDeque<Block>>, from: u64) -> Option<Block>
+    ensures { (t : Program) (s : SetupOf) (p : PlanOf) (size to : ℕ)
+        → AreBlocks t s p size to made.old.items
+        → IfSome result (λ block. (block.from ≡ from) × IsBlock t s p size to block)
+        × AreBlocks t s p size to made.new.items }
 {
-    let mut end = start;
-    for block in blocks {
-        let block = block?;
-        if block.from != end {
-            return Ok(BatchEnd { end, found: None });
-        }
-        tally.add(&block.tally)?;
-        end = block.end;
-        if block.found.is_some() {
-            let found = block.found;
-            return Ok(BatchEnd { end, found });
+    for job in 0..made.len() {
+        match made[job].front() {
+            Some(block) if block.from == from => return made[job].pop_front(),
+            _ => {}
         }
     }
-    Ok(BatchEnd { end, found: None })
+    None
 }
 
-/// Returns the number of runs of the blocks of the next batch, after one with blocks of this size.
-/// After a quick batch the size doubles, so jobs seldom wait for each other. After a slow one it is
-/// the same, so that a failure is reported soon.
-fn next_size(size: u64, is_quick: bool) -> u64
-    requires { size ≤ LONGEST_BLOCK }
-    ensures is { result ≡ (if is_quick then min (size * 2) LONGEST_BLOCK else size) }
-    ensures some { 0 < size → 0 < result }
-    ensures most { result ≤ LONGEST_BLOCK }
+/// Adds the blocks of a batch to the runs before it, in order, up to the first block that found a
+/// run or met the deadline. A block that no job made, because one was refused memory, is made here.
+fn with_blocks<C: Clock>(
+    clock: &C,
+    alloc: Global,
+    code: &Code,
+    setup: &Setup,
+    plan: &Plan,
+    batch: Batch,
+    made: Vec<VecDeque<Block>>,
+    before: Block,
+) -> Result<Block, AllocError>
+    requires fits { Fits code.now.tree setup.now }
+    requires some { 0 < batch.size }
+    requires from { before.end ≡ batch.from }
+    requires to { batch.from ≤ batch.to }
+    requires none { before.found ≡ None }
+    requires tallied { let p = plan.now in
+        IsTallied code.now.tree setup.now p.with_deadlock p.seed 0 before.end None before.tally }
+    requires blocks { AreBlocks code.now.tree setup.now plan.now batch.size batch.to made.items }
+    ensures end { IfOk result (λ all.
+        IsEnd plan.now.deadline batch.from batch.to all.found all.end) }
+    ensures tallied { IfOk result (λ all.
+        let t = code.now.tree in let p = plan.now in
+        IsTallied t setup.now p.with_deadlock p.seed 0 all.end all.found all.tally) }
+{
+    let (mut made, mut all) = (made, before);
+    while all.end < batch.to {
+        let end = batch.end_of(all.end);
+        let block = match take_block(&mut made, all.end) {
+            Some(block) => block,
+            None => first_found(clock, alloc, code, setup, plan, all.end, end)?,
+        };
+        all.tally.add(&block.tally)?;
+        all.end = block.end;
+        all.found = block.found;
+        if all.found.is_some() || all.end != end {
+            return Ok(all);
+        }
+    }
+    Ok(all)
+}
+
+/// Returns the number of runs of a job in the next batch, after one with this number. After a quick
+/// batch it doubles, so jobs seldom wait for each other. After a slow one it is the same, so that a
+/// failure is reported soon.
+fn next_share(share: u64, is_quick: bool) -> u64
+    requires { share ≤ LARGEST_SHARE }
+    ensures is { result ≡ (if is_quick then min (share * 2) LARGEST_SHARE else share) }
+    ensures some { 0 < share → 0 < result }
+    ensures most { result ≤ LARGEST_SHARE }
 {
     if is_quick {
-        (size * 2).min(LONGEST_BLOCK)
+        (share * 2).min(LARGEST_SHARE)
     } else {
-        size
+        share
     }
 }
 
-/// Makes this number of runs of a plan, in batches of this number of blocks, until one is found or
-/// the time is over. After each batch that found none, `progress` is told.
+/// Makes this number of runs of a plan, in batches, until one is found or the time is over. After
+/// each batch that found none, `progress` is told.
 pub(crate) fn search<R: Threads + Sync, C: Clock + Sync, P: Progress>(
     rt: &Runtimes<'_, R, C>,
     alloc: Global,
@@ -152,37 +220,25 @@ pub(crate) fn search<R: Threads + Sync, C: Clock + Sync, P: Progress>(
         IsEnd p.deadline 0 runs block.found block.end
         × IsTallied t setup.now p.with_deadlock p.seed 0 block.end block.found block.tally) }
 {
-    let mut tally = Tally::new(alloc, code, setup)?;
-    let (mut from, mut size) = (0, FIRST_BLOCK);
-    while from < runs {
-        let batch = Batch {
-            from,
-            blocks: jobs,
-            size,
-            runs,
-        };
-        let began = millis(rt.clock);
-        let blocks = blocks_of(rt, alloc, code, setup, plan, batch)?;
-        let BatchEnd { end, found } = first_of(from, blocks, &mut tally)?;
-        let next = batch.first_run(jobs as u64);
-        if found.is_some() || end != next {
-            return Ok(Block {
-                from: 0,
-                end,
-                found,
-                tally,
-            });
-        }
-        from = next;
-        size = next_size(size, is_within(rt.clock, began, QUICK_BATCH));
-        progress.tell(from, runs);
-    }
-    Ok(Block {
+    let mut all = Block {
         from: 0,
-        end: from,
+        end: 0,
         found: None,
-        tally,
-    })
+        tally: Tally::new(alloc, code, setup)?,
+    };
+    let mut share = FIRST_SHARE;
+    while all.end < runs {
+        let began = millis(rt.clock);
+        let batch = Batch::new(all.end, share, jobs, runs);
+        let made = blocks_of(rt, alloc, code, setup, plan, batch, jobs)?;
+        all = with_blocks(rt.clock, alloc, code, setup, plan, batch, made, all)?;
+        if all.found.is_some() || all.end != batch.to {
+            return Ok(all);
+        }
+        share = next_share(share, is_within(rt.clock, began, QUICK_BATCH));
+        progress.tell(all.end, runs);
+    }
+    Ok(all)
 }
 
 /// A run that a test searches for.

@@ -1,10 +1,13 @@
 //! The limits of tests and of shrinking.
 
-/// The number of runs of a block of the first batch.
-pub const FIRST_BLOCK: u64 = 500;
+/// The number of runs of a job in the first batch.
+pub const FIRST_SHARE: u64 = 500;
 
-/// The most runs of a block.
-pub const LONGEST_BLOCK: u64 = 64_000;
+/// The most runs of a job in a batch.
+pub const LARGEST_SHARE: u64 = 64_000;
+
+/// The number of blocks of a job in a batch, if there are more jobs than one.
+pub const BLOCKS_OF_JOB: u64 = 32;
 
 /// A batch is quick if it takes fewer milliseconds than these.
 pub const QUICK_BATCH: u64 = 250;
