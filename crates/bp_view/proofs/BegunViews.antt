@@ -1,8 +1,9 @@
 -- The text written of a view, attempt by attempt, is the beginning of a whole one.
-use Rattle.bp_view.proofs.Common.{◌≡◌, ◌∙◌, ◌<◌, ◌≤◌, ◌++◌, ◌-◌, ℕ, zero, suc, Bool, true, false, cond, List, [], ◌∷◌, codes, take, length, length-append, length-take, get_or, map, max, min, ap, refl, arith, slice_get, Some, ◌+◌, Option, drop, add-one, sym, subst, drop-cons, take-append-drop, ◌&&◌, ◌⊎◌, inl, inr, None, nat_le, unwrap_or, append-nil, add-zero, Bor, nat_lt, option_map, rules, nat_tests, take_all, take_more, length-take-le, slice_get-get_or, Adds, AppendsAll, AppendsPart, IsBegun, IsCutShort, IsWritten, append_assoc, part_of_each, both_added, HasParts, IsKind, end_written, head_written, part_written, parts_begun, Buffer, Gains, IsSent, Procedure, Program, Name, Place, StandsFor, places_of, Flat, binding, Call, Report, configuration_after, IsLegal, outcome_of, SetupOf, Stands, IsPlayable, front, SourceStatement, place_text, AreSourceStatementsAt, AreSourceStatements, shown_texts, texts_are, ViewFormat, ViewOptions, Columns, printed_by, calls_of, before_last, is_asked, is_between, is_late, is_of_thread, skipped, CallFilter, shortened, longest, variables_text, Widths, filter_of, footer_text, IsFooter, has_line, line_in, IsShownLine, IsViewLine, IsViewLineIf, after_footer, IsEnd, IsStateIf, IsViewContextOf, HasMade, HaveMembers, IsView, IsViewable, state_text, IsStateText, ViewContext, view_head, globals_line, thread_line, thread_lines}
+use Rattle.bp_view.proofs.Common.{◌≡◌, ◌∙◌, ◌<◌, ◌≤◌, ◌++◌, ◌-◌, ℕ, zero, suc, Bool, true, false, cond, List, [], ◌∷◌, codes, take, length, length-append, length-take, get_or, map, max, min, ap, refl, arith, slice_get, Some, ◌+◌, Option, drop, add-one, sym, subst, drop-cons, take-append-drop, ◌&&◌, ◌⊎◌, inl, inr, None, nat_le, unwrap_or, append-nil, add-zero, Bor, nat_lt, option_map, rules, nat_tests, take_all, take_more, length-take-le, slice_get-get_or, Adds, AppendsAll, AppendsPart, IsBegun, IsCutShort, IsWritten, append_assoc, part_of_each, both_added, IsInParts, Buffer, Gains, IsSent, Procedure, Program, Name, Place, StandsFor, places_of, Flat, binding, Call, Report, configuration_after, IsLegal, outcome_of, SetupOf, Stands, IsPlayable, front, SourceStatement, place_text, AreSourceStatementsAt, AreSourceStatements, shown_texts, texts_are, ViewFormat, ViewOptions, Columns, printed_by, calls_of, before_last, is_asked, is_between, is_late, is_of_thread, skipped, CallFilter, shortened, longest, variables_text, Widths, filter_of, footer_text, IsFooter, has_line, line_in, IsShownLine, IsViewLine, IsViewLineIf, after_footer, IsEnd, IsStateIf, IsViewContextOf, HasMade, HaveMembers, IsView, IsViewable, state_text, IsStateText, ViewContext, view_head, globals_line, thread_line, thread_lines}
 use Rattle.std.proofs.KnownBytes.{Appends-nil, Appends-trans}
 use Rattle.std.specs.Io.KnownBytes.{Appends}
 use Rattle.bp_text.proofs.Givings.{AppendsPart_within, part_then}
+use Rattle.bp_text.proofs.PartsOfTexts.{no_parts, parts_go_on, parts_then, regrouped}
 use Rattle.std.specs.Option.{option_copied}
 use Rattle.bp_flat.proofs.ProceduresOfPlaces.{starts}
 use Rattle.bp_view.proofs.WholeFacts as facts
@@ -110,6 +111,12 @@ module _ (t : Program) (text : List ℕ) (s : SetupOf) (x : ViewContext) where
   IsLine k line =
       (call : Call) → slice_get x.history.now k ≡ Some call → IsShownLine t text s x.options x.widths x.history.now (take k x.history.now) call line
 
+  -- this is the head and the lines of the first i attempts
+  pub record HasLines (i : ℕ) (said : List ℕ) : Type 0 where
+    pub lines : List ℕ
+    pub are : IsInParts IsLine i lines
+    pub is : said ≡ head ++ lines
+
   -- the writer has made the first i attempts, and the head and the lines of these were written, but
   -- for the text that it has
   pub record HasWritten (i : ℕ) (w : ViewWriter) (a b : Option (List ℕ)) : Type 0 where
@@ -120,65 +127,86 @@ module _ (t : Program) (text : List ℕ) (s : SetupOf) (x : ViewContext) where
     pub members : HaveMembers x.options.format x.program w.statements.items
     pub begun : List ℕ
     pub grown : Appends a b begun
-    pub parts : HasParts IsLine head i (Some []) (Some (begun ++ w.text.bytes.items))
+    pub lines : HasLines i (begun ++ w.text.bytes.items)
+
+  line_more : {i : ℕ} {said : List ℕ} → HasLines i said → (line : List ℕ) → IsLine i line → HasLines (suc i) (said ++ line)
+  line_more has line is = record {
+    lines = has.lines ++ line;
+    are = parts_then has.are line is;
+    is = ap (λ z. z ++ line) has.is ∙ append_assoc head has.lines line;
+  }
 
 module _ {c : Flat} {t : Program} {text : List ℕ} {s : SetupOf} {r : Report} {x : ViewContext} (can : IsViewable c t text s r x) where
   abbrev h : List Call
   h = x.history.now
 
-  -- a view is a text of parts: its head, its lines and its end
-  pub kind : IsKind (IsLine t text s x) (head t text s x) (length h) (IsEnd x.options x.file.now t text s h r) (IsView t text s h r x.options x.file.now)
-  kind = record {
-    whole = λ lines end lines_are end_is. record {
-      widths = x.widths;
-      statements = shown_texts x.program.statements.now;
-      statements_are = texts_are text t.procedures (places_of t.procedures) x.program.statements.now can.known.program.statements;
-      widths_are =
-          let places = places_are text t.procedures (places_of t.procedures) x.program.statements.now can.known.program.statements in
-          rw (places, can.known.program.procedures) at can.widths;
-      lines = lines;
-      end = end;
-      is = ap (λ g. view_head x.options g s x.widths ++ lines ++ end) can.known.program.globals;
-      end_is = end_is;
-      lines_are = lines_are;
-    };
-    each = each_line c t can.code text x.program.statements.now can.known.program.statements s x.options x.widths h;
-    some_end = some_end c t can.code text x.program.statements.now can.known.program.statements s x.options x.file.now h can.playable.legal r can.outcome;
+  abbrev IsWhole : List ℕ → Type 0
+  IsWhole = IsView t text s h r x.options x.file.now
+
+  -- the head, all lines and an end are a view
+  whole : (lines end : List ℕ) → IsInParts (IsLine t text s x) (length h) lines → IsEnd x.options x.file.now t text s h r end
+      → IsWhole (head t text s x ++ lines ++ end)
+  whole lines end lines_are end_is = record {
+    widths = x.widths;
+    statements = shown_texts x.program.statements.now;
+    statements_are = texts_are text t.procedures (places_of t.procedures) x.program.statements.now can.known.program.statements;
+    widths_are =
+        let places = places_are text t.procedures (places_of t.procedures) x.program.statements.now can.known.program.statements in
+        rw (places, can.known.program.procedures) at can.widths;
+    lines = lines;
+    end = end;
+    is = ap (λ g. view_head x.options g s x.widths ++ lines ++ end) can.known.program.globals;
+    end_is = end_is;
+    lines_are = lines_are;
   }
 
+  module _ {i : ℕ} {said : List ℕ} (has : HasLines t text s x i said) where
+    -- the first lines can be extended to a view
+    goes_on : i ≤ length h → (rest : List ℕ) × IsWhole (said ++ rest)
+    goes_on few =
+        let each = each_line c t can.code text x.program.statements.now can.known.program.statements s x.options x.widths h in
+        let (more, all) = parts_go_on (length h) each (length h - i) i (omega (arith, few)) has.lines has.are in
+        let (end, end_is) = some_end c t can.code text x.program.statements.now can.known.program.statements s x.options x.file.now h can.playable.legal r can.outcome in
+        (more ++ end, rw has.is (simp regrouped (simp regrouped at (whole (has.lines ++ more) end all end_is))))
+
+    ended : i ≡ length h → {end : List ℕ} → IsEnd x.options x.file.now t text s h r end → IsWhole (said ++ end)
+    ended all {end = end} end_is =
+        let lines_are = subst (λ k. IsInParts (IsLine t text s x) k has.lines) all has.are in
+        rw has.is (simp regrouped (simp regrouped at (whole has.lines end lines_are end_is)))
+
+  -- nothing was written
+  pub none_begun : {a : Option (List ℕ)} → IsBegun IsWhole a a
+  none_begun {a = a} =
+      let none : HasLines t text s x 0 (head t text s x) = record { lines = []; are = no_parts; is = sym (append-nil (head t text s x)) } in
+      let (rest, is) = goes_on none (omega arith) in
+      record { begun = []; rest = head t text s x ++ rest; is = is; written = record { grown = Appends-nil a } }
+
   -- of the head and the lines of the first i attempts, a beginning was written, and not this rest
-  module _ {i : ℕ} (begun left : List ℕ) (a b : Option (List ℕ)) (grown : Appends a b begun)
-      (parts : HasParts (IsLine t text s x) (head t text s x) i (Some []) (Some (begun ++ left))) where
+  module _ {i : ℕ} (begun left : List ℕ) (a b : Option (List ℕ)) (grown : Appends a b begun) (has : HasLines t text s x i (begun ++ left)) where
     module _ (few : i ≤ length h) where
-      goes_on : (rest : List ℕ) × IsView t text s h r x.options x.file.now (begun ++ (left ++ rest))
-      goes_on =
-          let all = parts_begun kind parts few in
-          let same = ap (λ y. y ++ all.rest) (sym all.written.grown) ∙ append_assoc begun left all.rest in
-          (all.rest, subst (IsView t text s h r x.options x.file.now) same all.is)
+      rest : (more : List ℕ) × IsWhole (begun ++ (left ++ more))
+      rest = let (more, is) = goes_on has few in (more, subst IsWhole (append_assoc begun left more) is)
 
-      pub begun_so_far : IsBegun (IsView t text s h r x.options x.file.now) a b
-      begun_so_far = record { begun = begun; rest = left ++ goes_on.0; is = goes_on.1; written = record { grown = grown } }
+      pub begun_so_far : IsBegun IsWhole a b
+      begun_so_far = record { begun = begun; rest = left ++ rest.0; is = rest.1; written = record { grown = grown } }
 
-      pub rest_cut : (e : Option (List ℕ)) → AppendsPart b e left → IsCutShort (IsView t text s h r x.options x.file.now) a e
+      pub rest_cut : (e : Option (List ℕ)) → AppendsPart b e left → IsCutShort IsWhole a e
       rest_cut e part = record {
-        text = begun ++ (left ++ goes_on.0);
-        is = goes_on.1;
-        written = AppendsPart_within a b e begun left goes_on.0 grown part;
+        text = begun ++ (left ++ rest.0);
+        is = rest.1;
+        written = AppendsPart_within a b e begun left rest.0 grown part;
       }
 
     -- and the end of the view was added
     module _ (all : i ≡ length h) (given : List ℕ) (end : Adds (IsEnd x.options x.file.now t text s h r) left given) where
-      is_whole : IsView t text s h r x.options x.file.now (begun ++ given)
-      is_whole =
-          let same = ap (λ y. begun ++ y) end.is ∙ sym (append_assoc begun left end.more) in
-          let whole = end_written kind parts all end.more_are {e = Some ((begun ++ left) ++ end.more)} (record { grown = refl }) in
-          subst (IsView t text s h r x.options x.file.now) (sym whole.written.grown ∙ sym same) whole.is
+      is_whole : IsWhole (begun ++ given)
+      is_whole = subst IsWhole (append_assoc begun left end.more ∙ ap (λ y. begun ++ y) (sym end.is)) (ended has all end.more_are)
 
-      pub whole_written : (e : Option (List ℕ)) → AppendsAll b e given → IsWritten (IsView t text s h r x.options x.file.now) a e
+      pub whole_written : (e : Option (List ℕ)) → AppendsAll b e given → IsWritten IsWhole a e
       whole_written e done =
           record { text = begun ++ given; is = is_whole; written = record { grown = Appends-trans a b e begun given grown done.grown } }
 
-      pub whole_cut : (e : Option (List ℕ)) → AppendsPart b e given → IsCutShort (IsView t text s h r x.options x.file.now) a e
+      pub whole_cut : (e : Option (List ℕ)) → AppendsPart b e given → IsCutShort IsWhole a e
       whole_cut e part =
           record { text = begun ++ given; is = is_whole; written = part_then a b e begun given (record { grown = grown }) part }
 
@@ -196,11 +224,10 @@ module _ {c : Flat} {t : Program} {text : List ℕ} {s : SetupOf} {r : Report} {
         rw (made.program, has.context, has.setup) at (end text h (rw (sym made.program) at known_there) (rw (sym made.program) at made.stands) (ap (λ (y : ViewContext). y.history.now) has.context) can.outcome)
 
     -- one line more was made
-    pub parts_then : (given : List ℕ) → Adds (IsLine t text s x i) w.text.bytes.items given
-        → HasParts (IsLine t text s x) (head t text s x) (suc i) (Some []) (Some (has.begun ++ given))
-    parts_then given line =
-        part_written has.parts line.more_are
-        (record { grown = ap (λ y. has.begun ++ y) line.is ∙ sym (append_assoc has.begun w.text.bytes.items line.more) })
+    pub lines_then : (given : List ℕ) → Adds (IsLine t text s x i) w.text.bytes.items given → HasLines t text s x (suc i) (has.begun ++ given)
+    lines_then given line =
+        let same = append_assoc has.begun w.text.bytes.items line.more ∙ ap (λ y. has.begun ++ y) (sym line.is) in
+        subst (HasLines t text s x (suc i)) same (line_more t text s x has.lines line.more line.more_are)
 
     module _ (d : Call) (within : i < length h) where
       abbrev next : List Call
@@ -240,9 +267,9 @@ module _ {c : Flat} {t : Program} {text : List ℕ} {s : SetupOf} {r : Report} {
         members = rw kept.2 has.members;
         begun = has.begun ++ batch.sent;
         grown = Appends-trans a b e has.begun batch.sent has.grown batch.grown;
-        parts =
+        lines =
             let same = ap (λ y. has.begun ++ y) batch.is ∙ sym (append_assoc has.begun batch.sent left.bytes.items) in
-            rw (add-one i, ← same) (parts_then _ line);
+            rw (add-one i, ← same) (lines_then _ line);
       }
 
 -- The attempts before those that are asked for have no lines.
@@ -281,12 +308,13 @@ module _ (t : Program) (text : List ℕ) (s : SetupOf) (x : ViewContext) where
   no_line : (k : ℕ) → k < length calls → suc k ≤ skipped (filter_of x.options) (length calls) → IsLine t text s x k []
   no_line k given1 given2 = search (rules, length-take-le, early, not_asked)
 
-  module _ {head : List ℕ} {a b : Option (List ℕ)} (has : HasParts (IsLine t text s x) head 0 a b) where
-    -- so the head is a text with the lines of these attempts
-    pub none_before : (m : ℕ) → m ≤ length calls → m ≤ skipped (filter_of x.options) (length calls) → HasParts (IsLine t text s x) head m a b
-    none_before zero few before = has
-    none_before (suc m) few before =
-        part_written (none_before m (omega (arith, few)) (omega (arith, before))) (no_line m (omega (arith, few)) before) (record { grown = Appends-nil b })
+  -- so the head is a text with the lines of these attempts
+  pub none_before : {said : List ℕ} → HasLines t text s x 0 said → (m : ℕ) → m ≤ length calls → m ≤ skipped (filter_of x.options) (length calls)
+      → HasLines t text s x m said
+  none_before has zero few before = has
+  none_before {said = said} has (suc m) few before =
+      let more = line_more t text s x (none_before has m (omega (arith, few)) (omega (arith, before))) [] (no_line m (omega (arith, few)) before) in
+      subst (HasLines t text s x (suc m)) (append-nil said) more
 
 -- so a writer of the head has written the lines of these attempts, but for its text
 pub written_before : {t : Program} {text : List ℕ} {w : ViewWriter} {a : Option (List ℕ)} → let x = w.context in
@@ -300,7 +328,9 @@ written_before {t = t} {text = text} {w = w} {a = a} made few before same member
   members = members;
   begun = [];
   grown = Appends-nil a;
-  parts = none_before t text w.session.setup w.context (head_written (record { grown = same })) w.made few before;
+  lines =
+      let none : HasLines t text w.session.setup w.context 0 w.text.bytes.items = record { lines = []; are = no_parts; is = same ∙ sym (append-nil (head t text w.session.setup w.context)) } in
+      none_before t text w.session.setup w.context none w.made few before;
 }
 
 -- One thread more, and the line of globals if there are some.

@@ -29,7 +29,7 @@ pub use Rattle.bp_source.specs.declared.source_statements.SourceStatement.{Sourc
 pub use Rattle.bp_tasks.specs.declared.options.ViewFormat.{ViewFormat}
 pub use Rattle.bp_tasks.specs.declared.options.ViewFormat.TheVariants.{Columns}
 pub use Rattle.bp_tasks.specs.declared.options.ViewOptions.{ViewOptions}
-pub use Rattle.bp_text.proofs.Givings.{HasParts, IsKind, begun_as, cut_as, end_cut, end_written, head_cut, head_written, none_begun, part_cut, part_written, parts_begun, written_as}
+pub use Rattle.bp_text.proofs.Givings.{begun_as, cut_as, written_as}
 pub use Rattle.bp_text.proofs.PartsOfTexts.{both_added, item_at, one_added, one_before, one_last, one_of_parts, part_of_each, regrouped, within}
 pub use Rattle.bp_text.specs.Lines.{Adds, IsInParts, position_at}
 pub use Rattle.bp_text.specs.Pieces.{at_left, at_right, list_text, piece_text, spaces}
