@@ -12,11 +12,17 @@ use std::collections::BTreeMap;
 use std::marker::Model;
 
 /// Names in order, each of which is found by its text without a walk over the others.
-#[derive(Drop)]
 pub struct NameTable<'a> {
     names: Vec<&'a Name>,
     /// For each text the index of the first name with it.
     first: BTreeMap<&'a str, usize>,
+}
+
+// Written out, so that elsewhere a way out has one call, and not the drop of each part.
+impl Drop for NameTable<'_> {
+    fn drop(self) {
+        let NameTable { names: _, first: _ } = self;
+    }
 }
 
 impl<'a> Model for NameTable<'a> {

@@ -15,9 +15,15 @@ use std::sync::Arc;
 /// A program as flat code: one instruction for each statement, numbered from 0 in text order over
 /// all procedures, and one return after each procedure's statements. Each instruction names its
 /// successors. A code has the well-formed program that it stands for. Copies of a code share it.
-#[derive(Drop)]
 pub struct Code {
     parts: Arc<Parts, Global>,
+}
+
+// Written out, so that elsewhere a way out has one call, and not the drop of each part.
+impl Drop for Code {
+    fn drop(self) {
+        let Code { parts: _ } = self;
+    }
 }
 
 /// The parts of a code.

@@ -29,12 +29,23 @@ pub(crate) struct Judged {
 
 /// A session of guest threads: a code, a setup, and the machine after the attempts that were
 /// answered. If the setup has a seed, it has the choices of each thread.
-#[derive(Drop)]
 pub struct Session {
     code: Code,
     setup: Setup,
     machine: Machine,
     choices: Vec<Choices>,
+}
+
+// Written out, so that elsewhere a way out has one call, and not the drop of each part.
+impl Drop for Session {
+    fn drop(self) {
+        let Session {
+            code: _,
+            setup: _,
+            machine: _,
+            choices: _,
+        } = self;
+    }
 }
 
 impl Model for Session {

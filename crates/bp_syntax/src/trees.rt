@@ -11,9 +11,15 @@ use std::marker::Model;
 use std::sync::Arc;
 
 /// The tree of a program text that was read. Copies of a tree share it.
-#[derive(Drop)]
 pub struct Tree {
     parts: Arc<Parts, Global>,
+}
+
+// Written out, so that elsewhere a way out has one call, and not the drop of each part.
+impl Drop for Tree {
+    fn drop(self) {
+        let Tree { parts: _ } = self;
+    }
 }
 
 /// The parts of a tree.
