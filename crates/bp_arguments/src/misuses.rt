@@ -10,7 +10,7 @@ use clap::parser::ValueSource;
 use std::alloc::{AllocError, Global};
 
 /// An option that clashes with another one.
-#[derive(Clone, Copy, Debug, PartialEq, Eq)]
+#[derive(Clone, Copy)]
 pub enum OptionName {
     At,
     Contexts,
@@ -32,7 +32,7 @@ pub enum OptionName {
 }
 
 /// An error in options that are valid one by one.
-#[derive(Clone, Copy, Debug, PartialEq, Eq)]
+#[derive(Clone, Copy)]
 pub enum Misuse {
     /// The initial bits are neither bits nor different names with bits.
     BadInit,

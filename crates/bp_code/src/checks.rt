@@ -109,7 +109,7 @@ pub(crate) fn least(a: Option<Found>, b: Option<Found>) -> Option<Found>
 }
 
 /// An error at a place of the text.
-#[derive(Clone, Copy, Debug, PartialEq, Eq)]
+#[derive(Clone, Copy)]
 pub struct Found {
     pub error: CheckError,
     /// The offset of the byte at which the name begins.

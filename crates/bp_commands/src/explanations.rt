@@ -27,7 +27,7 @@ pub(crate) struct NamedText<'a> {
 }
 
 /// The kind of the second input.
-#[derive(Clone, Copy, Debug, PartialEq, Eq)]
+#[derive(Clone, Copy)]
 pub enum SecondInput {
     Schedule,
     Steps,

@@ -13,7 +13,7 @@ const NOT_MADE: u8 = 4;
 const UNFINISHED: u8 = 5;
 
 /// The kind of an exploration's finding.
-#[derive(Clone, Copy, PartialEq, Eq, Debug)]
+#[derive(Clone, Copy)]
 pub enum FoundKind {
     Nothing,
     Failure,

@@ -71,7 +71,7 @@ impl CommandAnswer for RunReport {
 }
 
 /// The outcome of the explanation of a refusal.
-#[derive(Clone, Copy, Debug, PartialEq, Eq)]
+#[derive(Clone, Copy)]
 pub struct Explained {
     /// Whether there was memory for its lines, or for its sentence in an object. Otherwise the
     /// sentence of the error is in its place.
@@ -89,7 +89,7 @@ impl Explained {
 }
 
 /// The end of a run, and whether its text on standard error was written.
-#[derive(Clone, Copy, Debug, PartialEq, Eq)]
+#[derive(Clone, Copy)]
 pub struct RunEnd {
     /// The exit status. It does not depend on the other parts.
     pub status: u8,

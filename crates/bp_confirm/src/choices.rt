@@ -99,7 +99,7 @@ pub(crate) fn inferred_bit(
 }
 
 /// The choice bit of a thread at a `?` of its last step.
-#[derive(Clone, Copy, Debug, PartialEq, Eq)]
+#[derive(Clone, Copy)]
 pub struct LastChoice {
     /// The thread, from 0.
     pub thread: u32,

@@ -16,7 +16,7 @@ use std::alloc::{AllocError, Global};
 use thiserror::Error;
 
 /// Why a text of steps is not confirmed: the first reason that applies. Lines are counted from 1.
-#[derive(Clone, Copy, Debug, PartialEq, Eq, Error)]
+#[derive(Clone, Copy, Debug, Error)]
 pub enum ConfirmError {
     /// The text has more than 67,108,864 bytes.
     #[error("the steps are too long")]
@@ -140,7 +140,7 @@ pub enum StepReason {
 }
 
 /// The first step that is not taken.
-#[derive(Clone, Copy, Debug, PartialEq, Eq)]
+#[derive(Clone, Copy, Debug)]
 pub struct StepRefusal {
     /// Its line, from 1.
     pub line: u32,

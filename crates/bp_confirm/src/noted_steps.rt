@@ -21,7 +21,7 @@ use std::alloc::{AllocError, Global};
 use std::io::Write;
 
 /// A step: its thread, and the thread's place before it.
-#[derive(Clone, Copy, Debug, PartialEq, Eq)]
+#[derive(Clone, Copy)]
 pub struct OwnStep {
     /// The thread, from 0.
     pub thread: u32,

@@ -163,7 +163,7 @@ pub fn explore_through<O: Observer, P: Watcher>(
 }
 
 /// The kind of a finding.
-#[derive(Clone, Copy, Debug, PartialEq, Eq)]
+#[derive(Clone, Copy)]
 pub enum Finding {
     /// A false assertion.
     Failure,
@@ -171,7 +171,7 @@ pub enum Finding {
 }
 
 /// Why an exploration is incomplete.
-#[derive(Clone, Copy, Debug, PartialEq, Eq)]
+#[derive(Clone, Copy)]
 pub enum Reason {
     /// The limit of states was reached.
     States,

@@ -25,7 +25,7 @@ pub trait Observer {
 }
 
 /// Looks for a false assertion.
-#[derive(Clone, Copy, Debug, PartialEq, Eq)]
+#[derive(Clone, Copy)]
 pub(crate) struct Failures;
 
 impl Observer for Failures {
@@ -68,7 +68,7 @@ pub(crate) fn made_with<O: Observer>(observer: &O, made: u32, step: &SeenStep) -
 }
 
 /// The seen part of a step of a thread.
-#[derive(Clone, Copy, Debug, PartialEq, Eq)]
+#[derive(Clone, Copy)]
 pub struct SeenStep {
     pub thread: u32,
     /// The top of its stack before the step. None if the stack is empty.

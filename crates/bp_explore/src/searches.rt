@@ -10,7 +10,7 @@ use bp_machine::{Reply, Setup};
 use std::alloc::AllocError;
 
 /// How a search ends.
-#[derive(Clone, Copy, Debug, PartialEq, Eq)]
+#[derive(Clone, Copy)]
 pub(crate) enum SearchEnd {
     /// The layer after `last` has no new state.
     Closed {

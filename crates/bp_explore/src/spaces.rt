@@ -14,7 +14,7 @@ use bp_machine::{Call, Reply, Transition};
 use std::alloc::{AllocError, Global};
 
 /// A step of a thread from a node.
-#[derive(Clone, Copy, Debug, PartialEq, Eq)]
+#[derive(Clone, Copy)]
 pub(crate) struct Step {
     pub(crate) from: usize,
     thread: u32,
@@ -33,7 +33,7 @@ impl Step {
 }
 
 /// Why a layer stops.
-#[derive(Clone, Copy, Debug, PartialEq, Eq)]
+#[derive(Clone, Copy)]
 pub(crate) enum Stop {
     /// This step makes the last of the listed steps.
     Found { step: Step, reply: Reply },

@@ -8,7 +8,7 @@ use crate::instrs::Instr;
 use crate::stores::Store;
 
 /// The effect of an instruction on its thread.
-#[derive(Clone, Copy, Debug, PartialEq, Eq)]
+#[derive(Clone, Copy)]
 pub enum Effect {
     /// The topmost frame continues at `next`, and the globals and its locals are these.
     Continues {

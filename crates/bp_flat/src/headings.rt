@@ -8,7 +8,7 @@ use std::marker::Model;
 
 /// A procedure: its name, its numbers of formals and of declared locals, and the number of its
 /// first instruction.
-#[derive(Debug, Drop)]
+#[derive(Drop)]
 pub struct Heading {
     name: String,
     formals: u32,

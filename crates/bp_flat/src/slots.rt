@@ -10,7 +10,7 @@ use std::marker::Model;
 
 /// An index among the globals, or among the formals and then the locals of a procedure, for which a
 /// word of bits has a slot.
-#[derive(Clone, Copy, Debug, PartialEq, Eq)]
+#[derive(Clone, Copy)]
 pub struct Index {
     number: u8,
 }
@@ -47,7 +47,7 @@ impl Index {
 }
 
 /// A variable by its slot.
-#[derive(Clone, Copy, Debug, PartialEq, Eq)]
+#[derive(Clone, Copy)]
 pub enum Slot {
     Global(Index),
     Local(Index),
@@ -84,7 +84,7 @@ impl Slot {
 }
 
 /// Variables in order, as the left side of an assignment has them.
-#[derive(Debug, Drop)]
+#[derive(Drop)]
 pub struct Slots {
     items: Vec<Slot>,
 }

@@ -7,7 +7,7 @@ ghost use Rattle.bp_flat.specs.InstrEffects.{bits_of};
 
 /// The bits of the globals, and of the locals of one frame: the bit of the slot k has the weight
 /// 2 to the k.
-#[derive(Clone, Copy, Debug, PartialEq, Eq)]
+#[derive(Clone, Copy, PartialEq, Eq)]
 pub struct Store {
     pub globals: u128,
     pub locals: u128,

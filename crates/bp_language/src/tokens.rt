@@ -1,7 +1,7 @@
 //! The kinds of lexemes and of tokens.
 
 /// The kind of a lexeme. Reserved words are identifiers here.
-#[derive(Clone, Copy, Debug, PartialEq, Eq)]
+#[derive(Clone, Copy, PartialEq, Eq)]
 pub enum LexemeKind {
     White,
     Comment,
@@ -12,7 +12,7 @@ pub enum LexemeKind {
 }
 
 /// The kind of a token: a name, a constant, a symbol or a reserved word.
-#[derive(Clone, Copy, Debug, PartialEq, Eq)]
+#[derive(Clone, Copy, PartialEq, Eq)]
 pub enum TokenKind {
     Name,
     Zero,

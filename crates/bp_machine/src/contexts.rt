@@ -4,7 +4,7 @@ ghost use Rattle.bp_machine.specs.Histories.{IsWithin};
 ghost use Rattle.bp_machine.specs.Sessions.{used_with, count_with, IsCountOf};
 
 /// The number of contexts of the steps so far, and the last step's thread.
-#[derive(Clone, Copy, PartialEq, Eq)]
+#[derive(Clone, Copy)]
 pub(crate) struct ContextCount {
     pub(crate) used: u32,
     pub(crate) last: Option<u32>,

@@ -7,7 +7,7 @@ use std::alloc::{AllocError, Global};
 use std::marker::Model;
 
 /// A call that has not returned: the number of its next instruction, and the word of its locals.
-#[derive(Clone, Copy, Debug, PartialEq, Eq)]
+#[derive(Clone, Copy)]
 pub struct ActivationRecord {
     pub number: u32,
     pub locals: u128,

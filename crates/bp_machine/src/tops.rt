@@ -2,7 +2,7 @@
 use bp_flat::Store;
 
 /// The top of a thread's stack, or of the rest of it after its topmost calls have returned.
-#[derive(Clone, Copy, Debug, PartialEq, Eq)]
+#[derive(Clone, Copy, PartialEq, Eq)]
 pub struct Top {
     /// The number of the next instruction.
     pub number: u32,

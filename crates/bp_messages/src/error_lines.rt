@@ -84,7 +84,7 @@ pub fn show_error<W: Write>(error: &Error, out: &mut W) -> Result<(), WriteError
 }
 
 /// Why an input is not read.
-#[derive(Clone, Copy, Debug, PartialEq, Eq, Error)]
+#[derive(Clone, Copy, Debug, Error)]
 pub enum InputError {
     /// It could not be opened, or a read failed.
     #[error("the input could not be read")]

@@ -19,7 +19,7 @@ use thiserror::Error;
 
 /// Why a command is refused: the first reason that applies, `Memory` aside. Refused memory is one
 /// value, whichever library reports it. So are a failed write and an input that is too long.
-#[derive(Debug, Drop, PartialEq, Eq, Error)]
+#[derive(Debug, Drop, Error)]
 pub enum Error {
     /// An input could not be read.
     #[error("the file could not be read")]

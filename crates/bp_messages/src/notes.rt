@@ -13,7 +13,7 @@ use bp_text::{Piece, Sink};
 use std::io::Write;
 
 /// The caveats of a test's result. All but the first are for tests that found nothing.
-#[derive(Clone, Copy, Debug, PartialEq, Eq)]
+#[derive(Clone, Copy)]
 struct Notes {
     /// Runs ended in a deadlock, and the test did not search for one.
     deadlocked: bool,

@@ -131,7 +131,7 @@ pub(crate) fn first_lexeme(text: &[u8], nameless: usize) -> FirstLexeme
 }
 
 /// A lexeme of a text: the longest that fits at its place, or one byte if none fits.
-#[derive(Clone, Copy, Debug)]
+#[derive(Clone, Copy)]
 pub struct Lexeme<'a> {
     /// The kind of the lexeme, or `None` for a byte that begins no lexeme.
     pub kind: Option<LexemeKind>,

@@ -25,7 +25,7 @@ impl Model for RunOptions {
 }
 
 /// The ends for which a test searches, and the number of its runs.
-#[derive(Clone, Copy, Debug, PartialEq, Eq)]
+#[derive(Clone, Copy)]
 pub struct TestOptions {
     /// The seed of the first run. Each other run has the seed after that of the run before it.
     pub seed: u64,
@@ -42,7 +42,7 @@ pub struct TestOptions {
 }
 
 /// The ends for which an exploration searches, and its limits.
-#[derive(Clone, Copy, Debug, PartialEq, Eq)]
+#[derive(Clone, Copy)]
 pub struct ExploreOptions {
     /// The contexts within which runs are explored: as many as the setup allows, or any number.
     pub bound: ContextBound,

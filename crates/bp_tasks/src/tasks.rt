@@ -211,7 +211,7 @@ impl Task<'_> {
 }
 
 /// The form of a listing.
-#[derive(Clone, Copy, Debug, PartialEq, Eq)]
+#[derive(Clone, Copy)]
 pub enum ListingForm {
     /// A line for each procedure and each instruction.
     Lines,
@@ -222,7 +222,7 @@ pub enum ListingForm {
 }
 
 /// The bound on the contexts of reported steps, or of the runs of an exploration.
-#[derive(Clone, Copy, Debug, PartialEq, Eq)]
+#[derive(Clone, Copy)]
 pub enum ContextBound {
     /// As many as the setup allows.
     Kept,
@@ -231,7 +231,7 @@ pub enum ContextBound {
 }
 
 /// The end of the run of confirmed steps.
-#[derive(Clone, Copy, Debug, PartialEq, Eq)]
+#[derive(Clone, Copy)]
 pub enum Verdict {
     /// An assertion fails at the last step.
     Failure,
@@ -242,7 +242,7 @@ pub enum Verdict {
 }
 
 /// The form in which a refusal is reported on standard error.
-#[derive(Clone, Copy, Debug, PartialEq, Eq)]
+#[derive(Clone, Copy)]
 pub enum ErrorFormat {
     /// The line of the error.
     Line,
@@ -263,7 +263,7 @@ impl ErrorFormat {
 
 /// When lines that explain an error follow its line. If neither is asked for, they do on a standard
 /// error that is a terminal.
-#[derive(Clone, Copy, Debug, PartialEq, Eq)]
+#[derive(Clone, Copy)]
 pub struct Explaining {
     /// Whether each error is to be explained.
     pub always: bool,

@@ -7,7 +7,7 @@ ghost use Rattle.bp_text.specs.Lines.{first_line, on_one_line, AddsOneLine, posi
 use std::alloc::AllocError;
 
 /// A line, without its line feed.
-#[derive(Clone, Copy, Debug)]
+#[derive(Clone, Copy)]
 pub struct Line<'a> {
     pub text: &'a [u8],
     /// Whether a line feed follows it. Only the last line of a text may have none.

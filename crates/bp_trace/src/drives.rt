@@ -116,7 +116,7 @@ pub fn drive<W: Write>(
 }
 
 /// A line of a schedule: the thread that makes an attempt, and its choice bit.
-#[derive(Clone, Copy, Debug, PartialEq, Eq)]
+#[derive(Clone, Copy)]
 pub struct ScheduleLine {
     /// The thread, from 0.
     pub thread: u32,

@@ -13,7 +13,7 @@ use bp_machine::{AskError, Call, Reply, Session};
 use std::alloc::AllocError;
 
 /// The output of a granted step at a `print`: its thread, and the values before the step.
-#[derive(Debug, Drop)]
+#[derive(Drop)]
 pub struct Printed {
     pub thread: u32,
     pub values: Vec<bool>,

@@ -136,7 +136,7 @@ pub trait Watcher {
 }
 
 /// A watcher that only makes the attempts.
-#[derive(Clone, Copy, Debug, Drop)]
+#[derive(Clone, Copy, Drop)]
 pub struct Unwatched;
 
 impl Watcher for Unwatched {
