@@ -85,14 +85,15 @@ impl<'a> RefusedName<'a> {
 
     /// Gives the most names of its kind.
     fn limit(&self) -> Result<String, AllocError> {
-        let (alloc, tree) = (self.alloc, self.tree);
-        let is_here = |name: &Name| name.at() as usize == self.at;
-        if tree.globals().iter().any(is_here) {
-            format!(in alloc; "a program has at most {MAX_GLOBALS} globals")
-        } else if tree.procs().iter().any(|proc| is_here(proc.name())) {
-            format!(in alloc; "a program has at most {MAX_PROCEDURES} procedures")
-        } else {
-            format!(in alloc; "a procedure has at most {MAX_OWN_NAMES} formals and locals together")
+        let alloc = self.alloc;
+        match procedure_around(self.tree, self.at) {
+            None => format!(in alloc; "a program has at most {MAX_GLOBALS} globals"),
+            Some(proc) if proc.name().at() as usize == self.at => {
+                format!(in alloc; "a program has at most {MAX_PROCEDURES} procedures")
+            }
+            Some(_) => format!(in alloc;
+                "a procedure has at most {MAX_OWN_NAMES} formals and locals together"
+            ),
         }
     }
 
@@ -106,10 +107,8 @@ impl<'a> RefusedName<'a> {
             }
             CheckError::TwiceProcedure => {
                 let sentence = format!(in alloc; "there are two procedures {name}")?;
-                self.twice(
-                    first_procedure(tree, self.name).map(|proc| proc.name()),
-                    sentence,
-                )
+                let first = first_procedure(tree, self.name).map(|proc| proc.name());
+                self.twice(first, sentence)
             }
             CheckError::TwiceLocal => self.twice_local(),
             CheckError::TwiceLabel => {

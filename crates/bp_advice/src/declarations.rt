@@ -18,25 +18,44 @@ pub fn tree_of(alloc: Global, text: &[u8]) -> Result<Option<Tree>, AllocError> {
 
 /// Returns the first of the names with this text.
 pub(crate) fn first_named<'a>(names: &'a [Name], spelling: &[u8]) -> Option<&'a Name> {
-    names.iter().find(|name| name.text().as_bytes() == spelling)
+    for name in names {
+        if name.text().as_bytes() == spelling {
+            return Some(name);
+        }
+    }
+    None
 }
 
 /// Returns the first of the procedures with this name.
 pub fn first_procedure<'a>(tree: &'a Tree, spelling: &[u8]) -> Option<&'a Proc> {
-    tree.procs()
-        .iter()
-        .find(|proc| proc.name().text().as_bytes() == spelling)
+    for proc in tree.procs() {
+        if proc.name().text().as_bytes() == spelling {
+            return Some(proc);
+        }
+    }
+    None
 }
 
 /// Returns the procedure in whose text this place is.
 pub(crate) fn procedure_around(tree: &Tree, at: usize) -> Option<&Proc> {
-    tree.procs()
-        .iter()
-        .rfind(|proc| proc.name().at() as usize <= at)
+    let mut around = None;
+    for proc in tree.procs() {
+        if proc.name().at() as usize <= at {
+            around = Some(proc);
+        }
+    }
+    around
 }
 
-fn is_comma(token: &[u8]) -> bool {
-    token == b",".as_slice()
+/// Returns the number of items of a list, with commas between them.
+fn count_of(list: &[&[u8]]) -> usize {
+    let mut count: usize = 1;
+    for token in list {
+        if *token == b",".as_slice() {
+            count = count.saturating_add(1);
+        }
+    }
+    count
 }
 
 /// The number of tokens of a call without arguments: its name and two brackets.
@@ -45,17 +64,16 @@ const BARE_CALL: usize = 3;
 impl<'a> RefusedName<'a> {
     /// Returns the text of the procedure around the name: up to the name of the next one.
     pub(crate) fn text_of_procedure(&self) -> &'a [u8] {
-        let place_of = |proc: &Proc| proc.name().at() as usize;
-        let from = procedure_around(self.tree, self.at).map_or(0, place_of);
-        let next = self
-            .tree
-            .procs()
-            .iter()
-            .find(|proc| place_of(proc) > self.at);
-        part_from(
-            part_before(self.text, next.map_or(self.text.len(), place_of)),
-            from,
-        )
+        let (mut from, mut to) = (0, self.text.len());
+        for proc in self.tree.procs() {
+            let place = proc.name().at() as usize;
+            if place <= self.at {
+                from = place;
+            } else {
+                to = place.min(to);
+            }
+        }
+        part_from(part_before(self.text, to), from)
     }
 
     /// Returns the tokens of the statement that the name begins, up to its `;`.
@@ -73,21 +91,14 @@ impl<'a> RefusedName<'a> {
         if call.len() <= BARE_CALL {
             return Ok(0);
         }
-        let commas = call.iter().filter(|token| is_comma(token)).count();
-        Ok(commas.saturating_add(1))
+        Ok(count_of(&call))
     }
 
     /// Returns the numbers of variables and of values of the assignment that the name begins.
     pub(crate) fn side_counts(&self) -> Result<(usize, usize), AllocError> {
         let tokens = self.statement()?;
         let mut sides = tokens.split(|token| *token == b":=".as_slice());
-        let mut count = || {
-            let side = sides.next().unwrap_or(&[]);
-            side.iter()
-                .filter(|token| is_comma(token))
-                .count()
-                .saturating_add(1)
-        };
-        Ok((count(), count()))
+        let (left, right) = (sides.next().unwrap_or(&[]), sides.next().unwrap_or(&[]));
+        Ok((count_of(left), count_of(right)))
     }
 }

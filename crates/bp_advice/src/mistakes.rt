@@ -46,10 +46,8 @@ fn is_statement_due(offers: &[Offer]) -> bool {
         && !has_token(offers, Od)
 }
 
-/// Returns whether a body ends with the word.
-fn ends_body(token: &[u8]) -> bool {
-    matches!(token, b"end" | b"else" | b"fi" | b"od")
-}
+/// The words that end a body.
+const BODY_ENDS: &[&[u8]] = &[b"end", b"else", b"fi", b"od"];
 
 /// The words by which other languages begin a declaration.
 const TYPES: &[&[u8]] = &[
@@ -92,9 +90,9 @@ fn statement_mistake(offers: &[Offer], context: &Context<'_>) -> Option<Mistake>
     let is_else_if = matches!(context.called, b"elsif" | b"elif" | b"elseif" | b"elsf");
     if context.found == b"then".as_slice() && is_else_if {
         Some(Mistake::Other("there is no 'elsif': nest an 'if' in 'else'"))
-    } else if ends_body(context.found) && has_token(offers, Else) {
+    } else if BODY_ENDS.contains(&context.found) && has_token(offers, Else) {
         Some(Mistake::Other("each 'if' has an 'else': write 'else skip; fi'"))
-    } else if ends_body(context.found) && is_statement_due(offers) {
+    } else if BODY_ENDS.contains(&context.found) && is_statement_due(offers) {
         Some(Mistake::Other("write 'skip;' where there is nothing to do"))
     } else if context.before == b"return".as_slice() && has_token(offers, Semicolon) {
         Some(Mistake::Other("'return' has no value: assign it to a global, then 'return;'"))

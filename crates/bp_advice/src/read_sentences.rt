@@ -54,10 +54,8 @@ fn bad_byte(alloc: Global, text: &[u8], at: usize) -> Result<String, AllocError>
     let byte = text.get(at).copied().unwrap_or(0);
     let hint = hint_after(tokens_around(alloc, text, at)?.before, byte);
     if byte.is_ascii_graphic() {
-        format!(in alloc;
-            "nothing in a program begins with '{}'{hint}",
-            char::from(byte)
-        )
+        let byte = char::from(byte);
+        format!(in alloc; "nothing in a program begins with '{byte}'{hint}")
     } else {
         format!(in alloc; "nothing in a program begins with the byte {byte}{hint}")
     }

@@ -57,9 +57,8 @@ fn error_with_usage(
     let Some(command) = command_named(name.as_str()) else {
         return Ok(None);
     };
-    let command = with_help(alloc, command)?;
     let called = format!(in alloc; "{} {}", program_of(path.as_str()), name.as_str())?;
-    let mut command = command.bin_name(called.as_str())?;
+    let mut command = with_help(alloc, command)?.bin_name(called.as_str())?;
     Ok(Some(command.error(kind, message)?))
 }
 
@@ -116,10 +115,8 @@ const PROGRAM_ENDING: &str = ".bp";
 
 /// Returns whether the word is a number below 0.
 fn is_below_zero(word: &str) -> bool {
-    match word.strip_prefix("-") {
-        Some(digits) => !digits.is_empty() && digits.bytes().all(|byte| byte.is_ascii_digit()),
-        None => false,
-    }
+    let digits = word.strip_prefix("-").unwrap_or("");
+    !digits.is_empty() && digits.bytes().all(|byte| byte.is_ascii_digit())
 }
 
 /// Returns the range of an option.

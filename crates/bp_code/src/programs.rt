@@ -108,6 +108,5 @@ fn compile_program(
         let headings = headings.as_slice();
         emit_proc(&mut instrs, &global_names, &proc_names, headings, proc)?;
     }
-    let code = Code::new(alloc, headings, globals.len() as u32, instrs, checked)?;
-    Ok(code)
+    Code::new(alloc, headings, globals.len() as u32, instrs, checked)
 }

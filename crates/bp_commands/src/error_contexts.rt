@@ -15,35 +15,35 @@ use bp_text::push_displayed;
 use bp_view::watched_names;
 use std::alloc::{AllocError, Global};
 
-/// The numbers among the options of a command that have a range, apart from those of its start.
-#[derive(Clone, Copy, PartialEq, Eq)]
+/// The numbers among the options of a command that have a range, apart from those of its start. One
+/// that the command does not take is within it.
+#[derive(Clone, Copy)]
 pub struct OptionNumbers {
-    turn: Option<u32>,
-    ring: Option<u32>,
-    jobs: Option<u32>,
+    turn: u32,
+    ring: u32,
+    jobs: u32,
 }
 
 impl OptionNumbers {
     /// There are none.
     pub(crate) const NONE: OptionNumbers = OptionNumbers {
-        turn: None,
-        ring: None,
-        jobs: None,
+        turn: 1,
+        ring: 1,
+        jobs: 0,
     };
 
     pub(crate) fn of_run(options: &RunOptions) -> OptionNumbers {
         OptionNumbers {
-            turn: Some(options.turn),
-            ring: Some(options.ring),
-            jobs: None,
+            turn: options.turn,
+            ring: options.ring,
+            ..OptionNumbers::NONE
         }
     }
 
     pub(crate) fn of_test(options: &TestOptions) -> OptionNumbers {
         OptionNumbers {
-            turn: None,
-            ring: None,
-            jobs: Some(options.jobs),
+            jobs: options.jobs,
+            ..OptionNumbers::NONE
         }
     }
 }
@@ -51,8 +51,7 @@ impl OptionNumbers {
 /// Returns the sentence on the option whose number is out of its range, with that range.
 fn of_numbers(alloc: Global, start: &Start, numbers: OptionNumbers) -> Option<String> {
     let (contexts, calls) = (start.contexts, start.calls);
-    let (turn, ring) = (numbers.turn.unwrap_or(1), numbers.ring.unwrap_or(1));
-    let jobs = numbers.jobs.unwrap_or(0);
+    let OptionNumbers { turn, ring, jobs } = numbers;
     let sentence = if contexts > MAX_CONTEXTS {
         format!(in alloc; "--contexts {contexts}: at most {MAX_CONTEXTS} are allowed")
     } else if calls == 0 || calls > MAX_CALLS {
@@ -121,26 +120,15 @@ fn of_start(alloc: Global, asked: Asked<'_, '_>, error: SetupError) -> Option<Ve
     }
 }
 
-/// Returns the sentence on the watched name of this number, from 1. No variable has that name.
-fn of_watch(alloc: Global, asked: Asked<'_, '_>, number: u64) -> Option<Vec<u8>> {
-    let names = watched_names(alloc, asked.watch).ok()?;
-    let name = names.get((number as usize).checked_sub(1)?)?;
-    variable_sentence(alloc, asked.program, name).ok()
-}
-
-/// Returns the sentence on the global of this number, from 1, among those that have their bits by
-/// name. No global has that name.
-fn of_named(alloc: Global, asked: Asked<'_, '_>, number: u64) -> Option<Vec<u8>> {
-    let name = asked.start?.named.name((number as usize).checked_sub(1)?)?;
-    global_sentence(alloc, asked.program, name).ok()
-}
-
-/// Returns the sentence on the name of this number, from 1; a command has them in one option.
+/// Returns the sentence on the name of this number, from 1: a watched variable, or else a global that
+/// has its bit by name. A command has names in one option, and nothing of the program has this one.
 fn of_name(alloc: Global, asked: Asked<'_, '_>, number: u64) -> Option<Vec<u8>> {
-    match asked.watch {
-        Some(_) => of_watch(alloc, asked, number),
-        None => of_named(alloc, asked, number),
+    let place = (number as usize).checked_sub(1)?;
+    if asked.watch.is_none() {
+        return global_sentence(alloc, asked.program, asked.start?.named.name(place)?).ok();
     }
+    let names = watched_names(alloc, asked.watch).ok()?;
+    variable_sentence(alloc, asked.program, names.get(place)?).ok()
 }
 
 /// The sentence on a bundle without a program.
@@ -163,10 +151,7 @@ pub(crate) struct ErrorContext<'a, 't> {
 impl ErrorContext<'_, '_> {
     /// Returns whether the file of this name could not be opened or read.
     pub(crate) fn is_unread(&self, name: &str) -> bool {
-        match self.unread {
-            Some(unread) => unread.name == name,
-            None => false,
-        }
+        matches!(self.unread, Some(unread) if unread.name == name)
     }
 
     /// Returns the sentence on an error of a file or of a number, if there is more to say.

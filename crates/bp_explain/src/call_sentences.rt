@@ -67,15 +67,14 @@ impl RefusedLine<'_, '_> {
     /// Gives the position of the thread of an attempt, with the values that its statement reads.
     fn standing(&self, thread: u32) -> Result<String, AllocError> {
         let alloc = self.alloc;
-        let nothing = String::new(alloc);
         let Some(source) = &source_of(alloc, self.program)? else {
-            return Ok(nothing);
+            return Ok(String::new(alloc));
         };
         let Some(accepted) = self.accepted_part(&source.code)? else {
-            return Ok(nothing);
+            return Ok(String::new(alloc));
         };
         let Some(session) = &session_after(alloc, source, &accepted.trace)? else {
-            return Ok(nothing);
+            return Ok(String::new(alloc));
         };
         let here = ThreadPlaceText(self.program, thread_place_of(source, session, thread));
         let read = values(alloc, source, session, thread)?;

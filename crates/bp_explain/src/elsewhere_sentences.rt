@@ -163,9 +163,7 @@ impl RefusedStep<'_> {
         let Some(thread) = other else {
             return Ok(missing);
         };
-        format!(in alloc;
-            "; thread {thread} is at {}{missing}",
-            Located(self.refusal.location)
-        )
+        let there = Located(self.refusal.location);
+        format!(in alloc; "; thread {thread} is at {there}{missing}")
     }
 }

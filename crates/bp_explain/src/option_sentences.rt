@@ -37,14 +37,22 @@ fn possible_entries(alloc: Global, tree: &Tree) -> Result<String, AllocError> {
     format!(in alloc; "; name an entry for each thread: {list}")
 }
 
+/// Returns the entry of a thread, or an empty name without one.
+fn entry_of(start: &Start, thread: u32) -> &str {
+    match start.entries.get(thread as usize) {
+        Some(entry) => entry.as_str(),
+        None => "",
+    }
+}
+
 /// Says that the entry of a thread is not a procedure.
 fn unknown_entry(
     alloc: Global,
     tree: &Tree,
     start: &Start,
     thread: u32,
-    entry: &str,
 ) -> Result<Vec<u8>, AllocError> {
+    let entry = entry_of(start, thread);
     if start.entries.len() == 1 && entry == DEFAULT_ENTRY {
         let others = possible_entries(alloc, tree)?;
         return with_name(
@@ -61,6 +69,9 @@ fn unknown_entry(
 
 /// Lists the globals, after their number.
 fn globals_of(alloc: Global, globals: &[Name]) -> Result<String, AllocError> {
+    if globals.is_empty() {
+        return format!(in alloc; "there are no globals");
+    }
     let mut names = Vec::new(alloc);
     for name in globals {
         names.push(name.text())?;
@@ -69,11 +80,8 @@ fn globals_of(alloc: Global, globals: &[Name]) -> Result<String, AllocError> {
         Count(globals.len(), "global"),
         listed(alloc, names.as_slice())?,
     );
-    match globals.len() {
-        0 => format!(in alloc; "there are no globals"),
-        1 => format!(in alloc; "there is {count}: {list}"),
-        _ => format!(in alloc; "there are {count}: {list}"),
-    }
+    let verb = if globals.len() == 1 { "is" } else { "are" };
+    format!(in alloc; "there {verb} {count}: {list}")
 }
 
 /// Says that there are not as many initial bits as globals.
@@ -94,26 +102,19 @@ pub fn start_sentence(
     start: &Start,
     error: SetupError,
 ) -> Result<Vec<u8>, AllocError> {
-    let nothing = Vec::new(alloc);
     let Some(tree) = &tree_of(alloc, program)? else {
-        return Ok(nothing);
+        return Ok(Vec::new(alloc));
     };
-    let entry_of = |thread: u32| start.entries.get(thread as usize);
     match error {
-        SetupError::UnknownEntry(thread) => match entry_of(thread) {
-            Some(entry) => unknown_entry(alloc, tree, start, thread, entry),
-            None => Ok(nothing),
-        },
-        SetupError::EntryHasFormals(thread) => match entry_of(thread) {
-            Some(entry) => {
-                let before = format!(in alloc; "thread {thread}:")?;
-                let formals = formals_of(alloc, tree, entry.as_bytes())?;
-                with_name(alloc, before.as_str(), entry.as_bytes(), formals.as_str())
-            }
-            None => Ok(nothing),
-        },
+        SetupError::UnknownEntry(thread) => unknown_entry(alloc, tree, start, thread),
+        SetupError::EntryHasFormals(thread) => {
+            let entry = entry_of(start, thread).as_bytes();
+            let before = format!(in alloc; "thread {thread}:")?;
+            let formals = formals_of(alloc, tree, entry)?;
+            with_name(alloc, before.as_str(), entry, formals.as_str())
+        }
         SetupError::InitLength => init_length(alloc, tree, start),
-        _ => Ok(nothing),
+        _ => Ok(Vec::new(alloc)),
     }
 }
 

@@ -6,7 +6,7 @@ ghost use Rattle.bp_explain.specs.ExplainedErrors.{ExplainsSchedule};
 use crate::sources::{Source, lines_before, setup_of, source_of};
 use bp_advice::{ENDS_IN_CR_LF, Explanation, Quoted, about_line, ends_in_cr_lf, number_at_front};
 use bp_machine::limits::MAX_FRAMES;
-use bp_machine::{Reply, Start};
+use bp_machine::{Call, Reply, Start};
 use bp_text::{Line, line_of};
 use bp_trace::{DriveError, ReplayError, drive, replay};
 use std::alloc::{AllocError, Global};
@@ -29,6 +29,17 @@ fn line_sentence(alloc: Global, line: Line<'_>) -> Result<String, AllocError> {
     }
 }
 
+/// Returns the line of the last attempt of a thread in this history, and the reply to it.
+fn last_of(history: &[Call], thread: u32) -> Option<(usize, Reply)> {
+    let mut last = None;
+    for (index, call) in history.iter().enumerate() {
+        if call.thread == thread {
+            last = Some((index.saturating_add(1), call.reply));
+        }
+    }
+    last
+}
+
 /// Returns the line of the last attempt of a thread on these lines of a schedule, and the reply to
 /// it, in the runs of a program from this start; None if the program, start or a line is refused.
 fn last_call(
@@ -45,19 +56,16 @@ fn last_call(
         return Ok(None);
     };
     let mut trace = Vec::new(alloc);
-    match drive(alloc, code, &setup, lines, &mut trace) {
-        Ok(_) => {}
-        Err(DriveError::Memory | DriveError::Write) => return Err(AllocError),
-        Err(_) => return Ok(None),
+    // If a line is refused, nothing is written, and then nothing is replayed.
+    let driven = drive(alloc, code, &setup, lines, &mut trace);
+    if let Err(DriveError::Memory | DriveError::Write) = driven {
+        return Err(AllocError);
     }
-    let history = match replay(alloc, code, &trace) {
-        Ok(replayed) => replayed.history,
-        Err(ReplayError::Memory) => return Err(AllocError),
-        Err(_) => return Ok(None),
-    };
-    let mut calls = history.iter().enumerate();
-    let last = calls.rfind(|(_, call)| call.thread == thread);
-    Ok(last.map(|(index, call)| (index.saturating_add(1), call.reply)))
+    match replay(alloc, code, &trace) {
+        Ok(replayed) => Ok(last_of(&replayed.history, thread)),
+        Err(ReplayError::Memory) => Err(AllocError),
+        Err(_) => Ok(None),
+    }
 }
 
 /// Explains why a thread was terminated by an attempt with this reply, in a run from this start.

@@ -66,11 +66,14 @@ impl RefusedStep<'_> {
     /// Says by which step the thread was terminated, and why.
     fn finished(&self) -> Result<String, AllocError> {
         let (start, thread) = (self.start, self.refusal.thread);
-        let threads = self.threads_before()?;
-        let made = threads.iter().filter(|other| **other == thread).count();
-        let last = threads.iter().rposition(|other| *other == thread);
-        let line = last.map_or(0, |index| index.saturating_add(1));
-        let reply = if made < start.calls as usize {
+        let (mut made, mut line) = (0u32, 0);
+        for (index, other) in self.threads_before()?.iter().enumerate() {
+            if *other == thread {
+                made = made.saturating_add(1);
+                line = index.saturating_add(1);
+            }
+        }
+        let reply = if made < start.calls {
             Reply::Failed
         } else {
             Reply::Stepped

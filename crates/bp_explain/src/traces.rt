@@ -26,7 +26,7 @@ pub(crate) struct RefusedLine<'a, 't> {
 impl RefusedLine<'_, '_> {
     /// Returns whether the trace is of version 2.
     pub(crate) fn is_version_two(&self) -> bool {
-        self.head.is_some_and(|head| head.version == Version::Two)
+        matches!(self.head, Some(head) if head.version == Version::Two)
     }
 
     /// Returns the places in the trace of the choice bit and of the reply's letter, of the attempt
@@ -46,11 +46,8 @@ impl RefusedLine<'_, '_> {
         }
         let line = first_line(rest);
         let (_, symbols) = number_at_front(line)?;
-        let at = self
-            .trace
-            .len()
-            .saturating_sub(rest.len())
-            .saturating_add(line.len());
+        let from = self.trace.len().saturating_sub(rest.len());
+        let at = from.saturating_add(line.len());
         let bit_at = at
             .saturating_sub(symbols.len())
             .saturating_add(before.saturating_mul(size));

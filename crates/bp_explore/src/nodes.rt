@@ -246,8 +246,7 @@ impl Nodes {
             → slice_get self.old.spare.stacks thread ≡ Some stack
             → self.new.spare ≡ state_after self.old.spare thread stack effect) }
     {
-        self.spare.take_step(thread, effect)?;
-        Ok(())
+        self.spare.take_step(thread, effect)
     }
 
     /// Returns whether the threads are not deadlocked in the spare state.

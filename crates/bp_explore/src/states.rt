@@ -83,8 +83,7 @@ impl State {
             (IsPacked (take_state threads) cells.old.items cells.new.items self.now) }
     {
         push_number(cells, self.globals)?;
-        push_stacks(cells, self.stacks.as_slice())?;
-        Ok(())
+        push_stacks(cells, self.stacks.as_slice())
     }
 
     /// Makes this the state in these cells, which has as many threads. It uses the memory that it
@@ -95,8 +94,7 @@ impl State {
         ensures count { length self.new.stacks ≡ length self.old.stacks }
     {
         self.globals = read_number(cells, at);
-        read_stacks(cells, at, &mut self.stacks)?;
-        Ok(())
+        read_stacks(cells, at, &mut self.stacks)
     }
 
     /// Returns the top of the stack of a thread, or None if it is empty.

@@ -143,15 +143,6 @@ module _ (t : Program) (s : SetupOf) where
   pub within : (h : List Call) → IsLegal t s h → IsWithin s.contexts (granted_threads h)
   within h legal = within_from [] h legal (record { pieces = []; few = omega arith; each = tt; whole = refl })
 
--- the statement of a failed assertion
-record Asserted (left : Block) (g : Valuation) (f : Frame) (bit : Bool) : Type 0 where
-  label : Option Name
-  at : ℕ
-  decision : Decision
-  rest : Block
-  is : left ≡ Then label at (Asserts decision) rest
-  worth : decision_value (frame_store g f) bit decision ≡ false
-
 module _ (t : Program) (c : Configuration) (i : ℕ) (bit : Bool) (step : IsStep t c i bit Failed) where
   at_false : IsAtFalseAssertion c i bit
   at_false = grind (arith)

@@ -256,8 +256,7 @@ impl Machine {
         ensures err { OnErr result (self.new ≡ self.old) }
         ensures entering { OnErr result (IsCallTransition transition) }
     {
-        self.threads[thread as usize].reserve(transition)?;
-        Ok(())
+        self.threads[thread as usize].reserve(transition)
     }
 
     /// Makes an attempt of the thread, for whose frame there is room.

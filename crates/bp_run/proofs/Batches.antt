@@ -8,17 +8,12 @@ use Rattle.bp_machine.specs.declared.calls.AskError.{AskError}
 use Rattle.bp_run.specs.Turns.{AreMade, AreCut}
 use Rattle.bp_run.proofs.TurnsWithCall.{desk_refusal, steps_more}
 use Rattle.bp_run.proofs.GatheredBooks.{books_with}
-use Rattle.std.proofs.lemmas.List.{append-nil}
 
 -- the attempts so far are steps of thread i, which is live after them
 pub record AreStepsMade (x : SessionOf) (h : List Call) (made live i : ℕ) (cs : List Call) : Type 0 where
   pub stepped : AreSteps i cs
   pub books : IsInBooks x (h ++ cs) (made + length cs) live
   pub still_live : is_terminated x.setup (h ++ cs) i ≡ false
-
-pub none_made : (x : SessionOf) (h : List Call) (made live i : ℕ) (cs : List Call) → cs ≡ [] → IsInBooks x h made live → is_terminated x.setup h i ≡ false
-    → AreStepsMade x h made live i cs
-none_made x h made live i cs given1 given2 given3 = grind (arith, append-nil)
 
 -- One more attempt.
 module _ (x new : SessionOf) (h : List Call) (made live i : ℕ) (cs : List Call) (call : Call) (before : AreStepsMade x h made live i cs)

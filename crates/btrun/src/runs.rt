@@ -21,10 +21,7 @@ fn arguments(rt: &HostRuntime) -> io::Result<Vec<String>> {
 
 /// Returns whether this variable of the environment is set to a text.
 fn is_set(rt: &HostRuntime, name: &str) -> bool {
-    match env::var(rt, name) {
-        Ok(value) => !value.is_empty(),
-        Err(_) => false,
-    }
+    matches!(env::var(rt, name), Ok(value) if !value.is_empty())
 }
 
 /// The fewest columns of a terminal for which lines are cut.
@@ -32,9 +29,7 @@ const LEAST_COLUMNS: u64 = 40;
 
 /// Returns the columns that COLUMNS gives a terminal; None if it gives no number, or too few.
 fn columns(rt: &HostRuntime) -> Option<usize> {
-    let Ok(value) = env::var(rt, "COLUMNS") else {
-        return None;
-    };
+    let value = env::var(rt, "COLUMNS").ok()?;
     match number_of(value.as_bytes()) {
         Some(columns) if columns >= LEAST_COLUMNS => Some(columns as usize),
         _ => None,
