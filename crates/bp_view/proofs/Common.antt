@@ -41,7 +41,7 @@ pub use Rattle.bp_view.specs.CallFacts.{AreCallFacts, AreProgramFacts, Entry, Is
 pub use Rattle.bp_view.specs.ContextLines.{AreContextFacts, AreContextLines, AreSpans, AreSpansFrom, IsContextLine, IsContextOf, IsSpan, IsStandingPoint, IsStepIn, ShownContext, changes_within, context_in, context_text, contexts_head, count_of, joined, with_step}
 pub use Rattle.bp_view.specs.Filters.{AreDeclared, IsUndeclared, StandForEachOnce, asked_calls, before_last, calls_at, calls_in_line, calls_of, calls_of_lines, is_asked, is_between, is_late, is_of, is_of_thread, is_same_wait, is_seen, is_watched, last_number, owner_name, skipped, trimmed, waits_like, watched_names}
 pub use Rattle.bp_view.specs.FooterFacts.{AreAssertionFacts, AreConditionFacts, AreFailureFacts, AreFooterFacts, AreStandingFacts, AreWaitsFacts, IsAtCondition, ShownCondition, ShownFooter, condition_in, footer_in, named_entries, named_entry, resolved, waiting}
-pub use Rattle.bp_view.specs.Lines.{AreReady, AreReadyIn, AreWidths, Extent, bit_item, entry_text, extent, extent_of, field_texts, prefix_text, indented, led, front_members, longest, text_members, mark_text, note_text, shortened, standing_text, tens_digits, tens_text, variables_text, first_members, members_text, number_text}
+pub use Rattle.bp_view.specs.Lines.{AreReady, AreReadyIn, AreWidths, Extent, bit_item, entry_text, extent, extent_of, field_texts, prefix_text, indented, led, front_members, longest, text_members, mark_text, note_text, shortened, standing_text, tens_digits, tens_text, variables_text}
 pub use Rattle.bp_view.specs.SetupLines.{AreHeaded, globals_line, thread_line, thread_lines, under_headings, view_head}
 pub use Rattle.bp_view.specs.StateFacts.{AreFrameFacts, AreStackFacts, AreStateFacts, AreThreadFacts, AreThreadsFacts, ShownFrame, ShownState, ShownThread, frame_in, last_reply, status, thread_in}
 pub use Rattle.bp_view.specs.States.{IsStateText, frame_text, state_text, thread_text}

@@ -1,12 +1,10 @@
 -- The line of an attempt, if it has one, or nothing.
-use Rattle.bp_view.proofs.Common.{AreReady, Next, front_members, text_members, if◌then◌else◌, ◌≡◌, ◌∙◌, ◌+◌, ◌-◌, ◌<◌, ◌++◌, ℕ, suc, true, List, [], ◌∷◌, codes, nat_lt, take, length, ap, ap₂, refl, sym, arith, ◌≤◌, length-append, ◌/◌, ◌%◌, ◌^◌, ◌==◌, ◌⊎◌, inl, inr, false, decimal, append_assoc, max, Bool, Option, None, ◌&&◌, subst, slice_set, rules, nat_tests, concat, cases_lt, replicate-append-replicate, spaces, at_right, at_left, regrouped, Program, Configuration, Call, is_granted, configuration_after, SetupOf, ViewFormat, ViewOptions, ShownCall, changes_by, AreCallFacts, IsReplayedCall, CallFilter, calls_at, calls_of, is_asked, is_seen, watched_names, shortened, prefix_text, first_members, members_text, number_text, tens_digits, tens_text, field_texts, mark_text, Widths, line_in, next_print_in, printed_in, filter_of, has_line, IsShownLine, IsViewLineIf, Gains, Grown, Buffer, ViewContext}
-use Rattle.bp_text.specs.Pieces.{key_text, number_or_null}
+use Rattle.bp_view.proofs.Common.{AreReady, Next, front_members, text_members, if◌then◌else◌, ◌≡◌, ◌∙◌, ◌+◌, ◌-◌, ◌<◌, ◌++◌, ℕ, suc, true, List, [], ◌∷◌, codes, nat_lt, take, length, ap, ap₂, refl, sym, arith, ◌≤◌, length-append, ◌/◌, ◌%◌, ◌^◌, ◌==◌, ◌⊎◌, inl, inr, false, decimal, append_assoc, max, Bool, Option, None, ◌&&◌, subst, slice_set, rules, nat_tests, concat, cases_lt, replicate-append-replicate, spaces, at_right, at_left, regrouped, Program, Configuration, Call, is_granted, configuration_after, SetupOf, ViewFormat, ViewOptions, ShownCall, changes_by, AreCallFacts, IsReplayedCall, CallFilter, calls_at, calls_of, is_asked, is_seen, watched_names, shortened, prefix_text, tens_digits, tens_text, field_texts, mark_text, Widths, line_in, next_print_in, printed_in, filter_of, has_line, IsShownLine, IsViewLineIf, Gains, Grown, Buffer, ViewContext}
 use Rattle.std.proofs.lemmas.Fmt.{decimal_digit, decimal_step}
 use Rattle.std.proofs.Math.ListN.{length-replicate}
 use Rattle.std.proofs.lemmas.List.Folds.{concat-append}
 use Rattle.bp_view.specs.declared.checkpoints.ReplayedCall.{ReplayedCall}
 use Rattle.bp_view.specs.declared.prefixes.PrefixKey.{PrefixKey}
-use Rattle.bp_view.specs.declared.first_members.MembersKey.{MembersKey}
 use Rattle.bp_view.proofs.Growth.{gains, nothing}
 
 -- The first bytes of a line, and a text that is cut.
@@ -55,24 +53,6 @@ number_split width n fits =
     ∙ ap (λ k. spaces k ++ (front ++ last)) gap
     ∙ ap (at_right width) (digits_split n fits)
 
-abbrev pub members_key_of : ShownCall → MembersKey
-members_key_of f =
-    record {
-      tens = f.number / 10;
-      thread = f.call.thread;
-      context = f.context;
-    }
-
--- the first members of an attempt
-pub members_are : (f : ShownCall) (digit : ℕ) → f.number < 2 ^ 64 → digit ≡ 48 + f.number % 10
-    → members_text (members_key_of f) digit ≡ concat (first_members f)
-members_are f digit fits is =
-    let front = tens_digits (f.number / 10) in
-    let rest = concat (key_text (codes "thread") ∷ decimal f.call.thread ∷ key_text (codes "context") ∷ number_or_null f.context ∷ []) in
-    let number = sym (append_assoc front ((48 + f.number % 10) ∷ []) rest) ∙ ap (λ xs. xs ++ rest) (digits_split f.number fits) in
-    ap (λ xs. codes "{\"kind\":\"call\",\"number\":" ++ xs) (ap (λ d. front ++ d ∷ rest) is ∙ number)
-
--- the fields of an attempt
 -- the members of the next statement, its depth, and the rest
 pub with_ready : (n : Next) (before depth : List ℕ) (rest : List (List ℕ)) {front text : List ℕ} → AreReady n front text
     → before ++ (front ++ (depth ++ (text ++ concat rest))) ≡ before ++ concat (front_members n ++ depth ∷ (text_members n ++ rest))
@@ -81,6 +61,7 @@ with_ready n before depth rest ready =
     let after = ap (λ y. concat (front_members n) ++ (depth ++ y)) (concat-append (text_members n) rest) in
     rw (ready.front_is, ready.text_is) (ap (λ y. before ++ y) (sym (all ∙ after)))
 
+-- the fields of an attempt
 pub fields_are : (w : Widths) (f : ShownCall) (mark digit : ℕ) → f.number < 2 ^ 64
     → mark ∷ [] ≡ mark_text f.switch → digit ≡ 48 + f.number % 10 → prefix_text (key_of w f) mark digit ≡ concat (field_texts w f)
 fields_are w f mark digit given1 given2 given3 = search (rules, decimal, append_assoc, number_split)
@@ -94,10 +75,6 @@ digit_put (x ∷ a) d e b = ap (λ ys. x ∷ ys) (digit_put a d e b)
 pub parts_put : (k : PrefixKey) (text : List ℕ) (m d mark digit last : ℕ) → text ≡ prefix_text k m d → last ≡ suc (length (tens_text k))
     → slice_set (slice_set text 0 mark) last digit ≡ prefix_text k mark digit
 parts_put k text m d mark digit last given1 given2 = search (rules, digit_put)
-
-pub member_put : (k : MembersKey) (text : List ℕ) (d digit last : ℕ) → text ≡ members_text k d → last ≡ length (number_text k)
-    → slice_set text last digit ≡ members_text k digit
-member_put k text d digit last given1 given2 = search (rules, digit_put)
 
 -- The place of an attempt and its statement, the spaces between, and the length of its column.
 

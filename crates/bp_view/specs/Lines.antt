@@ -17,7 +17,6 @@ use Rattle.bp_view.specs.declared.statement_columns.TheConstants.{LEAST_STATEMEN
 use Rattle.bp_view.specs.declared.view_contexts.TheConstants.{MAX_INDENTS}
 use Rattle.bp_view.specs.declared.view_contexts.Widths.{Widths}
 use Rattle.bp_view.specs.declared.prefixes.PrefixKey.{PrefixKey}
-use Rattle.bp_view.specs.declared.first_members.MembersKey.{MembersKey}
 use Rattle.bp_view.specs.declared.view_contexts.ViewContext.{ViewContext}
 
 -- The colours of a view's lines, for a terminal.
@@ -275,21 +274,6 @@ turn_texts k =
 -- all of them, with this sign before them, and with this last digit of the number
 abbrev pub prefix_text : PrefixKey → (mark digit : ℕ) → List ℕ
 prefix_text k mark digit = mark ∷ (tens_text k ++ digit ∷ concat (turn_texts k))
-
--- A device: the first members of an object, whose text is kept for the next one.
-
--- those up to the last digit of the number
-abbrev pub number_text : MembersKey → List ℕ
-number_text k = codes "{\"kind\":\"call\",\"number\":" ++ tens_digits k.tens
-
--- all of them, with this last digit of the number
-abbrev pub members_text : MembersKey → (digit : ℕ) → List ℕ
-members_text k digit =
-    number_text k
-    ++ digit
-    ∷ concat (
-    key_text (codes "thread") ∷ decimal k.thread
-    ∷ key_text (codes "context") ∷ number_or_null k.context ∷ [])
 
 -- A device: the members of a thread's next statement, ready to be added to an object.
 

@@ -1,5 +1,5 @@
 //! Texts in memory that grow by pieces. A refusal of memory sticks, and is reported at the end.
-ghost use Rattle.std.specs.Prelude.{◌≡◌, ◌<◌, ◌++◌, ◌∷◌, [], ℕ, List, decimal, false, flat_map, true, IfOk, length, take, OnOk};
+ghost use Rattle.std.specs.Prelude.{◌≡◌, ◌<◌, ◌≤◌, ◌++◌, ◌∷◌, [], ℕ, List, decimal, false, flat_map, true, IfOk, length, take, OnOk};
 ghost use Rattle.bp_text.specs.Pieces.{piece_text};
 ghost use Rattle.bp_view.specs.Buffers.{Grown, HasTaken, IsEmpty, IsLed, IsListed, then};
 ghost use Rattle.bp_view.specs.declared.buffers.Buffer.{Buffer as Given};
@@ -53,14 +53,25 @@ impl Buffer {
         };
     }
 
-    /// Adds a piece. Most numbers of an attempt have one digit, which is pushed: formatting it
-    /// takes five times as long.
+    /// Adds the decimal of a number of two digits.
+    #[inline(always)]
+    fn put_tens(&mut self, number: u8)
+        requires { (10 ≤ number) × (number < 100) }
+        ensures { Grown self.old self.new (decimal number) }
+    {
+        self.put_digit(number / 10);
+        self.put_digit(number % 10)
+    }
+
+    /// Adds a piece. Most numbers of an attempt have one digit or two, which are pushed: formatting
+    /// them takes five times as long.
     #[inline(always)]
     pub(crate) fn put(&mut self, piece: Piece<'_>)
         ensures { Grown self.old self.new (piece_text piece.entry) }
     {
         match piece {
             Piece::Number(n) | Piece::NumberOrNull(Some(n)) if n < 10 => self.put_digit(n as u8),
+            Piece::Number(n) | Piece::NumberOrNull(Some(n)) if n < 100 => self.put_tens(n as u8),
             _ => self.put_other(piece),
         }
     }

@@ -9,7 +9,6 @@ mod checkpoints;
 mod contexts;
 mod errors;
 mod filters;
-mod first_members;
 mod footer_facts;
 mod frames;
 mod laws;

@@ -12,14 +12,14 @@ ghost use Rattle.bp_view.specs.Lines.{owner_text, variable_object, variable_text
 
 use crate::buffers::Buffer;
 use crate::call_facts::CallFacts;
-use crate::first_members::{FirstMembers, MembersKey};
 use crate::lines::push_changed;
 use crate::statement_members::ReadyMembers;
 use bp_flat::bit_of;
 use bp_language::{Name, Proc};
 use bp_machine::Reply;
+use bp_source::wide;
 use bp_tasks::ViewFormat;
-use bp_text::Piece::{Bit, Bytes, Number, Text, TextOrNull};
+use bp_text::Piece::{Bit, Bytes, Number, NumberOrNull, Text, TextOrNull};
 
 /// Adds the name of a local's procedure and a dot; nothing for a global.
 fn push_owner(line: &mut Buffer, owner: Option<&Proc>)
@@ -148,19 +148,20 @@ fn choice_member(choice: Option<bool>) -> &'static [u8]
 }
 
 /// Adds the first members of an attempt: its kind, its number, its thread and its context.
-fn push_first_members(line: &mut Buffer, members: &mut FirstMembers, facts: &CallFacts<'_>)
+fn push_first_members(line: &mut Buffer, facts: &CallFacts<'_>)
     ensures { Grown line.old line.new (concat (first_members (facts_in facts.now))) }
 {
-    let key = MembersKey {
-        tens: facts.number / 10,
-        thread: facts.call.thread,
-        context: facts.context,
-    };
-    let digit = b'0' + (facts.number % 10) as u8;
-    let Ok(()) = members.set(key, digit) else {
-        return line.refuse();
-    };
-    line.put(Bytes(&members.text))
+    // A key is one piece with the signs around it, since a piece for each takes longer.
+    line.put_two(
+        Bytes(b"{\"kind\":\"call\",\"number\":"),
+        Number(facts.number),
+    );
+    line.put_four(
+        Bytes(b",\"thread\":"),
+        Number(u64::from(facts.call.thread)),
+        Bytes(b",\"context\":"),
+        NumberOrNull(wide(facts.context)),
+    )
 }
 
 /// Adds the other members of an attempt that have one value each. Those of its thread's next
@@ -172,7 +173,6 @@ fn push_members(line: &mut Buffer, facts: &CallFacts<'_>, ready: ReadyMembers<'_
 {
     line.put_two(Bytes(switch_member(facts.is_switch)), Bytes(ready.front));
     line.put_two(Number(facts.next.depth as u64), Bytes(ready.text));
-    // A key is one piece with the signs around it, since a piece for each takes longer.
     line.put_three(
         Bytes(choice_member(facts.choice())),
         Bytes(b",\"reply\":"),
@@ -202,12 +202,11 @@ fn push_printed(line: &mut Buffer, printed: Option<&[bool]>)
     line.close_list(start)
 }
 
-/// Adds the object of an attempt that printed these values, if any. `members` are those of another,
-/// and those of its thread's next statement are ready.
+/// Adds the object of an attempt that printed these values, if any. The members of its
+/// thread's next statement are ready.
 #[inline(never)]
 pub(crate) fn push_object(
     line: &mut Buffer,
-    members: &mut FirstMembers,
     facts: &CallFacts<'_>,
     ready: ReadyMembers<'_>,
     printed: Option<&[bool]>,
@@ -217,7 +216,7 @@ pub(crate) fn push_object(
         AreReady f.next ready.entry.front.now ready.entry.text.now
         → Grown line.old line.new (call_object f printed) }
 {
-    push_first_members(line, members, facts);
+    push_first_members(line, facts);
     push_members(line, facts, ready);
     line.put(Bytes(b",\"changes\":"));
     let start = line.len();

@@ -17,12 +17,13 @@ use crate::buffers::Buffer;
 use crate::checkpoints::Checkpoint;
 use crate::errors::ViewError;
 use crate::outcomes::push_footer_of;
+use crate::prefixes::Prefix;
 use crate::program_facts::{undeclared, watched_names};
 use crate::setup_lines::head_of;
 use crate::statement_members::members_of_statements;
 use crate::states::push_state_of;
 use crate::view_contexts::{ShownTrace, ViewContext, shown_trace_before, view_context_of};
-use crate::writers::{KeptTexts, ViewWriter, filter_of};
+use crate::writers::{ViewWriter, filter_of};
 use bp_code::Checked;
 use bp_flat::Code;
 use bp_machine::{Report, Session, Setup};
@@ -167,7 +168,7 @@ fn write_view<W: Write>(
             bytes: head,
             refused: false,
         },
-        kept: KeptTexts::new(alloc),
+        prefix: Prefix::new(alloc),
         statements,
         changes: Vec::new(alloc),
         last,

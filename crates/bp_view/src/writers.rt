@@ -19,7 +19,6 @@ use crate::call_facts::{CallFacts, facts_of_call};
 use crate::change_facts::{Change, fill_changes};
 use crate::checkpoints::{ReplayedCall, last_step, printed_by, replayed_call};
 use crate::filters::CallFilter;
-use crate::first_members::FirstMembers;
 use crate::lines::push_line;
 use crate::prefixes::Prefix;
 use crate::program_facts::has_watched;
@@ -28,7 +27,6 @@ use crate::variables::push_object;
 use crate::view_contexts::ViewContext;
 use bp_machine::{AskError, Call, Session, Top};
 use bp_tasks::{ViewFormat, ViewOptions};
-use std::alloc::Global;
 
 /// Returns the values that the thread's next statement prints, if a view of this format has them.
 fn next_print(
@@ -48,25 +46,6 @@ fn next_print(
     }
 }
 
-/// The texts of a line that most lines after it have too.
-#[derive(Drop)]
-pub(crate) struct KeptTexts {
-    /// The fields before the place.
-    prefix: Prefix,
-    /// The first members of an object.
-    members: FirstMembers,
-}
-
-impl KeptTexts {
-    /// Makes empty ones.
-    pub(crate) fn new(alloc: Global) -> KeptTexts {
-        KeptTexts {
-            prefix: Prefix::new(alloc),
-            members: FirstMembers::new(alloc),
-        }
-    }
-}
-
 /// Makes the lines of a view, one for each attempt of its history.
 #[derive(Drop)]
 pub(crate) struct ViewWriter<'a> {
@@ -75,8 +54,8 @@ pub(crate) struct ViewWriter<'a> {
     pub(crate) session: Session,
     /// The text that was made and is not yet written.
     pub(crate) text: Buffer,
-    /// The texts kept from the last line.
-    pub(crate) kept: KeptTexts,
+    /// The fields that lines have in common with the lines before.
+    pub(crate) prefix: Prefix,
     /// The members of each statement, in a view of objects.
     pub(crate) statements: Vec<StatementMembers>,
     /// Room for the changes of an attempt.
@@ -121,7 +100,7 @@ impl ViewWriter<'_> {
         let printed = printed_by(next.as_deref(), replayed.call.reply);
         push_shown(
             &mut self.text,
-            &mut self.kept,
+            &mut self.prefix,
             &mut self.changes,
             &self.context,
             self.statements.as_slice(),
@@ -140,7 +119,7 @@ impl ViewWriter<'_> {
 /// any.
 fn push_line_in(
     view: &mut Buffer,
-    kept: &mut KeptTexts,
+    prefix: &mut Prefix,
     context: &ViewContext<'_>,
     facts: &CallFacts<'_>,
     statements: &[StatementMembers],
@@ -160,18 +139,11 @@ fn push_line_in(
     match options.format {
         ViewFormat::Columns => {
             let widths = &context.widths;
-            push_line(
-                view,
-                &mut kept.prefix,
-                widths,
-                options.has_colour,
-                facts,
-                calls,
-            )
+            push_line(view, prefix, widths, options.has_colour, facts, calls)
         }
         ViewFormat::Json => {
             let ready = ready_members(statements, before);
-            push_object(view, &mut kept.members, facts, ready, printed)
+            push_object(view, facts, ready, printed)
         }
     }
 }
@@ -180,7 +152,7 @@ fn push_line_in(
 /// its line stands for an attempt. `changes` is room for the attempt's changes.
 pub(crate) fn push_shown<'a>(
     view: &mut Buffer,
-    kept: &mut KeptTexts,
+    prefix: &mut Prefix,
     changes: &mut Vec<Change<'a>>,
     context: &ViewContext<'a>,
     statements: &[StatementMembers],
@@ -214,7 +186,7 @@ pub(crate) fn push_shown<'a>(
     let facts = facts_of_call(&context.program, replayed, changes);
     let before = &replayed.before;
     push_line_in(
-        view, kept, context, &facts, statements, before, calls, printed,
+        view, prefix, context, &facts, statements, before, calls, printed,
     )
 }
 
