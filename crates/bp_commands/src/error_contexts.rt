@@ -120,8 +120,8 @@ fn of_start(alloc: Global, asked: Asked<'_, '_>, error: SetupError) -> Option<Ve
     }
 }
 
-/// Returns the sentence on the name of this number, from 1: a watched variable, or else a global that
-/// has its bit by name. A command has names in one option, and nothing of the program has this one.
+/// Returns the sentence on the name of this number, from 1: a watched variable, or else a global
+/// with its bit. A command has names in one option, and nothing of the program has this one.
 fn of_name(alloc: Global, asked: Asked<'_, '_>, number: u64) -> Option<Vec<u8>> {
     let place = (number as usize).checked_sub(1)?;
     if asked.watch.is_none() {
