@@ -38,6 +38,7 @@ pub struct Session {
 
 // Written out, so that elsewhere a way out has one call, and not the drop of each part.
 impl Drop for Session {
+    #[inline(always)]
     fn drop(self) {
         let Session {
             code: _,
