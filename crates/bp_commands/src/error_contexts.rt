@@ -15,35 +15,35 @@ use bp_text::push_displayed;
 use bp_view::watched_names;
 use std::alloc::{AllocError, Global};
 
-/// The numbers among the options of a command that have a range, apart from those of its start. One
-/// that the command does not take is within it.
+/// The numbers among the options of a command that have a range, apart from those of its start.
 #[derive(Clone, Copy)]
 pub struct OptionNumbers {
-    turn: u32,
-    ring: u32,
-    jobs: u32,
+    turn: Option<u32>,
+    ring: Option<u32>,
+    jobs: Option<u32>,
 }
 
 impl OptionNumbers {
     /// There are none.
     pub(crate) const NONE: OptionNumbers = OptionNumbers {
-        turn: 1,
-        ring: 1,
-        jobs: 0,
+        turn: None,
+        ring: None,
+        jobs: None,
     };
 
     pub(crate) fn of_run(options: &RunOptions) -> OptionNumbers {
         OptionNumbers {
-            turn: options.turn,
-            ring: options.ring,
-            ..OptionNumbers::NONE
+            turn: Some(options.turn),
+            ring: Some(options.ring),
+            jobs: None,
         }
     }
 
     pub(crate) fn of_test(options: &TestOptions) -> OptionNumbers {
         OptionNumbers {
-            jobs: options.jobs,
-            ..OptionNumbers::NONE
+            turn: None,
+            ring: None,
+            jobs: Some(options.jobs),
         }
     }
 }
@@ -51,7 +51,8 @@ impl OptionNumbers {
 /// Returns the sentence on the option whose number is out of its range, with that range.
 fn of_numbers(alloc: Global, start: &Start, numbers: OptionNumbers) -> Option<String> {
     let (contexts, calls) = (start.contexts, start.calls);
-    let OptionNumbers { turn, ring, jobs } = numbers;
+    let (turn, ring) = (numbers.turn.unwrap_or(1), numbers.ring.unwrap_or(1));
+    let jobs = numbers.jobs.unwrap_or(0);
     let sentence = if contexts > MAX_CONTEXTS {
         format!(in alloc; "--contexts {contexts}: at most {MAX_CONTEXTS} are allowed")
     } else if calls == 0 || calls > MAX_CALLS {
