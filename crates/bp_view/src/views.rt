@@ -1,5 +1,5 @@
 //! The view of a trace, and its end.
-ghost use Rattle.std.specs.Prelude.{◌≡◌, ◌≤◌, [], ℕ, List, length, map, take, MatchResult};
+ghost use Rattle.std.specs.Prelude.{◌≡◌, ◌≤◌, ◌<◌, [], ℕ, List, length, map, take, MatchResult, OnOk};
 ghost use Rattle.bp_text.specs.Writing.{AppendsPart, IsWritten};
 ghost use Rattle.bp_view.specs.declared.errors.ViewError.{ViewError};
 ghost use Rattle.bp_language.specs.Ast.{Program};
@@ -51,7 +51,8 @@ const BATCH: usize = 1 << 14;
 
 /// Writes a text and empties it, once it has the bytes of a batch.
 fn put_batch<W: Write>(text: &mut Buffer, out: &mut W) -> Result<(), ViewError>
-    ensures { let old = W.contents out.old in
+    ensures few { OnOk result (length text.new.bytes.items < BATCH) }
+    ensures sent { let old = W.contents out.old in
         let new = W.contents out.new in
         let given = text.old.bytes.items in
         MatchResult result
@@ -180,8 +181,8 @@ fn write_view<W: Write>(
 /// Writes a view of the history of a trace of a program, and returns its report. The view has the
 /// setup, a line for each attempt that is shown, and the footer. The state after the last attempt
 /// follows if it is asked for. The places in the footer have the name of the program's text before
-/// them. The lines are written as they are made, after the trace was replayed, with the attempts
-/// made once more, from the first that is asked for.
+/// them. The lines are written in batches, after the trace was replayed, with the attempts made once
+/// more, from the first that is asked for.
 ///
 /// A text that is not a trace of the program is refused as `replay` refuses it. Then a missing
 /// thread is refused, and then a watched name that no variable has. Nothing is written of a refused

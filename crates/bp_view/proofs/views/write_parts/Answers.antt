@@ -16,7 +16,7 @@ returns-in_err-put_batch g c = λ t text can made few before same members.
     let within = c.loop-n-test.true in
     let line = line_there can has _ within c.in-Ok.ensures.line in
     let p = err_from_is_err_and c.from_residual.result c.from_residual.ensures.1 in
-    let (error, part) = c.in_err-put_batch.ensures in
+    let (error, part) = c.in_err-put_batch.ensures.sent in
     rw (p.1, p.2, error) (rest_cut can _ _ _ _ has.grown (lines_then can has _ line) within _ part)
 
 pub loop-n-preserved : goal.loop-n-preserved
@@ -25,7 +25,7 @@ loop-n-preserved g c = λ t text can made few before same members.
     let within = c.loop-n-test.true in
     let line = line_there can has _ within c.in-Ok.ensures.line in
     let after = c.in-Ok.ensures.made t _ has.made (playable_next can has _ within) in
-    line_written can has _ within line after c.in-Ok.ensures.kept c.in_ok-put_batch.ensures
+    line_written can has _ within line after c.in-Ok.ensures.kept c.in_ok-put_batch.ensures.sent
 
 pub returns-in_err-finish : goal.returns-in_err-finish
 returns-in_err-finish g c = λ t text can made few before same members.
