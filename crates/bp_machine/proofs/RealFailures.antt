@@ -1,7 +1,6 @@
 -- A failure is a false assertion, and the last step.
-use Rattle.bp_machine.proofs.Common.{◌≡◌, ℕ, zero, suc, Bool, List, [], ◌∷◌, length, Some, refl, ap, sym, ◌∙◌, arith, ◌<◌, true, false, cond, ◌++◌, Option, subst, slice_get, slice_index_or, unwrap_or, rules, length-set, length-map, append-nil, Program, Name, Block, Then, Asserts, Decision, regrouped, Frame, Configuration, first_stack, procedure_named, StatementEffect, Leaves, Blocks, Misses, effect, after_effect, Moves, Valuation, decision_value, frame_store, Call, SetupOf, threads, start, stack_of, configuration_after_step, IsRun, ends, IsWithin, is_granted, reply_to_effect, reply_on_stack, reply_of, configuration_after_call, configuration_after, granted_threads, granted_calls, IsAllowed, IsLegalAfter, IsLegal, outcome_or, outcome_of, IsAtFalseAssertion, IsRealFailure, Reply, Stopped, Blocked, Failed}
+use Rattle.bp_machine.proofs.Common.{◌≡◌, ℕ, zero, suc, Bool, List, [], ◌∷◌, length, Some, refl, ap, sym, ◌∙◌, arith, ◌<◌, true, false, cond, ◌++◌, Option, subst, slice_get, slice_index_or, unwrap_or, rules, length-set, length-map, append-nil, Program, regrouped, Frame, Configuration, first_stack, procedure_named, StatementEffect, Leaves, Blocks, Misses, effect, after_effect, Moves, Call, SetupOf, threads, start, stack_of, configuration_after_step, IsRun, ends, IsWithin, is_granted, reply_to_effect, reply_on_stack, reply_of, configuration_after_call, configuration_after, granted_threads, granted_calls, IsAllowed, IsLegalAfter, IsLegal, outcome_or, outcome_of, IsAtFalseAssertion, IsRealFailure, Reply, Stopped, Blocked, Failed}
 use Rattle.bp_flat.specs.Moves.{Fails}
-use Rattle.bp_flat.specs.Moves as moves
 use Rattle.bp_machine.specs.Histories as reports
 use Rattle.bp_machine.specs.declared.calls.Outcome.TheVariants as outcome
 use Rattle.bp_machine.proofs.HistoryWithCall.{configuration_after-append, granted_threads-append}

@@ -1,6 +1,5 @@
 -- A setup without an error fits its program, and its numbers are within their limits, since a program has few globals.
-use Rattle.bp_machine.proofs.Common.{◌≡◌, ℕ, Bool, true, false, List, refl, sym, ◌<◌, ◌≤◌, ◌==◌, ◌||◌, nat_lt, not, length, [], ◌∷◌, Option, None, Some, arith, ◌≢◌, ◌+◌, cond, All, ◌∙◌, subst, bytes_eq, zero, suc, ap, option_map, map, get_or, take, ◌++◌, Bor, String, Global, string_bytes, if◌then◌else◌, drop, add-one, replicate, slice_get, is_some, rules, false≢true, ∥∥₁_map, ∥∥₁_elim, ℕ_set, option_or, option_copied, nat_tests, AllByRecursion, map-append, take_more, take-replicate, slice_get-map, slice_get-get_or, Program, Procedure, Flat, Heading, heading_named, StandsFor, IsOfProgram, procedure_named, formals_of_procedure, Call, live_threads, SessionOf, Stands, SetupError, MAX_THREADS, MAX_CALLS, SetupOf, threads, entries_error, error_if, first_of, has_bad_threads, is_out_of_range, setup_error, Fits, IsInRange, entry_error, IsSetupRefusal, initial_bits}
-use Rattle.std.specs.Coded.{le_prop}
+use Rattle.bp_machine.proofs.Common.{◌≡◌, ℕ, Bool, true, false, List, refl, sym, ◌<◌, ◌≤◌, ◌==◌, ◌||◌, nat_lt, not, length, [], ◌∷◌, Option, None, Some, arith, ◌≢◌, ◌+◌, cond, All, ◌∙◌, subst, bytes_eq, zero, suc, ap, option_map, map, get_or, take, ◌++◌, Bor, String, Global, string_bytes, if◌then◌else◌, drop, add-one, replicate, slice_get, is_some, rules, option_or, option_copied, nat_tests, AllByRecursion, map-append, take_more, take-replicate, slice_get-map, slice_get-get_or, Program, Procedure, Flat, Heading, heading_named, StandsFor, IsOfProgram, procedure_named, formals_of_procedure, Call, SessionOf, Stands, SetupError, MAX_THREADS, MAX_CALLS, SetupOf, threads, entries_error, error_if, first_of, has_bad_threads, is_out_of_range, setup_error, Fits, IsInRange, entry_error, IsSetupRefusal, initial_bits}
 use Rattle.std.proofs.lemmas.List.Elements.{All-nil, All-cons}
 use Rattle.std.proofs.lemmas.Slice.Eq.{bytes_eq-Decides}
 use Rattle.bp_language.specs.Texts.{HasText}

@@ -1,5 +1,5 @@
 -- Sessions as contracts see them, and the state of their threads.
-use Rattle.std.specs.Prelude.{if◌then◌else◌, ◌≡◌, ℕ, ◌+◌, ◌==◌, List, [], ◌∷◌, Option, None, Some, Bool, false, map, option_map, unwrap_or, length, slice_get, ◌<◌, ◌≤◌, true, is_some}
+use Rattle.std.specs.Prelude.{if◌then◌else◌, ◌≡◌, ℕ, ◌+◌, ◌==◌, List, [], ◌∷◌, Option, None, Some, Bool, false, map, option_map, unwrap_or, length, slice_get, ◌<◌, ◌≤◌, ◌++◌, true, is_some, IfOk, MatchResult, OnErr, Result}
 use Rattle.bp_language.specs.Ast.{Program}
 use Rattle.bp_flat.specs.Flat.{Flat, heading_named}
 use Rattle.bp_flat.specs.Moves.{Configuration, Frame, is_call}
@@ -207,6 +207,25 @@ module _ (t : Program) (s : SetupOf) (h : List Call) (i : ℕ) (given : Option B
       IsLiveThread s h i
       × ((bit : Bool) × IsBitOfCall s h i given bit × IsCallStep t s h i bit)
   IsAskRefusal Busy = ⊥
+
+-- the bit is the given one, if any
+abbrev pub IsGiven : Option Bool → Bool → Type 0
+IsGiven (Some given) bit = bit ≡ given
+IsGiven None bit = Unit {0}
+
+-- The session `old` was asked for the next attempt of thread i, with this given bit or none, and is
+-- `new` now. After each history it answers with the attempt, after which it stands, or says why it
+-- refuses, and is then unchanged.
+pub record IsAnswer
+    (old : SessionOf) (i : ℕ) (given : Option Bool) (new : SessionOf) (result : Result Call AskError)
+    : Type 0 where
+  pub answer : AfterEach old (λ t h. MatchResult result
+      (IsNextCall t old.setup h i given)
+      (IsAskRefusal t old.setup h i given))
+  pub asked : IfOk result (λ x. (x.thread ≡ i) × IsGiven given x.bit)
+  pub stands : AfterEach old (λ t h. IfOk result (λ x. Stands t new (h ++ x ∷ [])))
+  pub kept : (new.code ≡ old.code) × (new.setup ≡ old.setup)
+  pub same : OnErr result (new ≡ old)
 
 -- Why a look at the next values that thread i prints is refused: there is no such thread. Memory
 -- may be refused only if it prints some.

@@ -196,11 +196,6 @@ pub record AreDrawn (i : ℕ) (old new : List ChoicesOf) : Type 0 where
       → IsAt d seed thread (n + 1)
   pub others : (j : ℕ) → j ≢ i → slice_get new j ≡ slice_get old j
 
--- the bit is the given one, if any
-abbrev pub IsGiven : Option Bool → Bool → Type 0
-IsGiven (Some given) bit = bit ≡ given
-IsGiven None bit = Unit {0}
-
 -- the bit of the next attempt of thread i, with this given bit or none
 abbrev pub IsKeptBit : List ChoicesOf → ℕ → Option Bool → Bool → Type 0
 IsKeptBit choices i (Some given) bit = (slice_get choices i ≡ None) × (bit ≡ given)

@@ -1,8 +1,8 @@
 //! Sessions: the sequential machine, one attempt at a time.
 ghost use Rattle.std.specs.Prelude.{◌≡◌, ◌++◌, ◌∷◌, [], None, Some, IfOk, IsOk, OnOk, OnErr, MatchResult};
 ghost use Rattle.bp_machine.specs.Setups.{Fits};
-ghost use Rattle.bp_machine.specs.Sessions.{Stands, IsNextCall, IsAskRefusal, given_bit, AfterEach};
-ghost use Rattle.bp_machine.specs.Transitions.{AreFirstChoices, AreDrawn, IsGiven};
+ghost use Rattle.bp_machine.specs.Sessions.{Stands, IsAnswer, given_bit};
+ghost use Rattle.bp_machine.specs.Transitions.{AreFirstChoices, AreDrawn};
 
 mod copies;
 mod judgements;
@@ -135,14 +135,7 @@ impl Session {
     /// call allocates.
     #[inline(always)]
     pub fn ask(&mut self, thread: u32) -> Result<Call, AskError>
-        ensures answer { AfterEach self.old (λ t h. MatchResult result
-            (IsNextCall t self.old.setup h thread None)
-            (IsAskRefusal t self.old.setup h thread None)) }
-        ensures asked { IfOk result (λ c. c.thread ≡ thread) }
-        ensures stands { AfterEach self.old (λ t h.
-            IfOk result (λ c. Stands t self.new (h ++ c ∷ []))) }
-        ensures kept { (self.new.code ≡ self.old.code) × (self.new.setup ≡ self.old.setup) }
-        ensures same { OnErr result (self.new ≡ self.old) }
+        ensures { IsAnswer self.old thread None self.new result }
     {
         self.make_given(thread, None)
     }
@@ -151,14 +144,7 @@ impl Session {
     /// that is a call allocates.
     #[inline(always)]
     pub fn ask_with(&mut self, thread: u32, bit: bool) -> Result<Call, AskError>
-        ensures answer { AfterEach self.old (λ t h. MatchResult result
-            (IsNextCall t self.old.setup h thread (Some bit))
-            (IsAskRefusal t self.old.setup h thread (Some bit))) }
-        ensures asked { IfOk result (λ c. (c.thread ≡ thread) × (c.bit ≡ bit)) }
-        ensures stands { AfterEach self.old (λ t h.
-            IfOk result (λ c. Stands t self.new (h ++ c ∷ []))) }
-        ensures kept { (self.new.code ≡ self.old.code) × (self.new.setup ≡ self.old.setup) }
-        ensures same { OnErr result (self.new ≡ self.old) }
+        ensures { IsAnswer self.old thread (Some bit) self.new result }
     {
         self.make_given(thread, Some(bit))
     }
@@ -167,16 +153,7 @@ impl Session {
     /// seed if the setup has one, else with the recorded bit. Only a step that is a call allocates.
     #[inline(always)]
     pub fn ask_as_recorded(&mut self, thread: u32, bit: bool) -> Result<Call, AskError>
-        ensures answer { AfterEach self.old (λ t h. let given = given_bit self.old.setup bit in
-            MatchResult result
-            (IsNextCall t self.old.setup h thread given)
-            (IsAskRefusal t self.old.setup h thread given)) }
-        ensures asked { let given = given_bit self.old.setup bit in
-            IfOk result (λ c. (c.thread ≡ thread) × IsGiven given c.bit) }
-        ensures stands { AfterEach self.old (λ t h.
-            IfOk result (λ c. Stands t self.new (h ++ c ∷ []))) }
-        ensures kept { (self.new.code ≡ self.old.code) × (self.new.setup ≡ self.old.setup) }
-        ensures same { OnErr result (self.new ≡ self.old) }
+        ensures { IsAnswer self.old thread (given_bit self.old.setup bit) self.new result }
     {
         let given = self.given_bit(bit);
         self.make_given(thread, given)

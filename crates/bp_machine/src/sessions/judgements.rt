@@ -1,7 +1,7 @@
 //! How a session judges an attempt before it makes it.
-ghost use Rattle.std.specs.Prelude.{◌≡◌, ◌++◌, ◌∷◌, [], Option, None, Some, IfOk, OnErr, MatchResult};
-ghost use Rattle.bp_machine.specs.Sessions.{Stands, IsNextCall, IsAskRefusal, given_bit, AfterEach};
-ghost use Rattle.bp_machine.specs.Transitions.{IsKeptBit, IsBitRefusal, IsGiven, IsJudged, IsKeptRefusal};
+ghost use Rattle.std.specs.Prelude.{◌≡◌, MatchResult};
+ghost use Rattle.bp_machine.specs.Sessions.{IsAnswer, given_bit};
+ghost use Rattle.bp_machine.specs.Transitions.{IsKeptBit, IsBitRefusal, IsJudged, IsKeptRefusal};
 
 use crate::calls::{AskError, Call};
 use crate::sessions::{Judged, Session, draw};
@@ -59,14 +59,7 @@ impl Session {
     /// Makes an attempt of the thread, with this given bit or none.
     #[inline(always)]
     pub(super) fn make_given(&mut self, thread: u32, given: Option<bool>) -> Result<Call, AskError>
-        ensures answer { AfterEach self.old (λ t h. MatchResult result
-            (IsNextCall t self.old.setup h thread given)
-            (IsAskRefusal t self.old.setup h thread given)) }
-        ensures asked { IfOk result (λ c. (c.thread ≡ thread) × IsGiven given c.bit) }
-        ensures stands { AfterEach self.old (λ t h.
-            IfOk result (λ c. Stands t self.new (h ++ c ∷ []))) }
-        ensures kept { (self.new.code ≡ self.old.code) × (self.new.setup ≡ self.old.setup) }
-        ensures same { OnErr result (self.new ≡ self.old) }
+        ensures { IsAnswer self.old thread given self.new result }
     {
         steps_alike(&self.code);
         let made = self.judged(thread, given)?;

@@ -1,4 +1,4 @@
-use Rattle.bp_machine.proofs.Common.{◌∙◌, ap, sym, subst, true, Some, Program, StandsFor, StepsAlike, stack_of, configuration_after, SessionOf, IsTransitionOn, is_blocked}
+use Rattle.bp_machine.proofs.Common.{◌∙◌, ap, sym, subst, true, Some, StepsAlike, stack_of, configuration_after, SessionOf, IsTransitionOn, is_blocked}
 use Rattle.bp_machine.proofs.TransitionIsAnswer.{on_stack}
 use Rattle.bp_machine.proofs.sessions.Session.finds_zero.Goals as goal
 

@@ -1,4 +1,4 @@
-use Rattle.bp_machine.proofs.Common.{◌≡◌, ◌∙◌, ap, length, map, string_bytes, rules, Program, StandsFor, initial_bits, setup_of, setup_from}
+use Rattle.bp_machine.proofs.Common.{◌≡◌, ◌∙◌, ap, length, map, string_bytes, rules, initial_bits, setup_of, setup_from}
 use Rattle.bp_machine.proofs.SetupInRange.{bits_given, bits_not_given}
 use Rattle.bp_machine.proofs.starts.Start.setup.Goals as goal
 use Rattle.bp_machine.proofs.starts.Start.setup.Goals.{in-Some, in-None}
