@@ -6,11 +6,11 @@ use Rattle.std.specs.Map.{lookup}
 use Rattle.std.specs.Option.{unwrap_or}
 use Rattle.std.specs.Str.{bytes_eq}
 use Rattle.std.specs.List.{All, Contains}
-use Rattle.bp_language.specs.declared.tokens.LexemeKind.{LexemeKind}
-use Rattle.bp_language.specs.declared.tokens.LexemeKind.TheVariants.{White, Comment, Identifier, Braced, Constant, Symbol}
-use Rattle.bp_language.specs.declared.tokens.TokenKind.{TokenKind}
-use Rattle.bp_language.specs.declared.tokens.TokenKind.TheVariants.{Name}
-use Rattle.bp_language.specs.declared.tokens.TokenKind.TheVariants as kind
+use Rattle.bp_syntax.specs.declared.tokens.LexemeKind.{LexemeKind}
+use Rattle.bp_syntax.specs.declared.tokens.LexemeKind.TheVariants.{White, Comment, Identifier, Braced, Constant, Symbol}
+use Rattle.bp_syntax.specs.declared.tokens.TokenKind.{TokenKind}
+use Rattle.bp_syntax.specs.declared.tokens.TokenKind.TheVariants.{Name}
+use Rattle.bp_syntax.specs.declared.tokens.TokenKind.TheVariants as kind
 use Rattle.bp_syntax.specs.Spellings.{spelling}
 use Rattle.bp_syntax.specs.declared.tokens.TheConstants.{TOKEN_KINDS}
 use Rattle.bp_syntax.specs.Refusals.{read_error_number, OneRefusal, NoRefusalOfPrograms, IsRefusal}

@@ -2,12 +2,12 @@
 use Rattle.std.specs.Prelude.{if◌then◌else◌, ◌≡◌, ◌==◌, ◌||◌, ◌&&◌, nat_le, ℕ, Bool, true, List, [], ◌∷◌, ◌++◌, Option, None, Some, All, map, decimal, ◌≢◌, ◌⊎◌, length, ◌≤◌, take, drop}
 use Rattle.bp_text.specs.Pieces.{displayed}
 use Rattle.bp_text.specs.Lines.{IsOneLine, position_at}
-use Rattle.bp_language.specs.Ast.{Program}
-use Rattle.bp_language.specs.Texts.{IsTextOf}
-use Rattle.bp_language.specs.Tokens.{IsReal, HasTokens}
-use Rattle.bp_language.specs.declared.tokens.TokenKind.{TokenKind}
-use Rattle.bp_language.specs.declared.tokens.TokenKind.TheVariants.{Name}
-use Rattle.bp_language.specs.declared.errors.CheckError.TheVariants as check
+use Rattle.bp_syntax.specs.Ast.{Program}
+use Rattle.bp_syntax.specs.Texts.{IsTextOf}
+use Rattle.bp_syntax.specs.Tokens.{IsReal, HasTokens}
+use Rattle.bp_syntax.specs.declared.tokens.TokenKind.{TokenKind}
+use Rattle.bp_syntax.specs.declared.tokens.TokenKind.TheVariants.{Name}
+use Rattle.bp_syntax.specs.declared.errors.CheckError.TheVariants as check
 use Rattle.bp_syntax.specs.Refusals.{IsRefusal}
 use Rattle.bp_syntax.specs.declared.errors.ReadError.TheVariants.{Syntax}
 use Rattle.bp_syntax.specs.declared.errors.ReadError.TheVariants as read

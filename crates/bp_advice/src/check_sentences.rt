@@ -3,9 +3,8 @@
 use crate::contexts::token_at;
 use crate::declarations::{first_named, first_procedure, procedure_around, tree_of};
 use crate::sentences::{Count, Quoted};
-use bp_language::limits::{MAX_GLOBALS, MAX_OWN_NAMES, MAX_PROCEDURES};
-use bp_language::{CheckError, Name};
-use bp_syntax::Tree;
+use bp_syntax::limits::{MAX_GLOBALS, MAX_OWN_NAMES, MAX_PROCEDURES};
+use bp_syntax::{CheckError, Name, Tree};
 use bp_text::position_of;
 use std::alloc::{AllocError, Global};
 

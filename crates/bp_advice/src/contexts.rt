@@ -1,6 +1,6 @@
 //! The tokens around a place of a program text.
 ghost use Rattle.std.specs.Prelude.{◌≤◌, [], length, IsTrue};
-ghost use Rattle.bp_language.specs.Tokens.{HasTokens};
+ghost use Rattle.bp_syntax.specs.Tokens.{HasTokens};
 
 use bp_syntax::{is_reserved, take_lexeme};
 use bp_text::{part_before, part_from};

@@ -2,8 +2,7 @@
 //! variables and values of an assignment.
 use crate::check_sentences::RefusedName;
 use crate::contexts::tokens_of;
-use bp_language::{Name, Proc};
-use bp_syntax::{ReadError, Tree, read};
+use bp_syntax::{Name, Proc, ReadError, Tree, read};
 use bp_text::{part_before, part_from};
 use std::alloc::{AllocError, Global};
 

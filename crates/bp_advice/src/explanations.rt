@@ -9,8 +9,7 @@ ghost use Rattle.bp_advice.specs.Explanations.{ExplainsLine, ExplainsPlace, IsAt
 use crate::check_sentences::check_sentence;
 use crate::read_sentences::{explain_syntax, read_sentence};
 use bp_code::ProgramError;
-use bp_language::CheckError;
-use bp_syntax::ReadError;
+use bp_syntax::{CheckError, ReadError};
 use bp_text::{Position, excerpt_of, first_line, position_of, push_displayed, push_line};
 use itoa::Buffer;
 use std::alloc::{AllocError, Global};

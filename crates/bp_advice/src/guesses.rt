@@ -4,8 +4,7 @@ use crate::check_sentences::RefusedName;
 use crate::contexts::tokens_of;
 use crate::declarations::procedure_around;
 use crate::sentences::Quoted;
-use bp_language::{Name, Proc};
-use bp_syntax::Tree;
+use bp_syntax::{Name, Proc, Tree};
 use std::alloc::{AllocError, Global};
 use strsim::osa_distance;
 

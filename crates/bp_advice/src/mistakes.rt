@@ -2,7 +2,7 @@
 use crate::contexts::{Context, is_name};
 use crate::offers::Offer;
 use crate::sentences::Named;
-use bp_language::TokenKind::{self, Becomes, Close, Else, End, Fi, Od, Semicolon};
+use bp_syntax::TokenKind::{self, Becomes, Close, Else, End, Fi, Od, Semicolon};
 use bp_syntax::{is_reserved, spelling_of};
 use std::alloc::{AllocError, Global};
 

@@ -1,12 +1,12 @@
 //! The possible continuations of a text, in few words: if all tokens of a group may follow, they
 //! are named by the group's name. The tokens that may come next in a text.
 ghost use Rattle.std.specs.Prelude.{◌≡◌, ◌↔◌, ◌++◌, ◌∷◌, IsTrue, IfOk, Contains};
-ghost use Rattle.bp_language.specs.declared.tokens.TokenKind.{TokenKind};
+ghost use Rattle.bp_syntax.specs.declared.tokens.TokenKind.{TokenKind};
 ghost use Rattle.bp_syntax.specs.declared.errors.ReadError.TheVariants.{Syntax, Memory};
 ghost use Rattle.bp_advice.specs.Explanations.{IsProgram, BeginsProgram, MayFollow, IsJudged};
 
 use crate::sentences::between;
-use bp_language::TokenKind::{
+use bp_syntax::TokenKind::{
     self, Ampersand, Assert, Assume, Bang, Bar, Caret, Differ, Equal, Goto, If, Implies, Name, One,
     Open, Print, Return, Skip, While, Zero,
 };

@@ -8,8 +8,8 @@ use crate::explanations::{Explanation, about_place};
 use crate::mistakes::{advice, misses_semicolon, mistake_at};
 use crate::offers::{Offer, list_of, may_follow, offers_after};
 use crate::sentences::Quoted;
-use bp_language::limits::{NESTING_LIMIT, SUCCESSION_LIMIT};
 use bp_syntax::ReadError;
+use bp_syntax::limits::{NESTING_LIMIT, SUCCESSION_LIMIT};
 use bp_text::{Line, last_line, part_before, part_from};
 use std::alloc::{AllocError, Global};
 

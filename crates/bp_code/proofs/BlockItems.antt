@@ -1,7 +1,7 @@
 -- Items of blocks: the i-th statement and those after it, its depth, and the code that it adds.
 use Rattle.bp_code.proofs.Common.{◌≡◌, refl, ap, ℕ, zero, suc, ◌+◌, ◌<◌, ◌≤◌, List, [], ◌∷◌, ◌++◌, length, drop, get_or, arith, sym, ◌∙◌, Bool, true, if◌then◌else◌, Option, None, Some, bytes_eq, ap₂, map, subst, length-append, append-nil, add-zero, drop-drop, drop_at, rules, option_or, regrouped, Stmt, block_of, statement_of, depth, statement_depth, Then, Block, Branches, Decision, Name, Done, Statement, Skips, GoesTo, Returns, Assigns, Loops, Asserts, Assumes, Prints, Calls, Procedure, Instruction, has_label, chain, Place, places, places_in, places_of, start_of_block, block_starts, inner_starts, drop_item, Environment, size, block_entry, block_code, statement_code, block_size, label_number, inner_number, block_sizes, inner_sizes, AreSizesAt}
 use Rattle.std.proofs.lemmas.Slice.Eq.{bytes_eq-Decides}
-use Rattle.bp_language.specs.Ast.{block_size, size}
+use Rattle.bp_syntax.specs.Ast.{block_size, size}
 
 -- the block from the i-th statement on
 pub block_item : (items : List Stmt) (i : ℕ) (s : Stmt) → i < length items → s ≡ get_or items i s

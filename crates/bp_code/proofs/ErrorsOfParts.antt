@@ -1,7 +1,7 @@
 -- The errors of a program are those of its parts.
 use Rattle.bp_code.proofs.Common.{◌≡◌, ◌⊎◌, ℕ, ◌<◌, ◌≤◌, ◌||◌, ◌&&◌, Bool, true, false, nat_lt, nat_eq, nat_le, cond, Option, None, Some, refl, inl, inr, arith, List, [], ◌∷◌, ◌++◌, sym, subst, map, Result, IfOk, zero, suc, ◌+◌, length, get_or, take, ap, ◌∙◌, rules, nat_tests, option_to_list, Bor, take_more, map-append, Procedure, Program, Name, Expression, Statement, Assigns, Calls, GoesTo, Stmt, block_of, statement_of, depth, statement_depth, CheckError, Among, Labelled, statements, IsError, IsUndeclared, IsUneven, HasTargetTwice, statements_inside, labels_of, TwiceGlobal, TwiceProcedure, TwiceLocal, TwiceLabel, UnknownVariable, UnknownProcedure, UnknownLabel, Arity, Lengths, TwiceTarget, Limit, Memory, MAX_GLOBALS, MAX_PROCEDURES, Among-front, Among-back, Among-split, Found, IsNotAfter, IsLeast, IsRefusal, Finds, is_not_after, least_of, IsStatementError, IsErrorOfNames, IsProcedureError, IsErrorOfProcedures, Only, IsMisuse, names_of, labelled_of, all_labelled}
 use Rattle.std.proofs.lemmas.List.{append-nil}
-use Rattle.bp_language.proofs.GrownLists.{regrouped}
+use Rattle.bp_syntax.proofs.GrownLists.{regrouped}
 
 -- The least error of two sets together is the lesser of their least errors.
 

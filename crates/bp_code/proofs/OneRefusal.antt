@@ -1,7 +1,7 @@
 -- A program has at most one refusal, memory aside: two least errors of one set are one error at one
 -- place.
 use Rattle.bp_code.proofs.Common.{◌≡◌, ◌≢◌, ℕ, List, [], ◌∷◌, refl, arith, Program, CheckError, IsError, IsWellFormed, IsNotAfter, IsLeast, IsRefusal}
-use Rattle.bp_language.specs.declared.errors.CheckError.TheVariants as error
+use Rattle.bp_syntax.specs.declared.errors.CheckError.TheVariants as error
 
 -- the errors and their numbers
 abbrev numbers : List (ℕ × CheckError)

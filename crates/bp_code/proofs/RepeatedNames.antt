@@ -1,6 +1,6 @@
 -- Names that occur twice in a list, or past a limit.
 use Rattle.bp_code.proofs.Common.{◌≡◌, ℕ, zero, suc, ◌+◌, ◌<◌, ◌≤◌, nat_lt, ◌||◌, Bool, true, false, List, [], ◌∷◌, length, get_or, take, drop, map, cond, Option, None, Some, is_some, refl, ap, sym, ◌∙◌, arith, slice_get, drop-cons, bytes_eq, ◌⊎◌, inl, inr, subst, ◌++◌, rules, slice_get_within, slice_get_past, slice_get-get_or, slice_get-map, option_copied, IfSome, Bor, length-map, take_more, map-append, Name, Procedure, procedure_named, expression_of, has, first_index_from, first_index, IsNameAt, IsTwice, Among, Uses, SomeUses, CheckError, Among-front, Among-back, Among-split, Found, names_of, Only, Finds, least_of, IsStray}
-use Rattle.bp_language.specs.declared.exprs.Expr.{Expr}
+use Rattle.bp_syntax.specs.declared.exprs.Expr.{Expr}
 use Rattle.bp_code.proofs.ErrorsOfParts.{finds_both, finds_same}
 
 -- The first index of a text in a list of names.

@@ -1,7 +1,7 @@
 -- Well-formed programs have a code: each name in them is declared.
 use Rattle.bp_code.proofs.Common.{◌≡◌, refl, sym, ap, subst, ◌∙◌, ℕ, ◌+◌, ◌≤◌, true, false, cond, List, [], ◌∷◌, Option, Some, is_some, length, length-append, bytes_eq, arith, ◌⊎◌, ◌||◌, Bool, ◌++◌, IsSome, inl, inr, option_map, rules, option_or, option_to_list, Name, Block, Done, Then, Statement, Skips, GoesTo, Returns, Assigns, Branches, Loops, Asserts, Assumes, Prints, Calls, Procedure, Program, Expression, Constant, Variable, Negation, Operation, Decision, procedure_named, variables, has, Uses, SomeUses, DecisionUses, Mentions, Among, Labelled, statements, statements_inside, labels_of, HasFewNames, IsSound, HasSoundStatements, EachName, NamesInExpression, NamesInExpressions, NamesInDecision, chain, has_label, from_label, from_inside, Heading, heading_named, AllCompilableIn, HaveFew, HasNames, HasNamesIn, IsCompilableIn, IsCompilable, IsKnown, IsKnownIn, Environment, block_size, size, label_number, inner_number, headings_from, slot_of}
 use Rattle.std.proofs.lemmas.List.Folds.{list_any-append}
-use Rattle.bp_language.specs.Ast.{procedures_size}
+use Rattle.bp_syntax.specs.Ast.{procedures_size}
 use Rattle.bp_flat.specs.declared.limits.TheConstants.{SLOTS}
 use Rattle.bp_flat.specs.Moves.{procedure_named}
 use Rattle.bp_code.proofs.RepeatedNames.{first_has}

@@ -2,8 +2,8 @@
 -- Each name in them is declared, calls have as many arguments as formals, and slots and numbers of
 -- instructions fit.
 use Rattle.std.specs.Prelude.{◌≡◌, ℕ, ◌+◌, List, [], ◌∷◌, ◌++◌, drop, ◌^◌, ◌<◌, ◌≤◌, Some, IsSome, length}
-use Rattle.bp_language.specs.Ast.{Block, Done, Then, Statement, Branches, Loops, size, Name, Expression, Skips, GoesTo, Returns, Assigns, Asserts, Assumes, Prints, Calls, Procedure, Program}
-use Rattle.bp_language.specs.NamesIn.{EachName, NamesInExpressions, NamesInDecision}
+use Rattle.bp_syntax.specs.Ast.{Block, Done, Then, Statement, Branches, Loops, size, Name, Expression, Skips, GoesTo, Returns, Assigns, Asserts, Assumes, Prints, Calls, Procedure, Program}
+use Rattle.bp_syntax.specs.NamesIn.{EachName, NamesInExpressions, NamesInDecision}
 use Rattle.bp_flat.specs.declared.limits.TheConstants.{SLOTS}
 use Rattle.bp_flat.specs.Moves.{from_label, procedure_named}
 use Rattle.bp_code.specs.declared.layout.Layout.{Layout}

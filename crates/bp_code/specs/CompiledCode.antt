@@ -2,9 +2,9 @@
 -- over all procedures, and one return after each procedure's statements.
 use Rattle.std.specs.Prelude.{ℕ, List, Option, IsSome, option_map, if◌then◌else◌, ◌+◌, [], ◌∷◌, ◌++◌, None, Some, length, map, unwrap_or}
 use Rattle.std.specs.Option.{option_or}
-use Rattle.bp_language.specs.Ast.{Name, Procedure, variables, Expression, Constant, Variable, Negation, Operation, Decision, Choose, Decide, Block, Done, Then, Statement, Skips, GoesTo, Returns, Assigns, Branches, Loops, Asserts, Assumes, Prints, Calls, Program}
-pub use Rattle.bp_language.specs.Ast.{block_size, size, procedures_size}
-use Rattle.bp_language.specs.Errors.{first_index}
+use Rattle.bp_syntax.specs.Ast.{Name, Procedure, variables, Expression, Constant, Variable, Negation, Operation, Decision, Choose, Decide, Block, Done, Then, Statement, Skips, GoesTo, Returns, Assigns, Branches, Loops, Asserts, Assumes, Prints, Calls, Program}
+pub use Rattle.bp_syntax.specs.Ast.{block_size, size, procedures_size}
+use Rattle.bp_syntax.specs.Errors.{first_index}
 use Rattle.bp_flat.specs.declared.slots.Slot.{Slot}
 use Rattle.bp_flat.specs.declared.slots.Slot.TheVariants.{Global, Local}
 use Rattle.bp_flat.specs.Flat.{Formula, Bit, At, Inverse, Joined, Instruction, Skip, Goto, Return, Assign, If, While, Assert, Assume, Print, Call, Heading, heading, Flat, flat, heading_named}

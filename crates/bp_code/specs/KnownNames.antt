@@ -1,6 +1,6 @@
 -- Blocks whose names have a meaning in an environment. Only private contracts name them.
 use Rattle.std.specs.Prelude.{◌≤◌, List, IsSome, length}
-use Rattle.bp_language.specs.Ast.{Name, Expression, Block, Statement}
+use Rattle.bp_syntax.specs.Ast.{Name, Expression, Block, Statement}
 use Rattle.bp_flat.specs.declared.limits.TheConstants.{SLOTS}
 use Rattle.bp_code.specs.CompiledCode as slots
 use Rattle.bp_code.specs.CompilablePrograms.{IsResolved, IsResolvedIn}

@@ -1,9 +1,9 @@
 -- How a program is refused: by the least of its errors.
 use Rattle.std.specs.Prelude.{◌≡◌, ◌⊎◌, ℕ, ◌<◌, ◌≤◌, ◌≢◌}
-use Rattle.bp_language.specs.Ast.{Program}
-use Rattle.bp_language.specs.Errors.{check_error_number, IsError, IsWellFormed}
-use Rattle.bp_language.specs.declared.errors.CheckError.{CheckError}
-use Rattle.bp_language.specs.declared.errors.CheckError.TheVariants.{Memory}
+use Rattle.bp_syntax.specs.Ast.{Program}
+use Rattle.bp_syntax.specs.Errors.{check_error_number, IsError, IsWellFormed}
+use Rattle.bp_syntax.specs.declared.errors.CheckError.{CheckError}
+use Rattle.bp_syntax.specs.declared.errors.CheckError.TheVariants.{Memory}
 
 -- The least of a set of errors: by place, and at one place by number.
 

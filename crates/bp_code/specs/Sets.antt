@@ -4,13 +4,13 @@ use Rattle.std.specs.Borrow.{Bor}
 use Rattle.std.specs.BTreeMap.{BTreeMap, get_by}
 use Rattle.std.specs.Cmp.Lexicographic.{slice_cmp}
 use Rattle.std.specs.Ordering.{nat_cmp}
-use Rattle.bp_language.specs.Ast.{Name, Statement, Procedure, variables}
-use Rattle.bp_language.specs.declared.stmts.Stmt.{Stmt}
-use Rattle.bp_language.specs.Blocks.{statement_of}
-use Rattle.bp_language.specs.declared.errors.CheckError.{CheckError}
-use Rattle.bp_language.specs.declared.errors.CheckError.TheVariants.{TwiceLocal, TwiceLabel, UnknownVariable, UnknownProcedure, UnknownLabel, Arity, Lengths, TwiceTarget, Limit}
-use Rattle.bp_language.specs.Errors.{Among, Labelled, statements, labels, IsTwice, IsPast, IsUndeclared, CallsNone, CallsWrongly, JumpsNowhere, IsUneven, HasTargetTwice, IsStrayIn, first_index, check_error_number}
-use Rattle.bp_language.specs.declared.limits.TheConstants.{MAX_OWN_NAMES}
+use Rattle.bp_syntax.specs.Ast.{Name, Statement, Procedure, variables}
+use Rattle.bp_syntax.specs.declared.stmts.Stmt.{Stmt}
+use Rattle.bp_syntax.specs.Blocks.{statement_of}
+use Rattle.bp_syntax.specs.declared.errors.CheckError.{CheckError}
+use Rattle.bp_syntax.specs.declared.errors.CheckError.TheVariants.{TwiceLocal, TwiceLabel, UnknownVariable, UnknownProcedure, UnknownLabel, Arity, Lengths, TwiceTarget, Limit}
+use Rattle.bp_syntax.specs.Errors.{Among, Labelled, statements, labels, IsTwice, IsPast, IsUndeclared, CallsNone, CallsWrongly, JumpsNowhere, IsUneven, HasTargetTwice, IsStrayIn, first_index, check_error_number}
+use Rattle.bp_syntax.specs.declared.limits.TheConstants.{MAX_OWN_NAMES}
 use Rattle.bp_code.specs.Refusals.{IsLeast}
 use Rattle.bp_code.specs.declared.checks.Found.{Found}
 

@@ -1,9 +1,9 @@
 -- The well-formed program of a text and its code, and why a text has none.
 use Rattle.std.specs.Prelude.{ℕ, List, Option}
-use Rattle.bp_language.specs.Ast.{Program}
-use Rattle.bp_language.specs.Texts.{IsTextOf}
+use Rattle.bp_syntax.specs.Ast.{Program}
+use Rattle.bp_syntax.specs.Texts.{IsTextOf}
 use Rattle.bp_syntax.specs.Refusals.{IsRefusal as IsReadRefusal, read_error_place}
-use Rattle.bp_language.specs.Errors.{IsWellFormed, check_error_place}
+use Rattle.bp_syntax.specs.Errors.{IsWellFormed, check_error_place}
 use Rattle.bp_code.specs.Refusals.{IsRefusal}
 use Rattle.bp_code.specs.declared.texts.ProgramError.{ProgramError}
 use Rattle.bp_code.specs.declared.texts.ProgramError.TheVariants.{Read, Check}

@@ -1,16 +1,15 @@
 //! The least error of a program. The least error: by place, and at one place by number. An error
 //! that was found, with its place.
 ghost use Rattle.std.specs.Prelude.{◌≡◌, MatchResult, IfOk};
-ghost use Rattle.bp_language.specs.Errors.{IsWellFormed, check_error_number, check_error_place, IsError};
+ghost use Rattle.bp_syntax.specs.Errors.{IsWellFormed, check_error_number, check_error_place, IsError};
 ghost use Rattle.bp_code.specs.Refusals.{IsRefusal};
 ghost use Rattle.bp_code.specs.Sets.{IsErrorOfProcedures, Finds, least_of};
 
 use crate::procedures::procedure_error;
 use crate::tables::{NameTable, error_of_names};
 use crate::uses::Callees;
-use bp_language::limits::{MAX_GLOBALS, MAX_PROCEDURES};
-use bp_language::{CheckError, Name, Proc};
-use bp_syntax::{Checked, Tree};
+use bp_syntax::limits::{MAX_GLOBALS, MAX_PROCEDURES};
+use bp_syntax::{CheckError, Checked, Name, Proc, Tree};
 use std::alloc::{AllocError, Global};
 
 /// Why a tree is refused, with the tree.

@@ -1,8 +1,8 @@
 //! The instructions of the statements of a procedure, in text order.
 ghost use Rattle.std.specs.Prelude.{◌≡◌, ◌+◌, ◌^◌, ◌<◌, ◌≤◌, ◌++◌, ◌∷◌, [], OnOk, drop, length};
-ghost use Rattle.bp_language.specs.Ast.{Branches, Loops};
-ghost use Rattle.bp_language.specs.Views.{decision_of};
-ghost use Rattle.bp_language.specs.Blocks.{block_of, statement_of};
+ghost use Rattle.bp_syntax.specs.Ast.{Branches, Loops};
+ghost use Rattle.bp_syntax.specs.Views.{decision_of};
+ghost use Rattle.bp_syntax.specs.Blocks.{block_of, statement_of};
 ghost use Rattle.bp_code.specs.Environments.{environment_of};
 ghost use Rattle.bp_code.specs.KnownNames.{IsKnown, IsKnownIn};
 ghost use Rattle.bp_code.specs.CompilablePrograms.{block_sizes, inner_sizes, AreSizesOf};
@@ -13,7 +13,7 @@ use crate::translate::{exprs, slots, test};
 use bp_flat::actions::{Action, Assignment, Branch, Call};
 use bp_flat::expr_lists::Arguments;
 use bp_flat::instrs::Instr;
-use bp_language::{Block, Decider, Form, Stmt};
+use bp_syntax::{Block, Decider, Form, Stmt};
 use std::alloc::AllocError;
 
 /// Appends an instruction.

@@ -1,6 +1,6 @@
 //! The meaning of the names in the statements of a procedure.
 ghost use Rattle.std.specs.Prelude.{◌≡◌, ◌+◌, ◌^◌, ◌<◌, ◌≤◌, ℕ, List, length, map};
-ghost use Rattle.bp_language.specs.Ast.{variables};
+ghost use Rattle.bp_syntax.specs.Ast.{variables};
 ghost use Rattle.bp_code.specs.Sets.{index_in};
 ghost use Rattle.bp_flat.specs.declared.limits.TheConstants.{SLOTS};
 ghost use Rattle.bp_code.specs.CompiledCode.{block_size, label_number};
@@ -8,7 +8,7 @@ ghost use Rattle.bp_code.specs.CompiledCode.{block_size, label_number};
 use crate::layout::Layout;
 use crate::tables::NameTable;
 use bp_flat::headings::Heading;
-use bp_language::Proc;
+use bp_syntax::Proc;
 
 /// The globals, the procedures and their headings, and of one procedure its variables and the
 /// layout of its instructions.

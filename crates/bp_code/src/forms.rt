@@ -1,16 +1,16 @@
 //! The errors of one statement, apart from the blocks inside it.
 ghost use Rattle.std.specs.Prelude.{◌≡◌, [], map, IfOk};
-ghost use Rattle.bp_language.specs.Ast.{GoesTo, Assigns, Calls};
-ghost use Rattle.bp_language.specs.Views.{expression_of};
-ghost use Rattle.bp_language.specs.Blocks.{statement_of};
-ghost use Rattle.bp_language.specs.Errors.{Mentions, IsUneven};
+ghost use Rattle.bp_syntax.specs.Ast.{GoesTo, Assigns, Calls};
+ghost use Rattle.bp_syntax.specs.Views.{expression_of};
+ghost use Rattle.bp_syntax.specs.Blocks.{statement_of};
+ghost use Rattle.bp_syntax.specs.Errors.{Mentions, IsUneven};
 ghost use Rattle.bp_code.specs.Sets.{Only, IsStray, IsMisuse, IsStatementError, Finds};
 
 use crate::checks::{Found, least};
 use crate::procedures::Scope;
 use crate::tables::{NameTable, least_repeat};
 use crate::uses::{Callees, stray_in_all, stray_in_decider, stray_names};
-use bp_language::{CheckError, Expr, Form, Name};
+use bp_syntax::{CheckError, Expr, Form, Name};
 use std::alloc::{AllocError, Global};
 
 /// Returns the least undeclared variable that the statement mentions.

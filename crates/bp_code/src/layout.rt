@@ -2,13 +2,13 @@
 //! the numbers of its labels, from one walk.
 ghost use Rattle.std.specs.Prelude.{◌≡◌, ◌+◌, ◌^◌, ◌<◌, ◌≤◌, ◌++◌, ◌∷◌, ℕ, List, None, Some, if◌then◌else◌, IfOk, OnOk, length};
 ghost use Rattle.std.specs.Option.{option_or};
-ghost use Rattle.bp_language.specs.Blocks.{block_of, statement_of};
+ghost use Rattle.bp_syntax.specs.Blocks.{block_of, statement_of};
 ghost use Rattle.bp_flat.specs.Moves.{has_label};
 ghost use Rattle.bp_code.specs.Sets.{index_in};
 ghost use Rattle.bp_code.specs.CompiledCode.{block_size, size, label_number, inner_number};
 ghost use Rattle.bp_code.specs.CompilablePrograms.{block_sizes, inner_sizes, AreSizesOf};
 
-use bp_language::{Form, Name, Proc, Stmt};
+use bp_syntax::{Form, Name, Proc, Stmt};
 use std::alloc::{AllocError, Global};
 use std::collections::BTreeMap;
 

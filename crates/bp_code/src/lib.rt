@@ -20,8 +20,7 @@ pub use bp_flat::{
     Code, Effect, Heading, Instr, Kind, Store, Touched, bit_of, global_value, limits,
     local_slot_of, local_value, slot_of, steps_alike,
 };
-pub use bp_language::CheckError;
-pub use bp_syntax::Checked;
+pub use bp_syntax::{CheckError, Checked};
 pub use bp_text::{WriteError, put};
 pub use checks::{CheckRefusal, check};
 pub use laws::has_one_refusal;

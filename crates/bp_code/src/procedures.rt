@@ -1,16 +1,16 @@
 //! The errors of a procedure.
 //! The variables that the statements of a procedure may name.
 ghost use Rattle.std.specs.Prelude.{◌≡◌, ◌++◌, IfOk, OnOk};
-ghost use Rattle.bp_language.specs.Blocks.{block_of, statement_of};
-ghost use Rattle.bp_language.specs.Errors.{statements, statements_inside, labels_of, has};
+ghost use Rattle.bp_syntax.specs.Blocks.{block_of, statement_of};
+ghost use Rattle.bp_syntax.specs.Errors.{statements, statements_inside, labels_of, has};
 ghost use Rattle.bp_code.specs.Sets.{names_of, all_labelled, IsErrorOfStatements, IsErrorOfBody, IsProcedureError, Finds};
 
 use crate::checks::{Found, least};
 use crate::forms::statement_error;
 use crate::tables::{NameTable, error_of_names, least_repeat};
 use crate::uses::Callees;
-use bp_language::limits::MAX_OWN_NAMES;
-use bp_language::{CheckError, Form, Name, Proc, Stmt};
+use bp_syntax::limits::MAX_OWN_NAMES;
+use bp_syntax::{CheckError, Form, Name, Proc, Stmt};
 use std::alloc::{AllocError, Global};
 use std::marker::Model;
 
@@ -133,8 +133,8 @@ pub(crate) struct Scope<'s, 'a> {
 impl<'s, 'a> Model for Scope<'s, 'a> {
     ghost use Rattle.std.specs.Prelude.{List, ◌++◌};
     ghost use Rattle.std.specs.Coded.{coded_list};
-    ghost use Rattle.bp_language.specs.Ast as ast;
-    ghost use Rattle.bp_language.specs.Codes.{coded_name};
+    ghost use Rattle.bp_syntax.specs.Ast as ast;
+    ghost use Rattle.bp_syntax.specs.Codes.{coded_name};
 
     ghost Value = { List ast.Name };
 

@@ -1,11 +1,11 @@
 //! The code of a whole program.
 ghost use Rattle.std.specs.Prelude.{◌≡◌, ◌+◌, ◌^◌, ◌<◌, ◌≤◌, ◌++◌, ◌∷◌, [], IfOk, OnOk, length, map};
 ghost use Rattle.bp_flat.specs.declared.limits.TheConstants.{SLOTS};
-ghost use Rattle.bp_language.specs.Ast.{Program};
+ghost use Rattle.bp_syntax.specs.Ast.{Program};
 ghost use Rattle.bp_code.specs.KnownNames.{IsKnown};
 ghost use Rattle.bp_code.specs.CompiledCode.{block_size, procedures_size, headings_from, environment_at, procedure_code, flat_of};
-ghost use Rattle.bp_language.specs.Texts.{HasText};
-ghost use Rattle.bp_language.specs.Errors.{IsWellFormed};
+ghost use Rattle.bp_syntax.specs.Texts.{HasText};
+ghost use Rattle.bp_syntax.specs.Errors.{IsWellFormed};
 ghost use Rattle.bp_code.specs.CompilablePrograms.{IsCompilable, HaveFew};
 
 use crate::emit::{emit_block, push};
@@ -16,8 +16,7 @@ use bp_flat::actions::Action;
 use bp_flat::code::Code;
 use bp_flat::headings::Heading;
 use bp_flat::instrs::Instr;
-use bp_language::{Name, Proc};
-use bp_syntax::Checked;
+use bp_syntax::{Checked, Name, Proc};
 use std::alloc::{AllocError, Global};
 
 /// Makes the headings of the procedures. The instructions of each begin at the end of those before.

@@ -1,10 +1,9 @@
 //! The places in the text at which statements begin, in the order of the instructions.
 ghost use Rattle.std.specs.Prelude.{◌≡◌, ◌++◌, IfOk, OnOk};
-ghost use Rattle.bp_language.specs.Blocks.{block_of, statement_of};
+ghost use Rattle.bp_syntax.specs.Blocks.{block_of, statement_of};
 ghost use Rattle.bp_flat.specs.StandsFor.{block_starts, inner_starts, starts_of};
 
-use bp_language::{Form, Stmt};
-use bp_syntax::Checked;
+use bp_syntax::{Checked, Form, Stmt};
 use std::alloc::{AllocError, Global};
 
 /// Records the starts of statements, and of those inside them.

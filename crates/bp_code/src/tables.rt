@@ -1,12 +1,12 @@
 //! Names that are found by their texts.
 //! Names that appear twice in a list, or past its limit.
 ghost use Rattle.std.specs.Prelude.{◌≡◌, ◌++◌, OnOk, IfOk, map, take};
-ghost use Rattle.bp_language.specs.Ast.{variables};
-ghost use Rattle.bp_language.specs.Errors.{has, first_index, IsTwice, IsPast};
+ghost use Rattle.bp_syntax.specs.Ast.{variables};
+ghost use Rattle.bp_syntax.specs.Errors.{has, first_index, IsTwice, IsPast};
 ghost use Rattle.bp_code.specs.Sets.{names_of, HasFirstIndices, Only, IsErrorOfNames, Finds};
 
 use crate::checks::{Found, least};
-use bp_language::{CheckError, Name, Proc};
+use bp_syntax::{CheckError, Name, Proc};
 use std::alloc::{AllocError, Global};
 use std::collections::BTreeMap;
 use std::marker::Model;
@@ -28,8 +28,8 @@ impl Drop for NameTable<'_> {
 impl<'a> Model for NameTable<'a> {
     ghost use Rattle.std.specs.Prelude.{List};
     ghost use Rattle.std.specs.Coded.{coded_list};
-    ghost use Rattle.bp_language.specs.Ast as ast;
-    ghost use Rattle.bp_language.specs.Codes.{coded_name};
+    ghost use Rattle.bp_syntax.specs.Ast as ast;
+    ghost use Rattle.bp_syntax.specs.Codes.{coded_name};
     ghost use Rattle.bp_code.specs.Sets.{names_of, HasFirstIndices};
 
     ghost Value = { List ast.Name };

@@ -5,8 +5,7 @@ ghost use Rattle.bp_code.specs.WellFormedTexts.{IsCodeRefusal, IsWellFormedText,
 use crate::checks::check;
 use crate::programs::compile;
 use bp_flat::code::Code;
-use bp_language::CheckError;
-use bp_syntax::{Checked, ReadError, read};
+use bp_syntax::{CheckError, Checked, ReadError, read};
 use std::alloc::{AllocError, Global};
 use std::error::Error;
 use std::fmt;

@@ -1,7 +1,7 @@
 //! From program trees to flat code. The slots, labels and first instructions for names.
 ghost use Rattle.std.specs.Prelude.{◌≡◌, IfOk};
-ghost use Rattle.bp_language.specs.Views.{expression_of, decision_of};
-ghost use Rattle.bp_language.specs.NamesIn.{EachName, NamesInExpression, NamesInExpressions, NamesInDecision};
+ghost use Rattle.bp_syntax.specs.Views.{expression_of, decision_of};
+ghost use Rattle.bp_syntax.specs.NamesIn.{EachName, NamesInExpression, NamesInExpressions, NamesInDecision};
 ghost use Rattle.bp_flat.specs.Views.{formula_of, test_of};
 ghost use Rattle.bp_code.specs.Environments.{environment_of};
 ghost use Rattle.bp_code.specs.KnownNames.{HasSlot, HasLabel, HasHeading};
@@ -11,7 +11,7 @@ use crate::environments::Environment;
 use bp_flat::expr_lists::SlotExprs;
 use bp_flat::exprs::{SlotExpr, SlotSub, Test};
 use bp_flat::slots::{Index, Slot, Slots};
-use bp_language::{Decider, Expr, Exprs, Name, Names};
+use bp_syntax::{Decider, Expr, Exprs, Name, Names};
 use std::alloc::{AllocError, Global};
 
 /// Returns the slots of declared variables, in order.

@@ -2,15 +2,15 @@
 //! Procedures that are found by their names.
 ghost use Rattle.std.specs.Prelude.{◌≡◌, map, IfOk};
 ghost use Rattle.std.specs.Option.{option_copied};
-ghost use Rattle.bp_language.specs.Views.{expression_of, decision_of};
-ghost use Rattle.bp_language.specs.Ast.{procedure_named};
-ghost use Rattle.bp_language.specs.Errors.{Uses, SomeUses, DecisionUses, Among};
+ghost use Rattle.bp_syntax.specs.Views.{expression_of, decision_of};
+ghost use Rattle.bp_syntax.specs.Ast.{procedure_named};
+ghost use Rattle.bp_syntax.specs.Errors.{Uses, SomeUses, DecisionUses, Among};
 ghost use Rattle.bp_code.specs.Sets.{IsStray, Finds};
 
 use crate::checks::{Found, least};
 use crate::procedures::Scope;
 use crate::tables::NameTable;
-use bp_language::{CheckError, Decider, Expr, Name, Proc};
+use bp_syntax::{CheckError, Decider, Expr, Name, Proc};
 use std::alloc::{AllocError, Global};
 use std::marker::Model;
 
@@ -84,8 +84,8 @@ pub(crate) struct Callees<'a> {
 impl<'a> Model for Callees<'a> {
     ghost use Rattle.std.specs.Prelude.{◌≡◌, List, map};
     ghost use Rattle.std.specs.Coded.{coded_list};
-    ghost use Rattle.bp_language.specs.Ast.{Procedure};
-    ghost use Rattle.bp_language.specs.Codes.{coded_procedure};
+    ghost use Rattle.bp_syntax.specs.Ast.{Procedure};
+    ghost use Rattle.bp_syntax.specs.Codes.{coded_procedure};
 
     ghost Value = { List Procedure };
 

@@ -11,7 +11,7 @@ pub use Rattle.bp_commands.specs.Shows.{AreContextsOf, AreStepsOf, IsPart, IsSho
 pub use Rattle.bp_commands.specs.Tests.{AreListed, IsTestable, tests}
 pub use Rattle.bp_commands.specs.Traces.{DeadlockAlike, FailAlike, HasNoFailure, HasNoSeparator, HasNoneBefore, IsEndRefusal, IsOfTrace, IsReplayText, IsScheduleRefused, IsSeparated, IsShrunkText, IsSplit, IsTraceOf, IsTraceReport, LacksMemory, TextRule, drives, ends_line, migrates, on_trace, shrinks}
 pub use Rattle.bp_confirm.specs.OwnSteps.{listed_steps, own_steps_text}
-pub use Rattle.bp_language.specs.Ast.{Program}
+pub use Rattle.bp_syntax.specs.Ast.{Program}
 pub use Rattle.bp_machine.specs.Histories.{IsReport, is_failure, outcome_of}
 pub use Rattle.bp_machine.specs.Setups.{IsSetupRefusal, SetupOf, StartOf, setup_from}
 pub use Rattle.bp_machine.specs.declared.calls.Call.{Call}
@@ -20,9 +20,9 @@ pub use Rattle.bp_messages.specs.ErrorObjects.{IsValueIn, ShownVerdict, error_ob
 pub use Rattle.bp_messages.specs.ErrorTable.{error_of_migration, error_of_run, error_of_schedule, error_of_setup, error_of_test, error_of_trace, error_of_view}
 pub use Rattle.bp_messages.specs.declared.errors.Error.{Error}
 pub use Rattle.bp_messages.specs.declared.errors.Error.TheVariants.{Memory, Write}
-pub use Rattle.bp_tasks.specs.NamedBits.{NamedBitOf, start_by_names}
-pub use Rattle.bp_tasks.specs.RunOptions.{OptionsOf}
-pub use Rattle.bp_tasks.specs.declared.limits.TheConstants.{MAX_JOBS}
+pub use Rattle.bp_source.specs.NamedBits.{NamedBitOf, start_by_names}
+pub use Rattle.bp_source.specs.RunOptions.{OptionsOf}
+pub use Rattle.bp_source.specs.declared.limits.TheConstants.{MAX_JOBS}
 pub use Rattle.bp_test.specs.Shrinks.{IsEnd, IsShrunk, with_contexts}
 pub use Rattle.bp_test.specs.Tests.{IsDeadlock, IsFound, IsTest, IsTestRefusal, setup_of_run}
 pub use Rattle.bp_text.proofs.Givings.{all_from, all_then, and_then, part_first, part_then, written_at_end}

@@ -3,9 +3,9 @@ use Rattle.bp_commands.proofs.Common.{◌≡◌, ℕ, List, Option, Result, Ok, 
 use Rattle.std.specs.declared.alloc.AllocError.{AllocError}
 use Rattle.std.specs.declared.alloc.Global.{Global}
 use Rattle.bp_advice.specs.declared.explanations.Explanation.{Explanation}
-use Rattle.bp_tasks.specs.declared.tasks.ErrorFormat.{ErrorFormat}
-use Rattle.bp_tasks.specs.declared.tasks.ErrorFormat.TheVariants as format
-use Rattle.bp_tasks.specs.ErrorFormats.{is_explained}
+use Rattle.bp_source.specs.declared.tasks.ErrorFormat.{ErrorFormat}
+use Rattle.bp_source.specs.declared.tasks.ErrorFormat.TheVariants as format
+use Rattle.bp_source.specs.ErrorFormats.{is_explained}
 use Rattle.bp_commands.specs.declared.run_ends.Explained.{Explained}
 use Rattle.bp_commands.specs.declared.run_ends.RunEnd.{RunEnd}
 

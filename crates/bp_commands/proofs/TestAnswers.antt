@@ -4,8 +4,8 @@ use Rattle.bp_flat.specs.StandsFor.{places_of}
 use Rattle.bp_machine.specs.declared.setup_errors.SetupError.TheVariants.{OutOfRange}
 use Rattle.bp_test.specs.declared.tests.TestError.{TestError}
 use Rattle.bp_test.specs.declared.tests.TestError.TheVariants as error
-use Rattle.bp_tasks.specs.declared.options.TestOptions.{TestOptions}
-use Rattle.bp_tasks.specs.declared.tasks.TestTask.{TestTask}
+use Rattle.bp_source.specs.declared.options.TestOptions.{TestOptions}
+use Rattle.bp_source.specs.declared.tasks.TestTask.{TestTask}
 use Rattle.bp_test.specs.declared.tests.Found.{Found}
 use Rattle.bp_test.specs.declared.tests.Found.TheVariants.{Nothing, Failed, Deadlock}
 use Rattle.bp_test.specs.declared.tests.Tested.{Tested as Made}

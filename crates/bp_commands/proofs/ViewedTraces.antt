@@ -1,8 +1,8 @@
 -- The answer of the command `show`, from a view of a trace.
 use Rattle.bp_commands.proofs.Common.{◌++◌, ℕ, List, Option, refl, sym, inl, inr, subst, Some, arith, Keeps, Keeps-refl, AppendsAll, AppendsPart, all_then, part_first, part_then, Program, Report, IsReport, IsAcceptedTrace, IsWellFormedText, IsViewed, IsViewOfTrace, IsViewRefusal, error_of_view, error_of_trace, Error, Write, IsDoneWith, IsRefusedWith, Pair, Command, IsOfTrace, IsTraceReport, shows, IsViewText, last_line, on_valid_calls, refusal_text, IsPart, IsShownWithLine, OfPart, Refusal}
 use Rattle.bp_trace.specs.declared.replays.AcceptedTrace.{AcceptedTrace}
-use Rattle.bp_tasks.specs.declared.options.ViewOptions.{ViewOptions}
-use Rattle.bp_tasks.specs.declared.options.ViewFormat.{ViewFormat}
+use Rattle.bp_source.specs.declared.options.ViewOptions.{ViewOptions}
+use Rattle.bp_source.specs.declared.options.ViewFormat.{ViewFormat}
 use Rattle.bp_view.specs.declared.errors.ViewError.{ViewError}
 use Rattle.bp_view.specs.declared.errors.ViewError.TheVariants as view
 

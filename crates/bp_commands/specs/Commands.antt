@@ -4,7 +4,7 @@ use Rattle.std.specs.Io.KnownBytes.{Consumes, IsAtEnd, Keeps}
 use Rattle.std.specs.declared.io.ErrorKind.{ErrorKind}
 use Rattle.std.specs.declared.io.ErrorKind.TheVariants.{OutOfMemory}
 use Rattle.bp_text.specs.Writing.{AppendsAll, AppendsPart}
-use Rattle.bp_language.specs.declared.limits.TheConstants.{TEXT_LIMIT}
+use Rattle.bp_syntax.specs.declared.limits.TheConstants.{TEXT_LIMIT}
 use Rattle.bp_messages.specs.declared.error_lines.InputError.{InputError}
 use Rattle.bp_messages.specs.declared.error_lines.InputError.TheVariants.{Device, TooLong, Memory}
 use Rattle.bp_messages.specs.declared.errors.Error.{Error}

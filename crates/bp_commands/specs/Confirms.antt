@@ -2,7 +2,7 @@
 use Rattle.std.specs.Prelude.{if◌then◌else◌, ◌≡◌, ◌⊎◌, ◌∷◌, ℕ, Bool, true, false, List, [], Option, None, Some, codes, decimal, drop, flat_map, is_some}
 use Rattle.std.specs.List.{concat}
 use Rattle.bp_text.specs.Pieces.{bit_text}
-use Rattle.bp_language.specs.Ast.{Program}
+use Rattle.bp_syntax.specs.Ast.{Program}
 use Rattle.bp_machine.specs.declared.calls.Call.{Call}
 use Rattle.bp_machine.specs.Histories.{IsReport}
 use Rattle.bp_machine.specs.Setups.{SetupOf}
@@ -11,10 +11,10 @@ use Rattle.bp_confirm.specs.declared.confirmations.ConfirmError.{ConfirmError}
 use Rattle.bp_confirm.specs.declared.choices.LastChoice.{LastChoice}
 use Rattle.bp_confirm.specs.ConfirmedTexts.{IsConfirmedText, IsStepsRefusal}
 use Rattle.bp_view.specs.FooterFacts.{AreFooterFacts, ShownFooter}
-use Rattle.bp_tasks.specs.declared.tasks.ConfirmTask.{ConfirmTask}
-use Rattle.bp_tasks.specs.declared.tasks.Verdict.{Verdict}
-use Rattle.bp_tasks.specs.declared.tasks.Verdict.TheVariants.{Failure, Deadlock, Run}
-use Rattle.bp_tasks.specs.declared.options.ViewFormat.TheVariants.{Json}
+use Rattle.bp_source.specs.declared.tasks.ConfirmTask.{ConfirmTask}
+use Rattle.bp_source.specs.declared.tasks.Verdict.{Verdict}
+use Rattle.bp_source.specs.declared.tasks.Verdict.TheVariants.{Failure, Deadlock, Run}
+use Rattle.bp_source.specs.declared.options.ViewFormat.TheVariants.{Json}
 use Rattle.bp_view.specs.Views.{outcome_text, waits_text}
 use Rattle.bp_messages.specs.declared.errors.Error.{Error}
 use Rattle.bp_messages.specs.ErrorTable.{exit_status, error_of_steps}

@@ -10,8 +10,8 @@ use Rattle.bp_machine.specs.Histories.{is_failure}
 use Rattle.bp_trace.specs.declared.errors.ReplayError.TheVariants as replay
 use Rattle.bp_advice.specs.declared.explanations.Explanation.{Explanation}
 use Rattle.bp_advice.specs.Explanations.{ExplainsProgram, lines_of, sentence_of, IsUnexplained}
-use Rattle.bp_tasks.specs.declared.tasks.ErrorFormat.{ErrorFormat}
-use Rattle.bp_tasks.specs.declared.tasks.ErrorFormat.TheVariants as format
+use Rattle.bp_source.specs.declared.tasks.ErrorFormat.{ErrorFormat}
+use Rattle.bp_source.specs.declared.tasks.ErrorFormat.TheVariants as format
 use Rattle.bp_explain.specs.ExplainedErrors.{ExplainsTrace, ExplainsSchedule, ExplainsSteps}
 use Rattle.bp_run.specs.declared.answers.RunReport.{RunReport}
 use Rattle.bp_messages.specs.declared.errors.Error.{Error}

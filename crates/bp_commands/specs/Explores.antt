@@ -1,6 +1,6 @@
 -- The command `explore`.
 use Rattle.std.specs.Prelude.{◌≡◌, ◌⊎◌, ℕ, Bool, true, false, List, [], Option, None, Some}
-use Rattle.bp_language.specs.Ast.{Program}
+use Rattle.bp_syntax.specs.Ast.{Program}
 use Rattle.bp_explore.specs.declared.explorations.Ending.{Ending}
 use Rattle.bp_explore.specs.declared.explorations.Ending.TheVariants.{Found}
 use Rattle.bp_explore.specs.Explorations.{IsExploration}
@@ -11,11 +11,11 @@ use Rattle.bp_machine.specs.declared.calls.Call.{Call}
 use Rattle.bp_machine.specs.declared.calls.Report.{Report}
 use Rattle.bp_machine.specs.Histories.{IsReport}
 use Rattle.bp_machine.specs.Setups.{SetupOf}
-use Rattle.bp_tasks.specs.declared.tasks.ContextBound.{ContextBound}
-use Rattle.bp_tasks.specs.declared.tasks.ContextBound.TheVariants.{AsUsed, Kept}
-use Rattle.bp_tasks.specs.declared.tasks.ExploreTask.{ExploreTask}
-use Rattle.bp_tasks.specs.declared.options.ViewFormat.{ViewFormat}
-use Rattle.bp_tasks.specs.declared.options.ViewFormat.TheVariants.{Columns, Json}
+use Rattle.bp_source.specs.declared.tasks.ContextBound.{ContextBound}
+use Rattle.bp_source.specs.declared.tasks.ContextBound.TheVariants.{AsUsed, Kept}
+use Rattle.bp_source.specs.declared.tasks.ExploreTask.{ExploreTask}
+use Rattle.bp_source.specs.declared.options.ViewFormat.{ViewFormat}
+use Rattle.bp_source.specs.declared.options.ViewFormat.TheVariants.{Columns, Json}
 use Rattle.bp_trace.specs.TraceText.{trace_text}
 use Rattle.bp_view.specs.Views.{clean_text, outcome_text, waits_text}
 use Rattle.bp_messages.specs.declared.errors.Error.{Error}

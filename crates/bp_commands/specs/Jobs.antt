@@ -2,7 +2,7 @@
 use Rattle.std.specs.Prelude.{ℕ, List, Option, None, Some, ◌≡◌, ◌≢◌, ◌⊎◌, [], Result, Err}
 use Rattle.std.specs.Io.KnownBytes.{append_known, Keeps}
 use Rattle.bp_machine.specs.declared.calls.Report.{Report}
-use Rattle.bp_tasks.specs.declared.tasks.ErrorFormat.{ErrorFormat}
+use Rattle.bp_source.specs.declared.tasks.ErrorFormat.{ErrorFormat}
 use Rattle.bp_messages.specs.declared.errors.Error.{Error}
 use Rattle.bp_messages.specs.declared.errors.Error.TheVariants.{Write}
 use Rattle.bp_commands.specs.Commands.{text_and, Inputs, Pair, Command, Answers, bundle_alone, text_alone}

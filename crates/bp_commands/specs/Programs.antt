@@ -1,7 +1,7 @@
 -- The commands `check` and `code`, and programs with a setup whose globals have bits by name.
 use Rattle.std.specs.Prelude.{if◌then◌else◌, ◌≡◌, ℕ, Bool, List, [], ◌∷◌, length, codes, decimal, ◌⊎◌, None}
 use Rattle.std.specs.List.{concat}
-use Rattle.bp_language.specs.Ast.{Program}
+use Rattle.bp_syntax.specs.Ast.{Program}
 use Rattle.bp_machine.specs.declared.setup_errors.SetupError.{SetupError}
 use Rattle.bp_machine.specs.Setups.{IsSetupRefusal, SetupOf, StartOf, setup_error, setup_from}
 use Rattle.bp_code.specs.WellFormedTexts.{IsWellFormedText, IsProgramRefusal, IsCodeRefusal}
@@ -10,9 +10,9 @@ use Rattle.bp_code.specs.CompiledCode.{flat_of}
 use Rattle.bp_code.specs.Listing.{listing_text}
 use Rattle.bp_code.specs.declared.texts.CodeError.{CodeError}
 use Rattle.bp_source.specs.Listings.{program_object, IsCodeInJson, IsSourcedListing}
-use Rattle.bp_tasks.specs.NamedBits.{NamedBitOf, start_by_names, AreGlobals, IsUnknown}
-use Rattle.bp_tasks.specs.declared.tasks.ListingForm.{ListingForm}
-use Rattle.bp_tasks.specs.declared.tasks.ListingForm.TheVariants.{Lines, Sourced, Json}
+use Rattle.bp_source.specs.NamedBits.{NamedBitOf, start_by_names, AreGlobals, IsUnknown}
+use Rattle.bp_source.specs.declared.tasks.ListingForm.{ListingForm}
+use Rattle.bp_source.specs.declared.tasks.ListingForm.TheVariants.{Lines, Sourced, Json}
 use Rattle.bp_messages.specs.declared.errors.Error.{Error}
 use Rattle.bp_messages.specs.ErrorTable.{error_of_program, error_of_code, error_of_setup}
 use Rattle.bp_messages.specs.declared.errors.Error.TheVariants.{Memory, NoVariable}

@@ -1,13 +1,13 @@
 -- The command `run`.
 use Rattle.std.specs.Prelude.{◌≡◌, ◌⊎◌, ℕ, List, [], Some, true, false}
-use Rattle.bp_language.specs.Ast.{Program}
+use Rattle.bp_syntax.specs.Ast.{Program}
 use Rattle.bp_machine.specs.declared.calls.Call.{Call}
 use Rattle.bp_machine.specs.declared.setup_errors.SetupError.TheVariants.{OutOfRange}
 use Rattle.bp_machine.specs.Histories.{IsLegal, HasSeededBits}
 use Rattle.bp_machine.specs.Setups.{SetupOf}
 use Rattle.bp_run.specs.declared.answers.RunReport.{RunReport}
-use Rattle.bp_tasks.specs.NamedBits.{NamedBitOf}
-use Rattle.bp_tasks.specs.RunOptions.{OptionsOf}
+use Rattle.bp_source.specs.NamedBits.{NamedBitOf}
+use Rattle.bp_source.specs.RunOptions.{OptionsOf}
 use Rattle.bp_run.specs.Options.{has_bad_turn_or_ring}
 use Rattle.bp_run.specs.Runs.{IsPlayedBy, IsEarly}
 use Rattle.bp_trace.specs.TraceText.{trace_text}

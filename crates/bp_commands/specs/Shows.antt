@@ -1,7 +1,7 @@
 -- The command `show`, `show --at`, `show --contexts` and `show --steps`.
 use Rattle.std.specs.Prelude.{◌≡◌, ◌⊎◌, ◌≤◌, ℕ, Bool, true, false, List, Option, None, Some, length, take, ◌++◌, [], ◌∷◌, codes, decimal}
 use Rattle.std.specs.List.{concat}
-use Rattle.bp_language.specs.Ast.{Program}
+use Rattle.bp_syntax.specs.Ast.{Program}
 use Rattle.bp_machine.specs.declared.calls.Call.{Call}
 use Rattle.bp_machine.specs.declared.calls.Report.{Report}
 use Rattle.bp_machine.specs.Histories.{IsReport}
@@ -10,10 +10,10 @@ use Rattle.bp_trace.specs.Replays.{HasNoCalls, IsAcceptedTrace, IsSomeTrace, IsR
 use Rattle.bp_trace.specs.declared.replays.AcceptedTrace.{AcceptedTrace}
 use Rattle.bp_trace.specs.declared.errors.ReplayError.{ReplayError}
 use Rattle.bp_code.specs.WellFormedTexts.{IsWellFormedText}
-use Rattle.bp_tasks.specs.declared.tasks.ShowTask.{ShowTask}
-use Rattle.bp_tasks.specs.declared.options.ViewFormat.{ViewFormat}
-use Rattle.bp_tasks.specs.declared.options.ViewOptions.{ViewOptions}
-use Rattle.bp_tasks.specs.declared.options.ViewFormat.TheVariants.{Columns, Json}
+use Rattle.bp_source.specs.declared.tasks.ShowTask.{ShowTask}
+use Rattle.bp_source.specs.declared.options.ViewFormat.{ViewFormat}
+use Rattle.bp_source.specs.declared.options.ViewOptions.{ViewOptions}
+use Rattle.bp_source.specs.declared.options.ViewFormat.TheVariants.{Columns, Json}
 use Rattle.bp_view.specs.ContextLines.{AreContextLines}
 use Rattle.bp_view.specs.States.{IsStateText}
 use Rattle.bp_view.specs.Views.{IsThere, IsView}

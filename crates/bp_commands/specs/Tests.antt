@@ -1,12 +1,12 @@
 -- The command `test`.
 use Rattle.std.specs.Prelude.{if◌then◌else◌, ◌≡◌, ◌<◌, ◌≤◌, ◌⊎◌, ℕ, Bool, true, false, List, [], None, Some, map}
-use Rattle.bp_language.specs.Ast.{Program}
+use Rattle.bp_syntax.specs.Ast.{Program}
 use Rattle.bp_flat.specs.StandsFor.{places_of}
 use Rattle.bp_machine.specs.declared.calls.Report.{Report}
 use Rattle.bp_machine.specs.declared.setup_errors.SetupError.TheVariants.{OutOfRange}
 use Rattle.bp_machine.specs.Setups.{SetupOf}
-use Rattle.bp_tasks.specs.declared.limits.TheConstants.{MAX_JOBS}
-use Rattle.bp_tasks.specs.declared.tasks.TestTask.{TestTask}
+use Rattle.bp_source.specs.declared.limits.TheConstants.{MAX_JOBS}
+use Rattle.bp_source.specs.declared.tasks.TestTask.{TestTask}
 use Rattle.bp_test.specs.Tallies.{AreCounts, AreDistinctRuns, MadeRun, HasReached}
 use Rattle.bp_test.specs.Tests.{IsFound, IsSought, IsWrittenRun}
 use Rattle.bp_messages.specs.declared.errors.Error.{Error}

@@ -1,6 +1,6 @@
 -- The command `explore --through`.
 use Rattle.std.specs.Prelude.{◌≡◌, ◌⊎◌, ℕ, Bool, List, [], Some, length}
-use Rattle.bp_language.specs.Ast.{Program}
+use Rattle.bp_syntax.specs.Ast.{Program}
 use Rattle.bp_confirm.specs.declared.confirmations.ConfirmError.{ConfirmError}
 use Rattle.bp_confirm.specs.ConfirmedTexts.{AreTold, IsUntold}
 use Rattle.bp_confirm.specs.OwnSteps.{listed_steps}
@@ -11,7 +11,7 @@ use Rattle.bp_explore.specs.ThroughExplorations.{IsThrough}
 use Rattle.bp_flat.specs.Flat.{Flat}
 use Rattle.bp_flat.specs.StandsFor.{StandsFor}
 use Rattle.bp_machine.specs.Setups.{SetupOf}
-use Rattle.bp_tasks.specs.declared.tasks.ExploreTask.{ExploreTask}
+use Rattle.bp_source.specs.declared.tasks.ExploreTask.{ExploreTask}
 use Rattle.bp_trace.specs.TraceText.{trace_text}
 use Rattle.bp_messages.specs.declared.errors.Error.{Error}
 use Rattle.bp_messages.specs.declared.errors.Error.TheVariants.{Memory}

@@ -1,6 +1,6 @@
 -- The commands on a trace or a schedule of a program, and on a bundle.
 use Rattle.std.specs.Prelude.{◌≡◌, ◌⊎◌, ◌++◌, ℕ, List, ◌≤◌, ◌==◌, Bool, true, [], ◌∷◌, length, Option, Result}
-use Rattle.bp_language.specs.Ast.{Program}
+use Rattle.bp_syntax.specs.Ast.{Program}
 use Rattle.bp_machine.specs.declared.calls.Call.{Call}
 use Rattle.bp_machine.specs.declared.calls.Report.{Report}
 use Rattle.bp_machine.specs.Runs.{printed_rows}
@@ -14,7 +14,7 @@ use Rattle.bp_trace.specs.declared.errors.DriveError.{DriveError}
 use Rattle.bp_trace.specs.Drives.{IsDriven, IsScheduleRefusal}
 use Rattle.bp_trace.specs.declared.traces.Version.TheVariants.{One}
 use Rattle.bp_code.specs.WellFormedTexts.{IsWellFormedText}
-use Rattle.bp_tasks.specs.NamedBits.{NamedBitOf}
+use Rattle.bp_source.specs.NamedBits.{NamedBitOf}
 use Rattle.bp_test.specs.declared.waits.Waiting.{Waiting}
 use Rattle.bp_test.specs.Tests.{FailsAt, IsDeadlock}
 use Rattle.bp_test.specs.Shrinks.{DeadlocksAt, IsOtherEnd, with_contexts}

@@ -9,7 +9,7 @@ use crate::explanations::SecondInput;
 use crate::inputs::{Source, read_pair, read_text};
 use crate::run_ends::CommandAnswer;
 use bp_messages::Error;
-use bp_tasks::NamedStart;
+use bp_source::NamedStart;
 use std::alloc::Global;
 use std::io::{Read, Write};
 

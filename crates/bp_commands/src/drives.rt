@@ -13,7 +13,7 @@ use crate::limits::MAX_BUNDLE;
 use crate::programs::open;
 use bp_machine::{Report, Start};
 use bp_messages::Error;
-use bp_tasks::{DriveTask, NamedBits, NamedStart};
+use bp_source::{DriveTask, NamedBits, NamedStart};
 use bp_trace::drive;
 use bp_trace::limits::MAX_SCHEDULE;
 use std::alloc::Global;

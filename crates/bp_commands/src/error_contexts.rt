@@ -3,14 +3,14 @@
 use crate::inputs::Failure;
 use bp_code::ProgramError;
 use bp_explain::{global_sentence, start_sentence, variable_sentence};
-use bp_language::limits::TEXT_LIMIT;
 use bp_machine::limits::{MAX_CALLS, MAX_CONTEXTS};
 use bp_machine::{SetupError, Start};
 use bp_messages::Error;
 use bp_run::limits::{MAX_RING, MAX_TURN};
+use bp_source::limits::MAX_JOBS;
+use bp_source::{NamedStart, RunOptions, TestOptions};
 use bp_syntax::ReadError;
-use bp_tasks::limits::MAX_JOBS;
-use bp_tasks::{NamedStart, RunOptions, TestOptions};
+use bp_syntax::limits::TEXT_LIMIT;
 use bp_text::push_displayed;
 use bp_view::watched_names;
 use std::alloc::{AllocError, Global};

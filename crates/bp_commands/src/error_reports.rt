@@ -14,7 +14,7 @@ use crate::explanations::{NamedText, SecondInput, of_pair, of_program, put_expla
 use crate::run_ends::{CommandAnswer, Explained, RunEnd, end};
 use bp_advice::{Explanation, lines_of, sentence_of};
 use bp_messages::{Error, put_error_object, value_in};
-use bp_tasks::{ErrorFormat, NamedStart};
+use bp_source::{ErrorFormat, NamedStart};
 use bp_text::WriteError;
 use std::alloc::{AllocError, Global};
 use std::io::Write;

@@ -12,7 +12,7 @@ use bp_advice::{Explanation, explain_program};
 use bp_explain::{explain_schedule, explain_steps, explain_trace};
 use bp_machine::Start;
 use bp_messages::Error;
-use bp_tasks::{NamedBits, NamedStart};
+use bp_source::{NamedBits, NamedStart};
 use bp_text::Piece::Bytes;
 use bp_text::{WriteError, first_line, put, put_pieces};
 use bp_trace::ReplayError;

@@ -4,7 +4,7 @@ ghost use Rattle.bp_commands.specs.ExplorationEnds.{facts_of_ending, facts_throu
 
 use bp_explore::{Ending, Finding, Reason, ThroughEnding};
 use bp_messages::exit_status;
-use bp_tasks::ExploreTask;
+use bp_source::ExploreTask;
 
 /// The exit status if no run makes the steps.
 const NOT_MADE: u8 = 4;

@@ -7,9 +7,9 @@ ghost use Rattle.bp_commands.specs.Commands.{reading_error_of, IsInput, IsInputR
 
 use crate::error_contexts::FailedFile;
 use bp_code::ProgramError;
-use bp_language::limits::TEXT_LIMIT;
 use bp_messages::{Error, InputError};
 use bp_syntax::ReadError;
+use bp_syntax::limits::TEXT_LIMIT;
 use std::alloc::Global;
 use std::io::{self, ErrorKind, Read};
 

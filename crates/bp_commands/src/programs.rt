@@ -7,7 +7,7 @@ use bp_code::{code_of, well_formed_program};
 use bp_flat::Code;
 use bp_machine::{Setup, Start};
 use bp_messages::Error;
-use bp_tasks::{NamedBits, NamedStart};
+use bp_source::{NamedBits, NamedStart};
 use std::alloc::{AllocError, Global};
 
 /// The code of a program, with a setup that the program accepts.

@@ -15,7 +15,7 @@ use crate::run_ends::{CommandAnswer, RunEnd, flushed};
 use crate::worker_runs::{Run, run_program};
 use bp_messages::Error;
 use bp_run::Gate;
-use bp_tasks::{ErrorFormat, NamedStart};
+use bp_source::{ErrorFormat, NamedStart};
 use std::alloc::Global;
 use std::io::{BufWriter, Read, Write};
 use std::sync::Wait;

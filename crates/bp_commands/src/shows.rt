@@ -10,7 +10,7 @@ use bp_confirm::{own_steps, put_steps};
 use bp_flat::Code;
 use bp_machine::Report;
 use bp_messages::Error;
-use bp_tasks::{ShowTask, ViewFormat, ViewOptions};
+use bp_source::{ShowTask, ViewFormat, ViewOptions};
 use bp_text::Piece::{Bytes, Number};
 use bp_text::{WriteError, put, put_pieces};
 use bp_trace::accepted_trace;

@@ -9,9 +9,10 @@ use crate::run_ends::CommandAnswer;
 use bp_code::Code;
 use bp_machine::SetupError;
 use bp_messages::{Error, TestReport, exit_status, put_summary, put_summary_objects};
-use bp_source::{statement_lines, statement_positions, statement_texts, unreached_objects};
-use bp_tasks::limits::MAX_JOBS;
-use bp_tasks::{NamedStart, TestTask};
+use bp_source::limits::MAX_JOBS;
+use bp_source::{
+    NamedStart, TestTask, statement_lines, statement_positions, statement_texts, unreached_objects,
+};
 use bp_test::{Progress, Runtimes, Tally, distinct_of, test};
 use bp_text::WriteError;
 use std::alloc::{AllocError, Global};

@@ -15,7 +15,7 @@ use bp_code::Code;
 use bp_confirm::read_listed_lines;
 use bp_explore::{Observer, ThroughEnding, Watcher, explore_through};
 use bp_messages::Error;
-use bp_tasks::{ExploreTask, NamedStart};
+use bp_source::{ExploreTask, NamedStart};
 use bp_text::WriteError;
 use bp_trace::limits::MAX_SCHEDULE;
 use bp_trace::write_trace;

@@ -9,7 +9,7 @@ use crate::programs::{Opened, open};
 use bp_machine::SetupError;
 use bp_messages::Error;
 use bp_run::{Gate, RunReport, Turns, has_bad_turn_or_ring, run_code};
-use bp_tasks::RunTask;
+use bp_source::RunTask;
 use std::alloc::Global;
 use std::io::{Read, Write};
 use std::sync::Wait;

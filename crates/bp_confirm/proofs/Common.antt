@@ -25,10 +25,10 @@ pub use Rattle.bp_flat.specs.Flat.{Flat, Formula, If, Instruction, While}
 pub use Rattle.bp_flat.specs.InstrEffects.{bits_of, effect_of, store_of}
 pub use Rattle.bp_flat.specs.Moves.{Blocks, Configuration, Fails, Frame, Leaves, Misses, Moves, StatementEffect, Valuation, after_effect, chain, effect, lookup, with_left}
 pub use Rattle.bp_flat.specs.StandsFor.{Does, IsTestOf, Remains, StandsFor, place, places, places_in, places_of, start_of_block, starts_of, valuation_of, variables}
-pub use Rattle.bp_language.specs.Ast.{Asserts, Assumes, Block, Branches, Choose, Decide, Decision, Done, Expression, Loops, Name, Procedure, Program, Returns, Statement, Then}
-pub use Rattle.bp_language.specs.Grammar.{Derives, IsAnd, IsAnyExprs, IsAnyNames, IsAtom, IsDecider, IsDecls, IsEq, IsExpr, IsExprs, IsForm, IsNames, IsOr, IsProc, IsProcs, IsStmt, IsStmts, IsUn, IsXor, assertion, assignment, assumption, brackets, branch, by_value, call, choice, conjunction, constant_0, constant_1, decl, difference, disjunction, equality, exclusion, first_name, first_word, implication, jump, labelled, loop, more_decls, more_exprs, more_names, more_procs, more_stmts, negation, no_decl, no_proc, of_and, of_atom, of_eq, of_or, of_un, of_xor, one_expr, one_name, one_stmt, printing, proc, program, returning, skip, unlabelled, variable}
-pub use Rattle.bp_language.specs.Texts.{IsTextOf}
-pub use Rattle.bp_language.specs.Tokens.{IsCut, Lexeme, Token, bad_byte, fit, kind_of, open_brace, tokens_of, with_token}
+pub use Rattle.bp_syntax.specs.Ast.{Asserts, Assumes, Block, Branches, Choose, Decide, Decision, Done, Expression, Loops, Name, Procedure, Program, Returns, Statement, Then}
+pub use Rattle.bp_syntax.specs.Grammar.{Derives, IsAnd, IsAnyExprs, IsAnyNames, IsAtom, IsDecider, IsDecls, IsEq, IsExpr, IsExprs, IsForm, IsNames, IsOr, IsProc, IsProcs, IsStmt, IsStmts, IsUn, IsXor, assertion, assignment, assumption, brackets, branch, by_value, call, choice, conjunction, constant_0, constant_1, decl, difference, disjunction, equality, exclusion, first_name, first_word, implication, jump, labelled, loop, more_decls, more_exprs, more_names, more_procs, more_stmts, negation, no_decl, no_proc, of_and, of_atom, of_eq, of_or, of_un, of_xor, one_expr, one_name, one_stmt, printing, proc, program, returning, skip, unlabelled, variable}
+pub use Rattle.bp_syntax.specs.Texts.{IsTextOf}
+pub use Rattle.bp_syntax.specs.Tokens.{IsCut, Lexeme, Token, bad_byte, fit, kind_of, open_brace, tokens_of, with_token}
 pub use Rattle.bp_machine.proofs.ContextCounts.{least_opened, opened, opened_least, opened_more, opened_none}
 pub use Rattle.bp_machine.proofs.HistoryWithCall.{calls_of_thread-other, calls_of_thread-same, configuration_after-append, ends_with_last-append, granted_threads-append, set_other, set_same}
 pub use Rattle.bp_machine.proofs.RealFailures.{IsStep, is_step, step_moves, thread_below}
@@ -43,8 +43,8 @@ pub use Rattle.bp_machine.specs.declared.calls.Reply.TheVariants.{Stepped, Stopp
 pub use Rattle.bp_machine.specs.declared.limits.TheConstants.{MAX_CONTEXTS, MAX_THREADS}
 pub use Rattle.bp_machine.specs.declared.tops.Top.{Top}
 pub use Rattle.bp_source.specs.Names.{declares, qualified}
-pub use Rattle.bp_tasks.specs.declared.tasks.ContextBound.{ContextBound}
-pub use Rattle.bp_tasks.specs.declared.tasks.ContextBound.TheVariants.{AsUsed, Kept}
+pub use Rattle.bp_source.specs.declared.tasks.ContextBound.{ContextBound}
+pub use Rattle.bp_source.specs.declared.tasks.ContextBound.TheVariants.{AsUsed, Kept}
 pub use Rattle.bp_text.proofs.PartsOfTexts.{both_added, none_left, regrouped, some_left}
 pub use Rattle.bp_text.proofs.Readings.{after_at, at_as, before_at, both_at, left_at, neither, no_first, no_second, no_word_after, no_word_before, none_after, none_as, right_at, word_at}
 pub use Rattle.bp_text.proofs.WholeTexts.{AreReadTo, IsNext, all_read, bad_there, next_value, no_next, none_bad, one_bad, one_more_read, one_reading}

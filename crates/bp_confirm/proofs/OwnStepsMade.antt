@@ -6,7 +6,7 @@ use Rattle.bp_confirm.proofs.NextLocations.{only_lines}
 use Rattle.bp_confirm.proofs.OneConfirmed.{refused_has_no_run, run_takes}
 use Rattle.bp_confirm.proofs.ValuesSeen.{top_start}
 use Rattle.bp_text.proofs.LinesOfTexts.{column_within, line_within}
-use Rattle.bp_language.specs.declared.limits.TheConstants.{TEXT_LIMIT}
+use Rattle.bp_syntax.specs.declared.limits.TheConstants.{TEXT_LIMIT}
 use Rattle.bp_confirm.specs.declared.confirmations.ConfirmError.TheVariants.{Line}
 use Rattle.bp_confirm.proofs.ReadLines.{IsShortLocation, line_fits, no_step_in_nothing}
 use Rattle.bp_confirm.proofs.OneTextRefusal.{IsUndeclared, no_thread, no_variable, undeclared_line_alone}

@@ -1,12 +1,12 @@
 -- The statements of the program of a text begin in the order of its instructions, each at a byte of
 -- its own; so a place is that of one.
 use Rattle.bp_confirm.proofs.Common.{◌≡◌, ◌+◌, ◌<◌, ◌≤◌, ℕ, zero, suc, List, [], ◌∷◌, ◌++◌, length, take, map, Option, None, Some, refl, ap, sym, subst, arith, slice_get, ◌∙◌, ◌||◌, inl, inr, Bool, true, false, option_map, rules, length-drop, map-append, Name, Expression, Decision, Block, Done, Statement, Procedure, Program, Then, Token, kind_of, Lexeme, IsCut, fit, open_brace, bad_byte, tokens_of, with_token, IsNames, one_name, more_names, IsAnyNames, IsExpr, of_or, implication, IsOr, of_xor, disjunction, IsXor, of_and, exclusion, IsAnd, of_eq, conjunction, IsEq, of_un, equality, difference, IsUn, negation, of_atom, IsAtom, constant_0, constant_1, variable, brackets, IsExprs, one_expr, more_exprs, IsAnyExprs, IsDecider, choice, by_value, IsForm, skip, jump, returning, assignment, branch, loop, assertion, assumption, printing, call, IsStmt, labelled, unlabelled, IsStmts, one_stmt, more_stmts, decl, IsDecls, no_decl, more_decls, IsProc, proc, IsProcs, no_proc, more_procs, Derives, program, first_word, first_name, IsTextOf, chain, Configuration, place, places, places_in, places_of, start_of_block, starts_of, Remains, cases_order, false≢true, slice_get-map, bytes_eq-Decides, IsWellFormedText, starts, procedure_of, GoesOnAt}
-use Rattle.bp_language.specs.Tokens.{ends}
-use Rattle.bp_language.specs.declared.tokens.TokenKind.{TokenKind}
+use Rattle.bp_syntax.specs.Tokens.{ends}
+use Rattle.bp_syntax.specs.declared.tokens.TokenKind.{TokenKind}
 use Rattle.bp_flat.specs.StandsFor.{Place}
 use Rattle.std.specs.Str.{bytes_eq}
-use Rattle.bp_language.specs.Errors.{has}
-use Rattle.bp_language.proofs.LawsOfWellFormedPrograms.{distinct_names}
+use Rattle.bp_syntax.specs.Errors.{has}
+use Rattle.bp_syntax.proofs.LawsOfWellFormedPrograms.{distinct_names}
 use Rattle.bp_flat.proofs.ProceduresOfPlaces.{ends as ends_among}
 
 abbrev first_at : List Token → ℕ

@@ -2,7 +2,7 @@
 use Rattle.std.specs.Prelude.{◌≡◌, ◌<◌, ◌≤◌, ℕ, ◌+◌, Bool, true, false, List, ◌∷◌, ◌++◌, length, if◌then◌else◌, map, nat_lt}
 use Rattle.std.specs.List.{AllByRecursion}
 use Rattle.std.specs.Borrow.{Bor}
-use Rattle.bp_language.specs.Ast.{Program}
+use Rattle.bp_syntax.specs.Ast.{Program}
 use Rattle.bp_flat.specs.Moves.{Valuation}
 use Rattle.bp_machine.specs.Setups.{SetupOf, threads}
 use Rattle.bp_machine.specs.declared.limits.TheConstants.{MAX_CONTEXTS}
@@ -12,8 +12,8 @@ use Rattle.bp_machine.specs.Sessions.{Stands}
 use Rattle.bp_trace.specs.declared.limits.TheConstants.{MAX_SCHEDULE}
 use Rattle.bp_code.specs.WellFormedTexts.{IsWellFormedText}
 use Rattle.bp_source.specs.Names.{declares}
-use Rattle.bp_tasks.specs.declared.tasks.ContextBound.{ContextBound}
-use Rattle.bp_tasks.specs.declared.tasks.ContextBound.TheVariants.{Kept, AsUsed}
+use Rattle.bp_source.specs.declared.tasks.ContextBound.{ContextBound}
+use Rattle.bp_source.specs.declared.tasks.ContextBound.TheVariants.{Kept, AsUsed}
 use Rattle.bp_confirm.specs.Steps.{StepLineOf, steps_of, HasLines, IsBadLine}
 use Rattle.bp_confirm.specs.declared.confirmations.ConfirmError.{ConfirmError}
 use Rattle.bp_confirm.specs.declared.confirmations.ConfirmError.TheVariants as error

@@ -3,7 +3,7 @@ use Rattle.std.specs.Prelude.{ℕ, List, Option, None, Some, slice_get, ◌≡�
 use Rattle.std.specs.List.{AllByRecursion}
 use Rattle.bp_text.specs.declared.lines.Position.{Position}
 use Rattle.bp_text.specs.Lines.{position_at}
-use Rattle.bp_language.specs.Ast.{Program}
+use Rattle.bp_syntax.specs.Ast.{Program}
 use Rattle.bp_flat.specs.StandsFor.{starts_of}
 use Rattle.bp_flat.specs.Moves.{Valuation, Configuration}
 use Rattle.bp_machine.specs.declared.calls.Call.{Call}

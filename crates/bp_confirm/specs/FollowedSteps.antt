@@ -1,7 +1,7 @@
 -- Devices: how steps are followed, attempt by attempt.
 use Rattle.std.specs.Prelude.{ℕ, Bool, true, false, not, ◌&&◌, ◌||◌, ◌==◌, List, [], ◌∷◌, Option, None, Some, ◌+◌, slice_get, ◌≡◌, MatchBool, get_or, option_map}
 use Rattle.bp_text.specs.Lines.{position_at}
-use Rattle.bp_language.specs.Ast.{Block, Then, Branches, Loops, Choose, Program}
+use Rattle.bp_syntax.specs.Ast.{Block, Then, Branches, Loops, Choose, Program}
 use Rattle.bp_flat.specs.Moves.{Frame}
 use Rattle.bp_flat.specs.Flat.{Instruction, If, While, Assert, Assume}
 use Rattle.bp_flat.specs.StandsFor.{starts_of}

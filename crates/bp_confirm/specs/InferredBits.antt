@@ -1,6 +1,6 @@
 -- The choice bits that reported steps leave out, and those of last steps.
 use Rattle.std.specs.Prelude.{◌≡◌, ◌≢◌, slice_get, ℕ, Bool, true, false, not, ◌&&◌, List, [], ◌∷◌, ◌++◌, Option, None, Some, if◌then◌else◌, ◌⊎◌, zero, suc}
-use Rattle.bp_language.specs.Ast.{Block, Then, Branches, Loops, Asserts, Assumes, Choose, Program}
+use Rattle.bp_syntax.specs.Ast.{Block, Then, Branches, Loops, Asserts, Assumes, Choose, Program}
 use Rattle.bp_flat.specs.Moves.{chain, Frame}
 use Rattle.bp_flat.specs.StandsFor.{start_of_block, starts_of}
 use Rattle.bp_machine.specs.declared.calls.Call.{Call}

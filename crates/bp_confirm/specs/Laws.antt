@@ -1,7 +1,7 @@
 -- Laws of reported steps and of their texts.
 use Rattle.std.specs.Prelude.{◌≡◌, ◌∷◌, [], true, List, ℕ, false, ◌++◌, Some, ◌≢◌, ◌≤◌}
-use Rattle.bp_language.specs.Ast.{Program}
-use Rattle.bp_language.specs.Texts.{IsTextOf}
+use Rattle.bp_syntax.specs.Ast.{Program}
+use Rattle.bp_syntax.specs.Texts.{IsTextOf}
 use Rattle.bp_flat.specs.Moves.{Configuration, Moves}
 use Rattle.bp_machine.specs.declared.calls.Call.{Call}
 use Rattle.bp_machine.specs.Histories.{stack_of, configuration_after, IsLegal}
@@ -9,8 +9,8 @@ use Rattle.bp_machine.specs.Runs.{IsBoundedRun, IsDeadlocked}
 use Rattle.bp_machine.specs.Setups.{SetupOf, start, threads}
 use Rattle.bp_machine.specs.declared.limits.TheConstants.{MAX_CONTEXTS, MAX_THREADS}
 use Rattle.bp_code.specs.WellFormedTexts.{IsWellFormedText}
-use Rattle.bp_tasks.specs.declared.tasks.ContextBound.{ContextBound}
-use Rattle.bp_tasks.specs.declared.tasks.ContextBound.TheVariants.{AsUsed}
+use Rattle.bp_source.specs.declared.tasks.ContextBound.{ContextBound}
+use Rattle.bp_source.specs.declared.tasks.ContextBound.TheVariants.{AsUsed}
 use Rattle.bp_confirm.specs.Steps.{stands_at, StepOf, SeesValues, Takes, StepLineOf, steps_of, next_location, HasLines, IsBadLine}
 use Rattle.bp_confirm.specs.declared.confirmations.StepReason.TheVariants.{Ambiguous}
 use Rattle.bp_confirm.specs.declared.confirmations.StepRefusal.{StepRefusal}

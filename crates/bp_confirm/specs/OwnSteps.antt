@@ -4,7 +4,7 @@ use Rattle.std.specs.List.{list_all}
 use Rattle.std.specs.Option.{option_map_or}
 use Rattle.bp_text.specs.declared.lines.Position.{Position}
 use Rattle.bp_text.specs.Lines.{position_at}
-use Rattle.bp_language.specs.Ast.{Program}
+use Rattle.bp_syntax.specs.Ast.{Program}
 use Rattle.bp_flat.specs.Moves.{Frame, Configuration, Moves, Valuation}
 use Rattle.bp_flat.specs.StandsFor.{start_of_block, valuation_of}
 use Rattle.bp_flat.specs.InstrEffects.{bits_of}

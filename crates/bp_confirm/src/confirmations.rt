@@ -10,7 +10,7 @@ use crate::step_lines::{Location, ThreadPlace};
 use bp_code::Checked;
 use bp_flat::Code;
 use bp_machine::{Reply, Setup};
-use bp_tasks::ContextBound;
+use bp_source::ContextBound;
 use bp_trace::limits::MAX_SCHEDULE;
 use std::alloc::{AllocError, Global};
 use thiserror::Error;

@@ -16,8 +16,7 @@ use bp_code::Checked;
 use bp_flat::Code;
 use bp_machine::limits::MAX_CONTEXTS;
 use bp_machine::{Setup, SetupError};
-use bp_source::declares;
-use bp_tasks::ContextBound;
+use bp_source::{ContextBound, declares};
 use std::alloc::{AllocError, Global};
 
 /// The undeclared name on a line.

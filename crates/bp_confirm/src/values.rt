@@ -19,9 +19,9 @@ use crate::fields::value_at;
 use crate::source_points::{SourcePoint, procedure_of};
 use bp_code::Checked;
 use bp_flat::{global_value, local_value};
-use bp_language::Proc;
 use bp_machine::{Call, Session, Top};
 use bp_source::own_name;
+use bp_syntax::Proc;
 use std::alloc::{AllocError, Global};
 
 /// Returns the value of a local of a procedure in this word, by its name or by its name after the

@@ -2,10 +2,9 @@
 
 use crate::heads::formals_of;
 use bp_advice::{Count, cut_name, listed, near_entry, near_global, near_name, tree_of};
-use bp_language::Name;
 use bp_machine::limits::DEFAULT_ENTRY;
 use bp_machine::{SetupError, Start};
-use bp_syntax::Tree;
+use bp_syntax::{Name, Tree};
 use std::alloc::{AllocError, Global};
 
 /// Makes the sentence that has a name in quotes between these words. A name of the command line may

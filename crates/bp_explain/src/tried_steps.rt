@@ -4,7 +4,7 @@ use crate::sources::{Source, lines_before, setup_of};
 use bp_advice::number_at_front;
 use bp_confirm::{ConfirmError, StepRefusal, confirm};
 use bp_machine::{Call, Setup, Start};
-use bp_tasks::ContextBound;
+use bp_source::ContextBound;
 use bp_text::take_line;
 use bp_trace::write_trace;
 use std::alloc::{AllocError, Global};

@@ -8,7 +8,7 @@ pub use Rattle.bp_flat.specs.Flat.{Flat, Instruction}
 pub use Rattle.bp_flat.specs.InstrEffects.{bits_of}
 pub use Rattle.bp_flat.specs.Moves.{Configuration, Frame, Moves, after_effect, effect}
 pub use Rattle.bp_flat.specs.StandsFor.{ShowsStack, StandsFor, StepsAlike, valuation_of}
-pub use Rattle.bp_language.specs.Ast.{Program}
+pub use Rattle.bp_syntax.specs.Ast.{Program}
 pub use Rattle.bp_machine.proofs.ContextCounts.{count_of_none, counts_more, least, opened, opened_more, within_more}
 pub use Rattle.bp_machine.proofs.Deadlocks.{none_shown, top_shown}
 pub use Rattle.bp_machine.proofs.HistoriesAreRuns.{goes, history_is_run}

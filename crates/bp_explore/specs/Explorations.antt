@@ -1,6 +1,6 @@
 -- The configurations that a program reaches, and the results of an exploration.
 use Rattle.std.specs.Prelude.{◌≡◌, ◌⊎◌, ◌<◌, ℕ, zero, suc, true, List, None, length, max, ◌+◌, Bool, [], ◌∷◌, map, ◌≤◌, false, Option, Some}
-use Rattle.bp_language.specs.Ast.{Program}
+use Rattle.bp_syntax.specs.Ast.{Program}
 use Rattle.bp_flat.specs.Moves.{Configuration, Moves}
 use Rattle.bp_flat.specs.Flat.{Flat}
 use Rattle.bp_machine.specs.declared.calls.Call.{Call}

@@ -1,6 +1,6 @@
 -- The start of an exploration, and its search's end. How it works, which no public clause names.
 use Rattle.std.specs.Prelude.{◌≡◌, ℕ, [], Option, MatchOption, if◌then◌else◌, ◌+◌, ◌↔◌, Bool, IsTrue, true, false, List, Some, slice_get, ◌⊎◌, ◌<◌, ◌≤◌, ◌∷◌, ◌++◌, length, map, None}
-use Rattle.bp_language.specs.Ast.{Program}
+use Rattle.bp_syntax.specs.Ast.{Program}
 use Rattle.bp_flat.specs.InstrEffects.{bits_of}
 use Rattle.bp_flat.specs.Moves.{Configuration}
 use Rattle.bp_flat.specs.StandsFor.{valuation_of, StepsAlike}

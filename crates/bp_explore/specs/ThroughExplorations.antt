@@ -1,6 +1,6 @@
 -- The result of an exploration that searches for a run which makes listed steps in their order.
 use Rattle.std.specs.Prelude.{◌≡◌, ◌+◌, ℕ, List, [], ◌∷◌, ◌++◌, ◌<◌, Option, Some}
-use Rattle.bp_language.specs.Ast.{Program}
+use Rattle.bp_syntax.specs.Ast.{Program}
 use Rattle.bp_flat.specs.Moves.{Configuration, Moves}
 use Rattle.bp_flat.specs.Flat.{Flat}
 use Rattle.bp_machine.specs.declared.calls.Call.{Call}

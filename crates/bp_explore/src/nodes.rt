@@ -1,6 +1,6 @@
 //! The nodes of an exploration, in cells.
 ghost use Rattle.std.specs.Prelude.{◌≡◌, ◌<◌, ◌/◌, ◌%◌, ◌^◌, ◌++◌, ◌∷◌, [], true, IsTrue, List, Option, None, Some, IfOk, OnOk, length, slice_get};
-ghost use Rattle.bp_language.specs.Ast.{Program};
+ghost use Rattle.bp_syntax.specs.Ast.{Program};
 ghost use Rattle.bp_flat.specs.Moves.{Configuration};
 ghost use Rattle.bp_machine.specs.declared.stacks.ActivationRecord.{ActivationRecord};
 ghost use Rattle.bp_machine.specs.Transitions.{IsTransitionOn};

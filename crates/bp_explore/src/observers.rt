@@ -1,7 +1,7 @@
 //! Searching for listed steps. Steps as an exploration sees them. Watching the progress of an
 //! exploration.
 ghost use Rattle.std.specs.Prelude.{◌≡◌, ◌<◌, ◌≤◌, ◌↔◌, IsTrue};
-ghost use Rattle.bp_language.specs.Ast.{Program};
+ghost use Rattle.bp_syntax.specs.Ast.{Program};
 ghost use Rattle.bp_flat.specs.Moves.{Configuration};
 ghost use Rattle.bp_explore.specs.Explorations.{ListedSteps, IsMade};
 ghost use Rattle.bp_explore.specs.Searches.{ShowsStep, IsCountedStep, failures};

@@ -1,6 +1,6 @@
 //! States: the globals and the stacks of a configuration, without a history.
 ghost use Rattle.std.specs.Prelude.{◌≡◌, ◌<◌, [], true, IsTrue, List, Some, IfOk, OnOk, drop, length, map, slice_get, string_bytes};
-ghost use Rattle.bp_language.specs.Ast.{Program};
+ghost use Rattle.bp_syntax.specs.Ast.{Program};
 ghost use Rattle.bp_flat.specs.InstrEffects.{bits_of};
 ghost use Rattle.bp_flat.specs.Moves.{Configuration};
 ghost use Rattle.bp_flat.specs.Steps.{bits_from};

@@ -1,6 +1,6 @@
 -- The slot of a name has the value of its variable.
 use Rattle.bp_flat.proofs.Common.{◌≡◌, ◌∙◌, ◌+◌, ℕ, suc, true, false, cond, List, [], ◌∷◌, ◌++◌, Option, None, Some, bytes_eq, length, ap, sym, refl, add-one, arith, zero, Bool, drop, slice_get, map, subst, if◌then◌else◌, option_map, MatchOption, option_or, slice_get-map, Name, Procedure, Program, valuation_of, StandsFor, Place, Heads, IsEntryOf, places_of, Bits, with_slot, with_slots, formula_value, formula_values, lookup, Store, procedure_named, formula_of, Flat, heading_named}
-use Rattle.bp_language.specs.Errors.{first_index, first_index_from}
+use Rattle.bp_syntax.specs.Errors.{first_index, first_index_from}
 use Rattle.bp_flat.specs.declared.slots.Slot.{Slot}
 use Rattle.bp_flat.specs.declared.exprs.SlotExpr.{SlotExpr}
 use Rattle.bp_flat.specs.Flat.{Heading}

@@ -1,8 +1,8 @@
 -- Encodings of the data of Flat, for the models of types in src/. No contract names them.
 use Rattle.std.specs.Coded.{Coded, code_by, coded×, coded⊎, coded_ℕ, coded_bool, coded_list, coded_option}
 use Rattle.std.proofs.Common.{ap, inl, inr, ◌≡◌, ℕ, ◌+◌, max, List, [], ◌∷◌, refl, if◌then◌else◌, ◌⊎◌, zero, suc, Bool, true, false, Option}
-use Rattle.bp_language.specs.Ast.{Program, Name, Expression, Constant, Variable, Negation, Operation}
-use Rattle.bp_language.specs.Codes.{coded_expression, coded_program}
+use Rattle.bp_syntax.specs.Ast.{Program, Name, Expression, Constant, Variable, Negation, Operation}
+use Rattle.bp_syntax.specs.Codes.{coded_expression, coded_program}
 use Rattle.bp_flat.specs.declared.slots.Slot.{Slot}
 use Rattle.bp_flat.specs.declared.slots.Slot.TheVariants.{Global, Local}
 use Rattle.bp_flat.specs.Flat.{Formula, Bit, At, Inverse, Joined, Instruction, Skip, Goto, Return, Assign, If, While, Assert, Assume, Print, Call, Heading, Flat}

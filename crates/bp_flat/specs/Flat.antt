@@ -2,8 +2,8 @@
 -- successors by number.
 use Rattle.std.specs.Prelude.{ℕ, Bool, List, Option, bytes_eq, None, Some}
 use Rattle.std.specs.List.{find}
-use Rattle.bp_language.specs.Ast.{Program}
-use Rattle.bp_language.specs.declared.exprs.Op.{Op}
+use Rattle.bp_syntax.specs.Ast.{Program}
+use Rattle.bp_syntax.specs.declared.exprs.Op.{Op}
 use Rattle.bp_flat.specs.declared.slots.Slot.{Slot}
 use Rattle.bp_flat.specs.declared.instrs.Kind.{Kind}
 use Rattle.bp_flat.specs.declared.instrs.Kind.TheVariants as kind

@@ -1,10 +1,10 @@
 -- How a program runs: values, continuations, configurations, and one move of a thread.
 use Rattle.std.specs.Prelude.{List, if◌then◌else◌, ℕ, Bool, true, false, not, ◌&&◌, ◌||◌, [], ◌∷◌, Option, None, Some, is_some, map, unwrap_or, bytes_eq, ◌++◌, ◌≡◌, slice_get, slice_set}
 use Rattle.std.specs.Option.{option_or}
-use Rattle.bp_language.specs.declared.exprs.Op.{Op}
-use Rattle.bp_language.specs.declared.exprs.Op.TheVariants.{Equal, Differ, And, Xor, Or, Implies}
-use Rattle.bp_language.specs.Ast.{Name, Expression, Constant, Variable, Negation, Operation, Decision, Choose, Decide, Block, Done, Then, Statement, Branches, Loops, Calls, Procedure, Program, Skips, GoesTo, Returns, Assigns, Asserts, Assumes, Prints}
-pub use Rattle.bp_language.specs.Ast.{procedure_named}
+use Rattle.bp_syntax.specs.declared.exprs.Op.{Op}
+use Rattle.bp_syntax.specs.declared.exprs.Op.TheVariants.{Equal, Differ, And, Xor, Or, Implies}
+use Rattle.bp_syntax.specs.Ast.{Name, Expression, Constant, Variable, Negation, Operation, Decision, Choose, Decide, Block, Done, Then, Statement, Branches, Loops, Calls, Procedure, Program, Skips, GoesTo, Returns, Assigns, Asserts, Assumes, Prints}
+pub use Rattle.bp_syntax.specs.Ast.{procedure_named}
 
 -- The store that statements and instructions see, and the effect that they have.
 

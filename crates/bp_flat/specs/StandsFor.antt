@@ -1,9 +1,9 @@
 -- A code stands for a program: each of its instructions is one statement, or one procedure's end.
 use Rattle.std.specs.Prelude.{◌≡◌, ℕ, suc, Bool, List, [], ◌∷◌, ◌++◌, Option, Some, length, slice_get, None, map}
-pub use Rattle.bp_language.specs.Ast.{variables}
-use Rattle.bp_language.specs.Ast.{Name, Expression, Decision, Block, Done, Then, Statement, Skips, GoesTo, Returns, Assigns, Branches, Loops, Asserts, Assumes, Prints, Calls, Procedure, Program}
-use Rattle.bp_language.specs.Texts.{HasText}
-use Rattle.bp_language.specs.Errors.{IsWellFormed}
+pub use Rattle.bp_syntax.specs.Ast.{variables}
+use Rattle.bp_syntax.specs.Ast.{Name, Expression, Decision, Block, Done, Then, Statement, Skips, GoesTo, Returns, Assigns, Branches, Loops, Asserts, Assumes, Prints, Calls, Procedure, Program}
+use Rattle.bp_syntax.specs.Texts.{HasText}
+use Rattle.bp_syntax.specs.Errors.{IsWellFormed}
 use Rattle.bp_flat.specs.declared.slots.Slot.{Slot}
 use Rattle.bp_flat.specs.Flat.{Formula, Instruction, Skip, Goto, Return, Assign, If, While, Assert, Assume, Print, Call, Heading, Flat}
 use Rattle.bp_flat.specs.Moves.{Store, Valuation, expression_values, decision_value, after_assignment, chain, from_label, procedure_named, Frame, Leaves, Fails, Blocks, StatementEffect, effect}

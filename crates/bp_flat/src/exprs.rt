@@ -7,7 +7,7 @@ ghost use Rattle.bp_flat.specs.Views.{formula_of, test_of};
 
 use crate::slots::Slot;
 use crate::stores::Store;
-use bp_language::Op;
+use bp_syntax::Op;
 use std::alloc::{AllocError, Global};
 use std::marker::Model;
 

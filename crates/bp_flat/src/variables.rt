@@ -1,12 +1,12 @@
 //! The slots of variables by their names, and their values.
 ghost use Rattle.std.specs.Prelude.{◌≡◌, ◌<◌, length, MatchOption};
-ghost use Rattle.bp_language.specs.Errors.{first_index};
+ghost use Rattle.bp_syntax.specs.Errors.{first_index};
 ghost use Rattle.bp_flat.specs.InstrEffects.{bits_of};
 ghost use Rattle.bp_flat.specs.StandsFor.{valuation_of, variables};
 ghost use Rattle.bp_flat.specs.Moves.{lookup};
 
 use crate::limits::SLOTS;
-use bp_language::{Name, Proc};
+use bp_syntax::{Name, Proc};
 
 /// Returns the bit of a slot, or 0 past the word.
 pub fn bit_of(word: u128, slot: usize) -> bool

@@ -7,8 +7,8 @@ pub use Rattle.bp_flat.specs.StandsFor.{Does, IsOfProgram, Place, SameEffect, Sh
 pub use Rattle.bp_flat.specs.Steps.{Activation, Bits, InstructionEffect, bits_from, effect_at, printed_values, step}
 pub use Rattle.bp_flat.specs.declared.effects.Effect.{Effect}
 pub use Rattle.bp_flat.specs.declared.effects.Effect.TheVariants.{Continues, Enters, Returns}
-pub use Rattle.bp_language.proofs.GrownLists.{regrouped}
-pub use Rattle.bp_language.specs.Ast.{Asserts, Assigns, Assumes, Block, Branches, Calls, Decision, Done, GoesTo, Loops, Name, Prints, Procedure, Program, Skips, Then}
+pub use Rattle.bp_syntax.proofs.GrownLists.{regrouped}
+pub use Rattle.bp_syntax.specs.Ast.{Asserts, Assigns, Assumes, Block, Branches, Calls, Decision, Done, GoesTo, Loops, Name, Prints, Procedure, Program, Skips, Then}
 pub use Rattle.bp_machine.specs.Histories.{ChoicesOf, EachIs, EachOfOne, IsAllowed, IsAt, IsAtFalseAssertion, IsBitOfCall, IsLeastWithin, IsLegal, IsLegalAfter, IsRealFailure, IsRun, IsSeeded, IsWithin, calls_of_thread, choice_bit, choice_word, configuration_after, configuration_after_call, configuration_after_calls, configuration_after_step, ends, ends_with_last, terminated_by, granted_calls, granted_threads, is_failure, is_terminated, is_full, is_granted, is_last, live_below, live_threads, outcome_of, outcome_or, reply_of, reply_on_stack, reply_to_effect, stack_of}
 pub use Rattle.bp_machine.specs.Runs.{EachHasRoom, HasBoundedRun, HasRoom, IsBoundedRun, IsDeadlocked, IsHistoryOfSteps, has_frames, history_of_run, is_blocked, is_left, printed_rows, reply_of_step, rows_after, rows_of_call, values_at, values_printed, waits}
 pub use Rattle.bp_machine.specs.Sessions.{GuestThreadOf, IsLiveThread, IsAskRefusal, IsCallStep, IsCountOf, IsInOrder, IsNextCall, KeptThread, MachineOf, SessionOf, ShowsThread, Stands, StandsAfter, State, activation_of, activations, choices_of, contexts_opened, count_with, entered_top, first_thread, guests, last_thread, rooms, top_of, used_with, with_top}

@@ -1,6 +1,6 @@
 -- Code and program print alike, and a session prints as its thread's code does.
 use Rattle.bp_machine.proofs.Common.{◌≡◌, ◌≢◌, ℕ, Bool, true, false, List, [], ◌∷◌, Option, None, Some, is_some, refl, ap, sym, ◌∙◌, slice_get, arith, rules, Block, Done, Then, Skips, GoesTo, Assigns, Branches, Loops, Asserts, Assumes, Prints, Calls, Procedure, Program, bits_of, Store, Valuation, Frame, Flat, Instruction, instruction_kind, Bits, Activation, printed_values, StandsFor, Place, Does, places_of, named_store, valuation_of, ShowsStack, Call, ActivationRecord, GuestThreadOf, top_of, State, StandsAfter, activations, stack_of, configuration_after, values_at, values_printed, SetupOf}
-use Rattle.bp_language.specs.Ast.{Returns}
+use Rattle.bp_syntax.specs.Ast.{Returns}
 use Rattle.bp_flat.specs.declared.instrs.Kind.TheVariants as kind
 
 -- the values that the instruction of a number prints

@@ -2,13 +2,13 @@
 use Rattle.bp_machine.proofs.Common.{◌≡◌, ℕ, Bool, true, false, List, refl, sym, ◌<◌, ◌≤◌, ◌==◌, ◌||◌, nat_lt, not, length, [], ◌∷◌, Option, None, Some, arith, ◌≢◌, ◌+◌, cond, All, ◌∙◌, subst, bytes_eq, zero, suc, ap, option_map, map, get_or, take, ◌++◌, Bor, String, Global, string_bytes, if◌then◌else◌, drop, add-one, replicate, slice_get, is_some, rules, option_or, option_copied, nat_tests, AllByRecursion, map-append, take_more, take-replicate, slice_get-map, slice_get-get_or, Program, Procedure, Flat, Heading, heading_named, StandsFor, IsOfProgram, procedure_named, formals_of_procedure, Call, SessionOf, Stands, SetupError, MAX_THREADS, MAX_CALLS, SetupOf, threads, entries_error, error_if, first_of, has_bad_threads, is_out_of_range, setup_error, Fits, IsInRange, entry_error, IsSetupRefusal, initial_bits}
 use Rattle.std.proofs.lemmas.List.Elements.{All-nil, All-cons}
 use Rattle.std.proofs.lemmas.Slice.Eq.{bytes_eq-Decides}
-use Rattle.bp_language.specs.Texts.{HasText}
-use Rattle.bp_language.specs.Errors.{IsWellFormed}
-use Rattle.bp_language.specs.declared.limits.TheConstants.{MAX_GLOBALS}
-use Rattle.bp_language.specs.NamesIn.{NamesInProcedures}
-use Rattle.bp_language.specs.Tokens.{IsSpelled}
-use Rattle.bp_language.proofs.LawsOfWellFormedPrograms.{few_names}
-use Rattle.bp_language.proofs.SpelledNames.{on_one_line, spelled_names}
+use Rattle.bp_syntax.specs.Texts.{HasText}
+use Rattle.bp_syntax.specs.Errors.{IsWellFormed}
+use Rattle.bp_syntax.specs.declared.limits.TheConstants.{MAX_GLOBALS}
+use Rattle.bp_syntax.specs.NamesIn.{NamesInProcedures}
+use Rattle.bp_syntax.specs.Tokens.{IsSpelled}
+use Rattle.bp_syntax.proofs.LawsOfWellFormedPrograms.{few_names}
+use Rattle.bp_syntax.proofs.SpelledNames.{on_one_line, spelled_names}
 use Rattle.bp_flat.specs.declared.headings.Heading as kept
 use Rattle.bp_machine.specs.declared.setup_errors.SetupError.TheVariants.{Threads, InitLength, OutOfRange, EntryHasFormals, Memory}
 

@@ -3,7 +3,7 @@ use Rattle.std.specs.Prelude.{◌≡◌, ℕ, ◌≤◌, List, [], ◌∷◌, le
 use Rattle.std.specs.List.{concat}
 use Rattle.rand_pcg.specs.Lcg.{Lcg, started, increment_of}
 use Rattle.rand_pcg.specs.Pcg.{multiplier_64, pcg32}
-use Rattle.bp_language.specs.Ast.{Program, Name, Block, Then, Asserts, Decision}
+use Rattle.bp_syntax.specs.Ast.{Program, Name, Block, Then, Asserts, Decision}
 use Rattle.bp_flat.specs.Moves.{Valuation, Frame, Configuration, is_call, StatementEffect, Leaves, Fails, Blocks, Misses, effect, after_effect, decision_value, Moves, frame_store}
 use Rattle.bp_flat.specs.InstrEffects.{bits_of}
 use Rattle.bp_machine.specs.declared.calls.Reply.{Reply}

@@ -1,7 +1,7 @@
 -- Laws of histories.
 use Rattle.std.specs.Prelude.{◌≡◌, ◌≢◌, ◌≤◌, ◌*◌, ℕ, Bool, false, List, ◌++◌, [], Some, All, length}
-use Rattle.bp_language.specs.Ast.{Program}
-use Rattle.bp_language.specs.Texts.{HasText}
+use Rattle.bp_syntax.specs.Ast.{Program}
+use Rattle.bp_syntax.specs.Texts.{HasText}
 use Rattle.bp_flat.specs.Moves.{Configuration}
 use Rattle.bp_flat.specs.Flat.{Flat}
 use Rattle.bp_flat.specs.StandsFor.{StandsFor}

@@ -1,7 +1,7 @@
 -- Runs of a program: their bounds, where threads continue and wait, deadlocks, and printed values.
 use Rattle.std.specs.Prelude.{◌≡◌, ℕ, List, ◌∷◌, length, Bool, true, false, ◌&&◌, Option, Some, [], if◌then◌else◌, ◌++◌, None, option_map, ◌<◌, ◌≤◌, map}
 use Rattle.std.specs.Option.{option_to_list}
-use Rattle.bp_language.specs.Ast.{Program, Block, Then, Prints}
+use Rattle.bp_syntax.specs.Ast.{Program, Block, Then, Prints}
 use Rattle.bp_flat.specs.InstrEffects.{bits_of}
 use Rattle.bp_flat.specs.Moves.{Frame, Configuration, Store, Valuation, expression_values, frame_store, is_call}
 use Rattle.bp_flat.specs.StandsFor.{Remains, places_of, valuation_of, variables}

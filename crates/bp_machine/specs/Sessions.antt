@@ -1,6 +1,6 @@
 -- Sessions as contracts see them, and the state of their threads.
 use Rattle.std.specs.Prelude.{if◌then◌else◌, ◌≡◌, ℕ, ◌+◌, ◌==◌, List, [], ◌∷◌, Option, None, Some, Bool, false, map, option_map, unwrap_or, length, slice_get, ◌<◌, ◌≤◌, ◌++◌, true, is_some, IfOk, MatchResult, OnErr, Result}
-use Rattle.bp_language.specs.Ast.{Program}
+use Rattle.bp_syntax.specs.Ast.{Program}
 use Rattle.bp_flat.specs.Flat.{Flat, heading_named}
 use Rattle.bp_flat.specs.Moves.{Configuration, Frame, is_call}
 use Rattle.bp_flat.specs.InstrEffects.{bits_of}

@@ -1,8 +1,8 @@
 -- The start of a session, and when a setup is refused.
 use Rattle.std.specs.Prelude.{if◌then◌else◌, ◌≡◌, ℕ, ◌+◌, ◌<◌, ◌≤◌, ◌==◌, Bool, false, not, ◌||◌, nat_lt, List, [], ◌∷◌, Option, None, Some, length, replicate, codes}
 use Rattle.std.specs.Option.{option_or}
-use Rattle.bp_language.specs.Ast.{Procedure, Program}
-use Rattle.bp_language.specs.declared.limits.TheConstants.{MAX_GLOBALS}
+use Rattle.bp_syntax.specs.Ast.{Procedure, Program}
+use Rattle.bp_syntax.specs.declared.limits.TheConstants.{MAX_GLOBALS}
 use Rattle.bp_flat.specs.Moves.{Configuration, procedure_named, start_of}
 use Rattle.bp_machine.specs.declared.limits.TheConstants.{MAX_THREADS, MAX_CONTEXTS, MAX_CALLS, DEFAULT_CONTEXTS, DEFAULT_CALLS}
 use Rattle.bp_machine.specs.declared.setup_errors.SetupError.{SetupError}

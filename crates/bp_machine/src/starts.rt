@@ -1,7 +1,7 @@
 //! The start of a run of a program. Setups from a text: names may be any bytes, and numbers may be
 //! too large.
 ghost use Rattle.std.specs.Prelude.{◌≡◌, ◌≤◌, None, MatchResult, IfOk, ℕ, true, List, Some, map, length, slice_get, is_some, string_bytes};
-ghost use Rattle.bp_language.specs.declared.limits.TheConstants.{MAX_GLOBALS};
+ghost use Rattle.bp_syntax.specs.declared.limits.TheConstants.{MAX_GLOBALS};
 ghost use Rattle.bp_flat.specs.Flat.{heading_named};
 ghost use Rattle.bp_machine.specs.Setups.{setup_error, IsSetupRefusal, Fits, IsInRange, default_start, setup_from, setup_of, entries_error};
 ghost use Rattle.bp_machine.specs.declared.limits.TheConstants.{MAX_THREADS};
@@ -10,7 +10,7 @@ use crate::limits::{DEFAULT_CALLS, DEFAULT_CONTEXTS, DEFAULT_ENTRY, MAX_THREADS}
 use crate::setup_errors::{SetupError, error_of_entry, error_of_numbers};
 use crate::setups::Setup;
 use bp_flat::Code;
-use bp_language::limits::MAX_GLOBALS;
+use bp_syntax::limits::MAX_GLOBALS;
 use std::alloc::{AllocError, Global};
 use std::marker::Model;
 

@@ -2,8 +2,8 @@
 use Rattle.std.specs.Prelude.{if◌then◌else◌, ◌==◌, ◌||◌, ◌&&◌, nat_le, Bool, ℕ, List, [], ◌∷◌, ◌++◌, Option, None, Some, codes, decimal, true, false}
 use Rattle.std.specs.List.{concat}
 use Rattle.bp_text.specs.Pieces.{bit_text}
-use Rattle.bp_language.specs.declared.errors.CheckError.TheVariants as check
-use Rattle.bp_language.specs.declared.errors.CheckError.{CheckError}
+use Rattle.bp_syntax.specs.declared.errors.CheckError.TheVariants as check
+use Rattle.bp_syntax.specs.declared.errors.CheckError.{CheckError}
 use Rattle.bp_machine.specs.declared.setup_errors.SetupError.{SetupError}
 use Rattle.bp_machine.specs.declared.setup_errors.SetupError.TheVariants as setup
 use Rattle.bp_machine.specs.Histories.{letter_of}

@@ -6,9 +6,8 @@ ghost use Rattle.bp_messages.specs.declared.error_table.Detail.TheVariants.{Step
 use crate::errors::Error;
 use bp_code::ProgramError;
 use bp_confirm::{ConfirmError, StepReason, StepRefusal};
-use bp_language::CheckError;
 use bp_machine::{Reply, SetupError};
-use bp_syntax::ReadError;
+use bp_syntax::{CheckError, ReadError};
 use bp_trace::{DriveError, ReplayError};
 
 /// Returns the exit status of a run. An error that ended it gives 3 if its number is that of

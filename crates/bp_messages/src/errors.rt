@@ -6,10 +6,9 @@ ghost use Rattle.bp_messages.specs.declared.errors.Error.TheVariants.{Memory, Wr
 use crate::error_lines::InputError;
 use bp_code::{CodeError, ProgramError};
 use bp_confirm::ConfirmError;
-use bp_language::CheckError;
 use bp_machine::SetupError;
 use bp_run::RunError;
-use bp_syntax::ReadError;
+use bp_syntax::{CheckError, ReadError};
 use bp_test::TestError;
 use bp_text::WriteError;
 use bp_trace::{DriveError, MigrateError, ReplayError};

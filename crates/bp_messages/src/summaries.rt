@@ -11,7 +11,7 @@ use crate::failures::{failed_assertion, put_failure, put_waits, statement_of};
 use crate::limits::MOST_RUNS;
 use crate::notes::put_notes;
 use bp_machine::Setup;
-use bp_tasks::TestOptions;
+use bp_source::TestOptions;
 use bp_test::{Counts, Distinct, Found, Waiting};
 use bp_text::Piece::{Bytes, Number};
 use bp_text::{Piece, Position, Sink, WriteError};

@@ -1,7 +1,7 @@
 -- The attempts of a turn that are made before they are sent.
 use Rattle.bp_run.proofs.Common.{arith, rules, refl, sym, ◌∙◌, ap, subst, ◌≡◌, ℕ, ◌+◌, ◌<◌, cond, false, true, Bool, List, [], ◌∷◌, ◌++◌, None, length, length-append, Call, is_terminated, terminated_by, Stands, SessionOf, IsNextCall, AreSteps, IsInBooks, IsAsked, IsTurn, IsCutTurn, IsSendRefusal, IsDeskRefusal, DeskOf, SeatOf, desk_of, seat_of, not, inl, ◌≤◌, false≢true, threads}
 use Rattle.bp_machine.specs.declared.calls.Reply.TheVariants.{Stepped}
-use Rattle.bp_language.proofs.GrownLists.{regrouped}
+use Rattle.bp_syntax.proofs.GrownLists.{regrouped}
 use Rattle.bp_machine.specs.Sessions.{IsAskRefusal}
 use Rattle.bp_machine.specs.declared.calls.Reply.{Reply}
 use Rattle.bp_machine.specs.declared.calls.AskError.{AskError}

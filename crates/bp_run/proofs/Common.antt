@@ -1,5 +1,5 @@
 -- The imports of this crate's proofs: from std, the crates below and its own definitions.
-pub use Rattle.bp_language.specs.Ast.{Program}
+pub use Rattle.bp_syntax.specs.Ast.{Program}
 pub use Rattle.bp_machine.proofs.HistoryWithCall.{last_terminates, live_at_start, live_threads-append}
 pub use Rattle.bp_machine.specs.Histories.{HasSeededBits, IsLegal, IsReport, terminated_by, is_terminated, is_last, live_threads}
 pub use Rattle.bp_machine.specs.Sessions.{IsNextCall, SessionOf, Stands}
@@ -10,7 +10,7 @@ pub use Rattle.bp_run.specs.Desks.{AreNewSeats, DeskOf, IsInBooks, IsLegalDesk, 
 pub use Rattle.bp_run.specs.Gatherings.{AreOnePerThread, AreSeatsOf, IsGathered, IsSeatOf, TellsEarly, TellsOfRefusal, calls_of_seats, is_at_call, open_seats}
 pub use Rattle.bp_run.specs.Runs.{IsCutTrace, IsEarly, IsPlayedFrom, seat_of_worker}
 pub use Rattle.bp_run.specs.Turns.{AreSteps, IsAsked, IsCutSeatTurn, IsCutTurn, IsDeskError, IsDeskRefusal, IsSeatTurn, IsSendRefusal, IsTurn}
-pub use Rattle.bp_run.specs.Works.{IsRestWritten, AreCallsWritten, TellsShut, lines_of, rest_length}
+pub use Rattle.bp_run.specs.Works.{IsRestWritten, AreCallsWritten, lines_of, rest_length}
 pub use Rattle.bp_text.specs.Writing.{AppendsAll, AppendsPart, Given, HasTaken}
 pub use Rattle.bp_trace.specs.TraceText.{call_line, end_line, head_text, trace_text}
 pub use Rattle.bp_trace.specs.declared.traces.Version.TheVariants.{One}

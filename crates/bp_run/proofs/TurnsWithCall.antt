@@ -1,7 +1,7 @@
 -- Turns grow by one attempt, and are cut short before one.
 use Rattle.bp_run.proofs.Common.{[], ◌∷◌, length, length-append, not, AreSteps, ◌≡◌, ◌≢◌, ℕ, ◌+◌, true, ◌++◌, Result, Ok, Err, MatchResult, refl, sym, ◌∙◌, ap, subst, arith, inl, inr, ◌⊎◌, ◌<◌, ◌≤◌, Bool, false, List, None, is_some, IfErr, rules, false≢true, is_terminated, is_last, Call, SessionOf, IsNextCall, SetupOf, threads, last_terminates, DeskOf, SeatOf, desk_of, seat_of, IsLegalDesk, IsDeskRefusal, IsTurn, IsCutTurn, IsSeatTurn, IsCutSeatTurn, IsDeskError, IsSendRefusal, TellsOfRefusal}
 use Rattle.bp_run.specs.Turns.{IsUnchanged}
-use Rattle.bp_language.proofs.GrownLists.{regrouped}
+use Rattle.bp_syntax.proofs.GrownLists.{regrouped}
 use Rattle.bp_machine.specs.declared.calls.Reply.{Reply}
 use Rattle.bp_machine.specs.declared.calls.Reply.TheVariants.{Stepped}
 use Rattle.bp_machine.specs.declared.calls.AskError.{AskError}

@@ -1,7 +1,7 @@
 -- When a run has stopped, and the result of gathering a board.
 use Rattle.std.specs.Prelude.{⊤, ◌≡◌, ◌<◌, ℕ, Bool, true, false, List, [], ◌∷◌, Option, None, Some, ◌==◌, ◌↔◌, IsTrue, ◌++◌, length, not}
 use Rattle.std.specs.List.{sum_by, count_by, All}
-use Rattle.bp_language.specs.Ast.{Program}
+use Rattle.bp_syntax.specs.Ast.{Program}
 use Rattle.bp_flat.specs.Moves.{Frame, is_call}
 use Rattle.bp_machine.specs.declared.calls.AskError.{AskError}
 use Rattle.bp_machine.specs.declared.calls.AskError.TheVariants as error

@@ -1,11 +1,11 @@
 -- The setup of a program under the options of a run, and when they are refused.
 use Rattle.std.specs.Prelude.{◌≡◌, ◌<◌, ◌≤◌, ◌==◌, Bool, true, ◌||◌, nat_lt, [], ◌∷◌, Option, None, Some, is_some}
-use Rattle.bp_language.specs.Ast.{Program}
+use Rattle.bp_syntax.specs.Ast.{Program}
 use Rattle.bp_flat.specs.Flat.{Flat}
 use Rattle.bp_machine.specs.declared.setup_errors.SetupError.{SetupError}
 use Rattle.bp_machine.specs.declared.setup_errors.SetupError.TheVariants.{OutOfRange, Memory}
 use Rattle.bp_machine.specs.Setups.{SetupOf, setup_error, error_if, first_of, Fits, setup_from}
-use Rattle.bp_tasks.specs.RunOptions.{OptionsOf}
+use Rattle.bp_source.specs.RunOptions.{OptionsOf}
 use Rattle.bp_run.specs.declared.limits.TheConstants.{MAX_TURN, MAX_RING}
 
 -- the setup of a program under the options, with their seed

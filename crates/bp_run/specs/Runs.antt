@@ -2,7 +2,7 @@
 use Rattle.std.specs.Prelude.{◌≡◌, ◌↔◌, IsTrue, ℕ, Bool, List, Option, length, map, None}
 use Rattle.std.specs.Io.KnownBytes.{Appends}
 use Rattle.bp_text.specs.Writing.{AppendsPart}
-use Rattle.bp_language.specs.Ast.{Program}
+use Rattle.bp_syntax.specs.Ast.{Program}
 use Rattle.bp_machine.specs.declared.calls.Call.{Call}
 use Rattle.bp_machine.specs.declared.calls.Report.{Report}
 use Rattle.bp_machine.specs.declared.calls.Outcome.TheVariants.{Failed}
@@ -13,7 +13,7 @@ use Rattle.bp_run.specs.Desks.{SeatOf, seat_of}
 use Rattle.bp_run.specs.Gatherings.{AreOnePerThread, AreSeatsOf, calls_of_seats, open_seats, HaveStopped, StoppedEarly}
 use Rattle.bp_trace.specs.TraceText.{trace_text}
 use Rattle.bp_code.specs.WellFormedTexts.{IsWellFormedText, IsProgramRefusal}
-use Rattle.bp_tasks.specs.RunOptions.{OptionsOf}
+use Rattle.bp_source.specs.RunOptions.{OptionsOf}
 use Rattle.bp_run.specs.declared.answers.WorkerCount.{WorkerCount}
 use Rattle.bp_run.specs.declared.answers.RunError.{RunError}
 use Rattle.bp_run.specs.declared.answers.RunError.TheVariants.{Start, Early, Write, Memory}

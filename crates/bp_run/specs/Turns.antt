@@ -1,7 +1,7 @@
 -- The results of an attempt and of a turn at a desk, and what the seat tells of them.
 use Rattle.std.specs.Prelude.{◌≡◌, ◌⊎◌, ℕ, ◌≤◌, ◌+◌, false, true, List, [], ◌∷◌, ◌++◌, None, length, not, ◌≢◌, ◌<◌, ⊤, cond}
 use Rattle.std.specs.List.{AllByRecursion}
-use Rattle.bp_language.specs.Ast.{Program}
+use Rattle.bp_syntax.specs.Ast.{Program}
 use Rattle.bp_machine.specs.declared.calls.Call.{Call}
 use Rattle.bp_machine.specs.declared.calls.Reply.{Reply}
 use Rattle.bp_machine.specs.declared.calls.AskError.{AskError}

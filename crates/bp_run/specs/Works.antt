@@ -3,7 +3,7 @@ use Rattle.std.specs.Prelude.{◌≡◌, ℕ, Bool, true, false, List, ◌++◌,
 use Rattle.std.specs.List.{All}
 use Rattle.bp_text.specs.declared.sinks.Sink.{Sink}
 use Rattle.bp_text.specs.Writing.{Given}
-use Rattle.bp_language.specs.Ast.{Program}
+use Rattle.bp_syntax.specs.Ast.{Program}
 use Rattle.bp_flat.specs.Flat.{Flat}
 use Rattle.bp_machine.specs.declared.calls.Call.{Call}
 use Rattle.bp_machine.specs.Setups.{SetupOf}
@@ -58,16 +58,3 @@ abbrev pub TellsOfStop : Program → SetupOf → ℕ → Unfinished → Type 0
 TellsOfStop t s i Memory = TellsOfRefusal t s i error.Memory
 TellsOfStop t s i Terminated = TellsOfRefusal t s i error.Terminated
 TellsOfStop t s i Halted = ⊤
-
--- The worker of this thread has left its seat: shut if its work is done, else open, with the
--- reason.
-pub record IsWorked
-    (code : Flat) (s : SetupOf) (thread : ℕ) (seat : SeatOf) (done : Result (Unit {0}) Unfinished)
-    : Type 0 where
-  pub own : seat.thread ≡ thread
-  pub ended : MatchResult done (λ _. seat.is_open ≡ false) (λ _. seat.is_open ≡ true)
-  pub stopped : IfErr done (TellsOfStop code.tree s thread)
-
--- the flag tells whether all of the seats are shut
-abbrev pub TellsShut : Bool → List SeatOf → Type 0
-TellsShut all_done seats = IsTrue all_done ↔ All (λ s. s.is_open ≡ false) seats

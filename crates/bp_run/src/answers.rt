@@ -1,7 +1,7 @@
 //! The result of a run: its report, and the counts of its workers. Why a run gives no report. The
 //! setup of a program under the options of a run.
 ghost use Rattle.std.specs.Prelude.{◌≡◌, ◌≤◌, map, vec_len, vec_capacity, ◌<◌, Some, IfOk, MatchResult};
-ghost use Rattle.bp_language.specs.Ast.{Program};
+ghost use Rattle.bp_syntax.specs.Ast.{Program};
 ghost use Rattle.bp_run.specs.Runs.{seat_of_worker};
 ghost use Rattle.bp_run.specs.Options.{setup_under, IsOptionsRefusal, IsSetupUnder, FitsOptions, has_bad_turn_or_ring};
 
@@ -11,7 +11,7 @@ use crate::seats::Seat;
 use bp_code::{CodeError, ProgramError};
 use bp_flat::Code;
 use bp_machine::{Report, Setup, SetupError};
-use bp_tasks::RunOptions;
+use bp_source::RunOptions;
 use std::alloc::{AllocError, Global};
 use std::sync::ledger::Ledger;
 use thiserror::Error;

@@ -19,11 +19,10 @@ mod workers;
 
 pub use answers::{RunError, RunReport, WorkerCount, has_bad_turn_or_ring};
 pub use boards::{Board, BoardParts, Calls};
-pub use bp_tasks::RunOptions;
+pub use bp_source::RunOptions;
 pub use desks::Desk;
 pub use gates::{Gate, Open, Turns};
 pub use gatherings::{Gathered, gather};
-pub use plays::{OpenedBoard, PlayedBoard, play};
 pub use random_turns::RandomTurns;
 pub use runner::{run, run_code};
 pub use seats::{Seat, Tap};

@@ -1,22 +1,19 @@
 //! Playing a board: one worker for each seat, and a writer thread.
-ghost use Rattle.std.specs.Prelude.{◌≡◌, ◌≤◌, ◌<◌, [], false, OnOk, MatchResult};
+ghost use Rattle.std.specs.Prelude.{◌≡◌, ◌≤◌, ◌<◌, false, true, is_some, map, MatchResult};
 ghost use Rattle.bp_machine.specs.Laws.{StepsAreARun, StepsAreWithin, FailuresAreReal};
-ghost use Rattle.bp_machine.specs.Setups.{threads};
+ghost use Rattle.bp_machine.specs.Setups.{threads, Fits};
 ghost use Rattle.bp_run.specs.declared.limits.TheConstants.{MAX_TURN};
-ghost use Rattle.bp_run.specs.Gatherings.{AreOnePerThread};
-ghost use Rattle.bp_run.specs.Runs.{IsPlayedFrom, IsPlayRefusal};
-ghost use Rattle.bp_run.specs.Works.{TellsShut};
+ghost use Rattle.bp_run.specs.Desks.{IsNamed};
+ghost use Rattle.bp_run.specs.Runs.{IsPlayedFrom, IsPlayRefusal, seat_of_worker};
 
-use crate::answers::RunError;
-use crate::boards::{Board, Calls};
+use crate::answers::{RunError, WorkerCount, counts_of};
+use crate::boards::{Board, BoardParts, Calls};
 use crate::gates::{Gate, Turns};
 use crate::gatherings::{Gathered, gather};
-use crate::seats::{Seat, Tap};
 use crate::stages::{Staged, Workers, stage};
 use crate::trace_writers::{TraceWriter, write_rest};
 use bp_flat::Code;
 use bp_machine::{Report, Setup, failures_are_real, steps_are_a_run, steps_are_within};
-use bp_text::Sink;
 use std::alloc::Global;
 use std::io::Write;
 use std::sync::Wait;
@@ -24,47 +21,23 @@ use std::sync::ledger::Ledger;
 use std::thread::Threads;
 use std::time::Clock;
 
-/// A board that was opened for this code and setup, with its seats and its tap.
+/// The result of playing a board, whether the seats agree with the history, and the writer. It owns
+/// no memory, so that a caller sees what the writer has written.
 #[derive(Drop)]
-pub struct OpenedBoard<'a, C: Calls, O: Ledger> {
-    pub code: &'a Code,
-    pub setup: &'a Setup,
-    pub board: Board<C, O>,
-    pub seats: Vec<Seat<C, O>>,
-    pub tap: Tap<C>,
-}
-
-/// The result of playing a board: the seats that came back, and the report of its history, or why
-/// there is none. A report comes with whether all workers have done their work, and whether each
-/// seat agrees with the history. No seat comes back if playing was refused before the head was
-/// written.
-#[derive(Drop)]
-pub struct PlayedBoard<C: Calls, O: Ledger> {
-    pub seats: Vec<Seat<C, O>>,
-    pub all_done: bool,
-    pub agree: bool,
+pub(crate) struct Played<'a, W> {
     pub answer: Result<Report, RunError>,
-}
-
-/// Whether all workers have done their work, whether the seats agree with the history, the result
-/// of playing a board, and the writer.
-#[derive(Drop)]
-struct Finished<'a, W> {
-    all_done: bool,
-    agree: bool,
-    answer: Result<Report, RunError>,
-    writer: TraceWriter<'a, W>,
+    pub agree: bool,
+    pub writer: TraceWriter<'a, W>,
 }
 
 /// Returns the answer if playing is refused, with the writer as it was.
-fn refused<'a, W>(writer: TraceWriter<'a, W>, error: RunError) -> Finished<'a, W>
+fn refused<'a, W>(writer: TraceWriter<'a, W>, error: RunError) -> Played<'a, W>
     ensures answer { result.answer ≡ Err error }
     ensures same { result.writer.sink ≡ writer.entry.sink }
 {
-    Finished {
-        all_done: false,
-        agree: false,
+    Played {
         answer: Err(error),
+        agree: false,
         writer,
     }
 }
@@ -80,8 +53,11 @@ fn histories_keep_their_laws()
     failures_are_real();
 }
 
-/// Plays a board with this writer. Once the board is gathered, its seats replace those of `back`.
-fn play_with<
+/// Opens a board of these parts for a code and a setup, and plays it: one worker for each seat makes
+/// the attempts of its thread, and the calling thread writes the trace while the workers run. If a
+/// worker stopped too early, playing is refused once the trace is written. The counts of the workers
+/// replace those in `counts`.
+pub(crate) fn play<
     'a,
     C: Calls + Send + Sync,
     O: Ledger + Send + Sync,
@@ -91,38 +67,35 @@ fn play_with<
 >(
     rt: &R,
     alloc: Global,
-    opened: OpenedBoard<'_, C, O>,
+    board_parts: BoardParts,
+    code: &Code,
+    setup: &Setup,
     turns: Turns<'_, G>,
-    back: &mut Vec<Seat<C, O>>,
+    counts: &mut Vec<WorkerCount>,
     writer: TraceWriter<'a, W>,
-) -> Finished<'a, W>
-    requires code { opened.code.now ≡ C.code }
-    requires setup { opened.setup.now ≡ C.setup }
-    requires seats { AreOnePerThread (threads opened.setup.now) opened.seats.items }
-    requires untaken { opened.tap.taken ≡ [] }
+) -> Played<'a, W>
+    requires named { IsNamed board_parts C.name C.parts O.name O.parts C.ring }
+    requires code { code.now ≡ C.code }
+    requires setup { setup.now ≡ C.setup }
+    requires threads { board_parts.threads ≡ threads setup.now }
+    requires fits { Fits code.now.tree setup.now }
+    requires seeded { is_some setup.now.seed ≡ true }
     requires turn { (0 < turns.calls) × (turns.calls ≤ MAX_TURN) }
     requires fresh { writer.sink.refused ≡ false }
     ensures same_reference { result.writer.sink.out.ghost_name ≡ writer.entry.sink.out.ghost_name }
-    ensures answer { let setup = opened.entry.setup.now in
-        let old = W.contents writer.entry.sink.out.now in
+    ensures answer { let old = W.contents writer.entry.sink.out.now in
         let new = W.contents result.writer.sink.out.now in
-        let t = opened.entry.code.now.tree in MatchResult result.answer
-        (IsPlayedFrom t setup old new back.new.items result.agree)
-        (IsPlayRefusal t setup old new) }
-    ensures seats { OnOk result.answer
-        (AreOnePerThread (threads opened.entry.setup.now) back.new.items) }
-    ensures done { OnOk result.answer (TellsShut result.all_done back.new.items) }
+        let t = code.now.tree in MatchResult result.answer
+        (IsPlayedFrom t setup.now old new (map seat_of_worker counts.new.items) result.agree)
+        (IsPlayRefusal t setup.now old new) }
 {
     histories_keep_their_laws();
-    let OpenedBoard {
-        code,
-        setup,
-        board,
-        seats,
-        tap,
-    } = opened;
     setup.is_in_range();
-    let (Ok(room), Ok(handles)) = (
+    let Ok((board, seats, tap)) = Board::<C, O>::open(alloc, board_parts, code, setup) else {
+        return refused(writer, RunError::Memory);
+    };
+    let (Ok(back), Ok(handles), Ok(room)) = (
+        Vec::with_capacity(alloc, seats.len()),
         Vec::with_capacity(alloc, seats.len()),
         Vec::with_capacity(alloc, seats.len()),
     ) else {
@@ -130,7 +103,7 @@ fn play_with<
     };
     let workers = Workers {
         seats,
-        back: room,
+        back,
         handles,
     };
     let Staged {
@@ -138,7 +111,6 @@ fn play_with<
         tap,
         seats,
         all_started,
-        all_done,
     } = stage(rt, setup, &board, workers, tap, writer, turns);
     if !all_started {
         return refused(writer, RunError::Start);
@@ -150,7 +122,6 @@ fn play_with<
         early,
         agree,
     } = gather(board, seats, tap);
-    *back = seats;
     if writer.has_failed() {
         return refused(writer, RunError::Write);
     }
@@ -162,60 +133,10 @@ fn play_with<
     if let Some(thread) = early {
         return refused(writer, RunError::Early(thread));
     }
-    Finished {
-        all_done,
-        agree,
+    *counts = counts_of(seats, room);
+    Played {
         answer: Ok(report),
+        agree,
         writer,
-    }
-}
-
-/// Plays a board that was opened for this code and setup: one worker for each seat makes the
-/// attempts of its thread, and the calling thread writes the trace while the workers run. Returns
-/// the seats: together they have made as many attempts as the written history has; the result tells
-/// whether each has made those of its thread. If a worker stopped too early, playing is refused
-/// once the trace is written.
-pub fn play<
-    C: Calls + Send + Sync,
-    O: Ledger + Send + Sync,
-    G: Gate,
-    W: Write,
-    R: Threads + Wait + Clock + Sync,
->(
-    rt: &R,
-    alloc: Global,
-    opened: OpenedBoard<'_, C, O>,
-    turns: Turns<'_, G>,
-    out: &mut W,
-) -> PlayedBoard<C, O>
-    requires code { opened.code.now ≡ C.code }
-    requires setup { opened.setup.now ≡ C.setup }
-    requires seats { AreOnePerThread (threads opened.setup.now) opened.seats.items }
-    requires untaken { opened.tap.taken ≡ [] }
-    requires turn { (0 < turns.calls) × (turns.calls ≤ MAX_TURN) }
-    ensures answer { let setup = opened.entry.setup.now in
-        let old = W.contents out.old in
-        let new = W.contents out.new in
-        let t = opened.entry.code.now.tree in MatchResult result.answer
-        (IsPlayedFrom t setup old new result.seats.items result.agree)
-        (IsPlayRefusal t setup old new) }
-    ensures seats { OnOk result.answer
-        (AreOnePerThread (threads opened.entry.setup.now) result.seats.items) }
-    ensures done { OnOk result.answer (TellsShut result.all_done result.seats.items) }
-{
-    let sink = Sink::new(out);
-    let writer = TraceWriter::new(sink);
-    let mut back = Vec::new(alloc);
-    let Finished {
-        all_done,
-        agree,
-        answer,
-        writer: _,
-    } = play_with(rt, alloc, opened, turns, &mut back, writer);
-    PlayedBoard {
-        seats: back,
-        all_done,
-        agree,
-        answer,
     }
 }

@@ -1,72 +1,25 @@
 //! Running a program by real threads, one for each guest thread.
 ghost use Rattle.std.specs.Prelude.{◌≡◌, ◌≤◌, ◌<◌, true, is_some, MatchResult};
-ghost use Rattle.bp_machine.specs.Setups.{threads, Fits};
+ghost use Rattle.bp_machine.specs.Setups.{Fits};
 ghost use Rattle.bp_run.specs.declared.limits.TheConstants.{MAX_TURN, MAX_RING};
-ghost use Rattle.bp_run.specs.Desks.{IsNamed};
 ghost use Rattle.bp_run.specs.Runs.{IsPlayedBy, IsPlayRefusal, IsTracedRun, IsRunRefusal};
 
-use crate::answers::{RunError, RunReport, counts_of, setup_under};
-use crate::boards::{Board, BoardParts, Calls};
+use crate::answers::{RunError, RunReport, setup_under};
+use crate::boards::BoardParts;
 use crate::gates::{Gate, Turns};
-use crate::plays::{OpenedBoard, play};
+use crate::plays::{Played, play};
+use crate::trace_writers::TraceWriter;
 use bp_code::code_of;
 use bp_flat::Code;
 use bp_machine::Setup;
-use bp_tasks::RunOptions;
+use bp_source::RunOptions;
+use bp_text::Sink;
 use std::alloc::Global;
 use std::io::Write;
 use std::marker::Brand;
 use std::sync::Wait;
-use std::sync::ledger::Ledger;
 use std::thread::Threads;
 use std::time::Clock;
-
-/// Opens a board of these parts, and plays it.
-fn open_and_play<
-    C: Calls + Send + Sync,
-    O: Ledger + Send + Sync,
-    G: Gate,
-    W: Write,
-    R: Threads + Wait + Clock + Sync,
->(
-    rt: &R,
-    alloc: Global,
-    board_parts: BoardParts,
-    code: &Code,
-    setup: &Setup,
-    turns: Turns<'_, G>,
-    out: &mut W,
-) -> Result<RunReport, RunError>
-    requires named { IsNamed board_parts C.name C.parts O.name O.parts C.ring }
-    requires code { code.now ≡ C.code }
-    requires setup { setup.now ≡ C.setup }
-    requires threads { board_parts.threads ≡ threads setup.now }
-    requires fits { Fits code.now.tree setup.now }
-    requires seeded { is_some setup.now.seed ≡ true }
-    requires turn { (0 < turns.calls) × (turns.calls ≤ MAX_TURN) }
-    ensures { let old = W.contents out.old in
-        let new = W.contents out.new in
-        let t = code.now.tree in MatchResult result
-        (IsPlayedBy t setup.now old new)
-        (IsPlayRefusal t setup.now old new) }
-{
-    let room = Vec::with_capacity(alloc, setup.threads() as usize)?;
-    let (board, seats, tap) = Board::<C, O>::open(alloc, board_parts, code, setup)?;
-    let opened = OpenedBoard {
-        code,
-        setup,
-        board,
-        seats,
-        tap,
-    };
-    let played = play(rt, alloc, opened, turns, out);
-    let report = played.answer?;
-    Ok(RunReport {
-        report,
-        workers: counts_of(played.seats, room),
-        counts_agree: played.agree,
-    })
-}
 
 /// Runs the program of a code on this setup, and writes the trace: one worker for each guest thread
 /// makes its attempts, and the calling thread writes them while the workers run. Returns the report
@@ -97,7 +50,27 @@ pub fn run_code<G: Gate, W: Write, R: Threads + Wait + Clock + Sync>(
 {
     setup.is_in_range();
     let board_parts = BoardParts::new(alloc, setup.threads(), ring)?;
-    open_and_play::<Brand, Brand, G, W, R>(rt, alloc, board_parts, code, setup, turns, out)
+    let writer = TraceWriter::new(Sink::new(out));
+    let mut workers = Vec::new(alloc);
+    let Played {
+        answer,
+        agree,
+        writer: _,
+    } = play::<Brand, Brand, G, W, R>(
+        rt,
+        alloc,
+        board_parts,
+        code,
+        setup,
+        turns,
+        &mut workers,
+        writer,
+    );
+    Ok(RunReport {
+        report: answer?,
+        workers,
+        counts_agree: agree,
+    })
 }
 
 /// Runs the program of a text under these options, as `run_code` does. The refusals come in the

@@ -3,14 +3,14 @@ ghost use Rattle.std.specs.Prelude.{◌≡◌, ◌≤◌, ◌<◌, ◌+◌, ◌�
 ghost use Rattle.std.specs.Thread.{IsSync};
 ghost use Rattle.bp_run.specs.declared.limits.TheConstants.{MAX_TURN};
 ghost use Rattle.bp_machine.specs.declared.limits.TheConstants.{MAX_THREADS};
-ghost use Rattle.bp_run.specs.Works.{IsStaged, IsWorked, TellsShut};
+ghost use Rattle.bp_run.specs.Works.{IsStaged};
 
 use crate::boards::{Board, Calls};
 use crate::gates::{Gate, Turns};
 use crate::seats::{Seat, Tap};
 use crate::signals::Signals;
 use crate::trace_writers::{TraceWriter, write_running};
-use crate::workers::{Worked, worker};
+use crate::workers::worker;
 use bp_machine::Setup;
 use std::io::Write;
 use std::sync::Wait;
@@ -19,32 +19,28 @@ use std::thread;
 use std::thread::{Promise, PromisedHandle, Scope, Threads};
 use std::time::Clock;
 
-/// The promise of a worker: it leaves a seat of this thread, shut if its work is done, otherwise
-/// open with a reason.
+/// The promise of a worker: it leaves a seat of this thread.
 #[derive(Drop)]
 pub(crate) struct OfThread {
     pub thread: u32,
 }
 
-impl<C: Calls, O: Ledger> Promise<Worked<C, O>> for OfThread {
-    ghost use Rattle.bp_run.specs.Works.{IsWorked};
+impl<C: Calls, O: Ledger> Promise<Seat<C, O>> for OfThread {
+    ghost use Rattle.std.specs.Prelude.{◌≡◌};
 
-    ghost kept_by = { λ p worked.
-        IsWorked C.code C.setup p.thread worked.seat worked.done };
+    ghost kept_by = { λ p seat. seat.thread ≡ p.thread };
 }
 
 /// A worker that is to be joined.
-pub(crate) type Handle<C, O> = PromisedHandle<Worked<C, O>, OfThread>;
+pub(crate) type Handle<C, O> = PromisedHandle<Seat<C, O>, OfThread>;
 
-/// The results of the writer thread and the workers: also whether all workers were started, and
-/// whether all that were have done their work.
+/// The results of the writer thread and the workers, and whether all workers were started.
 #[derive(Drop)]
 pub(crate) struct Staged<'a, W, C: Calls, O: Ledger> {
     pub writer: TraceWriter<'a, W>,
     pub tap: Tap<C>,
     pub seats: Vec<Seat<C, O>>,
     pub all_started: bool,
-    pub all_done: bool,
 }
 
 /// Starts a worker for each seat, in order, until one cannot be started. Returns whether all were
@@ -85,10 +81,10 @@ fn start_workers<
         }
         match scope.spawn_with(
             OfThread { thread },
-            move || -> Worked<C, O>
+            move || -> Seat<C, O>
                 requires some { 0 < calls }
                 requires few { calls ≤ MAX_TURN }
-                ensures { IsWorked C.code C.setup seat.thread result.seat result.done }
+                ensures { result.thread ≡ seat.thread }
             { worker(rt, board, signals, seat, calls, gate) },
         ) {
             Ok(handle) => handles.push_reserved(handle),
@@ -101,26 +97,21 @@ fn start_workers<
     all_started
 }
 
-/// Waits until the workers have ended, and returns their seats in order, and whether all have done
-/// their work.
+/// Waits until the workers have ended, and returns their seats in order.
 fn join_workers<C: Calls + Send, O: Ledger + Send, R: Threads>(
     rt: &R,
     handles: Vec<Handle<C, O>>,
     mut back: Vec<Seat<C, O>>,
-) -> (Vec<Seat<C, O>>, bool)
+) -> Vec<Seat<C, O>>
     requires no_seat { vec_len back ≡ 0 }
     requires room { vec_len handles ≤ vec_capacity back }
-    ensures threads { map (λ seat. seat.thread) result.0.items
+    ensures { map (λ seat. seat.thread) result.items
         ≡ map (λ handle. handle.promise.thread) handles.items }
-    ensures done { TellsShut result.1 result.0.items }
 {
-    let mut all_done = true;
     for handle in handles {
-        let Worked { seat, done } = handle.join(rt);
-        all_done = all_done && done.is_ok();
-        back.push_reserved(seat);
+        back.push_reserved(handle.join(rt));
     }
-    (back, all_done)
+    back
 }
 
 /// The seats of the workers that are to be started, and room for their handles and for the seats
@@ -161,7 +152,6 @@ pub(crate) fn stage<
         result.tap.taken result.all_started }
     ensures seats { result.all_started ≡ true
         → map (λ s. s.thread) result.seats.items ≡ map (λ s. s.thread) workers.seats.items }
-    ensures done { TellsShut result.all_done result.seats.items }
 {
     let Workers {
         seats,
@@ -188,7 +178,6 @@ pub(crate) fn stage<
             ensures seats { result.all_started ≡ true
                 → map (λ s. s.thread) result.seats.items
                 ≡ map (λ s. s.thread) seats.items }
-            ensures done { TellsShut result.all_done result.seats.items }
         {
             let mut handles = handles;
             let mut writer = writer;
@@ -204,13 +193,12 @@ pub(crate) fn stage<
                 started,
                 all_started,
             );
-            let (seats, all_done) = join_workers(rt, handles, back);
+            let seats = join_workers(rt, handles, back);
             Staged {
                 writer,
                 tap,
                 seats,
                 all_started,
-                all_done,
             }
         },
     )

@@ -1,7 +1,7 @@
 //! Workers: each makes the attempts of one guest thread.
 ghost use Rattle.std.specs.Prelude.{◌≡◌, ◌≤◌, ◌<◌, false, true, IfErr, OnOk, OnErr};
 ghost use Rattle.bp_run.specs.declared.limits.TheConstants.{MAX_TURN};
-ghost use Rattle.bp_run.specs.Works.{IsWorked, TellsOfStop};
+ghost use Rattle.bp_run.specs.Works.{TellsOfStop};
 
 use crate::boards::{Board, Calls};
 use crate::gates::Gate;
@@ -78,14 +78,8 @@ pub fn work<C: Calls, O: Ledger, G: Gate, R: Wait + Clock>(
     done
 }
 
-/// The results of a worker: its seat, and that its work is done, or why it stopped before.
-#[derive(Drop)]
-pub(crate) struct Worked<C: Calls, O: Ledger> {
-    pub seat: Seat<C, O>,
-    pub done: Result<(), Unfinished>,
-}
-
-/// Does all the work of a worker's seat, and then counts the worker as ended.
+/// Does all the work of a worker's seat, and then counts the worker as ended. Whether it stopped too
+/// early is seen from the gathered board.
 pub(crate) fn worker<C: Calls, O: Ledger, G: Gate, R: Wait + Clock>(
     rt: &R,
     board: &Board<C, O>,
@@ -93,12 +87,12 @@ pub(crate) fn worker<C: Calls, O: Ledger, G: Gate, R: Wait + Clock>(
     mut seat: Seat<C, O>,
     turn: u32,
     gate: &G,
-) -> Worked<C, O>
+) -> Seat<C, O>
     requires some { 0 < turn }
     requires few { turn ≤ MAX_TURN }
-    ensures { IsWorked C.code C.setup seat.thread result.seat result.done }
+    ensures { result.thread ≡ seat.thread }
 {
-    let done = work(rt, board, &mut seat, turn, gate, signals);
+    let _done = work(rt, board, &mut seat, turn, gate, signals);
     signals.note_end();
-    Worked { seat, done }
+    seat
 }

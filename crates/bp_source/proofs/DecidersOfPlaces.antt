@@ -2,8 +2,8 @@
 use Rattle.bp_source.proofs.Common.{◌≡◌, ◌||◌, ℕ, List, [], ◌∷◌, bytes_eq, map, ap, refl, ◌∙◌, ◌+◌, ◌<◌, ◌≤◌, zero, suc, ap₂, ◌++◌, Option, None, length, drop, get_or, arith, ◌≢◌, ◌&&◌, Bool, true, false, codes, ◌==◌, not, cond, take, OnOk, Result, fold, eq-eqb, rules, map-append, onto_first, concat, rest_left, regrouped, all_added, block_of, statement_of, depth, statement_depth, Name, Block, Done, Then, Statement, Skips, GoesTo, Returns, Assigns, Branches, Loops, Asserts, Assumes, Prints, Calls, Decision, Procedure, chain, Place, places, places_in, places_of, drop_item, is_among, is_named, decision_in, next_decision, block_decisions, inner_decisions, reading_of, qualified, is_braced_after, piece_size, pieces}
 use Rattle.std.specs.Borrow.{Bor}
 use Rattle.std.proofs.lemmas.Result.{on_ok_weaker}
-use Rattle.bp_language.specs.declared.exprs.Decider.{Decider}
-use Rattle.bp_language.specs.declared.stmts.Stmt.{Stmt}
+use Rattle.bp_syntax.specs.declared.exprs.Decider.{Decider}
+use Rattle.bp_syntax.specs.declared.stmts.Stmt.{Stmt}
 
 -- Names behind references.
 

@@ -1,8 +1,8 @@
 -- A text begins with one lexeme, so a statement has one list of lexemes.
 use Rattle.bp_source.proofs.Common.{◌≡◌, ◌∙◌, ℕ, Bool, true, false, List, [], ◌∷◌, ◌++◌, sym, refl, append-nil, ◌+◌, ◌⊎◌, ⊎_elim, inl, inr, Option, None, Some, length, drop, ap, ap₂, subst, arith, length-take, ◌||◌, list_any, false≢true, rest_left, Procedure, Place, start_of_block, HasLexemes, IsAtEnd, Lexeme, Takes, more, is_choice, is_gap, lexeme_text, lexemes_text, AreStatements, IsStatementAt, is_ending, IsStatement, ending, none_left}
-use Rattle.bp_language.specs.Tokens as cut
-use Rattle.bp_language.specs.Tokens.{Fit, Brace, Bad, IsCut}
-use Rattle.bp_language.specs.declared.tokens.LexemeKind.{LexemeKind}
+use Rattle.bp_syntax.specs.Tokens as cut
+use Rattle.bp_syntax.specs.Tokens.{Fit, Brace, Bad, IsCut}
+use Rattle.bp_syntax.specs.declared.tokens.LexemeKind.{LexemeKind}
 use Rattle.bp_syntax.specs.Lexer.{lexeme_of, TakesLexeme}
 use Rattle.bp_syntax.proofs.OneCut.{has_cut, one_cut}
 use Rattle.bp_source.specs.SourceStatements.{ends}

@@ -4,7 +4,7 @@ use Rattle.std.specs.List.{concat, after_first}
 use Rattle.bp_text.specs.declared.lines.Position.{Position}
 use Rattle.bp_text.specs.Pieces.{string_text, key_text, list_text, number_or_null, string_or_null, at_left}
 use Rattle.bp_text.specs.Lines.{first_line}
-use Rattle.bp_language.specs.Ast.{Procedure, Program, Name}
+use Rattle.bp_syntax.specs.Ast.{Procedure, Program, Name}
 use Rattle.bp_flat.specs.Flat.{Flat, Heading, Instruction, callee_of, instruction_kind, next_of, other_of}
 use Rattle.bp_flat.specs.declared.instrs.Kind.{Kind}
 use Rattle.bp_flat.specs.declared.instrs.Kind.TheVariants.{Skip, Goto, Return, Assign, If, While, Assert, Assume, Print, Call}

@@ -2,10 +2,10 @@
 use Rattle.std.specs.Prelude.{◌==◌, ◌&&◌, if◌then◌else◌, ℕ, suc, Bool, true, false, not, List, [], ◌∷◌, Option, None, Some, bytes_eq, ◌||◌, ◌++◌, is_some, codes, option_map}
 use Rattle.std.specs.Borrow.{Bor}
 use Rattle.std.specs.List.{onto_first, list_any}
-use Rattle.bp_language.specs.Ast.{Procedure, Program, Expression, Constant, Variable, Negation, Operation, Decision, Choose, Decide, Block, Done, Then, Statement, Branches, Loops, Asserts, Assumes}
-use Rattle.bp_language.specs.Views.{decision_of}
-use Rattle.bp_language.specs.declared.exprs.Decider.{Decider}
-use Rattle.bp_language.specs.Errors.{first_index}
+use Rattle.bp_syntax.specs.Ast.{Procedure, Program, Expression, Constant, Variable, Negation, Operation, Decision, Choose, Decide, Block, Done, Then, Statement, Branches, Loops, Asserts, Assumes}
+use Rattle.bp_syntax.specs.Views.{decision_of}
+use Rattle.bp_syntax.specs.declared.exprs.Decider.{Decider}
+use Rattle.bp_syntax.specs.Errors.{first_index}
 use Rattle.bp_flat.specs.StandsFor.{variables}
 
 -- The pieces of a text that is cut at its commas. A comma inside braces cuts nothing.

@@ -3,9 +3,9 @@ use Rattle.std.specs.Prelude.{ℕ, List, ◌++◌, Option, None, Some, codes, de
 use Rattle.std.specs.List.{list_any}
 use Rattle.bp_text.specs.declared.lines.Position.{Position}
 use Rattle.bp_text.specs.Lines.{position_at, on_one_line, IsOneLine}
-use Rattle.bp_language.specs.Ast.{Procedure, Program}
-use Rattle.bp_language.specs.declared.tokens.LexemeKind.{LexemeKind}
-use Rattle.bp_language.specs.declared.tokens.LexemeKind.TheVariants.{White, Comment}
+use Rattle.bp_syntax.specs.Ast.{Procedure, Program}
+use Rattle.bp_syntax.specs.declared.tokens.LexemeKind.{LexemeKind}
+use Rattle.bp_syntax.specs.declared.tokens.LexemeKind.TheVariants.{White, Comment}
 use Rattle.bp_flat.specs.StandsFor.{Place, places_of, start_of_block}
 use Rattle.bp_syntax.specs.Lexer.{TakesLexeme}
 use Rattle.bp_source.specs.declared.source_statements.SourceStatement.{SourceStatement}

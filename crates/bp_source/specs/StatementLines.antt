@@ -4,7 +4,7 @@ use Rattle.std.specs.List.{concat}
 use Rattle.bp_text.specs.Pieces.{displayed, string_text, key_text, number_or_null}
 use Rattle.bp_text.specs.declared.lines.Position.{Position}
 use Rattle.bp_text.specs.Lines.{position_at}
-use Rattle.bp_language.specs.Ast.{Program}
+use Rattle.bp_syntax.specs.Ast.{Program}
 use Rattle.bp_flat.specs.StandsFor.{Place, places_of, start_of_block}
 use Rattle.bp_source.specs.declared.source_statements.SourceStatement.{SourceStatement}
 use Rattle.bp_source.specs.SourceStatements.{AreSourceStatements}

@@ -1,13 +1,13 @@
 //! The deciders of the assertions and the assumptions of a program, and the variables that a
 //! decider reads.
 ghost use Rattle.std.specs.Prelude.{◌≡◌, ◌++◌, Some, map, option_map, slice_get, IfOk, OnOk};
-ghost use Rattle.bp_language.specs.Blocks.{block_of, statement_of};
-ghost use Rattle.bp_language.specs.Views.{decision_of, expression_of};
+ghost use Rattle.bp_syntax.specs.Blocks.{block_of, statement_of};
+ghost use Rattle.bp_syntax.specs.Views.{decision_of, expression_of};
 ghost use Rattle.bp_flat.specs.StandsFor.{places_of, Place};
 ghost use Rattle.bp_source.specs.Names.{decision_in, next_decision, block_decisions, inner_decisions, names_after, reading_of, variables_read, with_name};
 
 use crate::names::is_named;
-use bp_language::{Decider, Expr, Form, Proc, Stmt};
+use bp_syntax::{Decider, Expr, Form, Proc, Stmt};
 use std::alloc::{AllocError, Global};
 
 /// Adds a name, if it is not among the names.

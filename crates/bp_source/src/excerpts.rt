@@ -3,8 +3,7 @@ ghost use Rattle.std.specs.Prelude.{◌≡◌, ◌++◌, ◌∷◌, [], ◌≤�
 ghost use Rattle.bp_text.specs.Lines.{AddsOneLine, IsOneLine};
 ghost use Rattle.bp_source.specs.SourceStatements.{is_choice, is_ending, is_gap, lexeme_text, IsAtEnd, IsStatement, Takes};
 
-use bp_language::LexemeKind;
-use bp_syntax::{Lexeme, take_lexeme};
+use bp_syntax::{Lexeme, LexemeKind, take_lexeme};
 use bp_text::push_on_one_line;
 use std::alloc::{AllocError, Global};
 

@@ -9,7 +9,7 @@ use crate::pieces::push_two;
 use crate::source_statements::{SourceStatement, source_statements_of};
 use bp_code::Checked;
 use bp_flat::{Code, Heading, Instr, Kind};
-use bp_language::Proc;
+use bp_syntax::Proc;
 use bp_text::Piece::{Bytes, Key, Left, List, Number, NumberOrNull, Text, TextOrNull};
 use bp_text::{Position, push_pieces, take_line};
 use std::alloc::{AllocError, Global};

@@ -4,7 +4,7 @@
 //! The name of a procedure, and the procedure of an instruction.
 ghost use Rattle.std.specs.Prelude.{◌≡◌, ◌≢◌, ℕ, List, bytes_eq, MatchOption, ◌<◌, ◌∷◌, false, length, Some, option_map, slice_get};
 ghost use Rattle.std.specs.List.{list_any};
-ghost use Rattle.bp_language.specs.Ast.{Program};
+ghost use Rattle.bp_syntax.specs.Ast.{Program};
 ghost use Rattle.bp_flat.specs.StandsFor.{variables, places_of, Place};
 ghost use Rattle.bp_source.specs.Names.{is_among, declares, has_local, has_qualified, qualified, is_braced_after, piece_size, pieces, pieces_left};
 ghost use Rattle.bp_source.specs.Listings.{name_at};
@@ -13,7 +13,7 @@ ghost use Rattle.bp_source.specs.SourceStatements.{AreSourceStatements};
 use crate::source_statements::SourceStatement;
 use bp_code::Checked;
 use bp_flat::{local_slot_of, slot_of};
-use bp_language::{Name, Proc};
+use bp_syntax::{Name, Proc};
 use bp_text::{part_before, part_from};
 
 /// Returns whether this is one of the names.

@@ -4,7 +4,7 @@ ghost use Rattle.bp_source.specs.Listings.{name_item, procedure_item, program_ob
 
 use crate::pieces::{push_four, push_three, push_two};
 use bp_code::Checked;
-use bp_language::{Name, Proc};
+use bp_syntax::{Name, Proc};
 use bp_text::Piece::{Bytes, Key, List, Text};
 use bp_text::push_pieces;
 use std::alloc::{AllocError, Global};

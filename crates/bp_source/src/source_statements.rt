@@ -1,6 +1,6 @@
 //! The source statement of each instruction.
 ghost use Rattle.std.specs.Prelude.{◌≡◌, ℕ, List, None, Some, slice_get, IfOk};
-ghost use Rattle.bp_language.specs.Ast.{Procedure};
+ghost use Rattle.bp_syntax.specs.Ast.{Procedure};
 ghost use Rattle.bp_flat.specs.StandsFor.{Place, start_of_block};
 ghost use Rattle.bp_source.specs.SourceStatements.{place_text, position_text, AreSourceStatements, IsSourceStatement};
 ghost use Rattle.bp_text.specs.Lines.{position_at};
@@ -8,7 +8,7 @@ ghost use Rattle.bp_text.specs.Lines.{position_at};
 use crate::excerpts::{Excerpt, excerpt_of};
 use crate::pieces::push_three;
 use bp_code::{Checked, statement_starts};
-use bp_language::Proc;
+use bp_syntax::Proc;
 use bp_text::Piece::{Bytes, Number};
 use bp_text::{FIRST, Position, part_from, position_from, push_bytes, push_on_one_line};
 use std::alloc::{AllocError, Global};

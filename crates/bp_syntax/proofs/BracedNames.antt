@@ -1,6 +1,7 @@
 -- When a brace begins a name, and when it does not.
-use Rattle.bp_syntax.proofs.Common.{◌≡◌, ℕ, zero, suc, ◌+◌, ◌-◌, ◌<◌, ◌≤◌, ◌≢◌, Bool, true, false, cond, List, [], ◌∷◌, length, take, drop, Option, Some, refl, subst, arith, drop-drop, slice_get, get_or, nat_eq, nat_lt, Bor, is_some, IfSome, rules, option_copied, option_eq, slice_get_past, slice_get_read, list_all, false≢true, ltb-true, ltb-false, both_right, is_braced_byte, is_braced_rest, fits, run, IsNameless}
-use Rattle.bp_language.specs.declared.tokens.LexemeKind.TheVariants as lexeme
+use Rattle.bp_syntax.proofs.Common.{◌≡◌, ℕ, zero, suc, ◌+◌, ◌-◌, ◌<◌, ◌≤◌, ◌≢◌, Bool, true, false, cond, List, [], ◌∷◌, length, take, drop, Option, Some, refl, subst, arith, drop-drop, slice_get, get_or, nat_eq, nat_lt, Bor, is_some, IfSome, rules, option_copied, option_eq, slice_get_past, slice_get_read, list_all, false≢true, ltb-true, ltb-false, is_braced_byte, is_braced_rest, fits, run, IsNameless}
+use Rattle.bp_syntax.proofs.SpelledNames.{both_right}
+use Rattle.bp_syntax.specs.declared.tokens.LexemeKind.TheVariants as lexeme
 
 module _ (test : ℕ → Bool) (b : ℕ) (bs : List ℕ) where
   fits_by : (y : Bool) → test b ≡ y → list_all test (take (run test bs) bs) ≡ true → list_all test (take (cond y (suc (run test bs)) 0) (b ∷ bs)) ≡ true

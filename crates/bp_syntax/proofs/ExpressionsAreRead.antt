@@ -1,7 +1,8 @@
 -- An expression of the grammar is read whole, whatever is expected after it.
-use Rattle.bp_syntax.proofs.Common.{◌≡◌, true, false, List, [], ◌∷◌, ◌++◌, None, refl, sym, ap, subst, ◌∙◌, arith, rules, false≢true, regrouped, Name, Expression, Negation, Operation, Decision, Decide, Token, name_of, IsNames, one_name, more_names, IsAnyNames, no_names, some_names, IsExpr, of_or, implication, IsOr, of_xor, disjunction, IsXor, of_and, exclusion, IsAnd, of_eq, conjunction, IsEq, of_un, equality, difference, IsUn, negation, of_atom, IsAtom, constant_0, constant_1, variable, brackets, IsExprs, one_expr, more_exprs, IsAnyExprs, no_exprs, some_exprs, IsDecider, choice, by_value, first_word, first_name, is_same_kind, Wanted, WordThen, DeciderThen, UnThen, MoreOperands, MoreImplied, MoreNames, MoreExprs, AnyNamesThen, AnyExprsThen, NamesThen, ExprThen, ExprsThen, BinaryThen, is_un_start, operator, parse_result, is_at, is_at_expr, operator_ahead, Precedence, Equality, Conjunction, Exclusion, Disjunction, TokenKind}
-use Rattle.bp_language.specs.declared.exprs.Op.TheVariants as op
-use Rattle.bp_language.specs.declared.tokens.TokenKind.TheVariants as kind
+use Rattle.bp_syntax.proofs.Common.{◌≡◌, true, false, List, [], ◌∷◌, ◌++◌, None, refl, sym, ap, subst, ◌∙◌, arith, rules, false≢true, Name, Expression, Negation, Operation, Decision, Decide, Token, name_of, IsNames, one_name, more_names, IsAnyNames, no_names, some_names, IsExpr, of_or, implication, IsOr, of_xor, disjunction, IsXor, of_and, exclusion, IsAnd, of_eq, conjunction, IsEq, of_un, equality, difference, IsUn, negation, of_atom, IsAtom, constant_0, constant_1, variable, brackets, IsExprs, one_expr, more_exprs, IsAnyExprs, no_exprs, some_exprs, IsDecider, choice, by_value, first_word, first_name, is_same_kind, Wanted, WordThen, DeciderThen, UnThen, MoreOperands, MoreImplied, MoreNames, MoreExprs, AnyNamesThen, AnyExprsThen, NamesThen, ExprThen, ExprsThen, BinaryThen, is_un_start, operator, parse_result, is_at, is_at_expr, operator_ahead, Precedence, Equality, Conjunction, Exclusion, Disjunction, TokenKind}
+use Rattle.bp_syntax.proofs.GrownLists.{regrouped}
+use Rattle.bp_syntax.specs.declared.exprs.Op.TheVariants as op
+use Rattle.bp_syntax.specs.declared.tokens.TokenKind.TheVariants as kind
 use Rattle.bp_syntax.proofs.ResultAfterToken.{read_word, read_name, read_comma, no_comma, some_name, no_name, read_expr_comma, no_expr_comma, some_expr, no_expr, read_operator, no_operator, read_implies, no_implies, at_kind_un, read_question, no_question}
 
 pub names_read : {ts : List Token} {ns : List Name} {r : List Token} → IsNames ts ns r

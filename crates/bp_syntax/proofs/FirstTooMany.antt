@@ -1,5 +1,6 @@
 -- The count of tokens in succession finds the first token that is one too many, if there is one.
-use Rattle.bp_syntax.proofs.Common.{◌≡◌, ℕ, ◌+◌, ◌<◌, ◌≤◌, Bool, true, false, cond, List, [], ◌∷◌, ◌++◌, length, Option, Some, None, refl, sym, ap, ◌∙◌, ◌⊎◌, inl, inr, ⊎_elim, length-append, arith, nat_lt, subst, nat_le, append-nil, false≢true, ltb-true, ltb-false, leb-true, leb-false, regrouped, SUCCESSION_LIMIT, NESTING_LIMIT, Token, is_separator, NoSeparator, IsSparse, depth_after, depth_from, IsShallow, BreaksAt, first_too_many, first_too_deep}
+use Rattle.bp_syntax.proofs.Common.{◌≡◌, ℕ, ◌+◌, ◌<◌, ◌≤◌, Bool, true, false, cond, List, [], ◌∷◌, ◌++◌, length, Option, Some, None, refl, sym, ap, ◌∙◌, ◌⊎◌, inl, inr, ⊎_elim, length-append, arith, nat_lt, subst, nat_le, append-nil, false≢true, ltb-true, ltb-false, leb-true, leb-false, SUCCESSION_LIMIT, NESTING_LIMIT, Token, is_separator, NoSeparator, IsSparse, depth_after, depth_from, IsShallow, BreaksAt, first_too_many, first_too_deep}
+use Rattle.bp_syntax.proofs.GrownLists.{regrouped}
 
 pub cond_none : (b : Bool) (o : Option ℕ) (n : ℕ) → cond b o (Some n) ≡ None → (b ≡ true) × (o ≡ None)
 cond_none b o n given1 = grind (arith)

@@ -12,3 +12,7 @@ pub mod ResultAfterToken
 pub mod StopIsSyntaxError
 pub mod TreesCross
 pub mod WantedPhrases
+pub mod LawsOfWellFormedPrograms
+pub mod SpelledNames
+pub mod NamesOfTokens
+pub mod GrownLists

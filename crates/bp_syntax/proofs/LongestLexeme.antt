@@ -1,7 +1,8 @@
 -- The longest lexeme that begins a text.
-use Rattle.bp_syntax.proofs.Common.{◌≡◌, ℕ, zero, suc, ◌+◌, ◌<◌, ◌≤◌, ◌≢◌, ◌==◌, ⊎_elim, Bool, true, false, cond, ◌&&◌, ◌||◌, List, [], ◌∷◌, length, take, drop, Option, Some, None, refl, sym, ap, subst, ◌∙◌, arith, take_all, nat_eq, slice_get, get_or, ◌-◌, is_some, MatchOption, rules, list_any, list_all, lookup, false≢true, cases_eq, eqb-true, ne_eqb, slice_get_within, slice_get-get_or, is_white, is_letter, is_word_byte, is_comment_byte, constant, symbol, long_symbol, fits, whites, constants, IsLongest, NoneFits, run, comment, first_symbol, unbraced_lexeme, IsNameless, IsFirstLexeme, FirstLexeme, TokenKind, LexemeKind, both_left, both_right}
+use Rattle.bp_syntax.proofs.Common.{◌≡◌, ℕ, zero, suc, ◌+◌, ◌<◌, ◌≤◌, ◌≢◌, ◌==◌, ⊎_elim, Bool, true, false, cond, ◌&&◌, ◌||◌, List, [], ◌∷◌, length, take, drop, Option, Some, None, refl, sym, ap, subst, ◌∙◌, arith, take_all, nat_eq, slice_get, get_or, ◌-◌, is_some, MatchOption, rules, list_any, list_all, lookup, false≢true, cases_eq, eqb-true, ne_eqb, slice_get_within, slice_get-get_or, is_white, is_letter, is_word_byte, is_comment_byte, constant, symbol, long_symbol, fits, whites, constants, IsLongest, NoneFits, run, comment, first_symbol, unbraced_lexeme, IsNameless, IsFirstLexeme, FirstLexeme, TokenKind, LexemeKind}
+use Rattle.bp_syntax.proofs.SpelledNames.{both_left, both_right}
 use Rattle.bp_syntax.specs.declared.lexemes.FirstLexeme.TheVariants as first
-use Rattle.bp_language.specs.declared.tokens.LexemeKind.TheVariants as lexeme
+use Rattle.bp_syntax.specs.declared.tokens.LexemeKind.TheVariants as lexeme
 use Rattle.bp_syntax.proofs.BracedNames.{inside, run_fits, run_stops, run_within, closes_at, closes_no_longer, unclosed}
 
 -- P of each key of a table

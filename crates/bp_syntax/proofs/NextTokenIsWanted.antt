@@ -1,7 +1,8 @@
 -- A token that may come is one of the expected ones.
-use Rattle.bp_syntax.proofs.Common.{◌≡◌, ℕ, Bool, true, false, cond, List, [], ◌∷◌, ◌++◌, Option, Some, None, refl, sym, subst, ◌⊎◌, ⊎_elim, append-nil, arith, regrouped, Name, Expression, Constant, Variable, Negation, Operation, Choose, Decide, Done, Then, Statement, Skips, GoesTo, Returns, Assigns, Branches, Loops, Asserts, Assumes, Prints, Calls, Procedure, Program, Op, Token, name_of, IsNames, one_name, more_names, no_names, some_names, IsExpr, negation, of_atom, constant_0, constant_1, variable, brackets, IsExprs, no_exprs, some_exprs, choice, by_value, IsForm, skip, jump, returning, assignment, branch, loop, assertion, assumption, printing, call, IsStmt, labelled, unlabelled, decl, no_decl, more_decls, IsProc, proc, no_proc, more_procs, first_word, first_name, is_same_kind, Wanted, Complete, WordThen, NameThen, MoreNames, AnyNamesThen, UnThen, MoreOperands, MoreImplied, MoreExprs, AnyExprsThen, DeciderThen, FormThen, FormAfter, StmtThen, StmtAfter, MoreStmts, MoreDecls, MoreProcs, NamesThen, ExprsThen, OperandThen, GotoThen, IfThen, WhileThen, AssertThen, AssumeThen, PrintThen, ArgumentsThen, ValuesThen, TargetsThen, BodyThen, wanted_after_un, wanted_in_un, is_un_start, wanted_after_name, wanted_in_form, is_form_start, wanted_in_stmt, operator, wanted_by_operator, procedure_of, wanted_after, program_at_end, TokenKind, the_type}
+use Rattle.bp_syntax.proofs.Common.{◌≡◌, ℕ, Bool, true, false, cond, List, [], ◌∷◌, ◌++◌, Option, Some, None, refl, sym, subst, ◌⊎◌, ⊎_elim, append-nil, arith, Name, Expression, Constant, Variable, Negation, Operation, Choose, Decide, Done, Then, Statement, Skips, GoesTo, Returns, Assigns, Branches, Loops, Asserts, Assumes, Prints, Calls, Procedure, Program, Op, Token, name_of, IsNames, one_name, more_names, no_names, some_names, IsExpr, negation, of_atom, constant_0, constant_1, variable, brackets, IsExprs, no_exprs, some_exprs, choice, by_value, IsForm, skip, jump, returning, assignment, branch, loop, assertion, assumption, printing, call, IsStmt, labelled, unlabelled, decl, no_decl, more_decls, IsProc, proc, no_proc, more_procs, first_word, first_name, is_same_kind, Wanted, Complete, WordThen, NameThen, MoreNames, AnyNamesThen, UnThen, MoreOperands, MoreImplied, MoreExprs, AnyExprsThen, DeciderThen, FormThen, FormAfter, StmtThen, StmtAfter, MoreStmts, MoreDecls, MoreProcs, NamesThen, ExprsThen, OperandThen, GotoThen, IfThen, WhileThen, AssertThen, AssumeThen, PrintThen, ArgumentsThen, ValuesThen, TargetsThen, BodyThen, wanted_after_un, wanted_in_un, is_un_start, wanted_after_name, wanted_in_form, is_form_start, wanted_in_stmt, operator, wanted_by_operator, procedure_of, wanted_after, program_at_end, TokenKind, the_type}
+use Rattle.bp_syntax.proofs.GrownLists.{regrouped}
 use denote.Enum.Bare.{same_true}
-use Rattle.bp_language.specs.declared.tokens.TokenKind.TheVariants as kind
+use Rattle.bp_syntax.specs.declared.tokens.TokenKind.TheVariants as kind
 use Rattle.bp_syntax.proofs.WantedPhrases.{Needs, complete, word, name, names, any_names, un, operands, implied, exprs, any_exprs, decider, form, form_after, stmt, stmt_after, stmts, decls, procs, no_more_names, names_after, no_more_exprs, exprs_after, no_more_stmts, stmts_after, no_more_operands, operand_after, nothing_implied, implied_after, stmts_join, IsOperand, operand_from, expr_from, names_from, exprs_from}
 
 pub same : (a b : TokenKind) → is_same_kind a b ≡ true → a ≡ b

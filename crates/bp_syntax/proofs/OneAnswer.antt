@@ -1,5 +1,7 @@
 -- A text has one result: its tree, or its first error.
-use Rattle.bp_syntax.proofs.Common.{◌≡◌, ℕ, ◌≤◌, List, [], ◌∷◌, ◌++◌, length, Some, None, Result, Ok, Err, refl, sym, ap, subst, ◌∙◌, ⊎_elim, arith, ◌≢◌, ◌⊎◌, ◌<◌, inl, inr, MatchResult, IsErrAnd, rules, cases_lt, Program, regrouped, TEXT_LIMIT, Token, tokens_of, HasTokens, HasBadByte, HasOpenName, AllReal, Derives, IsShallow, IsSparse, IsTextOf, all_real, IsScanError, first_too_deep, first_too_many, Opens, BreaksAt, HasSyntaxError, IsRefusal, read_error_number, whole_program, parse_result, Got, place_or, IsParseError, ReadError}
+use Rattle.bp_syntax.proofs.Common.{◌≡◌, ℕ, ◌≤◌, List, [], ◌∷◌, ◌++◌, length, Some, None, Result, Ok, Err, refl, sym, ap, subst, ◌∙◌, ⊎_elim, arith, ◌≢◌, ◌⊎◌, ◌<◌, inl, inr, MatchResult, IsErrAnd, rules, cases_lt, Program, TEXT_LIMIT, Token, tokens_of, HasTokens, HasBadByte, HasOpenName, AllReal, Derives, IsShallow, IsSparse, IsTextOf, IsScanError, first_too_deep, first_too_many, Opens, BreaksAt, HasSyntaxError, IsRefusal, read_error_number, whole_program, parse_result, Got, place_or, IsParseError, ReadError}
+use Rattle.bp_syntax.proofs.SpelledNames.{all_real}
+use Rattle.bp_syntax.proofs.GrownLists.{regrouped}
 use Rattle.bp_syntax.specs.declared.errors.ReadError.TheVariants as error
 use Rattle.bp_syntax.proofs.OneCut.{one_cut}
 use Rattle.bp_syntax.proofs.FirstTooMany.{none_is_sparse, some_is_crowded, none_is_shallow, some_is_deep, shallow_front}

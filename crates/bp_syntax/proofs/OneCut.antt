@@ -1,9 +1,11 @@
 -- Each text has one cut.
-use Rattle.bp_syntax.proofs.Common.{◌≡◌, ℕ, zero, suc, ◌+◌, ◌<◌, ◌≤◌, true, List, [], ◌∷◌, length, take, drop, Some, refl, sym, ap, subst, arith, length-drop, ◌==◌, ◌&&◌, nat_eq, if◌then◌else◌, ◌≢◌, ◌∙◌, Bool, false, Option, None, ◌++◌, ◌-◌, slice_get, append-nil, rules, false≢true, eqb-true, list_all, option_or, regrouped, fits, IsLongest, NoneFits, Lexeme, Fit, Brace, Bad, IsCut, ends, fit, open_brace, bad_byte, is_letter, is_word_byte, is_braced_byte, is_braced_rest, constants, symbols, long_symbols, kind_of, Token, first_bad_byte, first_open_brace, tokens_of, with_token, HasTokens, HasBadByte, HasOpenName, LexemeKind, TokenKind, both_left, both_right, IsFirstLexeme, IsFirst, TakesLexeme, IsNameless, FirstLexeme}
+use Rattle.bp_syntax.proofs.Common.{◌≡◌, ℕ, zero, suc, ◌+◌, ◌<◌, ◌≤◌, true, List, [], ◌∷◌, length, take, drop, Some, refl, sym, ap, subst, arith, length-drop, ◌==◌, ◌&&◌, nat_eq, if◌then◌else◌, ◌≢◌, ◌∙◌, Bool, false, Option, None, ◌++◌, ◌-◌, slice_get, append-nil, rules, false≢true, eqb-true, list_all, option_or, fits, IsLongest, NoneFits, Lexeme, Fit, Brace, Bad, IsCut, ends, fit, open_brace, bad_byte, is_letter, is_word_byte, is_braced_byte, is_braced_rest, constants, symbols, long_symbols, kind_of, Token, first_bad_byte, first_open_brace, tokens_of, with_token, HasTokens, HasBadByte, HasOpenName, LexemeKind, TokenKind, IsFirstLexeme, IsFirst, TakesLexeme, IsNameless, FirstLexeme}
+use Rattle.bp_syntax.proofs.SpelledNames.{both_left, both_right}
+use Rattle.bp_syntax.proofs.GrownLists.{regrouped}
 use Rattle.std.proofs.lemmas.Bool.Decides.{nat_tests, Decides-eqb}
 use Rattle.std.proofs.lemmas.Str.{IsUtf8-from_ascii}
 use Rattle.std.specs.Str.{IsAscii, IsUtf8}
-use Rattle.bp_language.specs.declared.tokens.LexemeKind.TheVariants as lexeme
+use Rattle.bp_syntax.specs.declared.tokens.LexemeKind.TheVariants as lexeme
 use Rattle.bp_syntax.specs.declared.lexemes.FirstLexeme.TheVariants as first
 use Rattle.bp_syntax.proofs.LongestLexeme.{has_front, kind_by_first, found, keyed}
 use Rattle.bp_syntax.proofs.BracedNames.{nameless_rest}

@@ -1,7 +1,8 @@
 -- Statements, procedures and programs of the grammar are read whole, whatever is expected after
 -- them.
-use Rattle.bp_syntax.proofs.Common.{◌≡◌, ℕ, true, false, List, [], ◌∷◌, ◌++◌, Option, Some, None, refl, sym, ap, ◌∙◌, drop, append-nil, rules, false≢true, regrouped, Name, Expression, Decision, Block, Then, Statement, Skips, GoesTo, Returns, Assigns, Branches, Loops, Asserts, Assumes, Prints, Calls, Procedure, Program, Token, name_of, IsNames, one_name, more_names, IsDecider, IsForm, skip, jump, returning, assignment, branch, loop, assertion, assumption, printing, call, IsStmt, labelled, unlabelled, IsStmts, one_stmt, more_stmts, IsDecl, decl, IsDecls, no_decl, more_decls, IsProc, proc, IsProcs, no_proc, more_procs, Derives, program, first_word, first_name, is_same_kind, Wanted, Complete, WordThen, DeciderThen, MoreDecls, MoreProcs, MoreStmts, FormThen, StmtThen, ExprsThen, AnyExprsThen, AnyNamesThen, StmtsThen, ConditionThen, TargetsThen, ArgumentsThen, AssignThen, BodyThen, ProcThen, program_of, procedure_of, is_form_start, is_un_start, parse_result, Got, whole_program, is_at, is_at_form, place_ahead, TokenKind}
-use Rattle.bp_language.specs.declared.tokens.TokenKind.TheVariants as kind
+use Rattle.bp_syntax.proofs.Common.{◌≡◌, ℕ, true, false, List, [], ◌∷◌, ◌++◌, Option, Some, None, refl, sym, ap, ◌∙◌, drop, append-nil, rules, false≢true, Name, Expression, Decision, Block, Then, Statement, Skips, GoesTo, Returns, Assigns, Branches, Loops, Asserts, Assumes, Prints, Calls, Procedure, Program, Token, name_of, IsNames, one_name, more_names, IsDecider, IsForm, skip, jump, returning, assignment, branch, loop, assertion, assumption, printing, call, IsStmt, labelled, unlabelled, IsStmts, one_stmt, more_stmts, IsDecl, decl, IsDecls, no_decl, more_decls, IsProc, proc, IsProcs, no_proc, more_procs, Derives, program, first_word, first_name, is_same_kind, Wanted, Complete, WordThen, DeciderThen, MoreDecls, MoreProcs, MoreStmts, FormThen, StmtThen, ExprsThen, AnyExprsThen, AnyNamesThen, StmtsThen, ConditionThen, TargetsThen, ArgumentsThen, AssignThen, BodyThen, ProcThen, program_of, procedure_of, is_form_start, is_un_start, parse_result, Got, whole_program, is_at, is_at_form, place_ahead, TokenKind}
+use Rattle.bp_syntax.proofs.GrownLists.{regrouped}
+use Rattle.bp_syntax.specs.declared.tokens.TokenKind.TheVariants as kind
 use Rattle.bp_syntax.proofs.ResultAfterToken.{read_word, read_name, at_kind_form, more_stmts_ahead, no_stmt, read_decl, no_decl_ahead, more_procs_ahead, no_proc_ahead, call_ahead, assign_ahead, read_label, no_label}
 use Rattle.bp_syntax.proofs.ExpressionsAreRead.{names_read, names_begin, any_names_read, exprs_read, any_exprs_read, decider_read, ends_at, closing, semicolon}
 

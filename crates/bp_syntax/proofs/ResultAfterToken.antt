@@ -1,9 +1,9 @@
 -- The parser's result after one token, by the expected phrases.
 use Rattle.bp_syntax.proofs.Common.{◌≡◌, ℕ, Bool, true, false, cond, List, [], ◌∷◌, ◌++◌, Option, Some, None, refl, ap, drop, Result, IsErrAnd, arith, rules, Name, Expression, Operation, Decision, Choose, Decide, Block, Done, Statement, Procedure, Variable, Then, Op, statement_of, block_of, Token, name_of, TokenKind, the_type, is_same_kind, Wanted, WordThen, NameThen, MoreNames, AnyNamesThen, UnThen, MoreOperands, MoreImplied, MoreExprs, AnyExprsThen, DeciderThen, FormThen, StmtThen, MoreStmts, MoreDecls, MoreProcs, NamesThen, ExprThen, ExprsThen, StmtsThen, OperandThen, ProcThen, wanted_in_un, wanted_in_form, operator, Stops, result_after, parse_result, is_at, is_at_form, is_at_expr, operator_ahead, kind_ahead, CallThen, AssignThen, place_ahead, ParseResult, IsStop, ReadsBy, Precedence}
 use denote.Enum.Bare.{true_same}
-use Rattle.bp_language.specs.declared.exprs.Op.TheVariants as op
-use Rattle.bp_language.specs.declared.stmts.Stmt.{Stmt}
-use Rattle.bp_language.specs.declared.tokens.TokenKind.TheVariants as kind
+use Rattle.bp_syntax.specs.declared.exprs.Op.TheVariants as op
+use Rattle.bp_syntax.specs.declared.stmts.Stmt.{Stmt}
+use Rattle.bp_syntax.specs.declared.tokens.TokenKind.TheVariants as kind
 use Rattle.bp_syntax.specs.declared.parser.Stop.{Stop}
 use Rattle.bp_syntax.proofs.NextTokenIsWanted.{same}
 

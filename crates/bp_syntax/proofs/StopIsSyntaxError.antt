@@ -1,7 +1,8 @@
 -- If the parser ends, the tokens are a program of the grammar; if it stops, it is at the syntax
 -- error.
-use Rattle.bp_syntax.proofs.Common.{List, [], ◌∷◌, None, refl, sym, subst, false, ◌≡◌, ℕ, ◌++◌, Option, Some, ap, ◌∙◌, inl, inr, length, append-nil, Constant, Choose, Done, Skips, Assigns, Program, regrouped, Token, AllReal, name_of, one_name, no_names, of_or, of_xor, of_and, of_eq, of_un, of_atom, constant_0, one_expr, no_exprs, choice, skip, assignment, unlabelled, no_decl, no_proc, IsExprs, first_word, first_name, Derives, program, Wanted, Complete, WordThen, NameThen, MoreNames, AnyNamesThen, UnThen, MoreOperands, MoreImplied, MoreExprs, AnyExprsThen, DeciderThen, FormThen, FormAfter, StmtThen, StmtAfter, MoreStmts, MoreDecls, MoreProcs, wanted_after, program_at_end, Got, Stops, result_at_end, result_after, parse_result, whole_program, some_token, Opens, HasSyntaxError}
-use Rattle.bp_language.specs.declared.tokens.TokenKind.TheVariants as kind
+use Rattle.bp_syntax.proofs.Common.{List, [], ◌∷◌, None, refl, sym, subst, false, ◌≡◌, ℕ, ◌++◌, Option, Some, ap, ◌∙◌, inl, inr, length, append-nil, Constant, Choose, Done, Skips, Assigns, Program, Token, AllReal, name_of, one_name, no_names, of_or, of_xor, of_and, of_eq, of_un, of_atom, constant_0, one_expr, no_exprs, choice, skip, assignment, unlabelled, no_decl, no_proc, IsExprs, first_word, first_name, Derives, program, Wanted, Complete, WordThen, NameThen, MoreNames, AnyNamesThen, UnThen, MoreOperands, MoreImplied, MoreExprs, AnyExprsThen, DeciderThen, FormThen, FormAfter, StmtThen, StmtAfter, MoreStmts, MoreDecls, MoreProcs, wanted_after, program_at_end, Got, Stops, result_at_end, result_after, parse_result, whole_program, some_token, Opens, HasSyntaxError}
+use Rattle.bp_syntax.proofs.GrownLists.{regrouped}
+use Rattle.bp_syntax.specs.declared.tokens.TokenKind.TheVariants as kind
 use Rattle.bp_syntax.proofs.WantedPhrases.{some_real, Needs, complete, word, name, names, any_names, un, operands, implied, exprs, any_exprs, decider, form, form_after, stmt, stmt_after, stmts, decls, procs, no_more_names, no_more_exprs, no_more_stmts, no_more_operands, nothing_implied}
 use Rattle.bp_syntax.proofs.NextTokenIsWanted.{sound, sound_end}
 use Rattle.bp_syntax.proofs.ProgramsAreRead.{derived_is_read}

@@ -1,11 +1,11 @@
 -- Well-formed trees may be sent to other threads and shared among them.
 use denote.Param.Send.{IsSend, IsSync, sendable}
 use Rattle.std.proofs.Crossing.{crosses}
-use Rattle.bp_language.proofs.exprs.Sub.TheLaws.TheKnot.{send-Sub, send-Expr, sync-Sub, sync-Expr}
-use Rattle.bp_language.proofs.stmts.Block.TheLaws.TheKnot.{send-Block, sync-Block}
-use Rattle.bp_language.specs.contracts.names.Names as Names
-use Rattle.bp_language.specs.contracts.stmts.Block as Block
-use Rattle.bp_language.specs.contracts.procs.Proc as Proc
+use Rattle.bp_syntax.proofs.exprs.Sub.TheLaws.TheKnot.{send-Sub, send-Expr, sync-Sub, sync-Expr}
+use Rattle.bp_syntax.proofs.stmts.Block.TheLaws.TheKnot.{send-Block, sync-Block}
+use Rattle.bp_syntax.specs.contracts.names.Names as Names
+use Rattle.bp_syntax.specs.contracts.stmts.Block as Block
+use Rattle.bp_syntax.specs.contracts.procs.Proc as Proc
 use Rattle.bp_syntax.specs.contracts.trees.Parts as Parts
 use Rattle.bp_syntax.specs.contracts.checked_trees.Checked as Checked
 

@@ -1,7 +1,8 @@
 -- The phrases of the grammar that the parser expects.
-use Rattle.bp_syntax.proofs.Common.{◌≡◌, ℕ, List, refl, subst, Option, Some, [], ◌∷◌, ◌++◌, None, arith, rules, Name, Expression, Operation, Decision, Block, Done, Then, Statement, Procedure, Program, Op, regrouped, Token, IsReal, TokenKind, name_of, IsNames, one_name, more_names, IsAnyNames, IsExpr, of_or, implication, IsOr, of_xor, disjunction, IsXor, of_and, exclusion, IsAnd, of_eq, conjunction, IsEq, of_un, equality, difference, IsUn, IsExprs, one_expr, more_exprs, IsAnyExprs, IsDecider, IsForm, IsStmt, IsStmts, one_stmt, more_stmts, IsDecls, IsProcs, first_word, first_name, some_token, Wanted, Complete, WordThen, NameThen, MoreNames, AnyNamesThen, UnThen, MoreOperands, MoreImplied, MoreExprs, AnyExprsThen, DeciderThen, FormThen, FormAfter, StmtThen, StmtAfter, MoreStmts, MoreDecls, MoreProcs, NamesThen, ExprThen, ExprsThen, OperandThen, operator, Precedence, Equality, Conjunction, Exclusion, Disjunction}
-use Rattle.bp_language.specs.declared.exprs.Op.TheVariants as op
-use Rattle.bp_language.specs.declared.tokens.TokenKind.TheVariants as kind
+use Rattle.bp_syntax.proofs.Common.{◌≡◌, ℕ, List, refl, subst, Option, Some, [], ◌∷◌, ◌++◌, None, arith, rules, Name, Expression, Operation, Decision, Block, Done, Then, Statement, Procedure, Program, Op, Token, IsReal, TokenKind, name_of, IsNames, one_name, more_names, IsAnyNames, IsExpr, of_or, implication, IsOr, of_xor, disjunction, IsXor, of_and, exclusion, IsAnd, of_eq, conjunction, IsEq, of_un, equality, difference, IsUn, IsExprs, one_expr, more_exprs, IsAnyExprs, IsDecider, IsForm, IsStmt, IsStmts, one_stmt, more_stmts, IsDecls, IsProcs, first_word, first_name, some_token, Wanted, Complete, WordThen, NameThen, MoreNames, AnyNamesThen, UnThen, MoreOperands, MoreImplied, MoreExprs, AnyExprsThen, DeciderThen, FormThen, FormAfter, StmtThen, StmtAfter, MoreStmts, MoreDecls, MoreProcs, NamesThen, ExprThen, ExprsThen, OperandThen, operator, Precedence, Equality, Conjunction, Exclusion, Disjunction}
+use Rattle.bp_syntax.proofs.GrownLists.{regrouped}
+use Rattle.bp_syntax.specs.declared.exprs.Op.TheVariants as op
+use Rattle.bp_syntax.specs.declared.tokens.TokenKind.TheVariants as kind
 
 -- Each kind of token has a spelling.
 

@@ -1,10 +1,10 @@
 -- Devices of the lexer, and of the two counts of its tokens. No public contract names them.
 use Rattle.std.specs.Prelude.{if◌then◌else◌, ◌≡◌, ◌<◌, ◌≤◌, ◌==◌, ℕ, ◌+◌, List, [], ◌∷◌, Option, None, Some, length, take, drop, ◌≢◌, suc, Bool, true, false, is_some, slice_get, nat_lt, nat_le, map}
-use Rattle.bp_language.specs.Tokens.{Lexeme, Fit, Brace, Bad, IsCut, IsLongest, NoneFits, is_white, is_letter, is_word_byte, is_comment_byte, is_braced_byte, constant, symbol, long_symbol, fits, HasBadByte, HasOpenName, Token}
-use Rattle.bp_language.specs.declared.tokens.LexemeKind.{LexemeKind}
-use Rattle.bp_language.specs.declared.tokens.LexemeKind.TheVariants as lexeme
-use Rattle.bp_language.specs.declared.limits.TheConstants.{SUCCESSION_LIMIT, NESTING_LIMIT}
-use Rattle.bp_language.specs.Texts.{is_separator, depth_after}
+use Rattle.bp_syntax.specs.Tokens.{Lexeme, Fit, Brace, Bad, IsCut, IsLongest, NoneFits, is_white, is_letter, is_word_byte, is_comment_byte, is_braced_byte, constant, symbol, long_symbol, fits, HasBadByte, HasOpenName, Token}
+use Rattle.bp_syntax.specs.declared.tokens.LexemeKind.{LexemeKind}
+use Rattle.bp_syntax.specs.declared.tokens.LexemeKind.TheVariants as lexeme
+use Rattle.bp_syntax.specs.declared.limits.TheConstants.{SUCCESSION_LIMIT, NESTING_LIMIT}
+use Rattle.bp_syntax.specs.Texts.{is_separator, depth_after}
 use Rattle.bp_syntax.specs.declared.errors.ReadError.{ReadError}
 use Rattle.bp_syntax.specs.declared.errors.ReadError.TheVariants as error
 use Rattle.bp_syntax.specs.declared.lexemes.FirstLexeme.{FirstLexeme}

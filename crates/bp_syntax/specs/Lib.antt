@@ -2,3 +2,14 @@ pub mod Lexer
 pub mod Refusals
 pub mod Spellings
 pub mod ParserState
+pub mod Tokens
+pub mod Errors
+pub mod Grammar
+pub mod NamesIn
+pub mod Texts
+pub mod Ast
+pub mod Blocks
+pub mod Codes
+pub mod Depth
+pub mod SizeDecreases
+pub mod Views

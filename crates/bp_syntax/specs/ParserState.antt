@@ -2,14 +2,14 @@
 -- changes them. No public contract names it.
 use Rattle.std.specs.Prelude.{◌≡◌, ℕ, Bool, true, false, if◌then◌else◌, List, [], ◌∷◌, ◌++◌, Option, Some, None, Result, MatchResult}
 use denote.Enum.Bare.{sameb}
-use Rattle.bp_language.specs.Ast.{Name, Expression, Constant, Variable, Negation, Operation, Decision, Choose, Decide, Block, Done, Then, Statement, Skips, GoesTo, Returns, Assigns, Branches, Loops, Asserts, Assumes, Prints, Calls, Procedure, Program}
-use Rattle.bp_language.specs.declared.exprs.Op.{Op}
-use Rattle.bp_language.specs.declared.exprs.Op.TheVariants as op
-use Rattle.bp_language.specs.Tokens.{Token}
-use Rattle.bp_language.specs.Grammar.{name_of}
-use Rattle.bp_language.specs.declared.tokens.TokenKind.{TokenKind}
-use Rattle.bp_language.specs.declared.tokens.TokenKind.TheVariants as kind
-use Rattle.bp_language.specs.contracts.tokens.TokenKind.{the_type}
+use Rattle.bp_syntax.specs.Ast.{Name, Expression, Constant, Variable, Negation, Operation, Decision, Choose, Decide, Block, Done, Then, Statement, Skips, GoesTo, Returns, Assigns, Branches, Loops, Asserts, Assumes, Prints, Calls, Procedure, Program}
+use Rattle.bp_syntax.specs.declared.exprs.Op.{Op}
+use Rattle.bp_syntax.specs.declared.exprs.Op.TheVariants as op
+use Rattle.bp_syntax.specs.Tokens.{Token}
+use Rattle.bp_syntax.specs.Grammar.{name_of}
+use Rattle.bp_syntax.specs.declared.tokens.TokenKind.{TokenKind}
+use Rattle.bp_syntax.specs.declared.tokens.TokenKind.TheVariants as kind
+use Rattle.bp_syntax.specs.contracts.tokens.TokenKind.{the_type}
 use Rattle.bp_syntax.specs.declared.errors.ReadError.{ReadError}
 use Rattle.bp_syntax.specs.declared.errors.ReadError.TheVariants as error
 use Rattle.bp_syntax.specs.declared.parser.operators.Precedence.{Precedence}

@@ -1,10 +1,10 @@
 -- How texts are refused that are not those of a program, and laws of texts.
 use Rattle.std.specs.Prelude.{ℕ, Option, None, Some, ◌≡◌, List, [], ◌∷◌, ◌++◌, ◌⊎◌, length, ◌<◌, ◌≤◌, ◌≢◌, All}
-use Rattle.bp_language.specs.Ast.{Program}
-use Rattle.bp_language.specs.Tokens.{Token, AllReal, HasTokens, HasBadByte, HasOpenName, IsSpelled, Lexeme, IsCut}
-use Rattle.bp_language.specs.Grammar.{Derives}
-use Rattle.bp_language.specs.declared.limits.TheConstants.{TEXT_LIMIT}
-use Rattle.bp_language.specs.Texts.{IsShallow, IsSparse, IsTextOf}
+use Rattle.bp_syntax.specs.Ast.{Program}
+use Rattle.bp_syntax.specs.Tokens.{Token, AllReal, HasTokens, HasBadByte, HasOpenName, IsSpelled, Lexeme, IsCut}
+use Rattle.bp_syntax.specs.Grammar.{Derives}
+use Rattle.bp_syntax.specs.declared.limits.TheConstants.{TEXT_LIMIT}
+use Rattle.bp_syntax.specs.Texts.{IsShallow, IsSparse, IsTextOf}
 use Rattle.bp_syntax.specs.declared.errors.ReadError.{ReadError}
 use Rattle.bp_syntax.specs.declared.errors.ReadError.TheVariants as error
 use Rattle.bp_syntax.specs.declared.errors.ReadError.TheVariants.{Memory}

@@ -1,8 +1,8 @@
 -- A spelling of each kind of token.
 use Rattle.std.specs.Prelude.{ℕ, List, codes}
-use Rattle.bp_language.specs.declared.tokens.TokenKind.{TokenKind}
-use Rattle.bp_language.specs.declared.tokens.TokenKind.TheVariants as kind
-use Rattle.bp_language.specs.Tokens.{Token}
+use Rattle.bp_syntax.specs.declared.tokens.TokenKind.{TokenKind}
+use Rattle.bp_syntax.specs.declared.tokens.TokenKind.TheVariants as kind
+use Rattle.bp_syntax.specs.Tokens.{Token}
 
 -- a spelling of each kind of token
 abbrev pub spelling : TokenKind → List ℕ

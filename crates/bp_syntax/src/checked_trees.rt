@@ -1,9 +1,9 @@
 //! Well-formed trees.
 ghost use Rattle.std.specs.Prelude.{◌≡◌, ◌≤◌, IfOk};
-ghost use Rattle.bp_language.specs.Ast.{procedures_size};
-ghost use Rattle.bp_language.specs.Errors.{IsWellFormed, HasFewNames, HasDistinctNames, HasSoundStatements};
-ghost use Rattle.bp_language.specs.Texts.{HasText};
-ghost use Rattle.bp_language.specs.declared.limits.TheConstants.{TEXT_LIMIT};
+ghost use Rattle.bp_syntax.specs.Ast.{procedures_size};
+ghost use Rattle.bp_syntax.specs.Errors.{IsWellFormed, HasFewNames, HasDistinctNames, HasSoundStatements};
+ghost use Rattle.bp_syntax.specs.Texts.{HasText};
+ghost use Rattle.bp_syntax.specs.declared.limits.TheConstants.{TEXT_LIMIT};
 
 use crate::trees::Tree;
 use std::alloc::AllocError;
@@ -16,9 +16,9 @@ pub struct Checked {
 }
 
 impl Model for Checked {
-    ghost use Rattle.bp_language.specs.Ast.{Program};
-    ghost use Rattle.bp_language.specs.Codes.{coded_program};
-    ghost use Rattle.bp_language.specs.Errors.{IsWellFormed};
+    ghost use Rattle.bp_syntax.specs.Ast.{Program};
+    ghost use Rattle.bp_syntax.specs.Codes.{coded_program};
+    ghost use Rattle.bp_syntax.specs.Errors.{IsWellFormed};
 
     ghost Value = { Program };
 

@@ -1,14 +1,13 @@
 //! The first lexeme of a text.
 //! The lexemes of a text, one after the other.
 ghost use Rattle.std.specs.Prelude.{◌≡◌, ◌≤◌, ◌<◌, [], ◌∷◌, length, ◌↔◌, ◌⊎◌, Some, IsTrue, MatchOption};
-ghost use Rattle.bp_language.specs.declared.tokens.LexemeKind.TheVariants.{White, Comment};
+ghost use Rattle.bp_syntax.specs.declared.tokens.LexemeKind.TheVariants.{White, Comment};
 ghost use Rattle.bp_syntax.specs.Lexer.{run, is_continuation, comment, first_symbol, unbraced_lexeme, IsNameless, IsFirstLexeme, IsFirst, TakesLexeme};
 
 use crate::tokens::{
-    constant, is_braced_byte, is_comment_byte, is_letter, is_white, is_word_byte, long_symbol,
-    symbol,
+    LexemeKind, constant, is_braced_byte, is_comment_byte, is_letter, is_white, is_word_byte,
+    long_symbol, symbol,
 };
-use bp_language::LexemeKind;
 
 /// The beginning of a text: a lexeme of some kind, or a byte that begins none.
 #[derive(Clone, Copy, PartialEq, Eq)]

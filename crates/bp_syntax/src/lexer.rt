@@ -1,22 +1,21 @@
 //! The lexer: the scan of a text into tokens. Tokens in succession without a separator. The depth
 //! of nested statements. Reading a text: the lexer, the two limits on its tokens, and the parser.
 ghost use Rattle.std.specs.Prelude.{true, ◌≡◌, ◌≤◌, ◌++◌, [], length, MatchResult, OnOk};
-ghost use Rattle.bp_language.specs.Ast.{Program};
-ghost use Rattle.bp_language.specs.Tokens as spelling;
-ghost use Rattle.bp_language.specs.Tokens.{HasTokens, with_token};
-ghost use Rattle.bp_language.specs.Texts as rule;
-ghost use Rattle.bp_language.specs.Texts.{IsTextOf};
+ghost use Rattle.bp_syntax.specs.Ast.{Program};
+ghost use Rattle.bp_syntax.specs.Tokens as spelling;
+ghost use Rattle.bp_syntax.specs.Tokens.{HasTokens, with_token};
+ghost use Rattle.bp_syntax.specs.Texts as rule;
+ghost use Rattle.bp_syntax.specs.Texts.{IsTextOf};
 ghost use Rattle.bp_syntax.specs.Lexer.{IsScanError, token_list, first_too_many, first_too_deep};
 ghost use Rattle.bp_syntax.specs.Refusals.{IsRefusal};
 ghost use Rattle.bp_syntax.specs.declared.errors.ReadError.TheVariants.{Memory};
 
 use crate::errors::ReadError;
 use crate::lexemes::{FirstLexeme, first_lexeme};
+use crate::limits::{NESTING_LIMIT, SUCCESSION_LIMIT, TEXT_LIMIT};
 use crate::parser::parse;
-use crate::tokens::{Token, kind_of};
+use crate::tokens::{LexemeKind, Token, TokenKind, kind_of};
 use crate::trees::Tree;
-use bp_language::limits::{NESTING_LIMIT, SUCCESSION_LIMIT, TEXT_LIMIT};
-use bp_language::{LexemeKind, TokenKind};
 use std::alloc::{AllocError, Global};
 
 /// Returns the tokens of a text, or its first bad byte, or its first open brace.

@@ -8,8 +8,8 @@ mod operators;
 mod programs;
 mod statements;
 
-use crate::tokens::Token;
-use bp_language::{Name, Names, TokenKind};
+use crate::names::{Name, Names};
+use crate::tokens::{Token, TokenKind};
 pub(crate) use programs::parse;
 use std::alloc::{AllocError, AllocFailed, Global};
 use std::marker::Model;
@@ -51,7 +51,7 @@ pub(crate) struct Parser<'a> {
 
 impl<'a> Model for Parser<'a> {
     ghost use Rattle.std.specs.Prelude.{List};
-    ghost use Rattle.bp_language.specs.Tokens.{Token as SomeToken};
+    ghost use Rattle.bp_syntax.specs.Tokens.{Token as SomeToken};
 
     ghost Value = { List SomeToken };
 

@@ -1,10 +1,57 @@
-//! The bytes of each kind of lexeme and of token. A spelling of each kind of token.
+//! The kinds of lexemes and of tokens, the bytes of each, and a spelling of each kind of token.
 ghost use Rattle.std.specs.Prelude.{◌≡◌};
-ghost use Rattle.bp_language.specs.Tokens as spelling;
-ghost use Rattle.bp_language.specs.Tokens.{IsReal};
+ghost use Rattle.bp_syntax.specs.Tokens as spelling;
+ghost use Rattle.bp_syntax.specs.Tokens.{IsReal};
 ghost use Rattle.bp_syntax.specs.Spellings.{spelling};
 
-use bp_language::{LexemeKind, TokenKind};
+/// The kind of a lexeme. Reserved words are identifiers here.
+#[derive(Clone, Copy, PartialEq, Eq)]
+pub enum LexemeKind {
+    White,
+    Comment,
+    Identifier,
+    Braced,
+    Constant,
+    Symbol,
+}
+
+/// The kind of a token: a name, a constant, a symbol or a reserved word.
+#[derive(Clone, Copy, PartialEq, Eq)]
+pub enum TokenKind {
+    Name,
+    Zero,
+    One,
+    Semicolon,
+    Comma,
+    Open,
+    Close,
+    Colon,
+    Becomes,
+    Bar,
+    Ampersand,
+    Caret,
+    Equal,
+    Differ,
+    Implies,
+    Bang,
+    Question,
+    Decl,
+    Begin,
+    End,
+    Skip,
+    Goto,
+    Return,
+    If,
+    Then,
+    Else,
+    Fi,
+    While,
+    Do,
+    Od,
+    Assert,
+    Print,
+    Assume,
+}
 
 /// A token: its kind, the offset of its first byte, its bytes.
 #[derive(Clone, Copy)]

@@ -1,11 +1,12 @@
 //! Programs as trees.
 ghost use Rattle.std.specs.Prelude.{◌≡◌, ◌≤◌, IfOk};
-ghost use Rattle.bp_language.specs.Ast.{procedures_size};
-ghost use Rattle.bp_language.specs.Texts.{HasText};
-ghost use Rattle.bp_language.specs.NamesIn.{HasShortNames, HasSpelledNames};
+ghost use Rattle.bp_syntax.specs.Ast.{procedures_size};
+ghost use Rattle.bp_syntax.specs.Texts.{HasText};
+ghost use Rattle.bp_syntax.specs.NamesIn.{HasShortNames, HasSpelledNames};
 
-use bp_language::limits::TEXT_LIMIT;
-use bp_language::{Name, Names, Proc, Procs};
+use crate::limits::TEXT_LIMIT;
+use crate::names::{Name, Names};
+use crate::procs::{Proc, Procs};
 use std::alloc::{AllocError, Global};
 use std::marker::Model;
 use std::sync::Arc;
@@ -30,14 +31,14 @@ struct Parts {
 }
 
 impl Model for Tree {
-    ghost use Rattle.bp_language.specs.Ast.{Program};
-    ghost use Rattle.bp_language.specs.Codes.{coded_program};
+    ghost use Rattle.bp_syntax.specs.Ast.{Program};
+    ghost use Rattle.bp_syntax.specs.Codes.{coded_program};
 
     ghost Value = { Program };
 
     ghost coded = { coded_program };
 
-    ghost use Rattle.bp_language.specs.Texts.{HasText};
+    ghost use Rattle.bp_syntax.specs.Texts.{HasText};
     ghost use Rattle.std.specs.Arc.{arc_value};
 
     ghost view = { λ t. let p = arc_value t.parts in

@@ -1,7 +1,7 @@
 -- The imports of this crate's proofs: from std, the crates below and its own definitions.
 pub use Rattle.bp_flat.specs.Flat.{Flat}
 pub use Rattle.bp_flat.specs.StandsFor.{Place, places_of}
-pub use Rattle.bp_language.specs.Ast.{Program}
+pub use Rattle.bp_syntax.specs.Ast.{Program}
 pub use Rattle.bp_machine.proofs.HistoryWithCall.{same_or_not}
 pub use Rattle.bp_machine.proofs.StandsAfterTransition.{at_end}
 pub use Rattle.bp_machine.specs.Histories.{IsAtFalseAssertion, IsLeastWithin, IsLegal, IsLegalAfter, IsRealFailure, IsReport, IsWithin, configuration_after, configuration_after_call, configuration_after_calls, configuration_after_step, granted_calls, granted_threads, is_failure, is_terminated, is_granted, live_below, live_threads, outcome_of, outcome_or, stack_of}

@@ -4,7 +4,7 @@ use Rattle.std.proofs.Common.{length-append}
 use Rattle.bp_text.specs.Writing.{AppendsAll, AppendsPart}
 use Rattle.bp_text.proofs.PartsOfTexts.{regrouped}
 use Rattle.bp_trace.specs.TraceText.{trace_text}
-use Rattle.bp_tasks.specs.declared.options.TestOptions.{TestOptions}
+use Rattle.bp_source.specs.declared.options.TestOptions.{TestOptions}
 use Rattle.bp_test.specs.declared.batches.Block.{Block}
 use Rattle.bp_test.specs.declared.batches.FoundRun.{FoundRun}
 use Rattle.bp_test.specs.Tests.{IsEnd}

@@ -1,6 +1,6 @@
 -- The places of a program that a history reaches, the threads that step in it, and marks of both.
 use Rattle.std.specs.Prelude.{◌≡◌, ◌⊎◌, ◌<◌, ℕ, suc, Bool, true, false, if◌then◌else◌, nat_le, count_by, List, [], ◌∷◌, Option, None, Some, length, take, slice_get, slice_index_or, slice_set, MatchOption, ◌+◌, ◌*◌, ◌%◌, ◌^◌, bit_xor, ◌++◌, unwrap_or, zero, All, map}
-use Rattle.bp_language.specs.Ast.{Program}
+use Rattle.bp_syntax.specs.Ast.{Program}
 use Rattle.bp_flat.specs.Moves.{Frame, Configuration}
 use Rattle.bp_flat.specs.StandsFor.{Place, place, places_of}
 use Rattle.bp_machine.specs.declared.calls.Call.{Call}

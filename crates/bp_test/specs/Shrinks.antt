@@ -1,6 +1,6 @@
 -- Histories that end as another one does, and are no longer.
 use Rattle.std.specs.Prelude.{◌≡◌, List, ◌≤◌, ℕ, None, length}
-use Rattle.bp_language.specs.Ast.{Program}
+use Rattle.bp_syntax.specs.Ast.{Program}
 use Rattle.bp_machine.specs.declared.calls.Call.{Call}
 use Rattle.bp_machine.specs.declared.calls.Outcome.TheVariants.{Clean}
 use Rattle.bp_machine.specs.Runs.{IsDeadlocked}

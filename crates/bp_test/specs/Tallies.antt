@@ -2,7 +2,7 @@
 use Rattle.std.specs.Prelude.{◌≡◌, ◌==◌, ◌^◌, ◌+◌, ◌-◌, if◌then◌else◌, ℕ, min, max, Bool, true, false, not, ◌&&◌, nat_le, List, [], ◌∷◌, Some, length, take, fold, count_by, sum_by, slice_index_or, Any, ◌/◌, ◌≤◌, nat_lt, zero, suc, cond, nat_eq, ◌||◌}
 use Rattle.std.specs.List.{list_any}
 use Rattle.std.specs.Set.{distinct_count}
-use Rattle.bp_language.specs.Ast.{Program}
+use Rattle.bp_syntax.specs.Ast.{Program}
 use Rattle.bp_flat.specs.StandsFor.{places_of}
 use Rattle.bp_machine.specs.declared.calls.Call.{Call}
 use Rattle.bp_machine.specs.declared.calls.Reply.{Reply}

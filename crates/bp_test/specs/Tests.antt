@@ -2,7 +2,7 @@
 use Rattle.std.specs.Prelude.{◌≡◌, ℕ, List, ◌⊎◌, ◌<◌, true, [], ◌↔◌, ◌≤◌, ◌+◌, ◌-◌, ◌%◌, ◌^◌, suc, max, min, Bool, ◌∷◌, ◌++◌, Option, None, Some, All, length, IsTrue, MatchOption, ◌||◌, ◌&&◌, IfSome}
 use Rattle.std.specs.declared.collections.VecDeque.{VecDeque}
 use Rattle.bp_text.specs.Writing.{AppendsAll, AppendsPart}
-use Rattle.bp_language.specs.Ast.{Program}
+use Rattle.bp_syntax.specs.Ast.{Program}
 use Rattle.bp_flat.specs.Moves.{Configuration}
 use Rattle.bp_machine.specs.declared.calls.Call.{Call}
 use Rattle.bp_machine.specs.declared.calls.Outcome.TheVariants.{Failed, Clean}
@@ -14,8 +14,8 @@ use Rattle.bp_machine.specs.Sessions.{SessionOf, Stands}
 use Rattle.bp_machine.specs.declared.calls.Outcome.{Outcome}
 use Rattle.bp_machine.specs.declared.calls.Report.{Report}
 use Rattle.bp_trace.specs.TraceText.{trace_text}
-use Rattle.bp_tasks.specs.declared.limits.TheConstants.{MAX_JOBS}
-use Rattle.bp_tasks.specs.declared.options.TestOptions.{TestOptions}
+use Rattle.bp_source.specs.declared.limits.TheConstants.{MAX_JOBS}
+use Rattle.bp_source.specs.declared.options.TestOptions.{TestOptions}
 use Rattle.bp_test.specs.declared.batches.FoundRun.{FoundRun}
 use Rattle.bp_test.specs.declared.tests.TestError.{TestError}
 use Rattle.bp_test.specs.declared.tests.TestError.TheVariants as error

@@ -1,7 +1,7 @@
 //! Batches: blocks of runs that are made side by side.
 //! Blocks of runs.
 ghost use Rattle.std.specs.Prelude.{if◌then◌else◌, ◌≡◌, ◌<◌, ◌≤◌, ◌+◌, ◌*◌, min, ℕ, All, None, IfOk, IfSome};
-ghost use Rattle.bp_language.specs.Ast.{Program};
+ghost use Rattle.bp_syntax.specs.Ast.{Program};
 ghost use Rattle.bp_machine.specs.Setups.{SetupOf, Fits};
 ghost use Rattle.bp_test.specs.declared.plans.Plan.{Plan as PlanOf};
 ghost use Rattle.bp_test.specs.Tests.{AreBlocks, IsBlock, IsEnd, IsTallied, is_sought};

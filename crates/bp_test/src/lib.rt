@@ -19,7 +19,7 @@ mod visible_steps;
 mod waits;
 
 pub use batches::{Block, FoundRun, first_found};
-pub use bp_tasks::TestOptions;
+pub use bp_source::TestOptions;
 pub use counts::{Counts, Distinct, Share, distinct_of};
 pub use pilots::{Focus, Pilots};
 pub use plans::Plan;

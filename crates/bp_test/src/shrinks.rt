@@ -2,7 +2,7 @@
 //! How histories end.
 //! Driving attempts again, in the memory of an earlier session.
 ghost use Rattle.std.specs.Prelude.{◌≡◌, ◌≤◌, IfOk, List, true, IfErr, OnOk};
-ghost use Rattle.bp_language.specs.Ast.{Program};
+ghost use Rattle.bp_syntax.specs.Ast.{Program};
 ghost use Rattle.bp_machine.specs.Histories.{granted_calls, IsLegal, IsReport};
 ghost use Rattle.bp_machine.specs.Setups.{Fits, SetupOf};
 ghost use Rattle.bp_machine.specs.declared.calls.Call.{Call as Answered};

@@ -1,7 +1,7 @@
 -- The imports of this crate's proofs: from std, the crates below and its own definitions.
 pub use Rattle.bp_flat.specs.Moves.{Configuration}
-pub use Rattle.bp_language.specs.Ast.{Program}
-pub use Rattle.bp_language.specs.declared.limits.TheConstants.{TEXT_LIMIT}
+pub use Rattle.bp_syntax.specs.Ast.{Program}
+pub use Rattle.bp_syntax.specs.declared.limits.TheConstants.{TEXT_LIMIT}
 pub use Rattle.bp_machine.proofs.HistoriesAreRuns.{AllBelow, all_below, legal_length}
 pub use Rattle.bp_machine.proofs.SetupInRange.{entries_are_names, few_calls, few_threads, fits, range_of}
 pub use Rattle.bp_machine.specs.Histories.{Answers, IsAllowed, IsBitOfCall, IsLeastWithin, IsLegal, IsLegalAfter, IsReport, calls_of_thread, choice_bit, configuration_after, configuration_after_call, configuration_after_calls, granted_threads, is_terminated, letter_of, live_below, live_threads, reply_of}

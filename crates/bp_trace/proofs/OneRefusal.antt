@@ -5,9 +5,9 @@ use Rattle.bp_trace.proofs.PiecesAreFewest.{piece_thread, last_is_thread, Altern
 use Rattle.bp_trace.proofs.EndLineAt.{one_body_line, one_end_line, not_both}
 use Rattle.bp_trace.proofs.PlayableFronts.{front, one_among, not_refused}
 use Rattle.bp_trace.proofs.Walks.{Walk, Stays, Goes, IsSingle, compared}
-use Rattle.bp_language.specs.Texts.{HasText}
-use Rattle.bp_language.proofs.NamesOfTokens.{short_names}
-use Rattle.bp_language.specs.Errors.{IsWellFormed}
+use Rattle.bp_syntax.specs.Texts.{HasText}
+use Rattle.bp_syntax.proofs.NamesOfTokens.{short_names}
+use Rattle.bp_syntax.specs.Errors.{IsWellFormed}
 use Rattle.bp_machine.specs.declared.setup_errors.SetupError.{SetupError}
 use Rattle.bp_trace.proofs.HeadsRead.{no_break, one_head}
 use Rattle.bp_trace.proofs.OneText.{front_cut}

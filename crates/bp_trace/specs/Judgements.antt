@@ -1,7 +1,7 @@
 -- How a replay judges an attempt: a device, which no public clause names.
 use Rattle.std.specs.Prelude.{◌≡◌, ◌≢◌, ◌⊎◌, ◌≤◌, ◌+◌, ◌++◌, ℕ, List, [], Option, length, map, drop}
 use Rattle.std.specs.Option.{option_map, option_to_list}
-use Rattle.bp_language.specs.Ast.{Program}
+use Rattle.bp_syntax.specs.Ast.{Program}
 use Rattle.bp_machine.specs.declared.calls.Call.{Call}
 use Rattle.bp_machine.specs.declared.calls.AskError.{AskError}
 use Rattle.bp_machine.specs.declared.calls.AskError.TheVariants as refused

@@ -1,9 +1,9 @@
 -- Laws of schedules and traces.
 use Rattle.std.specs.Prelude.{◌≡◌, ◌≢◌, ℕ, List, length, map}
-use Rattle.bp_language.specs.Ast.{Program}
+use Rattle.bp_syntax.specs.Ast.{Program}
 use Rattle.bp_flat.specs.Moves.{Configuration}
-use Rattle.bp_language.specs.Texts.{HasText}
-use Rattle.bp_language.specs.Errors.{IsWellFormed}
+use Rattle.bp_syntax.specs.Texts.{HasText}
+use Rattle.bp_syntax.specs.Errors.{IsWellFormed}
 use Rattle.bp_machine.specs.declared.calls.Call.{Call}
 use Rattle.bp_machine.specs.Runs.{IsBoundedRun, history_of_run}
 use Rattle.bp_machine.specs.Histories.{IsLeastWithin, IsLegal}

@@ -2,7 +2,7 @@
 //! which may look at the session before and after it.
 ghost use Rattle.std.specs.Prelude.{◌≡◌, ◌<◌, ◌+◌, ◌^◌, ◌++◌, [], length, map, IfOk, IfErr, OnOk, ◌∷◌, List, MatchResult};
 ghost use Rattle.std.specs.List.{AllByRecursion};
-ghost use Rattle.bp_language.specs.Ast.{Program};
+ghost use Rattle.bp_syntax.specs.Ast.{Program};
 ghost use Rattle.bp_machine.specs.Sessions.{last_thread, Stands, AfterEach};
 ghost use Rattle.bp_machine.specs.Setups.{threads, SetupOf};
 ghost use Rattle.bp_machine.specs.declared.calls.Call.{Call as Answered};

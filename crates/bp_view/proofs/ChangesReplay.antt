@@ -1,7 +1,7 @@
 -- The changes of an attempt lead from the values before it to those after it.
 use Rattle.bp_view.proofs.Common.{if◌then◌else◌, inl, inr, zero, ◌≡◌, ◌≢◌, is_some, ◌∙◌, ◌==◌, ◌||◌, nat_lt, ℕ, suc, Bool, true, false, List, [], ◌∷◌, ◌++◌, Option, None, Some, bytes_eq, length, map, take, ap, ap₂, sym, refl, subst, arith, slice_get, slice_index_or, slice_set, unwrap_or, rules, list_any, take-append_seam, nat_tests, get_or-set_other, get_or-set_same, length-map, Name, Block, Done, Statement, Skips, GoesTo, Returns, Assigns, Branches, Loops, Asserts, Assumes, Prints, Calls, Procedure, Program, AreDistinct, HasDistinctNames, has, Among, entry_frame, first_stack, procedure_named, Frame, Configuration, from_label, Store, after_effect, call_effect, effect, frame_store, jump_effect, statement_effect, with_left, StatementEffect, Leaves, Fails, Blocks, Misses, after_assignment, after_write, binding, decision_value, expression_values, lookup, same_bit, update, Valuation, Call, Reply, configuration_after_call, configuration_after_step, stack_of, configuration_after, configuration_after_calls, is_granted, start, SetupOf, changes_by, changes_between, owned, stack_entries, Entry, changed}
 use Rattle.std.proofs.lemmas.Slice.Eq.{bytes_eq-Decides}
-use Rattle.bp_language.specs.Ast.{variables}
+use Rattle.bp_syntax.specs.Ast.{variables}
 use Rattle.bp_view.specs.Laws.{globals_with, locals_in, locals_with, variables_of, AreReplayed, AreVariablesWith}
 use Rattle.bp_view.proofs.NextConfigurations.{entered, stayed, there}
 use Rattle.bp_view.proofs.FailedConditions.{calls_append}

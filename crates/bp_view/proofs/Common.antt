@@ -5,8 +5,8 @@ pub use Rattle.bp_flat.specs.InstrEffects.{bits_of, store_of}
 pub use Rattle.bp_flat.specs.Moves.{Blocks, Configuration, Fails, Frame, Leaves, Misses, StatementEffect, Store, Valuation, after_assignment, after_effect, after_write, binding, call_effect, decision_value, effect, entry_frame, expression_values, first_stack, frame_store, from_label, is_call, jump_effect, lookup, procedure_named, same_bit, statement_effect, update, with_left}
 pub use Rattle.bp_flat.specs.StandsFor.{Does, Place, Remains, StandsFor, named_store, place, places_of, start_of_block, starts_of, valuation_of, variables}
 pub use Rattle.bp_flat.specs.Steps.{Bits}
-pub use Rattle.bp_language.specs.Ast.{Asserts, Assigns, Assumes, Block, Branches, Calls, Decision, Done, GoesTo, Loops, Name, Prints, Procedure, Program, Returns, Skips, Statement, Then}
-pub use Rattle.bp_language.specs.Errors.{Among, AreDistinct, HasDistinctNames, first_index, has}
+pub use Rattle.bp_syntax.specs.Ast.{Asserts, Assigns, Assumes, Block, Branches, Calls, Decision, Done, GoesTo, Loops, Name, Prints, Procedure, Program, Returns, Skips, Statement, Then}
+pub use Rattle.bp_syntax.specs.Errors.{Among, AreDistinct, HasDistinctNames, first_index, has}
 pub use Rattle.bp_machine.proofs.ContextCounts.{counts_more, least_opened, opened, opened_least, within_front}
 pub use Rattle.bp_machine.proofs.HistoryWithCall.{calls_of_thread-same, calls_other, configuration_after-append, granted_threads-append}
 pub use Rattle.bp_machine.proofs.RealFailures.{real}
@@ -26,9 +26,9 @@ pub use Rattle.bp_source.specs.Listings.{name_at, string_item}
 pub use Rattle.bp_source.specs.Names.{declares, next_decision, piece_size, pieces, variables_read}
 pub use Rattle.bp_source.specs.SourceStatements.{AreSourceStatements, AreSourceStatementsAt, IsSourceStatement, IsStatement, IsStatementAt, place_text}
 pub use Rattle.bp_source.specs.declared.source_statements.SourceStatement.{SourceStatement}
-pub use Rattle.bp_tasks.specs.declared.options.ViewFormat.{ViewFormat}
-pub use Rattle.bp_tasks.specs.declared.options.ViewFormat.TheVariants.{Columns}
-pub use Rattle.bp_tasks.specs.declared.options.ViewOptions.{ViewOptions}
+pub use Rattle.bp_source.specs.declared.options.ViewFormat.{ViewFormat}
+pub use Rattle.bp_source.specs.declared.options.ViewFormat.TheVariants.{Columns}
+pub use Rattle.bp_source.specs.declared.options.ViewOptions.{ViewOptions}
 pub use Rattle.bp_text.proofs.Givings.{begun_as, cut_as, written_as}
 pub use Rattle.bp_text.proofs.PartsOfTexts.{both_added, item_at, one_added, one_before, one_last, one_of_parts, part_of_each, regrouped, within}
 pub use Rattle.bp_text.specs.Lines.{Adds, IsInParts, position_at}

@@ -2,7 +2,7 @@
 use Rattle.std.specs.Prelude.{◌≡◌, ℕ, List, if◌then◌else◌, ◌==◌, nat_lt, [], ◌∷◌, length, take, Bool, ◌++◌, Option, None, Some, map, option_map, ◌&&◌, not, suc, false, MatchOption, slice_get, codes, ◌≤◌, ◌<◌, ◌⊎◌, min}
 use Rattle.bp_text.specs.declared.lines.Position.{Position}
 use Rattle.bp_text.specs.Lines.{IsOneLine, position_at}
-use Rattle.bp_language.specs.Ast.{Program, Procedure}
+use Rattle.bp_syntax.specs.Ast.{Program, Procedure}
 use Rattle.bp_flat.specs.Moves.{Frame, Configuration, Valuation, same_bit}
 use Rattle.bp_flat.specs.StandsFor.{start_of_block}
 use Rattle.bp_machine.specs.Histories.{stack_of, IsLeastWithin, configuration_after, granted_threads, is_granted}

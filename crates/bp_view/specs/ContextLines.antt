@@ -3,7 +3,7 @@
 -- that it changed.
 use Rattle.std.specs.Prelude.{◌≡◌, ◌-◌, ℕ, suc, List, [], ◌∷◌, ◌++◌, Option, None, Some, codes, decimal, length, map, ◌≤◌, slice_get, take, if◌then◌else◌, ◌==◌, MatchOption}
 use Rattle.std.specs.List.{concat}
-use Rattle.bp_language.specs.Ast.{Program}
+use Rattle.bp_syntax.specs.Ast.{Program}
 use Rattle.bp_flat.specs.StandsFor.{places_of, starts_of, valuation_of}
 use Rattle.bp_machine.specs.declared.calls.Call.{Call}
 use Rattle.bp_machine.specs.declared.calls.Report.{Report}
@@ -15,8 +15,8 @@ use Rattle.bp_trace.specs.declared.replays.Replayed.{Replayed}
 use Rattle.bp_trace.specs.Replays.{IsReplayed}
 use Rattle.bp_text.specs.Lines.{IsInParts}
 use Rattle.bp_source.specs.SourceStatements.{AreStatements, place_text}
-use Rattle.bp_tasks.specs.declared.options.ViewFormat.{ViewFormat}
-use Rattle.bp_tasks.specs.declared.options.ViewFormat.TheVariants.{Columns, Json}
+use Rattle.bp_source.specs.declared.options.ViewFormat.{ViewFormat}
+use Rattle.bp_source.specs.declared.options.ViewFormat.TheVariants.{Columns, Json}
 use Rattle.bp_view.specs.declared.view_contexts.Widths.{Widths}
 use Rattle.bp_view.specs.Lines.{entries_text, extent, led, AreWidths}
 use Rattle.bp_flat.specs.InstrEffects.{bits_of}

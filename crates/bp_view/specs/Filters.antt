@@ -2,7 +2,7 @@
 use Rattle.std.specs.Prelude.{if◌then◌else◌, ◌==◌, ◌&&◌, ◌+◌, nat_lt, ℕ, suc, Bool, true, false, List, [], ◌∷◌, ◌≡◌, ◌-◌, nat_le, ◌++◌, Option, None, Some, drop, length, max, replicate, reverse, take, unwrap_or, ◌||◌, bytes_eq, map, option_map, slice_get}
 use Rattle.std.specs.Borrow.{Bor}
 use Rattle.std.specs.List.{list_all, list_any, prefix_len, suffix_len}
-use Rattle.bp_language.specs.Ast.{Program}
+use Rattle.bp_syntax.specs.Ast.{Program}
 use Rattle.bp_flat.specs.Moves.{same_bit}
 use Rattle.bp_machine.specs.declared.calls.Call.{Call}
 use Rattle.bp_machine.specs.declared.calls.Reply.{Reply}

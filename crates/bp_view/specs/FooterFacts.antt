@@ -1,7 +1,7 @@
 -- The shown part of the end of a history, as plain facts.
 use Rattle.std.specs.Prelude.{if◌then◌else◌, ◌≡◌, ◌↔◌, IsTrue, ℕ, zero, suc, Bool, List, [], ◌∷◌, ◌++◌, Option, None, Some, drop, flat_map, map, option_map}
 use Rattle.std.specs.List.{All}
-use Rattle.bp_language.specs.Ast.{Decision, Procedure, Program}
+use Rattle.bp_syntax.specs.Ast.{Decision, Procedure, Program}
 use Rattle.bp_flat.specs.Moves.{Frame, Configuration, Store, frame_store, Valuation, lookup}
 use Rattle.bp_flat.specs.StandsFor.{start_of_block}
 use Rattle.bp_machine.specs.declared.calls.Call.{Call}

@@ -1,7 +1,7 @@
 -- Laws of facts.
 use Rattle.std.specs.Prelude.{if◌then◌else◌, ◌≡◌, ◌≢◌, ◌==◌, nat_lt, ℕ, Bool, List, [], ◌∷◌, ◌++◌, Option, None, Some, flat_map, length, map}
-use Rattle.bp_language.specs.Ast.{Procedure, Program}
-use Rattle.bp_language.specs.Errors.{HasDistinctNames}
+use Rattle.bp_syntax.specs.Ast.{Procedure, Program}
+use Rattle.bp_syntax.specs.Errors.{HasDistinctNames}
 use Rattle.bp_flat.specs.Moves.{Frame, Configuration, Valuation, binding, update}
 use Rattle.bp_machine.specs.Histories.{stack_of, configuration_after}
 use Rattle.bp_machine.specs.declared.calls.Call.{Call}

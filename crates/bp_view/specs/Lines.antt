@@ -2,14 +2,14 @@
 use Rattle.std.specs.Prelude.{if◌then◌else◌, ℕ, Bool, true, false, List, [], ◌∷◌, ◌++◌, codes, ◌-◌, Option, None, Some, length, max, min, nat_lt, take, flat_map, map, option_map, ◌*◌, decimal, ◌==◌, ◌≡◌, ◌+◌}
 use Rattle.std.specs.List.{concat}
 use Rattle.bp_text.specs.Pieces.{string_text, bit_text, key_text, string_or_null, at_left, at_right, spaces, bit_or_null, list_text, number_or_null, truth_text}
-use Rattle.bp_language.specs.Ast.{Procedure}
+use Rattle.bp_syntax.specs.Ast.{Procedure}
 use Rattle.bp_flat.specs.Moves.{Valuation}
 use Rattle.bp_machine.specs.declared.calls.Reply.{Reply}
 use Rattle.bp_machine.specs.declared.calls.Reply.TheVariants.{Failed, Stopped, Ended, NoContexts, Full, Blocked, Stepped}
 use Rattle.bp_machine.specs.Setups.{SetupOf, threads}
 use Rattle.bp_source.specs.Listings.{column_of, line_of}
-use Rattle.bp_tasks.specs.declared.options.ViewFormat.{ViewFormat}
-use Rattle.bp_tasks.specs.declared.options.ViewFormat.TheVariants.{Columns, Json}
+use Rattle.bp_source.specs.declared.options.ViewFormat.{ViewFormat}
+use Rattle.bp_source.specs.declared.options.ViewFormat.TheVariants.{Columns, Json}
 use Rattle.bp_view.specs.CallFacts.{owned, Entry, choice_of, Next, ShownCall}
 use Rattle.bp_view.specs.declared.prefixes.Colour.{Colour}
 use Rattle.bp_view.specs.declared.prefixes.Colour.TheVariants.{Plain, Red, Yellow}

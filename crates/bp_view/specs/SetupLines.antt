@@ -2,13 +2,13 @@
 use Rattle.std.specs.Prelude.{◌≡◌, ℕ, List, [], ◌∷◌, codes, max, if◌then◌else◌, suc, ◌++◌, Option, None, Some, decimal, flat_map}
 use Rattle.std.specs.List.{concat}
 use Rattle.bp_text.specs.Pieces.{at_left, at_right, key_text, list_text, number_or_null}
-use Rattle.bp_language.specs.Ast.{Name}
+use Rattle.bp_syntax.specs.Ast.{Name}
 use Rattle.bp_flat.specs.Moves.{Valuation, binding}
 use Rattle.bp_machine.specs.Setups.{SetupOf}
 use Rattle.bp_source.specs.Listings.{string_item}
-use Rattle.bp_tasks.specs.declared.options.ViewFormat.{ViewFormat}
-use Rattle.bp_tasks.specs.declared.options.ViewFormat.TheVariants.{Columns, Json}
-use Rattle.bp_tasks.specs.declared.options.ViewOptions.{ViewOptions}
+use Rattle.bp_source.specs.declared.options.ViewFormat.{ViewFormat}
+use Rattle.bp_source.specs.declared.options.ViewFormat.TheVariants.{Columns, Json}
+use Rattle.bp_source.specs.declared.options.ViewOptions.{ViewOptions}
 use Rattle.bp_view.specs.declared.view_contexts.Widths.{Widths}
 use Rattle.bp_view.specs.Lines.{variables_text, AreWidths, Extent}
 

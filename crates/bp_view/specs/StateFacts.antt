@@ -2,7 +2,7 @@
 use Rattle.std.specs.Prelude.{if◌then◌else◌, ℕ, List, [], ◌∷◌, Option, None, Some, ◌≡◌, suc, Bool, length, map, option_map}
 use Rattle.bp_text.specs.declared.lines.Position.{Position}
 use Rattle.bp_text.specs.Lines.{position_at}
-use Rattle.bp_language.specs.Ast.{Program, Procedure}
+use Rattle.bp_syntax.specs.Ast.{Program, Procedure}
 use Rattle.bp_flat.specs.InstrEffects.{bits_of}
 use Rattle.bp_flat.specs.Moves.{Frame, Valuation}
 use Rattle.bp_flat.specs.StandsFor.{valuation_of, variables, start_of_block}

@@ -3,7 +3,7 @@ use Rattle.std.specs.Prelude.{ℕ, List, [], ◌∷◌, codes, decimal, if◌the
 use Rattle.std.specs.List.{concat}
 use Rattle.bp_text.specs.declared.lines.Position.{Position}
 use Rattle.bp_text.specs.Pieces.{string_text, displayed, key_text, list_text, number_or_null}
-use Rattle.bp_language.specs.Ast.{Program}
+use Rattle.bp_syntax.specs.Ast.{Program}
 use Rattle.bp_machine.specs.declared.calls.Call.{Call}
 use Rattle.bp_machine.specs.declared.calls.Outcome.{Outcome}
 use Rattle.bp_machine.specs.declared.calls.Outcome.TheVariants.{Clean, Failed}
@@ -12,8 +12,8 @@ use Rattle.bp_machine.specs.Setups.{SetupOf}
 use Rattle.bp_trace.specs.declared.replays.Replayed.{Replayed}
 use Rattle.bp_trace.specs.Replays.{IsReplayed}
 use Rattle.bp_source.specs.Listings.{column_of, line_of}
-use Rattle.bp_tasks.specs.declared.options.ViewFormat.{ViewFormat}
-use Rattle.bp_tasks.specs.declared.options.ViewFormat.TheVariants.{Columns, Json}
+use Rattle.bp_source.specs.declared.options.ViewFormat.{ViewFormat}
+use Rattle.bp_source.specs.declared.options.ViewFormat.TheVariants.{Columns, Json}
 use Rattle.bp_view.specs.FooterFacts.{ShownCondition}
 use Rattle.bp_view.specs.StateFacts.{ShownFrame, AreStateFacts, ShownState, ShownThread}
 use Rattle.bp_view.specs.declared.state_facts.Status.{Status}

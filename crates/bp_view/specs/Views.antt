@@ -5,7 +5,7 @@ use Rattle.bp_text.specs.Pieces.{key_text, list_text}
 use Rattle.bp_text.specs.Lines.{IsInParts}
 use Rattle.std.specs.Io.KnownBytes.{Appends}
 use Rattle.bp_text.specs.Writing.{IsBegun, IsCutShort, IsWritten}
-use Rattle.bp_language.specs.Ast.{Program}
+use Rattle.bp_syntax.specs.Ast.{Program}
 use Rattle.bp_flat.specs.Moves.{Configuration}
 use Rattle.bp_flat.specs.Flat.{Flat}
 use Rattle.bp_flat.specs.StandsFor.{places_of, StandsFor, starts_of}
@@ -19,9 +19,9 @@ use Rattle.bp_trace.specs.declared.limits.TheConstants.{MAX_TRACE}
 use Rattle.bp_trace.specs.Replays.{IsReplayed, IsPlayable, IsReplayRefusal}
 use Rattle.bp_trace.specs.declared.replays.Replayed.{Replayed}
 use Rattle.bp_source.specs.SourceStatements.{AreSourceStatements, place_text, AreStatements}
-use Rattle.bp_tasks.specs.declared.options.ViewFormat.{ViewFormat}
-use Rattle.bp_tasks.specs.declared.options.ViewFormat.TheVariants.{Columns, Json}
-use Rattle.bp_tasks.specs.declared.options.ViewOptions.{ViewOptions}
+use Rattle.bp_source.specs.declared.options.ViewFormat.{ViewFormat}
+use Rattle.bp_source.specs.declared.options.ViewFormat.TheVariants.{Columns, Json}
+use Rattle.bp_source.specs.declared.options.ViewOptions.{ViewOptions}
 use Rattle.bp_view.specs.FooterFacts.{AreFooterFacts, ShownCondition, ShownFooter}
 use Rattle.bp_view.specs.declared.filters.CallFilter.{CallFilter}
 use Rattle.bp_view.specs.CallFacts.{next_at, AreProgramFacts, changes_by, printed_by, AreCallFacts, ShownCall}

@@ -1,6 +1,6 @@
 //! The shown facts of an attempt, as plain values. The shown facts of a context of a history.
 ghost use Rattle.std.specs.Prelude.{◌≡◌, [], ℕ, List, map, MatchOption, OnOk};
-ghost use Rattle.bp_language.specs.Ast.{Program};
+ghost use Rattle.bp_syntax.specs.Ast.{Program};
 ghost use Rattle.bp_flat.specs.Moves.{Configuration};
 ghost use Rattle.bp_machine.specs.declared.calls.Call.{Call as Answered};
 ghost use Rattle.bp_machine.specs.Histories.{stack_of};
@@ -13,9 +13,9 @@ use crate::change_facts::{Change, add_differing};
 use crate::checkpoints::ReplayedCall;
 use crate::program_facts::{ProgramFacts, source_statement_of};
 use crate::spans::Span;
-use bp_language::Proc;
 use bp_machine::{Call, Reply, Top};
 use bp_source::name_at;
+use bp_syntax::Proc;
 use bp_text::Position;
 use std::alloc::AllocError;
 

@@ -1,7 +1,7 @@
 //! Checkpoints: the session after the first attempts of a replay, so that only the later ones are
 //! made once more. The attempts of a history, each with its thread's place before and after it.
 ghost use Rattle.std.specs.Prelude.{◌≡◌, List, IfOk, MatchResult, if◌then◌else◌, ◌++◌, ◌∷◌, [], suc, None, Some, true, false, length, option_map, MatchOption};
-ghost use Rattle.bp_language.specs.Ast.{Program};
+ghost use Rattle.bp_syntax.specs.Ast.{Program};
 ghost use Rattle.bp_machine.specs.declared.calls.Call.{Call as Answered};
 ghost use Rattle.bp_machine.specs.Setups.{Fits};
 ghost use Rattle.bp_machine.specs.Sessions.{Stands, last_thread, AfterEach};

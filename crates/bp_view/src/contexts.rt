@@ -1,6 +1,6 @@
 //! The contexts of a history, a line for each.
 ghost use Rattle.std.specs.Prelude.{◌≡◌, ◌++◌, ℕ, suc, List, length, MatchResult};
-ghost use Rattle.bp_language.specs.Ast.{Program};
+ghost use Rattle.bp_syntax.specs.Ast.{Program};
 ghost use Rattle.bp_machine.specs.declared.calls.Call.{Call as Answered};
 ghost use Rattle.bp_machine.specs.Setups.{SetupOf};
 ghost use Rattle.bp_trace.specs.Replays.{IsReplayRefusal};
@@ -19,7 +19,7 @@ use crate::view_contexts::{ViewContext, Widths, shown_trace_of};
 use bp_code::Checked;
 use bp_flat::Code;
 use bp_machine::Report;
-use bp_tasks::ViewFormat;
+use bp_source::ViewFormat;
 use bp_text::Piece::{Bytes, Key, Left, Number, NumberRight, Spaces};
 use bp_text::Position;
 use bp_trace::ReplayError;

@@ -1,7 +1,7 @@
 //! The shown facts of the end of a history, as plain values.
 ghost use Rattle.std.specs.Prelude.{if◌then◌else◌, ◌≡◌, ◌++◌, [], suc, ℕ, List, map, option_map, IfOk, IsSomeAnd, OnOk};
-ghost use Rattle.bp_language.specs.Ast.{Program};
-ghost use Rattle.bp_language.specs.Views.{decision_of};
+ghost use Rattle.bp_syntax.specs.Ast.{Program};
+ghost use Rattle.bp_syntax.specs.Views.{decision_of};
 ghost use Rattle.bp_flat.specs.InstrEffects.{store_of};
 ghost use Rattle.bp_flat.specs.Moves.{Configuration, frame_store};
 ghost use Rattle.bp_flat.specs.StandsFor.{named_store};
@@ -17,9 +17,9 @@ ghost use Rattle.bp_view.specs.FooterFacts.{condition_in, footer_in, named_entri
 use crate::change_facts::Change;
 use crate::program_facts::{ProgramFacts, source_statement_of};
 use bp_flat::{Store, bit_of, local_slot_of, slot_of};
-use bp_language::{Decider, Name, Proc};
 use bp_machine::{Outcome, Report, Session, Top};
 use bp_source::{decider_at, procedure_at, variables_read};
+use bp_syntax::{Decider, Name, Proc};
 use bp_text::Position;
 use std::alloc::{AllocError, Global};
 

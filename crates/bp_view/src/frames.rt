@@ -1,7 +1,7 @@
 //! The text of a frame of a stack, from its facts. The text of an assertion or an assumption at
 //! which a thread is, from its facts.
 ghost use Rattle.std.specs.Prelude.{◌≡◌, [], map};
-ghost use Rattle.bp_tasks.specs.declared.options.ViewFormat.TheVariants.{Columns, Json};
+ghost use Rattle.bp_source.specs.declared.options.ViewFormat.TheVariants.{Columns, Json};
 ghost use Rattle.bp_view.specs.Buffers.{Grown};
 ghost use Rattle.bp_view.specs.FooterFacts.{condition_in};
 ghost use Rattle.bp_view.specs.StateFacts.{frame_in};
@@ -12,8 +12,7 @@ use crate::footer_facts::ConditionFacts;
 use crate::lines::push_changed;
 use crate::state_facts::FrameFacts;
 use crate::variables::push_values;
-use bp_source::{column_of, line_of};
-use bp_tasks::ViewFormat;
+use bp_source::{ViewFormat, column_of, line_of};
 use bp_text::Piece::{Bytes, Displayed, Key, Number, NumberOrNull, Text};
 
 /// The text before the values on their line.

@@ -14,7 +14,7 @@ use crate::statement_columns::{cut_after, in_column};
 use crate::variables::push_value;
 use crate::view_contexts::{MAX_INDENTS, Widths};
 use bp_machine::Reply;
-use bp_tasks::ViewFormat;
+use bp_source::ViewFormat;
 use bp_text::Piece::{Bytes, Left, Number, Spaces};
 
 /// Returns the note of a reply.

@@ -5,7 +5,7 @@ ghost use Rattle.bp_machine.specs.Histories.{outcome_of};
 ghost use Rattle.bp_machine.specs.Sessions.{Stands};
 ghost use Rattle.bp_view.specs.Buffers.{Gains, Grown};
 ghost use Rattle.bp_view.specs.FooterFacts.{condition_in, footer_in};
-ghost use Rattle.bp_tasks.specs.declared.options.ViewFormat.TheVariants.{Columns, Json};
+ghost use Rattle.bp_source.specs.declared.options.ViewFormat.TheVariants.{Columns, Json};
 ghost use Rattle.bp_view.specs.Views.{clean_text, failure_text, footer_text, outcome_text, wait_text, waits_text, IsFooter, IsViewContextOf};
 
 use crate::buffers::Buffer;
@@ -13,7 +13,7 @@ use crate::footer_facts::{ConditionFacts, FooterFacts, facts_of_footer};
 use crate::frames::{push_condition_lines, push_condition_object};
 use crate::view_contexts::ViewContext;
 use bp_machine::{Report, Session};
-use bp_tasks::ViewFormat;
+use bp_source::ViewFormat;
 use bp_text::Piece::{Bytes, Key, Number};
 use std::alloc::{AllocError, Global};
 

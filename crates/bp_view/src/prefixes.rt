@@ -11,8 +11,7 @@ ghost use Rattle.bp_view.specs.SetupLines.{headings_in, headings_line, under_hea
 use crate::buffers::Buffer;
 use crate::view_contexts::Widths;
 use bp_machine::Reply;
-use bp_source::{push_four, push_two};
-use bp_tasks::ViewFormat;
+use bp_source::{ViewFormat, push_four, push_two};
 use bp_text::Piece;
 use bp_text::Piece::{Bytes, Left, NumberRight, Right};
 use std::alloc::{AllocError, Global};

@@ -1,7 +1,7 @@
 //! The facts of a program: its source statements and its names. The names of the watched variables.
 ghost use Rattle.std.specs.Prelude.{◌≡◌, ℕ, List, IsSomeAnd, slice_get, ◌==◌, ◌-◌, false, length, map, option_map, IfOk, MatchOption};
 ghost use Rattle.std.specs.List.{list_any, prefix_len, suffix_len};
-ghost use Rattle.bp_language.specs.Ast.{Program};
+ghost use Rattle.bp_syntax.specs.Ast.{Program};
 ghost use Rattle.bp_flat.specs.Moves.{Configuration, Frame};
 ghost use Rattle.bp_flat.specs.StandsFor.{place};
 ghost use Rattle.bp_machine.specs.Runs.{IsTopOf};
@@ -12,9 +12,9 @@ ghost use Rattle.bp_view.specs.Filters.{is_of, is_seen, owner_name, trimmed, wat
 
 use crate::change_facts::Change;
 use bp_code::Checked;
-use bp_language::{Name, Proc};
 use bp_machine::Top;
 use bp_source::{SourceStatement, declares, is_qualified, piece_size};
+use bp_syntax::{Name, Proc};
 use bp_text::{part_before, part_from};
 use std::alloc::{AllocError, Global};
 

@@ -10,9 +10,9 @@ use crate::buffers::Buffer;
 use crate::prefixes::push_headings;
 use crate::variables::push_value;
 use crate::view_contexts::ViewContext;
-use bp_language::Name;
 use bp_machine::Setup;
-use bp_tasks::{ViewFormat, ViewOptions};
+use bp_source::{ViewFormat, ViewOptions};
+use bp_syntax::Name;
 use bp_text::Piece::{Bytes, Key, Number, NumberOrNull, Text};
 use std::alloc::{AllocError, Global};
 

@@ -9,9 +9,9 @@ ghost use Rattle.bp_view.specs.StateFacts.{last_reply, status, status_after, fra
 ghost use Rattle.bp_view.specs.CallFacts.{AreProgramFacts};
 
 use crate::program_facts::{ProgramFacts, source_statement_of};
-use bp_language::{Name, Proc};
 use bp_machine::{Call, Outcome, Reply, Session};
 use bp_source::procedure_at;
+use bp_syntax::{Name, Proc};
 use bp_text::Position;
 use std::alloc::{AllocError, Global};
 

@@ -3,15 +3,14 @@ ghost use Rattle.std.specs.Prelude.{IfOk};
 ghost use Rattle.bp_machine.specs.declared.tops.Top.{Top as TopOf};
 ghost use Rattle.bp_view.specs.CallFacts.{next_at, next_by};
 ghost use Rattle.bp_view.specs.Lines.{AreReady, AreReadyIn};
-ghost use Rattle.bp_tasks.specs.declared.options.ViewFormat.{ViewFormat as ViewFormatOf};
+ghost use Rattle.bp_source.specs.declared.options.ViewFormat.{ViewFormat as ViewFormatOf};
 ghost use Rattle.bp_view.specs.Views.{HaveMembers};
 ghost use Rattle.bp_view.specs.declared.program_facts.ProgramFacts.{ProgramFacts as FactsOf};
 
 use crate::program_facts::ProgramFacts;
-use bp_language::Proc;
 use bp_machine::Top;
-use bp_source::{SourceStatement, column_of, line_of, name_at, push_two};
-use bp_tasks::ViewFormat;
+use bp_source::{SourceStatement, ViewFormat, column_of, line_of, name_at, push_two};
+use bp_syntax::Proc;
 use bp_text::Piece::{Key, NumberOrNull, Text, TextOrNull};
 use bp_text::push_pieces;
 use std::alloc::{AllocError, Global};

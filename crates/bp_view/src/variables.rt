@@ -5,7 +5,7 @@ ghost use Rattle.std.specs.List.{concat};
 ghost use Rattle.bp_text.specs.Pieces.{bit_or_null, bit_text, key_text, string_text, truth_text};
 ghost use Rattle.bp_flat.specs.InstrEffects.{bits_of};
 ghost use Rattle.bp_flat.specs.StandsFor.{valuation_of};
-ghost use Rattle.bp_tasks.specs.declared.options.ViewFormat.TheVariants.{Json};
+ghost use Rattle.bp_source.specs.declared.options.ViewFormat.TheVariants.{Json};
 ghost use Rattle.bp_view.specs.Buffers.{Grown};
 ghost use Rattle.bp_view.specs.CallFacts.{facts_in};
 ghost use Rattle.bp_view.specs.Lines.{owner_text, variable_object, variable_text, assignment_text, variables_text, bit_item, call_object, AreReady, first_members, member_texts, printed_text, reply_name};
@@ -15,10 +15,9 @@ use crate::call_facts::CallFacts;
 use crate::lines::push_changed;
 use crate::statement_members::ReadyMembers;
 use bp_flat::bit_of;
-use bp_language::{Name, Proc};
 use bp_machine::Reply;
-use bp_source::wide;
-use bp_tasks::ViewFormat;
+use bp_source::{ViewFormat, wide};
+use bp_syntax::{Name, Proc};
 use bp_text::Piece::{Bit, Bytes, Number, NumberOrNull, Text, TextOrNull};
 
 /// Adds the name of a local's procedure and a dot; nothing for a global.

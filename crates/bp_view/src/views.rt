@@ -2,7 +2,7 @@
 ghost use Rattle.std.specs.Prelude.{◌≡◌, ◌≤◌, ◌<◌, [], ℕ, List, length, map, take, MatchResult, OnOk};
 ghost use Rattle.bp_text.specs.Writing.{AppendsPart, IsWritten};
 ghost use Rattle.bp_view.specs.declared.errors.ViewError.{ViewError};
-ghost use Rattle.bp_language.specs.Ast.{Program};
+ghost use Rattle.bp_syntax.specs.Ast.{Program};
 ghost use Rattle.bp_machine.specs.Setups.{threads};
 ghost use Rattle.bp_machine.specs.declared.calls.Call.{Call as Answered};
 ghost use Rattle.bp_machine.specs.Histories.{outcome_of};
@@ -27,7 +27,7 @@ use crate::writers::{ViewWriter, filter_of};
 use bp_code::Checked;
 use bp_flat::Code;
 use bp_machine::{Report, Session, Setup};
-use bp_tasks::{ViewFormat, ViewOptions};
+use bp_source::{ViewFormat, ViewOptions};
 use bp_text::Piece::Bytes;
 use bp_text::put;
 use bp_trace::ReplayError;

@@ -1,7 +1,7 @@
 //! The lines of a view, each made by a session that makes the attempt once more. The lines of the
 //! attempts that are shown. The attempts that a view shows, by its options.
 ghost use Rattle.std.specs.Prelude.{◌≡◌, ◌++◌, ◌∷◌, [], ℕ, List, option_map, MatchResult, OnOk, None};
-ghost use Rattle.bp_language.specs.Ast.{Program};
+ghost use Rattle.bp_syntax.specs.Ast.{Program};
 ghost use Rattle.bp_machine.specs.declared.calls.Call.{Call as Answered};
 ghost use Rattle.bp_machine.specs.Histories.{stack_of, configuration_after};
 ghost use Rattle.bp_machine.specs.Runs.{values_printed};
@@ -26,7 +26,7 @@ use crate::statement_members::{StatementMembers, ready_members};
 use crate::variables::push_object;
 use crate::view_contexts::ViewContext;
 use bp_machine::{AskError, Call, Session, Top};
-use bp_tasks::{ViewFormat, ViewOptions};
+use bp_source::{ViewFormat, ViewOptions};
 
 /// Returns the values that the thread's next statement prints, if a view of this format has them.
 fn next_print(

@@ -11,10 +11,10 @@ use Rattle.bp_messages.specs.declared.errors.Error.TheVariants as error
 use Rattle.bp_commands.specs.ErrorReports.{HasErrorLine}
 use Rattle.bp_commands.specs.Jobs.{Held}
 use Rattle.bp_commands.specs.declared.run_ends.RunEnd.{RunEnd}
-use Rattle.bp_arguments.specs.declared.no_tasks.NoTask.{NoTask}
-use Rattle.bp_arguments.specs.declared.no_tasks.NoTask.TheVariants.{Memory, Printed, Refused}
-use Rattle.bp_arguments.specs.declared.no_tasks.Refusal.{Refusal}
-use Rattle.bp_arguments.specs.NoTasks.{IsRefused}
+use Rattle.btrun.specs.declared.arguments.no_tasks.NoTask.{NoTask}
+use Rattle.btrun.specs.declared.arguments.no_tasks.NoTask.TheVariants.{Memory, Printed, Refused}
+use Rattle.btrun.specs.declared.arguments.no_tasks.Refusal.{Refusal}
+use Rattle.btrun.specs.NoTasks.{IsRefused}
 
 -- The object on refused arguments, for programs.
 

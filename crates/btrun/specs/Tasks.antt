@@ -5,7 +5,7 @@ use Rattle.bp_commands.specs.Commands.{Command, Pair}
 use Rattle.bp_commands.specs.Traces.{drives, migrates, replays, shrinks}
 use Rattle.bp_commands.specs.declared.explanations.SecondInput.TheVariants.{Schedule, Steps, Trace}
 use Rattle.bp_commands.specs.ErrorReports.{done, of_report, of_run}
-use Rattle.bp_tasks.specs.declared.tasks.ErrorFormat.{ErrorFormat}
+use Rattle.bp_source.specs.declared.tasks.ErrorFormat.{ErrorFormat}
 use Rattle.bp_commands.specs.Jobs.{on_bundle, on_file, on_files, Job}
 use Rattle.bp_commands.specs.Runs.{runs}
 use Rattle.bp_commands.specs.Tests.{of_test, tests}
@@ -16,10 +16,10 @@ use Rattle.bp_commands.specs.Throughs.{explores_through}
 use Rattle.bp_commands.specs.declared.shows.Screen.{Screen}
 use Rattle.bp_machine.specs.declared.calls.Report.{Report}
 use Rattle.bp_trace.specs.declared.limits.TheConstants.{MAX_SCHEDULE, MAX_TRACE}
-use Rattle.bp_tasks.specs.ErrorFormats.{error_format}
-use Rattle.bp_tasks.specs.declared.tasks.ExploreTask.{ExploreTask}
-use Rattle.bp_tasks.specs.declared.tasks.Task.{Task}
-use Rattle.bp_tasks.specs.declared.tasks.Task.TheVariants.{Bundle, Check, Code, Drive, Confirm, Run, Test, Explore, Replay, Show, Migrate, Shrink}
+use Rattle.bp_source.specs.ErrorFormats.{error_format}
+use Rattle.bp_source.specs.declared.tasks.ExploreTask.{ExploreTask}
+use Rattle.bp_source.specs.declared.tasks.Task.{Task}
+use Rattle.bp_source.specs.declared.tasks.Task.TheVariants.{Bundle, Check, Code, Drive, Confirm, Run, Test, Explore, Replay, Show, Migrate, Shrink}
 
 -- The files have these bytes by their paths. Standard output shows lines on this screen, and errors
 -- are reported in this format.

@@ -10,7 +10,7 @@ use bp_commands::{
 };
 use bp_explore::Watcher;
 use bp_run::RandomTurns;
-use bp_tasks::{RunTask, Task};
+use bp_source::{RunTask, Task};
 use bp_test::Progress;
 use std::alloc::Global;
 use std::io::{BufWriter, Read, Write};

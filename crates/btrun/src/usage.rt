@@ -5,7 +5,7 @@ ghost use Rattle.bp_text.specs.Writing.{Writes};
 ghost use Rattle.bp_commands.specs.Jobs.{held};
 ghost use Rattle.btrun.specs.Statuses.{refusal_text, IsEndWithout, IsLackOfMemory, IsPrintedEnd, IsUnread, refusal_object};
 
-use bp_arguments::{NoTask, Refusal, not_utf8};
+use crate::arguments::{NoTask, Refusal, not_utf8};
 use bp_commands::{Explained, RunEnd, end};
 use bp_messages::Error;
 use bp_text::Piece::{Bytes, Key, NumberOrNull, Text, TextOrNull};

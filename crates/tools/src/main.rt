@@ -1,20 +1,37 @@
 //! `tools`: the scripts' entry to the libraries. Without arguments it makes a few asks and the
 //! calls of docs/dev/calling.md, and reads the texts of one byte and of up to two tokens. With
 //! `times` it measures the asks, for `bench/asking.py`. With `bytes` it reads the texts of up to
-//! three bytes, with `tokens` those of up to five tokens, for `.ci/texts`.
+//! three bytes, with `tokens` those of up to five tokens, for `.ci/texts`. Its tests are those of
+//! public calls that no command shows. They are here, and not in the crates that they test, since a
+//! crate with tests is proved once more with them. A file of tests is named for that crate, without
+//! `bp_`; `growths` has those of several.
 #![tactic(auto)]
 
 mod asks;
 mod calls;
 mod cases;
+#[cfg(test)]
+mod code;
+#[cfg(test)]
+mod common;
 mod drives;
+#[cfg(test)]
+mod growths;
+#[cfg(test)]
+mod machine;
 mod pieces;
+#[cfg(test)]
+mod ready;
 mod rounds;
+#[cfg(test)]
+mod run;
 mod runs;
 mod sessions;
 mod short_texts;
 mod starts;
 mod texts;
+#[cfg(test)]
+mod trace;
 #[cfg(test)]
 mod without_memory;
 

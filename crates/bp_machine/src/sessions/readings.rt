@@ -1,6 +1,6 @@
 //! The state of a session's machine after the attempts that it answered.
 ghost use Rattle.std.specs.Prelude.{◌≡◌, ◌<◌, [], List, drop, slice_get, option_map, is_some, length, MatchOption, MatchResult};
-ghost use Rattle.bp_language.specs.Ast.{Program};
+ghost use Rattle.bp_syntax.specs.Ast.{Program};
 ghost use Rattle.bp_flat.specs.InstrEffects.{bits_of};
 ghost use Rattle.bp_flat.specs.StandsFor.{valuation_of};
 ghost use Rattle.bp_machine.specs.declared.calls.Call.{Call as Answered};

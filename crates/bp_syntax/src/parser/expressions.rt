@@ -1,12 +1,13 @@
 //! Expressions and deciders.
 ghost use Rattle.std.specs.Prelude.{◌≡◌, ◌<◌, ◌≤◌, [], length, drop, map, OnOk, IfOk, MatchOption};
-ghost use Rattle.bp_language.specs.Ast.{Operation};
-ghost use Rattle.bp_language.specs.Views.{expression_of, decision_of};
+ghost use Rattle.bp_syntax.specs.Ast.{Operation};
+ghost use Rattle.bp_syntax.specs.Views.{expression_of, decision_of};
 ghost use Rattle.bp_syntax.specs.ParserState.{UnThen, OperandThen, MoreOperands, MoreTighter, ExprThen, ExprsThen, AnyExprsThen, DeciderThen, ConditionThen, ReadsPhrase, is_at_expr, operator_ahead};
 
+use crate::exprs::{Decider, Expr, Exprs, Op, Sub};
 use crate::parser::operators::{Precedence, operator};
 use crate::parser::{Parser, Stop};
-use bp_language::{Decider, Expr, Exprs, Op, Sub, TokenKind};
+use crate::tokens::TokenKind;
 use std::alloc::{AllocError, Global};
 
 fn operation(alloc: Global, op: Op, left: Expr, right: Expr) -> Result<Expr, AllocError>

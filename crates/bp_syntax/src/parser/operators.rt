@@ -2,7 +2,8 @@
 ghost use Rattle.std.specs.Prelude.{◌≡◌};
 ghost use Rattle.bp_syntax.specs.ParserState as rule;
 
-use bp_language::{Op, TokenKind};
+use crate::exprs::Op;
+use crate::tokens::TokenKind;
 
 /// The precedence of an operator that associates to the left: the strongest first.
 #[derive(Clone, Copy, PartialEq, Eq)]

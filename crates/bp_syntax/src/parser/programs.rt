@@ -4,9 +4,10 @@ ghost use Rattle.bp_syntax.specs.Lexer.{token_list};
 ghost use Rattle.bp_syntax.specs.ParserState.{MoreDecls, MoreProcs, FormalsThen, ProcThen, ReadsPhrase, Reads, Parses, whole_program, program_of, IsParseError};
 
 use crate::errors::ReadError;
+use crate::names::Names;
 use crate::parser::{Parser, Stop};
-use crate::tokens::Token;
-use bp_language::{Names, Proc, Procs, TokenKind};
+use crate::procs::{Proc, Procs};
+use crate::tokens::{Token, TokenKind};
 use std::alloc::Global;
 
 impl<'a> Parser<'a> {

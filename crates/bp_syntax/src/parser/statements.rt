@@ -1,14 +1,17 @@
 //! Statements.
 ghost use Rattle.std.specs.Prelude.{◌≡◌, ◌<◌, ◌≤◌, length, ℕ, Option, OnOk, true};
-ghost use Rattle.bp_language.specs.Ast as tree;
-ghost use Rattle.bp_language.specs.Ast.{Returns, Skips};
-ghost use Rattle.bp_language.specs.Blocks.{statement_of};
-ghost use Rattle.bp_language.specs.Views.{decision_of};
+ghost use Rattle.bp_syntax.specs.Ast as tree;
+ghost use Rattle.bp_syntax.specs.Ast.{Returns, Skips};
+ghost use Rattle.bp_syntax.specs.Blocks.{statement_of};
+ghost use Rattle.bp_syntax.specs.Views.{decision_of};
 ghost use Rattle.bp_syntax.specs.ParserState.{Wanted, KeywordThen, OneWordThen, ListedThen, ConditionBetween, StmtsTo, GotoThen, IfThen, WhileThen, AssertThen, AssumeThen, PrintThen, AssignThen, CallThen, FormThen, StmtThen, StmtsThen, ReadsBy, ReadsPhrase, place_ahead, is_at, is_at_form};
-ghost use Rattle.bp_language.specs.declared.tokens.TokenKind.TheVariants as kind;
+ghost use Rattle.bp_syntax.specs.declared.tokens.TokenKind.TheVariants as kind;
 
+use crate::exprs::{Decider, Exprs};
+use crate::names::Name;
 use crate::parser::{Parser, Stop};
-use bp_language::{Block, Decider, Exprs, Form, Name, Stmt, TokenKind};
+use crate::stmts::{Block, Form, Stmt};
+use crate::tokens::TokenKind;
 use std::alloc::Global;
 
 impl<'a> Parser<'a> {

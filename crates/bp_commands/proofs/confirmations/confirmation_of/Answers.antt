@@ -1,6 +1,6 @@
 use Rattle.bp_flat.specs.Flat.{Flat}
 use Rattle.bp_commands.proofs.Common.{◌≡◌, ◌∙◌, ap, refl, [], map, option_map, condition_in, footer_in, AreProgramFacts, outcome_text, waits_text, copied, choices_text}
-use Rattle.bp_tasks.specs.declared.options.ViewFormat.TheVariants.{Json}
+use Rattle.bp_source.specs.declared.options.ViewFormat.TheVariants.{Json}
 use Rattle.bp_commands.proofs.confirmations.confirmation_of.Goals as goal
 
 pub returns : goal.returns

@@ -1,4 +1,4 @@
-use Rattle.bp_run.proofs.Common.{◌≡◌, ◌≤◌, ◌+◌, ◌++◌, map, vec_len, vec_capacity, TellsShut, into_iter_items, into_iter_len}
+use Rattle.bp_run.proofs.Common.{◌≡◌, ◌≤◌, ◌+◌, ◌++◌, map, vec_len, vec_capacity, into_iter_items, into_iter_len}
 use Rattle.bp_run.proofs.stages.join_workers.Given as goal
 
 abbrev pub invariant-loop-handle : goal.invariant-loop-handle
@@ -8,5 +8,4 @@ invariant-loop-handle g l = record {
   room : vec_len l.back + into_iter_len l.handle-iterator ≤ vec_capacity l.back;
   threads : map (λ s. s.thread) l.back.items ++ map (λ h. h.promise.thread) (into_iter_items l.handle-iterator)
       ≡ map (λ h. h.promise.thread) l.fn.handles.items;
-  done : TellsShut l.all_done l.back.items;
 }

@@ -1,5 +1,5 @@
 use Rattle.bp_view.proofs.Common.{◌≡◌, ◌∙◌, Some, ap, is_some, refl, sym, false≢true, place, stack_of, configuration_after, next_decision}
-use Rattle.bp_language.specs.Views.{decision_of}
+use Rattle.bp_syntax.specs.Views.{decision_of}
 use Rattle.bp_view.proofs.FailedConditions.{decision_is, position_is, standing_facts}
 use Rattle.bp_view.proofs.footer_facts.condition_of.Goals as goal
 

@@ -1,5 +1,5 @@
 use Rattle.bp_commands.proofs.Common.{refl, err_from_is_err_and, IsProgramRefusal, checks}
-use Rattle.bp_language.specs.declared.errors.CheckError.TheVariants.{Memory}
+use Rattle.bp_syntax.specs.declared.errors.CheckError.TheVariants.{Memory}
 use Rattle.bp_code.specs.declared.texts.ProgramError.TheVariants.{Check}
 use Rattle.bp_commands.proofs.Answered.{refused_with}
 use Rattle.bp_commands.proofs.checks.CheckTaskProgramCommand.apply.Goals as goal

@@ -1,4 +1,4 @@
-use Rattle.bp_language.proofs.LawsOfWellFormedPrograms.{distinct_names}
+use Rattle.bp_syntax.proofs.LawsOfWellFormedPrograms.{distinct_names}
 use Rattle.bp_syntax.proofs.checked_trees.Checked.has_distinct_names.Goals as goal
 
 pub returns : goal.returns

@@ -1,4 +1,4 @@
-use Rattle.bp_language.proofs.LawsOfWellFormedPrograms.{sound_statements}
+use Rattle.bp_syntax.proofs.LawsOfWellFormedPrograms.{sound_statements}
 use Rattle.bp_syntax.proofs.checked_trees.Checked.has_sound_statements.Goals as goal
 
 pub returns : goal.returns

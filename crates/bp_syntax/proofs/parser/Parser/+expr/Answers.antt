@@ -1,5 +1,5 @@
 use Rattle.bp_syntax.proofs.Common.{◌∙◌, sym, ap, subst, rules, Operation, expression_of, ExprThen, MoreImplied, MoreOperands, MoreTighter, ReadsBy, parse_result, wanted_after_un, Disjunction}
-use Rattle.bp_language.specs.declared.exprs.Op.TheVariants as op
+use Rattle.bp_syntax.specs.declared.exprs.Op.TheVariants as op
 use Rattle.bp_syntax.proofs.ResultAfterToken.{at_exit, passed_on, ahead_name, implies_ahead, no_implies}
 use Rattle.bp_syntax.proofs.parser.Parser.+expr.Goals as goal
 

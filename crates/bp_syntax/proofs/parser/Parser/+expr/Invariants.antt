@@ -1,5 +1,5 @@
 use Rattle.bp_syntax.proofs.Common.{◌≡◌, ◌≤◌, length, ◌+◌, ◌*◌, expression_of, Wanted, MoreOperands, parse_result}
-use Rattle.bp_language.specs.Ast as tree
+use Rattle.bp_syntax.specs.Ast as tree
 use Rattle.bp_syntax.proofs.parser.Parser.+expr.Given as goal
 
 abbrev pub decreases-unary : goal.decreases-unary

@@ -1,5 +1,5 @@
 use Rattle.bp_syntax.proofs.Common.{◌≡◌, ◌∙◌, sym, refl, Some, arith, rules, Block, Then, Skips, Returns, Branches, Loops, statement_of, decision_of, WordThen, KeywordThen, StmtsTo, FormThen, GotoThen, IfThen, WhileThen, AssertThen, AssumeThen, PrintThen, MoreStmts, kind_ahead, place_ahead}
-use Rattle.bp_language.specs.declared.tokens.TokenKind.TheVariants as kind
+use Rattle.bp_syntax.specs.declared.tokens.TokenKind.TheVariants as kind
 use Rattle.bp_syntax.proofs.ResultAfterToken.{at_exit, passed_on, word_comes, before_block, block_is, one_more_form, more_stmts_ahead, no_stmt}
 use Rattle.bp_syntax.proofs.parser.Parser.+stmt.Goals as goal
 

@@ -1,5 +1,5 @@
 use Rattle.bp_syntax.proofs.Common.{refl, Asserts, KeywordThen, AssertThen}
-use Rattle.bp_language.specs.declared.tokens.TokenKind.TheVariants as kind
+use Rattle.bp_syntax.specs.declared.tokens.TokenKind.TheVariants as kind
 use Rattle.bp_syntax.proofs.ResultAfterToken.{at_exit}
 use Rattle.bp_syntax.proofs.parser.Parser.assertion.Goals as goal
 

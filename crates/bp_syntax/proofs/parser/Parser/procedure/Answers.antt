@@ -1,5 +1,5 @@
 use Rattle.bp_syntax.proofs.Common.{◌∙◌, [], ap, sym, FormalsThen, MoreDecls, ProcThen, StmtsTo, parse_result, procedure_of}
-use Rattle.bp_language.specs.declared.tokens.TokenKind.TheVariants as kind
+use Rattle.bp_syntax.specs.declared.tokens.TokenKind.TheVariants as kind
 use Rattle.bp_syntax.proofs.ResultAfterToken.{at_exit}
 use Rattle.bp_syntax.proofs.parser.Parser.procedure.Goals as goal
 

@@ -1,4 +1,4 @@
-use Rattle.bp_language.proofs.NamesOfTokens.{short_names}
+use Rattle.bp_syntax.proofs.NamesOfTokens.{short_names}
 use Rattle.bp_syntax.proofs.trees.Tree.has_short_names.Goals as goal
 
 pub returns : goal.returns

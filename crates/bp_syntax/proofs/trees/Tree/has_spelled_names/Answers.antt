@@ -1,4 +1,5 @@
-use Rattle.bp_syntax.proofs.Common.{spelled_names}
+use Rattle.bp_syntax.proofs.Common.{}
+use Rattle.bp_syntax.proofs.SpelledNames.{spelled_names}
 use Rattle.bp_syntax.proofs.trees.Tree.has_spelled_names.Goals as goal
 
 pub returns : goal.returns

@@ -1,8 +1,0 @@
-use Rattle.bp_arguments.proofs.Common.{◌≡◌, drop, false, map, app_of, out-Command, row_rule, with_rules}
-use Rattle.bp_arguments.proofs.arguments.with_rows.Given as goal
-
-abbrev pub invariant-loop-row : goal.invariant-loop-row
-invariant-loop-row l = record {
-  shape : with_rules (app_of l.command) (map row_rule (drop l.row-index l.rows)) ≡ with_rules (app_of l.fn.command) (map row_rule l.rows);
-  globals : (out-Command l.command).has_globals ≡ false;
-}

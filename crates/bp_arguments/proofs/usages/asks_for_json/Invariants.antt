@@ -1,5 +1,0 @@
-use Rattle.bp_arguments.proofs.Common.{◌≡◌, drop, map, string_bytes, asks_for_json}
-use Rattle.bp_arguments.proofs.usages.asks_for_json.Given as goal
-
-abbrev pub invariant-loop-word : goal.invariant-loop-word
-invariant-loop-word l = asks_for_json (map string_bytes (drop l.word-index l.arguments)) ≡ asks_for_json (map string_bytes l.arguments)

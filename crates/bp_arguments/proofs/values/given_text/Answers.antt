@@ -1,5 +1,0 @@
-use Rattle.bp_arguments.proofs.Common.{◌∙◌, first_value-rows, found_of}
-use Rattle.bp_arguments.proofs.values.given_text.Goals as goal
-
-pub returns : goal.returns
-returns c = c.get_str.ensures ∙ first_value-rows (found_of c.args.arguments.now) c.args.name.now

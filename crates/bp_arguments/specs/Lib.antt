@@ -1,5 +1,0 @@
-pub mod CommandArguments
-pub mod Commands
-pub mod Values
-pub mod Misuses
-pub mod NoTasks

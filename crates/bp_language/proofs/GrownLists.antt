@@ -1,5 +1,0 @@
--- Lists in other groups.
-use Rattle.bp_language.proofs.Common.{append_assoc, append-nil}
-
--- however its parts are grouped, a list is the same: `simp regrouped`
-pub ruleset regrouped = (append_assoc, append-nil)

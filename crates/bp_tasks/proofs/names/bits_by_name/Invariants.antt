@@ -1,5 +1,0 @@
-use Rattle.bp_tasks.proofs.Common.{◌≡◌, take, values_of, bits_by_name}
-use Rattle.bp_tasks.proofs.names.bits_by_name.Given as goal
-
-abbrev pub invariant-loop-global : goal.invariant-loop-global
-invariant-loop-global l = l.bits.items ≡ bits_by_name (values_of l.named) (take l.global-index l.globals)

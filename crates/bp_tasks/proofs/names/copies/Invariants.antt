@@ -1,5 +1,0 @@
-use Rattle.bp_tasks.proofs.Common.{◌≡◌, take, map, string_bytes}
-use Rattle.bp_tasks.proofs.names.copies.Given as goal
-
-abbrev pub invariant-loop-name : goal.invariant-loop-name
-invariant-loop-name l = map string_bytes l.items.items ≡ map string_bytes (take l.name-index l.names)

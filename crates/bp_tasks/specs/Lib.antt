@@ -1,3 +1,0 @@
-pub mod ErrorFormats
-pub mod RunOptions
-pub mod NamedBits

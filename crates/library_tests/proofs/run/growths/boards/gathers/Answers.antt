@@ -1,5 +1,0 @@
-use Rattle.library_tests.proofs.SeatsBack.{put_back}
-use Rattle.library_tests.proofs.run.growths.boards.gathers.Goals as goal
-
-pub gather-gathered-requires : goal.gather-gathered-requires
-gather-gathered-requires g c = put_back _ _ _ _ _ _ c.in-Some.ensures.items c.in_ok-push.ensures.items c.in_ok-turn.ensures.answer.own c.requires

@@ -1,0 +1,10 @@
+use Rattle.tools.proofs.run.board.desks.plays.Given as goal
+
+abbrev pub ghosts-is_seen_at-C-Calls : goal.ghosts-is_seen_at-C-Calls
+ghosts-is_seen_at-C-Calls a = record { ring = a.board_parts.ring; code = a.code.now; setup = a.setup.now }
+
+abbrev pub ghosts-is_seen_at-C-Ledger : goal.ghosts-is_seen_at-C-Ledger
+ghosts-is_seen_at-C-Ledger a = record { name = a.board_parts.calls; parts = a.board_parts.threads }
+
+abbrev pub ghosts-is_seen_at-O-Ledger : goal.ghosts-is_seen_at-O-Ledger
+ghosts-is_seen_at-O-Ledger a = record { name = a.board_parts.live; parts = a.board_parts.threads }
