@@ -1,7 +1,7 @@
 -- The imports of this crate's proofs: from std, the crates below and its own definitions.
 pub use Rattle.bp_explore.specs.Explorations.{CanMake, HasNone, HasNoneBelow, IsExploration, IsFirst, IsInBound, IsMade, IsPlayed, IsReachable, IsSafe, ListedSteps, MakesFrom, ends, makes, most_calls, passes}
-pub use Rattle.bp_explore.specs.Searches.{AreAtMost, AreLayered, AreReached, BeginsAt, Fails, Has, HasMade, HasNeither, HasNeitherBelow, HasOneMade, HaveFewer, Holds, IsClosed, IsCount, IsCountTo, IsCountedStep, IsExhausted, IsExpanded, IsExplored, IsFollowed, IsGrown, IsLed, IsMostMade, IsPlayedTo, IsReached, IsSearchEnd, IsSeen, IsStep, IsTaken, IsTopOrNone, Leads, MayAdd, ShowsStep, StayReached, Stays, Step, failures, level_with, node_with}
-pub use Rattle.bp_explore.specs.States.{AreLiveFrom, HasKey, IsLive, IsPacked, IsRecordOf, NodeOf, NodesOf, Shows, StateOf, end_of, first_stack_of, frames_of, goes_on, is_going, last_of, node_of, nodes_from, record_at, start_from, state_after, take_frame, take_key, take_number, take_stack, take_state, take_times}
+pub use Rattle.bp_explore.specs.Searches.{AreAtMost, AreFrom, AreLayered, AreOthers, BeginsAt, Expands, Fails, Has, HasMade, HasNeither, HasNeitherBelow, HasOneMade, HaveFewer, IsClosed, IsCount, IsCountTo, IsCountedStep, IsExhausted, IsExpanded, IsExplored, IsFollowed, IsFrom, IsGrown, IsMostMade, IsNextLayer, IsPlayedTo, IsSearchEnd, IsSeen, IsSeenStep, IsStep, IsTaken, IsTopOrNone, Leads, ShowsStep, Stays, Step, failures, level_with, node_with}
+pub use Rattle.bp_explore.specs.States.{AreLiveFrom, HasKey, IsLive, IsNext, IsPacked, IsRecordOf, NodeOf, NodesOf, Shows, StateOf, end_of, first_stack_of, frames_of, goes_on, is_going, last_of, node_of, nodes_from, record_at, start_from, state_after, take_frame, take_key, take_number, take_stack, take_state, take_times}
 pub use Rattle.bp_explore.specs.declared.observers.SeenStep.{SeenStep}
 pub use Rattle.bp_explore.specs.declared.searches.SearchEnd.{SearchEnd}
 pub use Rattle.bp_flat.specs.Flat.{Flat, Instruction}

@@ -1,5 +1,5 @@
 -- Runs that make listed steps, step by step.
-use Rattle.bp_explore.proofs.Common.{◌≡◌, ℕ, zero, suc, List, [], ◌∷◌, length, Some, ◌↔◌, IsTrue, ◌+◌, ◌<◌, Bool, true, false, cond, refl, ap, sym, ◌∙◌, subst, arith, ◌⊎◌, ◌++◌, slice_get, slice_index_or, slice_set, length-set, get_or-set_same, get_or-set_other, rules, Program, Configuration, Frame, Moves, after_effect, Flat, ShowsStack, StepsAlike, ActivationRecord, stack_of, reply_on_stack, configuration_after_step, is_granted, IsRun, configuration_after, IsAllowed, top_of, activations, IsTop, HasRoom, reply_of_step, Stopped, Transition, IsTransitionOn, reply_of_transition, stack_after, Call, SetupOf, start, top_shown, step_is, thread_below, first_step, ended, IsAnswer, on_stack, goes, StateOf, Shows, state_after, ListedSteps, IsMade, MakesFrom, ends, passes, makes, HasNone, HasNoneBelow, CanMake, IsSafe, IsCountTo, IsLed, IsStep, Step, Stays, Fails, Leads, failures, IsCount, IsCountedStep, ShowsStep, HasNeither, HasNeitherBelow, IsPlayedTo, SeenStep}
+use Rattle.bp_explore.proofs.Common.{◌≡◌, ℕ, zero, suc, List, [], ◌∷◌, length, Some, ◌↔◌, IsTrue, ◌+◌, ◌<◌, Bool, true, false, cond, refl, ap, sym, ◌∙◌, subst, arith, ◌⊎◌, ◌++◌, slice_get, slice_index_or, slice_set, length-set, get_or-set_same, get_or-set_other, rules, Program, Configuration, Frame, Moves, after_effect, Flat, ShowsStack, StepsAlike, ActivationRecord, stack_of, reply_on_stack, configuration_after_step, is_granted, IsRun, configuration_after, IsAllowed, top_of, activations, IsTop, HasRoom, reply_of_step, Stopped, Transition, IsTransitionOn, reply_of_transition, stack_after, Call, SetupOf, start, top_shown, step_is, thread_below, first_step, ended, IsAnswer, on_stack, goes, StateOf, Shows, state_after, ListedSteps, IsMade, MakesFrom, ends, passes, makes, HasNone, HasNoneBelow, CanMake, IsSafe, IsCountTo, IsFollowed, IsStep, Step, Stays, Fails, Leads, failures, IsCount, IsCountedStep, ShowsStep, HasNeither, HasNeitherBelow, IsPlayedTo, SeenStep}
 use Rattle.bp_flat.specs.declared.effects.Effect.{Effect}
 use Rattle.bp_machine.specs.declared.threads.Transition.TheVariants as transition
 use Rattle.bp_machine.specs.Histories as reports
@@ -92,7 +92,7 @@ module _ (c : Flat) (t : Program) (o : ListedSteps) (own : o.is_of t) (alike : S
     counted : (n : ℕ) (z : StateOf) (failed : Bool) → IsCountTo o m i n x z failed → Shows t z d → d.failed ≡ failed → IsCounted o m now i d n
     counted n z failed k there is = record { is_made = k.is_made; told = k.told t now d own (shows, there, is); count = k.count }
 
-    by_transition : (v : Transition) (y : Step) → IsTransitionOn c.instructions x.globals bit true stack v → IsLed o m x i stack v y → Matches t o m now i d y
+    by_transition : (v : Transition) (y : Step) → IsTransitionOn c.instructions x.globals bit true stack v → IsFollowed o m x i v y → Matches t o m now i d y
     by_transition (transition.Stays r) y is led =
         let a = answer (transition.Stays r) is in
         let no : is_granted r ≡ false = a.comes in
@@ -101,17 +101,17 @@ module _ (c : Flat) (t : Program) (o : ListedSteps) (own : o.is_of t) (alike : S
     by_transition transition.Fails y is (n, k, led) =
         let (there, failed) = fails_there is in
         subst (Matches t o m now i d) (sym led) (counted n x true k there failed, failed)
-    by_transition (transition.Steps e) y is (n, k, led) =
+    by_transition (transition.Steps e) y is (n, z, k, after, led) =
         let (there, going) = leads_on e is in
-        subst (Matches t o m now i d) (sym led) (counted n (state_after x i stack e) false k there going, there, going)
+        let shown = subst (λ w. Shows t w d) (sym (after stack has)) there in
+        subst (Matches t o m now i d) (sym led) (counted n z false k shown going, shown, going)
 
   pub step_matches : (y : Step) → IsStep o m x i c.instructions bit y → Matches t o m now i d y
   step_matches y step =
       let below = thread_below t now i bit d move in
       let count = shows.count in
       let (stack, has) = item_at x.stacks i (omega (arith, below, count)) in
-      let on = step stack has in
-      by_transition stack has on.transition y on.is on.led
+      by_transition stack has step.transition y (step.is.some stack has) step.led
 
 -- the first step of a run either makes the next listed step or does not
 pub record FirstMade (t : Program) (o : ListedSteps) (m : ℕ) (c : Configuration) (x : Call) (xs : List Call) (n : ℕ) (e : Configuration) : Type 0 where

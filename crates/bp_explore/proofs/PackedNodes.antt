@@ -1,5 +1,5 @@
 -- The nodes of adjacent records.
-use Rattle.bp_explore.proofs.Common.{◌≡◌, ◌+◌, ◌++◌, ◌∷◌, [], ℕ, zero, suc, List, refl, ap, sym, ◌∙◌, append_assoc, arith, ◌*◌, ◌/◌, ◌%◌, ◌^◌, Some, drop, append-nil, ◌≤◌, ◌-◌, All, ◌<◌, length, get_or, take, slice_set, slice_get, rules, take_more, take_more_set, take-append-le, drop-append-le, slice_get_within, StackOf, frames_of, IsPacked, take_times, take_number, node_of, take_key, take_state, last_of, StateOf, NodeOf, nodes_from, start_from, end_of, record_at, HasKey, Holds}
+use Rattle.bp_explore.proofs.Common.{◌≡◌, ◌+◌, ◌++◌, ◌∷◌, [], ℕ, zero, suc, List, refl, ap, sym, ◌∙◌, append_assoc, arith, ◌*◌, ◌/◌, ◌%◌, ◌^◌, Some, drop, append-nil, ◌≤◌, ◌-◌, All, ◌<◌, length, get_or, take, slice_set, slice_get, rules, take_more, take_more_set, take-append-le, drop-append-le, slice_get_within, StackOf, frames_of, IsPacked, take_times, take_number, node_of, take_key, take_state, last_of, StateOf, NodeOf, nodes_from, start_from, end_of, record_at, HasKey, Has, AreAtMost}
 use Rattle.std.proofs.lemmas.List.{length-drop, take_all}
 use Rattle.std.proofs.Transfers.{drop-appended}
 
@@ -106,19 +106,14 @@ pub end_of_added : (from : ℕ) (ends : List ℕ) (end : ℕ) → end_of from (e
 end_of_added from [] end = refl
 end_of_added from (e ∷ es) end = end_of_added e es end
 
-pub node_there : (threads : ℕ) (cells ends : List ℕ) (n : ℕ) → n < length ends
-    → slice_get (nodes_from threads cells 0 ends) n ≡ Some (node_of threads (record_at cells ends n))
-node_there threads cells ends n within = nodes_get threads cells 0 ends n within
-
 pub node_is : (threads : ℕ) (cells ends : List ℕ) (n : ℕ) (node : NodeOf) → slice_get (nodes_from threads cells 0 ends) n ≡ Some node
     → node_of threads (record_at cells ends n) ≡ node
-node_is threads cells ends n node given1 = search (rules, slice_get_within, nodes_length, node_there)
-
-pub last_there : (n : ℕ) → 0 < n → last_of n ≡ Some ((n - 1) % 2 ^ 32)
-last_there n given1 = grind (arith)
+node_is threads cells ends n node given1 = search (rules, slice_get_within, nodes_length, nodes_get)
 
 -- A node with the key of a state.
 
-pub key_held : (threads : ℕ) (nodes : List NodeOf) (key : List ℕ) (i made : ℕ) (x : StateOf) → HasKey threads nodes key
-    → take_key threads key ≡ ((made, Some i, x), []) → Holds nodes x i made
-key_held threads nodes key i made x given1 given2 = grind (arith)
+pub key_held : (threads : ℕ) (nodes : List NodeOf) (key : List ℕ) (i made level : ℕ) (x : StateOf) → HasKey threads nodes key
+    → take_key threads key ≡ ((made, Some i, x), []) → AreAtMost nodes level → Has nodes x i made level
+key_held threads nodes key i made level x h e low =
+    let same = h.same ∙ ap (λ p. p.0) e in
+    record { at = h.at; used = h.node.level; is = h.is ∙ ap Some (λ j. record { state = (same j).2; made = (same j).0; last = (same j).1; level = h.node.level }); low = low h.at h.node h.is }

@@ -1,13 +1,15 @@
 -- A node to which a step from a reached node leads is reached.
-use Rattle.bp_explore.proofs.Common.{◌≡◌, length, Option, None, Some, refl, ap, sym, ◌∙◌, subst, ◌<◌, ◌≤◌, ◌+◌, ◌&&◌, nat_le, ℕ, Bool, true, cond, List, [], ◌∷◌, ◌++◌, inl, inr, arith, slice_get, map, option_map, rules, length-map, slice_get-map, cases_lt, Program, ShowsStack, StandsFor, StepsAlike, bits_of, Flat, Configuration, effect, Moves, stack_of, reply_of, reply_on_stack, reply_to_effect, configuration_after_call, IsRun, first_thread, contexts_opened, count_with, IsCountOf, SetupOf, start, Fits, threads, Call, Reply, Stopped, Full, Stepped, ActivationRecord, Transition, EachHasRoom, HasRoom, IsTransitionOn, starts, counts_more, is_step, step_moves, first_step, ended, move_keeps, one_move, on_stack, StateOf, first_stack_of, Shows, ListedSteps, MakesFrom, IsReached, AreReached, StayReached, IsTaken, level_with, IsLed, IsStep, Step, Stays, Fails, Leads}
+use Rattle.bp_explore.proofs.Common.{◌≡◌, length, Option, None, Some, refl, ap, sym, ◌∙◌, subst, ◌<◌, ◌≤◌, ◌+◌, ◌&&◌, nat_le, ℕ, Bool, true, false, cond, List, [], ◌∷◌, ◌++◌, inl, inr, arith, slice_get, map, option_map, rules, length-map, slice_get-map, cases_lt, Program, ShowsStack, StandsFor, StepsAlike, bits_of, Flat, Configuration, effect, Moves, stack_of, reply_of, reply_on_stack, reply_to_effect, configuration_after_call, IsRun, first_thread, contexts_opened, count_with, IsCountOf, SetupOf, start, Fits, Call, Reply, Stopped, Full, Stepped, ActivationRecord, Transition, EachHasRoom, HasRoom, IsTransitionOn, starts, counts_more, is_step, step_moves, first_step, ended, one_move, on_stack, StateOf, first_stack_of, Shows, ListedSteps, MakesFrom, level_with, node_with, BeginsAt, AreFrom, IsFollowed, count_of_none, ends, suc, zero, IsStep, Step, Stays, Leads}
 use Rattle.bp_flat.specs.Steps.{bits_from}
 use Rattle.bp_machine.specs.declared.calls.Outcome.TheVariants.{Clean}
+use Rattle.bp_machine.specs.declared.contexts.ContextCount.{ContextCount}
+use Rattle.bp_explore.specs.Explorations.{MakesInOrder}
 use Rattle.bp_machine.specs.Sessions as states
 use Rattle.bp_machine.specs.declared.limits.TheConstants.{MAX_FRAMES}
 use Rattle.bp_machine.specs.declared.threads.Transition.TheVariants as transition
 use Rattle.bp_machine.specs.Histories as reports
 use Rattle.bp_explore.specs.States.{NodeOf as Node}
-use Rattle.bp_explore.proofs.Growth.{item_at, added_item, before_last}
+use Rattle.bp_explore.proofs.Growth.{item_at, one_item}
 use Rattle.bp_explore.proofs.MadeSteps.{makes_one, makes_run, passes_one, IsCounted, step_matches}
 
 -- The first state shows the start.
@@ -78,25 +80,47 @@ map_one : (steps : List Call) (x : Call) → map (λ (y : Call). y.thread) (step
 map_one [] x = refl
 map_one (y ∷ ys) x = ap (λ ts. y.thread ∷ ts) (map_one ys x)
 
+-- a run leads to the node's configuration, within its contexts and with a step of its last thread,
+-- and makes its number of listed steps, which are not all
+pub record IsReached (t : Program) (s : SetupOf) (o : ListedSteps) (node : Node) : Type 0 where
+  pub steps : List Call
+  pub end : Configuration
+  pub run : MakesInOrder t s o steps node.made end
+  pub few : node.made < o.count
+  pub room : EachHasRoom t (start t s) steps
+  pub count : ContextCount
+  pub counts : IsCountOf count (map (λ x. x.thread) steps)
+  pub contexts : count.used ≤ node.level
+  pub last : count.last ≡ node.last
+  pub shows : Shows t node.state end
+  pub going : end.failed ≡ false
+
 module _ (c : Flat) (t : Program) (s : SetupOf) (o : ListedSteps) (own : o.is_of t) (alike : StepsAlike c t) (node : Node) (r : IsReached t s o node)
-    (i : ℕ) (within : i < threads s) (bit : Bool) where
+    (i : ℕ) (bit : Bool) (n level : ℕ) (z : StateOf) where
   -- the step is made
-  told : (n : ℕ) (z : StateOf) (stack : List ActivationRecord) → slice_get node.state.stacks i ≡ Some stack
-      → (v : Transition) → IsTransitionOn c.instructions node.state.globals bit true stack v → IsLed o node.made node.state i stack v (Leads n z)
+  told : (stack : List ActivationRecord) → slice_get node.state.stacks i ≡ Some stack
+      → (v : Transition) → IsTransitionOn c.instructions node.state.globals bit true stack v → IsFollowed o node.made node.state i v (Leads n z)
       → reply_on_stack t true r.end.globals (stack_of r.end i) bit ≡ Some Stepped
-  told n z stack has (transition.Stays reply) is led = absurd cc
-  told n z stack has transition.Fails is (k, counted, led) = absurd cc
-  told n z stack has (transition.Steps e) is led =
+  told stack has (transition.Stays reply) is led = absurd cc
+  told stack has transition.Fails is (k, counted, led) = absurd cc
+  told stack has (transition.Steps e) is led =
       (on_stack c t alike bit node.state.globals r.end.globals r.shows.globals stack (stack_of r.end i) true (transition.Steps e) (r.shows.stack i stack has) is).reply
 
-  module _ (n level : ℕ) (z : StateOf) (few : n < o.count) (step : IsStep o node.made node.state i c.instructions bit (Leads n z)) (low : level_with node i ≤ level) where
-    pub reached_more : IsReached t s o (record { state = z; made = n; last = Some i; level = level })
+  module _ (few : n < o.count) (step : IsStep o node.made node.state i c.instructions bit (Leads n z)) (low : level_with node i ≤ level) where
+    -- so its thread exists
+    within : i < length node.state.stacks
+    within = elim (cases_lt i (length node.state.stacks)) [
+      | inl near ↦ near
+      | inr past ↦
+          let no : Leads n z ≡ Stays = subst (λ v. IsFollowed o node.made node.state i v (Leads n z)) (step.is.none past) step.led in
+          absurd cc
+    ]
+
+    pub reached_more : IsReached t s o (node_with z n i level)
     reached_more =
         let now = r.end in
-        let size = r.size in
-        let (stack, has) = item_at node.state.stacks i (omega (arith, within, size)) in
-        let on = step stack has in
-        let stepped = told n z stack has on.transition on.is on.led in
+        let (stack, has) = item_at node.state.stacks i within in
+        let stepped = told stack has step.transition (step.is.some stack has) step.led in
         let reply : reply_of t true now i bit ≡ Some Stepped = ap (λ b. cond b (Some Stopped) (reply_on_stack t true now.globals (stack_of now i) bit)) r.going ∙ stepped in
         let d = configuration_after_call t now i bit Stepped in
         let move : Moves t now i bit d = step_moves t now i bit Stepped refl (is_step t now i bit Stepped refl true reply).1 in
@@ -115,9 +139,7 @@ module _ (c : Flat) (t : Program) (s : SetupOf) (o : ListedSteps) (own : o.is_of
           counts = subst (IsCountOf (count_with r.count i)) (sym (map_one r.steps x)) (counts_more r.count (map (λ (y : Call). y.thread) r.steps) i r.counts);
           contexts = omega (arith, used, same, low);
           last = refl;
-          own = λ j e. let is : i ≡ j = cc in omega (arith, within, is);
           shows = shows;
-          size = shows.count ∙ move_keeps t now i bit d move ∙ sym r.shows.count ∙ r.size;
           going = going;
         }
       where
@@ -128,26 +150,34 @@ module _ (c : Flat) (t : Program) (s : SetupOf) (o : ListedSteps) (own : o.is_of
             → MakesFrom t o 0 (start t s) (r.steps ++ x ∷ []) n d
         by_count d given1 counted b given2 = search (rules, makes_one, told, passes_one)
 
--- so the nodes are still reached, if the result of the step is added
-pub taken_reached : (c : Flat) (o : ListedSteps) (old new : List Node) (at : ℕ) (node : Node) (i level : ℕ) (bit : Bool) (y : Step) → slice_get old at ≡ Some node
-    → level_with node i ≤ level → IsStep o node.made node.state i c.instructions bit y → IsTaken o old i level y new → StayReached c o (i + 1) old new
-taken_reached c o old new at node i level bit Stays is low step taken t s alike own many reached = subst (AreReached t s o) (sym taken) reached
-taken_reached c o old new at node i level bit (Fails n) is low step taken t s alike own many reached = subst (AreReached t s o) (sym taken) reached
-taken_reached c o old new at node i level bit (Leads n z) is low step (few, inl same) t s alike own many reached = subst (AreReached t s o) (sym same) reached
-taken_reached c o old new at node i level bit (Leads n z) is low step (few, inr more) t s alike own many reached =
-    subst (AreReached t s o) (sym more) (λ k next found. elim (cases_lt k (length old)) [
-      | inl near ↦ reached k next (before_last old last k next near found)
-      | inr past ↦ subst (IsReached t s o) (added_item old last k next past found) there
-    ])
-  where
-    last : Node
-    last = record { state = z; made = n; last = Some i; level = level }
+-- so each node is reached: the first shows the start, and a step leads to each other one
+module _ (c : Flat) (s : SetupOf) (o : ListedSteps) (own : o.is_of c.tree) (some : 0 < o.count) (alike : StepsAlike c c.tree)
+    (nodes : List Node) (b : BeginsAt c s nodes) (from : AreFrom o c.instructions nodes) where
+  first_reached : IsReached c.tree s o (record { state = b.state; made = 0; last = None; level = 0 })
+  first_reached = record {
+    steps = [];
+    end = start c.tree s;
+    run = ends 0 (start c.tree s);
+    few = some;
+    room = λ before y later d split run. absurd (no_split before y later split);
+    count = record { used = 0; last = None };
+    counts = count_of_none;
+    contexts = omega arith;
+    last = refl;
+    shows = b.shows;
+    going = refl;
+  }
 
-    there : IsReached t s o last
-    there = reached_more c t s o own alike node (reached at node is) i (omega (arith, many)) bit n level z few step low
+  reached_below : (k n : ℕ) (node : Node) → n < k → slice_get nodes n ≡ Some node → IsReached c.tree s o node
+  reached_below zero n node few at = absurd (omega (arith, few))
+  reached_below (suc k) zero node few at = subst (IsReached c.tree s o) (one_item nodes 0 _ node b.is at) first_reached
+  reached_below (suc k) (suc n) node few at =
+      let f = from (suc n) node (omega arith) at in
+      let earlier = f.before in
+      let there = reached_below k f.at f.parent (omega (arith, few, earlier)) f.is in
+      let same : node_with node.state node.made f.thread node.level ≡ node =
+      λ j. record { state = node.state; made = node.made; last = sym f.last j; level = node.level } in
+      subst (IsReached c.tree s o) same (reached_more c c.tree s o own alike f.parent there f.thread f.bit node.made node.level node.state f.few f.step f.low)
 
-pub stay_then : (c : Flat) (o : ListedSteps) (n : ℕ) (old mid new : List Node) → StayReached c o n old mid → StayReached c o n mid new → StayReached c o n old new
-stay_then c o n old mid new a b t s alike own many reached = b t s alike own many (a t s alike own many reached)
-
-pub stay_more : (c : Flat) (o : ListedSteps) (m n : ℕ) (old new : List Node) → m ≤ n → StayReached c o m old new → StayReached c o n old new
-stay_more c o m n old new h a t s alike own many = a t s alike own (omega (arith, h, many))
+  pub each_reached : (n : ℕ) (node : Node) → slice_get nodes n ≡ Some node → IsReached c.tree s o node
+  each_reached n node at = reached_below (suc n) n node (omega arith) at

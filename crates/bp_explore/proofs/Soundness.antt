@@ -1,5 +1,5 @@
 -- If everything was explored, a run ends at a node that has made as many of the listed steps.
-use Rattle.bp_explore.proofs.Common.{◌≡◌, ◌⊎◌, ℕ, ◌+◌, ◌<◌, ◌≤◌, Bool, true, false, List, [], ◌∷◌, length, Option, None, Some, refl, ap, sym, ◌∙◌, subst, inl, inr, arith, slice_get, map, slice_get_within, Program, StepsAlike, StandsFor, Configuration, Flat, Call, EachHasRoom, IsDeadlocked, contexts_opened, SetupOf, threads, start, opened, opened_more, least, move_keeps, thread_below, stacks_at_start, ListedSteps, MakesFrom, CanMake, IsReachable, AreLiveFrom, Shows, HaveFewer, IsStep, Step, level_with, IsSeen, IsClosed}
+use Rattle.bp_explore.proofs.Common.{◌≡◌, ◌⊎◌, ℕ, ◌+◌, ◌<◌, ◌≤◌, Bool, true, false, List, [], ◌∷◌, length, Option, None, Some, refl, ap, sym, ◌∙◌, subst, inl, inr, arith, slice_get, map, slice_get_within, Program, StepsAlike, Configuration, Flat, Call, EachHasRoom, IsDeadlocked, contexts_opened, SetupOf, threads, start, opened, opened_more, least, move_keeps, thread_below, stacks_at_start, ListedSteps, MakesFrom, CanMake, IsReachable, AreLiveFrom, Shows, HaveFewer, IsStep, Step, level_with, IsSeen, IsClosed, BeginsAt}
 use Rattle.bp_machine.specs.Histories as reports
 use Rattle.bp_explore.specs.States.{NodeOf as Node}
 use Rattle.bp_explore.proofs.MadeSteps.{FirstMade, no_more, first_made, run_passes, Matches, step_matches}
@@ -65,41 +65,30 @@ module _ (c : Flat) (t : Program) (o : ListedSteps) (own : o.is_of t) (alike : S
       (omega (arith, fits, more))) y matches seen
 
 -- if everything within k contexts was seen, from a node that shows the start
-module _ (c : Flat) (t : Program) (s : SetupOf) (o : ListedSteps) (own : o.is_of t) (some : 0 < o.count) (alike : StepsAlike c t) (nodes : List Node) (k : ℕ) (first : Node)
-    (closed : IsClosed o c.instructions (threads s) nodes (length nodes) k) (is : slice_get nodes 0 ≡ Some first)
-    (last : first.last ≡ None) (level : first.level ≡ 0) (made : first.made ≡ 0) (shows : Shows t first.state (start t s)) where
-  shown : (n : ℕ) (run : CanMake t s o k n) → IsEnd t o nodes n run.end
+module _ (c : Flat) (s : SetupOf) (o : ListedSteps) (own : o.is_of c.tree) (some : 0 < o.count) (alike : StepsAlike c c.tree) (nodes : List Node) (k : ℕ)
+    (closed : IsClosed o c.instructions (threads s) nodes (length nodes) k) (b : BeginsAt c s nodes) where
+  shown : (n : ℕ) (run : CanMake c.tree s o k n) → IsEnd c.tree o nodes n run.end
   shown n run =
       let fewest = least k (map thread_of run.steps) run.contexts in
-      stays_shown c t o own alike nodes (threads s) k
+      stays_shown c c.tree o own alike nodes (threads s) k
       (λ n node i at within fits bit. closed n node i (slice_get_within nodes n node at) at within fits bit)
-      run.steps None 0 0 n (start t s) run.end
-      (record {
-        at = 0;
-        node = first;
-        is = is;
-        last_is = last;
-        low = omega (arith, level);
-        enough = omega arith;
-        few = omega (arith, made, some);
-        shows = shows;
-        going = refl;
-      })
-      (stacks_at_start t s) run.run run.room (omega (arith, fewest))
+      run.steps None 0 0 n (start c.tree s) run.end
+      (record { at = 0; node = _; is = b.is; last_is = refl; low = omega arith; enough = omega arith; few = some; shows = b.shows; going = refl })
+      (stacks_at_start c.tree s) run.run run.room (omega (arith, fewest))
 
-  pub explored_makes_fewer : (n : ℕ) → HaveFewer o nodes n → CanMake t s o k n → ⊥
+  pub explored_makes_fewer : (n : ℕ) → HaveFewer o nodes n → CanMake c.tree s o k n → ⊥
   explored_makes_fewer n fewer run =
       let there = shown n run in
       let less = fewer there.at there.node there.is there.few in
       let enough = there.enough in
       omega (arith, less, enough)
 
-  pub explored_is_live : AreLiveFrom t nodes 0 → (d : Configuration) → IsReachable t s k d → d.failed ≡ false → IsDeadlocked t d → ⊥
+  pub explored_is_live : AreLiveFrom c.tree nodes 0 → (d : Configuration) → IsReachable c.tree s k d → d.failed ≡ false → IsDeadlocked c.tree d → ⊥
   explored_is_live live d reached going dead =
-      let run : CanMake t s o k 0 = record {
+      let run : CanMake c.tree s o k 0 = record {
         steps = reached.steps;
         end = d;
-        run = run_passes t o 0 (start t s) reached.steps d reached.run;
+        run = run_passes c.tree o 0 (start c.tree s) reached.steps d reached.run;
         contexts = reached.contexts;
         room = reached.room;
       } in

@@ -1,5 +1,5 @@
 -- The start of an exploration, and its search's end. How it works, which no public clause names.
-use Rattle.std.specs.Prelude.{◌≡◌, ℕ, [], Option, MatchOption, if◌then◌else◌, ◌+◌, ◌↔◌, Bool, IsTrue, true, false, List, Some, slice_get, ◌⊎◌, ◌<◌, ◌≤◌, ◌∷◌, ◌++◌, length, map, None}
+use Rattle.std.specs.Prelude.{◌≡◌, ◌≢◌, ℕ, [], Option, MatchOption, if◌then◌else◌, ◌+◌, ◌↔◌, Bool, IsTrue, true, false, List, Some, slice_get, ◌⊎◌, ◌<◌, ◌≤◌, ◌∷◌, ◌++◌, length, map, None}
 use Rattle.bp_syntax.specs.Ast.{Program}
 use Rattle.bp_flat.specs.InstrEffects.{bits_of}
 use Rattle.bp_flat.specs.Moves.{Configuration}
@@ -18,7 +18,7 @@ use Rattle.bp_machine.specs.Sessions.{IsCountOf, contexts_opened, Stands}
 use Rattle.bp_machine.specs.Setups.{SetupOf, threads, start}
 use Rattle.bp_explore.specs.declared.observers.SeenStep.{SeenStep}
 use Rattle.bp_explore.specs.Explorations.{ListedSteps, IsMade, MakesInOrder, setup_of_run, CanMake, IsInBound, IsReachable}
-use Rattle.bp_explore.specs.States.{StateOf, Shows, state_after, NodeOf as Node}
+use Rattle.bp_explore.specs.States.{StateOf, Shows, state_after, IsNext, NodeOf as Node}
 use Rattle.bp_explore.specs.declared.found_runs.Replay.{Replay}
 use Rattle.bp_explore.specs.ThroughExplorations.{EndsInLast}
 use Rattle.bp_explore.specs.declared.searches.SearchEnd.{SearchEnd}
@@ -74,81 +74,27 @@ IsCountTo o m i n x y failed =
     IsCount o m i n (λ t c d. Shows t x c × Shows t y d × (d.failed ≡ failed))
 
 module _ (o : ListedSteps) (m : ℕ) (x : StateOf) (i : ℕ) where
-  abbrev pub IsLed : List ActivationRecord → Transition → Step → Type 0
-  IsLed stack (transition.Stays r) y = y ≡ Stays
-  IsLed stack transition.Fails y = (n : ℕ) × IsCountTo o m i n x x true × (y ≡ Fails n)
-  IsLed stack (transition.Steps d) y =
-      let after = state_after x i stack d in
-      (n : ℕ) × IsCountTo o m i n x after false × (y ≡ Leads n after)
-
-  -- the result of the next step of this stack, of thread i in the state x, with this choice bit,
-  -- after m listed steps
-  pub record IsStepOn
-      (code : List Instruction) (bit : Bool) (y : Step) (stack : List ActivationRecord)
-      : Type 0 where
-    pub transition : Transition
-    pub is : IsTransitionOn code x.globals bit true stack transition
-    pub led : IsLed stack transition y
-
-  -- the result of the next step of thread i, if it exists
-  abbrev pub IsStep : List Instruction → Bool → Step → Type 0
-  IsStep code bit y =
-      (stack : List ActivationRecord)
-      → slice_get x.stacks i ≡ Some stack
-      → IsStepOn code bit y stack
-
-  -- the result of the next step of thread i, if this is its transition
+  -- the result of a step of thread i in the state x, after m listed steps, by its transition
   abbrev pub IsFollowed : Transition → Step → Type 0
-  IsFollowed v y =
-      (stack : List ActivationRecord) → slice_get x.stacks i ≡ Some stack → IsLed stack v y
+  IsFollowed (transition.Stays r) y = y ≡ Stays
+  IsFollowed transition.Fails y = (n : ℕ) × IsCountTo o m i n x x true × (y ≡ Fails n)
+  IsFollowed (transition.Steps d) y =
+      (n : ℕ) × (z : StateOf)
+      × IsCountTo o m i n x z false
+      × ((stack : List ActivationRecord)
+      → slice_get x.stacks i ≡ Some stack
+      → z ≡ state_after x i stack d)
+      × (y ≡ Leads n z)
 
--- Nodes to which runs lead. How an exploration works, which no public clause names.
-
-module _ (t : Program) (s : SetupOf) (o : ListedSteps) where
-  -- a run leads to the node's configuration, within its contexts and with a step of its last
-  -- thread, and makes its number of listed steps, which are not all
-  pub record IsReached (node : Node) : Type 0 where
-    pub steps : List Call
-    pub end : Configuration
-    pub run : MakesInOrder t s o steps node.made end
-    pub few : node.made < o.count
-    pub room : EachHasRoom t (start t s) steps
-    pub count : ContextCount
-    pub counts : IsCountOf count (map (λ x. x.thread) steps)
-    pub contexts : count.used ≤ node.level
-    pub last : count.last ≡ node.last
-    pub own : (i : ℕ) → node.last ≡ Some i → i < threads s
-    pub shows : Shows t node.state end
-    pub size : length node.state.stacks ≡ threads s
-    pub going : end.failed ≡ false
-
-  abbrev pub AreReached : List Node → Type 0
-  AreReached nodes = (at : ℕ) (node : Node) → slice_get nodes at ≡ Some node → IsReached node
-
--- the nodes are reached if the old ones were, in a setup with at least n threads
-abbrev pub StayReached : Flat → ListedSteps → ℕ → List Node → List Node → Type 0
-StayReached c o n old new =
-    (t : Program) (s : SetupOf)
-    → StepsAlike c t
-    → o.is_of t
-    → n ≤ threads s
-    → AreReached t s o old
-    → AreReached t s o new
+  -- the result of the next step of thread i with this choice bit: it stays if it does not exist
+  pub record IsStep (code : List Instruction) (bit : Bool) (y : Step) : Type 0 where
+    pub transition : Transition
+    pub is : IsNext code x i bit transition
+    pub led : IsFollowed transition y
 
 -- the node of a state, to which a step of thread i led with n listed steps made
 abbrev pub node_with : StateOf → ℕ → ℕ → ℕ → Node
 node_with x n i level = record { state = x; made = n; last = Some i; level = level }
-
--- the node was added, or none
-abbrev pub MayAdd : List Node → Node → List Node → Type 0
-MayAdd old node new = (new ≡ old) ⊎ (new ≡ old ++ node ∷ [])
-
--- at most the step's node was added, and a step of thread i makes not all listed steps
-abbrev pub IsTaken : ListedSteps → List Node → ℕ → ℕ → Step → List Node → Type 0
-IsTaken o old i level Stays new = new ≡ old
-IsTaken o old i level (Fails n) new = new ≡ old
-IsTaken o old i level (Leads n x) new =
-    (n < o.count) × MayAdd old (node_with x n i level) new
 
 -- The nodes of an exploration: the states that were found, in order of their contexts. How an
 -- exploration works, which no public clause names.
@@ -157,19 +103,13 @@ IsTaken o old i level (Leads n x) new =
 abbrev pub level_with : Node → ℕ → ℕ
 level_with node i = node.level + contexts_opened node.last i
 
--- a node has this state, to which a step of thread i led, with n listed steps made
-pub record Holds (nodes : List Node) (x : StateOf) (i n : ℕ) : Type 0 where
-  pub at : ℕ
-  pub node : Node
-  pub is : slice_get nodes at ≡ Some node
-  pub state : node.state ≡ x
-  pub made : node.made ≡ n
-  pub last : node.last ≡ Some i
-
--- a node has it within this number of contexts
+-- a node has this state within this number of contexts, and a step of thread i led to it, with n
+-- listed steps made
 pub record Has (nodes : List Node) (x : StateOf) (i n level : ℕ) : Type 0 where
-  pub held : Holds nodes x i n
-  pub low : held.node.level ≤ level
+  pub at : ℕ
+  pub used : ℕ
+  pub is : slice_get nodes at ≡ Some (node_with x n i used)
+  pub low : used ≤ level
 
 -- a step of thread i does not make all of the listed steps, and leads to a node within this number
 -- of contexts if no assertion fails
@@ -178,13 +118,23 @@ IsSeen o nodes i level Stays = Unit {0}
 IsSeen o nodes i level (Fails n) = n < o.count
 IsSeen o nodes i level (Leads n y) = (n < o.count) × Has nodes y i n level
 
--- each step of thread i with either choice bit is seen
-abbrev pub IsExpanded : ListedSteps → List Instruction → List Node → Node → ℕ → ℕ → Type 0
-IsExpanded o code nodes node i level =
-    (bit : Bool)
-    → (y : Step)
-    × IsStep o node.made node.state i code bit y
-    × IsSeen o nodes i level y
+-- after it at most the node of the step was added, which is then there
+abbrev pub IsTaken : ListedSteps → List Node → ℕ → ℕ → Step → List Node → Type 0
+IsTaken o old i level Stays new = new ≡ old
+IsTaken o old i level (Fails n) new = (n < o.count) × (new ≡ old)
+IsTaken o old i level (Leads n x) new =
+    (n < o.count)
+    × ((new ≡ old) ⊎ (new ≡ old ++ node_with x n i level ∷ []))
+    × Has new x i n level
+
+-- the step of thread i with this choice bit is seen, and with either choice bit
+module _ (o : ListedSteps) (code : List Instruction) (nodes : List Node) where
+  abbrev pub IsSeenStep : Node → ℕ → ℕ → Bool → Type 0
+  IsSeenStep node i level bit =
+      (y : Step) × IsStep o node.made node.state i code bit y × IsSeen o nodes i level y
+
+  abbrev pub IsExpanded : Node → ℕ → ℕ → Type 0
+  IsExpanded node i level = (bit : Bool) → IsSeenStep node i level bit
 
 -- the nodes below p are closed under the steps that are within k contexts
 abbrev pub IsClosed : ListedSteps → List Instruction → ℕ → List Node → ℕ → ℕ → Type 0
@@ -207,16 +157,43 @@ abbrev pub AreAtMost : List Node → ℕ → Type 0
 AreAtMost nodes k =
     (n : ℕ) (node : Node) → slice_get nodes n ≡ Some node → node.level ≤ k
 
--- the nodes were kept, and the added ones use this number of contexts
-pub record IsGrown (old new : List Node) (level : ℕ) : Type 0 where
-  pub longer : length old ≤ length new
-  pub kept : (n : ℕ) (node : Node)
-      → slice_get old n ≡ Some node
-      → slice_get new n ≡ Some node
-  pub added : (n : ℕ) (node : Node)
-      → length old ≤ n
-      → slice_get new n ≡ Some node
-      → node.level ≡ level
+module _ (o : ListedSteps) (code : List Instruction) where
+  -- a step from a node before it leads to this node, of number n, and makes not all listed steps
+  pub record IsFrom (nodes : List Node) (n : ℕ) (node : Node) : Type 0 where
+    pub at : ℕ
+    pub parent : Node
+    pub before : at < n
+    pub is : slice_get nodes at ≡ Some parent
+    pub thread : ℕ
+    pub bit : Bool
+    pub step : IsStep o parent.made parent.state thread code bit (Leads node.made node.state)
+    pub few : node.made < o.count
+    pub last : node.last ≡ Some thread
+    pub low : level_with parent thread ≤ node.level
+
+  -- a step leads to each node but the first
+  abbrev pub AreFrom : List Node → Type 0
+  AreFrom nodes =
+      (n : ℕ) (node : Node) → 0 < n → slice_get nodes n ≡ Some node → IsFrom nodes n node
+
+  -- the nodes were kept, and to the added ones steps lead, within this number of contexts
+  pub record IsGrown (level : ℕ) (old new : List Node) : Type 0 where
+    pub longer : length old ≤ length new
+    pub kept : (n : ℕ) (node : Node)
+        → slice_get old n ≡ Some node
+        → slice_get new n ≡ Some node
+    pub added : (n : ℕ) (node : Node)
+        → length old ≤ n
+        → slice_get new n ≡ Some node
+        → (node.level ≡ level) × IsFrom new n node
+
+  -- the nodes were grown, and the steps of these threads from the node of this number are seen
+  pub record Expands (at level : ℕ) (AreOf : Node → ℕ → Type 0) (old new : List Node) : Type 0 where
+    pub grown : IsGrown level old new
+    pub expanded : (node : Node) (i : ℕ)
+        → slice_get old at ≡ Some node
+        → AreOf node i
+        → IsExpanded o code new node i level
 
 -- everything within k contexts was seen, and the nodes from p on use k contexts
 pub record IsExplored
@@ -225,6 +202,18 @@ pub record IsExplored
   pub layered : AreLayered nodes p k
   pub closed : IsClosed o code threads nodes (length nodes) k
   pub few : p ≤ length nodes
+
+-- the threads below n other than that whose step led to the node
+abbrev pub AreOthers : ℕ → Node → ℕ → Type 0
+AreOthers n node i = (i < n) × (node.last ≢ Some i)
+
+-- the nodes of the next layer, from `next` on, were added, and everything within it was seen
+pub record IsNextLayer
+    (o : ListedSteps) (code : List Instruction) (threads level : ℕ) (old new : List Node) (next : ℕ)
+    : Type 0 where
+  pub first : next ≡ length old
+  pub grown : IsGrown o code level old new
+  pub explored : IsExplored o code threads new next level
 
 -- Runs that are played on a session. How an exploration works, which no public clause names.
 
@@ -244,10 +233,10 @@ pub record IsReplay
   pub granted : granted_calls h ≡ h
   pub made : o.is_of t → IsPlayedTo t r.session.setup o h r.made
 
--- there is one node, whose state shows the start
+-- the state of the first node shows the start
 pub record BeginsAt (c : Flat) (s : SetupOf) (nodes : List Node) : Type 0 where
   pub state : StateOf
-  pub is : nodes ≡ record { state = state; made = 0; last = None; level = 0 } ∷ []
+  pub is : slice_get nodes 0 ≡ Some (record { state = state; made = 0; last = None; level = 0 })
   pub shows : Shows c.tree state (start c.tree s)
 
 -- the nodes that have not made all listed steps have made fewer than n

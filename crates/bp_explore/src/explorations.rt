@@ -9,7 +9,6 @@ use crate::found_runs::{played, played_through};
 use crate::observers::{Failures, Observer, Watcher};
 use crate::searches::{SearchEnd, search};
 use crate::spaces::{Space, Stop};
-use crate::states::State;
 use bp_flat::Code;
 use bp_machine::{Call, Reply, Session, Setup};
 use std::alloc::{AllocError, Global};
@@ -64,9 +63,7 @@ pub fn explore<P: Watcher>(
     ensures { let t = code.now.tree in
         IfOk result (λ x. IsExploration code.now t setup.now contexts with_deadlock x.ending) }
 {
-    code.is_of_a_program();
-    let first = State::first(alloc, code, setup)?;
-    let mut space = Space::new(alloc, first, states)?;
+    let mut space = Space::new(alloc, code, setup, states)?;
     let end = search(
         &mut space,
         code,
@@ -149,9 +146,7 @@ pub fn explore_through<O: Observer, P: Watcher>(
         let t = code.now.tree in o.is_of t
         → IfOk result (λ x. IsThrough code.now t setup.now o contexts x.ending) }
 {
-    code.is_of_a_program();
-    let first = State::first(alloc, code, setup)?;
-    let mut space = Space::new(alloc, first, states)?;
+    let mut space = Space::new(alloc, code, setup, states)?;
     let end = search(&mut space, code, setup, observer, contexts, false, watcher);
     watcher.ends();
     let ending = through_ending_of(alloc, code, setup, observer, &space, end)?;

@@ -1,11 +1,10 @@
 //! Playing the run that an exploration found, on a session. Playing a run on a session. Playing the
 //! run that makes listed steps, on a session.
-ghost use Rattle.std.specs.Prelude.{◌≡◌, IsTrue, IfOk, ◌<◌, ◌≤◌, true, [], IfSome, length};
+ghost use Rattle.std.specs.Prelude.{◌≡◌, IsTrue, IfOk, ◌<◌, true, [], IfSome, MatchResult, length};
 ghost use Rattle.bp_machine.specs.Histories.{configuration_after, calls_of_thread, granted_calls, is_granted};
 ghost use Rattle.bp_machine.specs.Sessions.{Stands, AfterEach};
-ghost use Rattle.bp_machine.specs.Setups.{Fits, threads};
-ghost use Rattle.bp_machine.specs.declared.limits.TheConstants.{MAX_CALLS, MAX_CONTEXTS};
-ghost use Rattle.bp_explore.specs.Explorations.{IsFinding, IsPlayed, most_calls};
+ghost use Rattle.bp_machine.specs.Setups.{Fits};
+ghost use Rattle.bp_explore.specs.Explorations.{IsFinding, IsPlayed, IsTooLong, most_calls};
 ghost use Rattle.bp_explore.specs.Searches.{IsPlayedTo, IsReplay};
 ghost use Rattle.bp_explore.specs.ThroughExplorations.{IsPlayedThrough};
 
@@ -39,23 +38,17 @@ pub(crate) fn played(
     requires { Fits code.now.tree setup.now }
     ensures { IfOk result (IsPlayed code.now code.now.tree setup.now contexts finding) }
 {
-    let calls = most_calls(setup.threads(), history.as_slice());
-    if contexts > MAX_CONTEXTS || calls > MAX_CALLS as usize {
-        return Ok(Ending::Unplayed {
-            contexts,
-            finding,
-            calls,
-        });
-    }
-    let replay = replay_of(
-        alloc,
-        code,
-        setup,
-        &Failures,
-        history.as_slice(),
-        contexts,
-        calls,
-    )?;
+    let played = replay_of(alloc, code, setup, &Failures, history.as_slice(), contexts)?;
+    let replay = match played {
+        Ok(replay) => replay,
+        Err(calls) => {
+            return Ok(Ending::Unplayed {
+                contexts,
+                finding,
+                calls,
+            });
+        }
+    };
     if !is_found(&replay.session, finding) {
         return Err(AllocError);
     }
@@ -146,8 +139,8 @@ fn play<O: Observer>(session: &mut Session, observer: &O, calls: &[Call]) -> Opt
     Some(made)
 }
 
-/// Plays a run within this number of contexts, in the setup of its trace. The most attempts of one
-/// thread are given.
+/// Plays a run within this number of contexts, in the setup of its trace. Returns the most attempts
+/// of one thread if no setup allows the run.
 pub(crate) fn replay_of<O: Observer>(
     alloc: Global,
     code: &Code,
@@ -155,16 +148,19 @@ pub(crate) fn replay_of<O: Observer>(
     observer: &O,
     history: &[Call],
     contexts: u32,
-    calls: usize,
-) -> Result<Replay, AllocError>
+) -> Result<Result<Replay, usize>, AllocError>
     requires fits { Fits code.now.tree setup.now }
     requires some { 0 < (O.listed observer.now).count }
-    requires contexts { contexts ≤ MAX_CONTEXTS }
-    requires calls { (calls ≤ MAX_CALLS) × (calls ≡ most_calls (threads setup.now) history.now) }
     ensures { let o = O.listed observer.now in
         let t = code.now.tree in
-        IfOk result (IsReplay code.now t setup.now o contexts history.now) }
+        IfOk result (λ played. MatchResult played
+        (IsReplay code.now t setup.now o contexts history.now)
+        (IsTooLong contexts)) }
 {
+    let calls = most_calls(setup.threads(), history);
+    if contexts > MAX_CONTEXTS || calls > MAX_CALLS as usize {
+        return Ok(Err(calls));
+    }
     let allowed = DEFAULT_CALLS.max(calls as u32);
     let own = setup
         .try_copy()?
@@ -174,7 +170,7 @@ pub(crate) fn replay_of<O: Observer>(
     let Some(made) = play(&mut session, observer, history) else {
         return Err(AllocError);
     };
-    Ok(Replay { session, made })
+    Ok(Ok(Replay { session, made }))
 }
 
 /// Plays the run of these steps, which is within these contexts and makes all listed steps.
@@ -192,19 +188,11 @@ pub(crate) fn played_through<O: Observer>(
         let t = code.now.tree in o.is_of t
         → IfOk result (IsPlayedThrough code.now t setup.now o contexts) }
 {
-    let calls = most_calls(setup.threads(), history.as_slice());
-    if contexts > MAX_CONTEXTS || calls > MAX_CALLS as usize {
-        return Ok(ThroughEnding::Unplayed { contexts, calls });
-    }
-    let replay = replay_of(
-        alloc,
-        code,
-        setup,
-        observer,
-        history.as_slice(),
-        contexts,
-        calls,
-    )?;
+    let played = replay_of(alloc, code, setup, observer, history.as_slice(), contexts)?;
+    let replay = match played {
+        Ok(replay) => replay,
+        Err(calls) => return Ok(ThroughEnding::Unplayed { contexts, calls }),
+    };
     if replay.made < observer.count() {
         return Err(AllocError);
     }

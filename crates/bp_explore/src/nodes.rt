@@ -3,8 +3,7 @@ ghost use Rattle.std.specs.Prelude.{◌≡◌, ◌<◌, ◌/◌, ◌%◌, ◌^�
 ghost use Rattle.bp_syntax.specs.Ast.{Program};
 ghost use Rattle.bp_flat.specs.Moves.{Configuration};
 ghost use Rattle.bp_machine.specs.declared.stacks.ActivationRecord.{ActivationRecord};
-ghost use Rattle.bp_machine.specs.Transitions.{IsTransitionOn};
-ghost use Rattle.bp_explore.specs.States.{IsLive, NodeOf, IsRecordOf, node_of, record_at, take_key, Shows, state_after};
+ghost use Rattle.bp_explore.specs.States.{IsLive, NodeOf, IsRecordOf, node_of, record_at, take_key, Shows, state_after, IsNext};
 ghost use Rattle.bp_explore.specs.Searches.{IsTopOrNone, ShowsStep};
 
 use crate::cells::{push_number, read_number};
@@ -69,8 +68,7 @@ impl Nodes {
     /// Makes the node of this first state.
     pub(crate) fn new(alloc: Global, first: State) -> Result<Nodes, AllocError>
         ensures { IfOk result (λ x.
-            (x.items ≡ record { state = first; made = 0; last = None; level = 0 } ∷ [])
-            × (length x.spare.stacks ≡ length first.stacks)) }
+            x.items ≡ record { state = first; made = 0; last = None; level = 0 } ∷ []) }
     {
         let mut record = Vec::new(alloc);
         push_number(&mut record, 0)?;
@@ -87,6 +85,7 @@ impl Nodes {
     }
 
     /// Returns the number of nodes.
+    #[tactic(auto, using(crate::proofs::PackedNodes::nodes_length))]
     pub(crate) fn len(&self) -> usize
         ensures { result ≡ length self.now.items }
     {
@@ -94,6 +93,7 @@ impl Nodes {
     }
 
     /// Makes the spare state that of a node, and returns the number of listed steps made.
+    #[tactic(auto, using(crate::proofs::PackedNodes::node_is))]
     pub(crate) fn load(&mut self, at: usize) -> Result<u32, AllocError>
         ensures items { self.new.items ≡ self.old.items }
         ensures loaded { OnOk result
@@ -112,6 +112,7 @@ impl Nodes {
     }
 
     /// Returns the number of listed steps made at a node.
+    #[tactic(auto, using(crate::proofs::PackedNodes::node_is))]
     pub(crate) fn made(&self, at: usize) -> u32
         ensures { (node : NodeOf) → slice_get self.now.items at ≡ Some node → result ≡ node.made }
     {
@@ -122,6 +123,7 @@ impl Nodes {
     }
 
     /// Returns the thread of the step that led to a node, or None if no step did.
+    #[tactic(auto, using(crate::proofs::PackedNodes::node_is))]
     pub(crate) fn last(&self, at: usize) -> Option<u32>
         ensures { (node : NodeOf) → slice_get self.now.items at ≡ Some node → result ≡ node.last }
     {
@@ -230,10 +232,7 @@ impl Nodes {
 
     /// Returns the transition for a thread's next step from the spare state, with this choice bit.
     pub(crate) fn transition(&self, code: &Code, thread: u32, bit: bool) -> Transition
-        ensures { (stack : List ActivationRecord)
-            → slice_get self.now.spare.stacks thread ≡ Some stack
-            → let code = code.now.instructions in
-            IsTransitionOn code self.now.spare.globals bit true stack result }
+        ensures { IsNext code.now.instructions self.now.spare thread bit result }
     {
         self.spare.transition(code, thread, bit)
     }

@@ -1,5 +1,5 @@
 //! Searching a space, layer by layer.
-ghost use Rattle.std.specs.Prelude.{◌≡◌, ◌<◌, ◌∷◌, []};
+ghost use Rattle.std.specs.Prelude.{◌≡◌, ◌<◌, length};
 ghost use Rattle.bp_explore.specs.Searches.{BeginsAt, IsSearchEnd};
 
 use crate::explorations::Reason;
@@ -50,6 +50,7 @@ pub(crate) fn search<O: Observer, P: Watcher>(
     watcher: &P,
 ) -> SearchEnd
     requires begins { BeginsAt code.now setup.now space.old.nodes.items }
+    requires one { length space.old.nodes.items ≡ 1 }
     requires some { 0 < (O.listed observer.now).count }
     ensures { let o = O.listed observer.now in
         let nodes = space.new.nodes.items in

@@ -1,7 +1,8 @@
 //! The space of an exploration: the nodes that were found, in order of their contexts.
-ghost use Rattle.std.specs.Prelude.{◌≡◌, ◌≢◌, ◌<◌, ◌≤◌, ◌+◌, ◌++◌, ◌∷◌, [], ℕ, IsTrue, IsSome, None, Some, IfOk, OnOk, length, slice_get};
+ghost use Rattle.std.specs.Prelude.{◌≡◌, ◌⊎◌, ◌<◌, ◌≤◌, ◌+◌, ◌++◌, ◌∷◌, [], ℕ, IsTrue, IsSome, None, Some, IfOk, OnOk, length, slice_get};
 ghost use Rattle.bp_explore.specs.States.{HasKey, NodeOf, node_of, AreLiveFrom};
-ghost use Rattle.bp_explore.specs.Searches.{IsTaken, MayAdd, StayReached, node_with, IsMostMade, level_with, Has, IsSeen, IsExpanded, IsClosed, AreLayered, AreAtMost, IsGrown, IsExplored, IsFollowed, Step as StepOf};
+ghost use Rattle.bp_machine.specs.Setups.{Fits};
+ghost use Rattle.bp_explore.specs.Searches.{AreAtMost, AreLayered, AreOthers, BeginsAt, Expands, Has, IsClosed, IsExplored, IsFollowed, IsGrown, IsMostMade, IsNextLayer, IsTaken, Step as StepOf, level_with, node_with};
 
 use crate::explorations::Reason;
 use crate::limits::{MAX_STATES, STATES_BETWEEN};
@@ -10,7 +11,7 @@ use crate::observers::{Observer, Watcher, made_with};
 use crate::states::State;
 use crate::tables::{note, place_of};
 use bp_flat::{Code, Effect};
-use bp_machine::{Call, Reply, Transition};
+use bp_machine::{Call, Reply, Setup, Transition};
 use std::alloc::{AllocError, Global};
 
 /// A step of a thread from a node.
@@ -110,12 +111,19 @@ fn table_of(alloc: Global, nodes: &Nodes, size: usize) -> Result<Vec<u32>, Alloc
 }
 
 impl Space {
-    /// Makes the space of this first state, which keeps at most `limit` states.
-    pub(crate) fn new(alloc: Global, first: State, limit: usize) -> Result<Space, AllocError>
-        ensures { IfOk result (λ x.
-            (x.nodes.items ≡ record { state = first; made = 0; last = None; level = 0 } ∷ [])
-            × (length x.nodes.spare.stacks ≡ length first.stacks)) }
+    /// Makes the space of the start of a setup, which keeps at most `limit` states.
+    pub(crate) fn new(
+        alloc: Global,
+        code: &Code,
+        setup: &Setup,
+        limit: usize,
+    ) -> Result<Space, AllocError>
+        requires { Fits code.now.tree setup.now }
+        ensures begins { IfOk result (λ x. BeginsAt code.now setup.now x.nodes.items) }
+        ensures one { IfOk result (λ x. length x.nodes.items ≡ 1) }
     {
+        code.is_of_a_program();
+        let first = State::first(alloc, code, setup)?;
         let nodes = Nodes::new(alloc, first)?;
         let table = vec![in alloc; 0u32; 1024]?;
         let packed = Vec::new(alloc);
@@ -207,12 +215,13 @@ impl Space {
     /// Keeps the spare state unless it was found before. A step led to it, with `made` of the
     /// listed steps.
     fn take(&mut self, code: &Code, step: Step, made: u32, level: u32) -> Result<(), Stop>
-        ensures added { let spare = self.old.nodes.spare in
-            let node = node_with spare made step.thread level in
-            OnOk result (MayAdd self.old.nodes.items node self.new.nodes.items) }
+        requires { AreAtMost self.old.nodes.items level }
+        ensures added { let node = node_with self.old.nodes.spare made step.thread level in
+            OnOk result
+            ((self.new.nodes.items ≡ self.old.nodes.items)
+            ⊎ (self.new.nodes.items ≡ self.old.nodes.items ++ node ∷ [])) }
         ensures held { OnOk result
-            (AreAtMost self.old.nodes.items level
-            → Has self.new.nodes.items self.old.nodes.spare step.thread made level) }
+            (Has self.new.nodes.items self.old.nodes.spare step.thread made level) }
     {
         let key = self.nodes.pack(level, step.thread, made, &mut self.packed)?;
         if self.holds(&self.packed[key..]) {
@@ -234,14 +243,12 @@ impl Space {
         level: u32,
         transition: Transition,
     ) -> Result<(), Stop>
-        ensures grown { OnOk result (IsGrown self.old.nodes.items self.new.nodes.items level) }
-        ensures seen { let o = O.listed observer.now in
-            let old = self.old.nodes.items in
+        requires { AreAtMost self.old.nodes.items level }
+        ensures { let o = O.listed observer.now in
             OnOk result
             ((y : StepOf)
             × IsFollowed o made self.old.nodes.spare step.thread transition y
-            × (AreAtMost old level → IsSeen o self.new.nodes.items step.thread level y)
-            × IsTaken o old step.thread level y self.new.nodes.items) }
+            × IsTaken o self.old.nodes.items step.thread level y self.new.nodes.items) }
     {
         match transition {
             Transition::Stays(_) => Ok(()),
@@ -278,19 +285,13 @@ impl Space {
         thread: u32,
         level: u32,
     ) -> Result<(), Stop>
-        ensures grown { OnOk result (IsGrown self.old.nodes.items self.new.nodes.items level) }
-        ensures expanded { let o = O.listed observer.now in
-            OnOk result
-            ((node : NodeOf)
-            → slice_get self.old.nodes.items from ≡ Some node
-            → AreAtMost self.old.nodes.items level
-            → IsExpanded o code.now.instructions self.new.nodes.items node thread level) }
-        ensures reached { let o = O.listed observer.now in
-            OnOk result
-            ((node : NodeOf)
-            → slice_get self.old.nodes.items from ≡ Some node
-            → level_with node thread ≤ level
-            → StayReached code.now o (thread + 1) self.old.nodes.items self.new.nodes.items) }
+        requires most { AreAtMost self.old.nodes.items level }
+        requires here { (node : NodeOf)
+            × (slice_get self.old.nodes.items from ≡ Some node)
+            × (level_with node thread ≤ level) }
+        ensures { let o = O.listed observer.now in
+            let expands = Expands o code.now.instructions from level (λ node i. i ≡ thread) in
+            OnOk result (expands self.old.nodes.items self.new.nodes.items) }
     {
         let made = self.nodes.load(from)?;
         let first = self.nodes.transition(code, thread, false);
@@ -308,6 +309,7 @@ impl Space {
     }
 
     /// Makes the steps of the thread whose step led to a node.
+    #[tactic(auto, using(crate::proofs::Growth::grown_none))]
     fn go_on<O: Observer>(
         &mut self,
         code: &Code,
@@ -315,20 +317,12 @@ impl Space {
         at: usize,
         level: u32,
     ) -> Result<(), Stop>
-        ensures grown { OnOk result (IsGrown self.old.nodes.items self.new.nodes.items level) }
-        ensures expanded { let o = O.listed observer.now in
-            OnOk result
-            ((node : NodeOf) (i : ℕ)
-            → slice_get self.old.nodes.items at ≡ Some node
-            → node.last ≡ Some i
-            → AreAtMost self.old.nodes.items level
-            → IsExpanded o code.now.instructions self.new.nodes.items node i level) }
-        ensures reached { let o = O.listed observer.now in
-            OnOk result
-            ((node : NodeOf)
-            → slice_get self.old.nodes.items at ≡ Some node
-            → node.level ≤ level
-            → StayReached code.now o 0 self.old.nodes.items self.new.nodes.items) }
+        requires most { AreAtMost self.old.nodes.items level }
+        requires here { at < length self.old.nodes.items }
+        ensures { let o = O.listed observer.now in
+            let of_last = λ (node : NodeOf) (i : ℕ). node.last ≡ Some i in
+            let expands = Expands o code.now.instructions at level of_last in
+            OnOk result (expands self.old.nodes.items self.new.nodes.items) }
     {
         let Some(thread) = self.nodes.last(at) else {
             return Ok(());
@@ -337,38 +331,8 @@ impl Space {
         Ok(())
     }
 
-    /// Makes the steps of a thread from a node to which another thread's step led.
-    fn switch_to<O: Observer>(
-        &mut self,
-        code: &Code,
-        observer: &O,
-        at: usize,
-        thread: u32,
-        level: u32,
-    ) -> Result<(), Stop>
-        ensures grown { OnOk result (IsGrown self.old.nodes.items self.new.nodes.items level) }
-        ensures expanded { let o = O.listed observer.now in
-            OnOk result
-            ((node : NodeOf)
-            → slice_get self.old.nodes.items at ≡ Some node
-            → node.last ≢ Some thread
-            → AreAtMost self.old.nodes.items level
-            → IsExpanded o code.now.instructions self.new.nodes.items node thread level) }
-        ensures reached { let o = O.listed observer.now in
-            OnOk result
-            ((node : NodeOf)
-            → slice_get self.old.nodes.items at ≡ Some node
-            → node.level < level
-            → StayReached code.now o (thread + 1) self.old.nodes.items self.new.nodes.items) }
-    {
-        if self.nodes.last(at) == Some(thread) {
-            return Ok(());
-        }
-        self.expand(code, observer, at, thread, level)?;
-        Ok(())
-    }
-
     /// Makes the steps of all other threads from a node.
+    #[tactic(auto, using(crate::proofs::Growth::grown_none))]
     fn switch<O: Observer>(
         &mut self,
         code: &Code,
@@ -377,24 +341,19 @@ impl Space {
         level: u32,
         threads: u32,
     ) -> Result<(), Stop>
-        ensures grown { OnOk result (IsGrown self.old.nodes.items self.new.nodes.items level) }
-        ensures expanded { let o = O.listed observer.now in
-            OnOk result
-            ((node : NodeOf) (i : ℕ)
-            → slice_get self.old.nodes.items at ≡ Some node
-            → i < threads
-            → node.last ≢ Some i
-            → AreAtMost self.old.nodes.items level
-            → IsExpanded o code.now.instructions self.new.nodes.items node i level) }
-        ensures reached { let o = O.listed observer.now in
-            OnOk result
-            ((node : NodeOf)
-            → slice_get self.old.nodes.items at ≡ Some node
-            → node.level < level
-            → StayReached code.now o threads self.old.nodes.items self.new.nodes.items) }
+        requires most { AreAtMost self.old.nodes.items level }
+        requires here { (node : NodeOf)
+            × (slice_get self.old.nodes.items at ≡ Some node)
+            × (node.level < level) }
+        ensures { let o = O.listed observer.now in
+            let expands = Expands o code.now.instructions at level (AreOthers threads) in
+            OnOk result (expands self.old.nodes.items self.new.nodes.items) }
     {
         for thread in 0..threads {
-            self.switch_to(code, observer, at, thread, level)?;
+            if self.nodes.last(at) == Some(thread) {
+                continue;
+            }
+            self.expand(code, observer, at, thread, level)?;
         }
         Ok(())
     }
@@ -418,20 +377,15 @@ impl Space {
         threads: u32,
         watcher: &P,
     ) -> Result<(), Stop>
-        ensures grown { OnOk result (IsGrown self.old.nodes.items self.new.nodes.items level) }
+        requires { let o = O.listed observer.now in (k : ℕ)
+            × (level ≡ k + 1)
+            × IsExplored o code.now.instructions threads self.old.nodes.items from k }
+        ensures grown { let o = O.listed observer.now in
+            let grown = IsGrown o code.now.instructions level in
+            OnOk result (grown self.old.nodes.items self.new.nodes.items) }
         ensures closed { let o = O.listed observer.now in
-            OnOk result
-            ((k : ℕ)
-            → level ≡ k + 1
-            → IsExplored o code.now.instructions threads self.old.nodes.items from k
-            → let old = length self.old.nodes.items in
-            IsClosed o code.now.instructions threads self.new.nodes.items old level) }
-        ensures reached { let o = O.listed observer.now in
-            OnOk result
-            ((k : ℕ)
-            → level ≡ k + 1
-            → AreAtMost self.old.nodes.items k
-            → StayReached code.now o threads self.old.nodes.items self.new.nodes.items) }
+            let closed = IsClosed o code.now.instructions threads self.new.nodes.items in
+            OnOk result (closed (length self.old.nodes.items) level) }
     {
         for at in from..self.nodes.len() {
             self.ask(watcher, at, level)?;
@@ -442,6 +396,7 @@ impl Space {
 
     /// Closes a layer, which has the nodes from this number on, under the steps of the threads
     /// whose steps led to them.
+    #[tactic(auto, using(crate::proofs::Growth::grown_none))]
     fn close_layer<O: Observer, P: Watcher>(
         &mut self,
         code: &Code,
@@ -450,19 +405,17 @@ impl Space {
         level: u32,
         watcher: &P,
     ) -> Result<(), Stop>
-        ensures grown { OnOk result (IsGrown self.old.nodes.items self.new.nodes.items level) }
+        requires layered { AreLayered self.old.nodes.items from level }
+        requires few { from ≤ length self.old.nodes.items }
+        ensures grown { let o = O.listed observer.now in
+            let grown = IsGrown o code.now.instructions level in
+            OnOk result (grown self.old.nodes.items self.new.nodes.items) }
         ensures closed { let o = O.listed observer.now in
+            let closed = IsClosed o code.now.instructions in
             OnOk result
             ((threads : ℕ)
-            → AreLayered self.old.nodes.items from level
-            → from ≤ length self.old.nodes.items
-            → IsClosed o code.now.instructions threads self.old.nodes.items from level
-            → let new = length self.new.nodes.items in
-            IsClosed o code.now.instructions threads self.new.nodes.items new level) }
-        ensures reached { let o = O.listed observer.now in
-            OnOk result
-            (AreAtMost self.old.nodes.items level
-            → StayReached code.now o 0 self.old.nodes.items self.new.nodes.items) }
+            → closed threads self.old.nodes.items from level
+            → closed threads self.new.nodes.items (length self.new.nodes.items) level) }
     {
         let limit = self.limit as usize;
         for at in from..limit {
@@ -488,20 +441,12 @@ impl Space {
         threads: u32,
         watcher: &P,
     ) -> Result<usize, Stop>
-        ensures explored { let o = O.listed observer.now in
-            IfOk result (λ next.
-            (k : ℕ)
-            → level ≡ k + 1
-            → IsExplored o code.now.instructions threads self.old.nodes.items from k
-            → IsExplored o code.now.instructions threads self.new.nodes.items next level) }
-        ensures next { IfOk result (λ next. next ≡ length self.old.nodes.items) }
-        ensures grown { OnOk result (IsGrown self.old.nodes.items self.new.nodes.items level) }
-        ensures reached { let o = O.listed observer.now in
-            OnOk result
-            ((k : ℕ)
-            → level ≡ k + 1
-            → AreAtMost self.old.nodes.items k
-            → StayReached code.now o threads self.old.nodes.items self.new.nodes.items) }
+        requires { let o = O.listed observer.now in (k : ℕ)
+            × (level ≡ k + 1)
+            × IsExplored o code.now.instructions threads self.old.nodes.items from k }
+        ensures { let o = O.listed observer.now in
+            let is_next = IsNextLayer o code.now.instructions threads level in
+            IfOk result (is_next self.old.nodes.items self.new.nodes.items) }
     {
         let next = self.nodes.len();
         self.begin_layer(code, observer, from, level, threads, watcher)?;
@@ -537,15 +482,13 @@ impl Space {
     }
 
     /// Returns the most listed steps that were made at a node.
+    #[tactic(auto, using(std::proofs::lemmas::Option::slice_get_within))]
     pub(crate) fn most_made(&self) -> u32
         ensures { IsMostMade self.now.nodes.items result }
     {
-        let mut most = 0;
+        let mut most: u32 = 0;
         for at in 0..self.nodes.len() {
-            let made = self.nodes.made(at);
-            if made > most {
-                most = made;
-            }
+            most = most.max(self.nodes.made(at));
         }
         most
     }

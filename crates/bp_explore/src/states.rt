@@ -6,7 +6,7 @@ ghost use Rattle.bp_flat.specs.Moves.{Configuration};
 ghost use Rattle.bp_flat.specs.Steps.{bits_from};
 ghost use Rattle.bp_machine.specs.declared.stacks.ActivationRecord.{ActivationRecord};
 ghost use Rattle.bp_explore.specs.Searches.{IsTopOrNone, ShowsStep};
-ghost use Rattle.bp_explore.specs.States.{frames_of, first_stack_of, Shows, state_after, IsPacked, take_state, goes_on, IsLive};
+ghost use Rattle.bp_explore.specs.States.{frames_of, first_stack_of, Shows, state_after, IsPacked, take_state, goes_on, IsLive, IsNext};
 ghost use Rattle.bp_machine.specs.Transitions.{IsTransitionOn};
 ghost use Rattle.bp_machine.specs.declared.threads.Transition.{Transition as TransitionOf};
 
@@ -144,10 +144,7 @@ impl State {
 
     /// Returns the transition for the next step of a thread, with this choice bit.
     pub(crate) fn transition(&self, code: &Code, thread: u32, bit: bool) -> Transition
-        ensures { (stack : List ActivationRecord)
-            → slice_get self.now.stacks thread ≡ Some stack
-            → let code = code.now.instructions in
-            IsTransitionOn code self.now.globals bit true stack result }
+        ensures { IsNext code.now.instructions self.now thread bit result }
     {
         let thread = thread as usize;
         if thread >= self.stacks.len() {
@@ -198,6 +195,7 @@ impl State {
     }
 
     /// Returns whether the threads are not deadlocked: some thread can continue, or each has ended.
+    #[tactic(auto, using(crate::proofs::LiveStates::going_is_live))]
     pub(crate) fn is_live(&self, code: &Code) -> bool
         ensures { IsTrue result → IsLive code.now.tree self.now }
     {

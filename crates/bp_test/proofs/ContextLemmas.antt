@@ -7,33 +7,23 @@ use Rattle.bp_test.specs.declared.tallies.ContextsUsed.{ContextsUsed}
 abbrev pub below_contexts : ℕ → List MadeRun → ℕ
 below_contexts i runs = count_by (λ r. nat_lt r.report.contexts i) runs
 
+is_true : (b : Bool) → (b ≡ false → ⊥) → b ≡ true
+is_true b given1 = grind (arith)
+
+is_false : (b : Bool) → (b ≡ true → ⊥) → b ≡ false
+is_false b given1 = grind (arith)
+
 lt_true : (a b : ℕ) → a < b → nat_lt a b ≡ true
-lt_true a b less = by (nat_lt a b) refl
-  where
-    by : (c : Bool) → nat_lt a b ≡ c → nat_lt a b ≡ true
-    by true e = e
-    by false e = absurd (grind (arith, nat_tests, e, less))
+lt_true a b less = is_true (nat_lt a b) (λ e. grind (arith, nat_tests, e, less))
 
 lt_false : (a b : ℕ) → b ≤ a → nat_lt a b ≡ false
-lt_false a b far = by (nat_lt a b) refl
-  where
-    by : (c : Bool) → nat_lt a b ≡ c → nat_lt a b ≡ false
-    by true e = absurd (grind (arith, nat_tests, e, far))
-    by false e = e
+lt_false a b far = is_false (nat_lt a b) (λ e. grind (arith, nat_tests, e, far))
 
 eq_true : (a b : ℕ) → a ≡ b → (a == b) ≡ true
-eq_true a b same = by (a == b) refl
-  where
-    by : (c : Bool) → (a == b) ≡ c → (a == b) ≡ true
-    by true e = e
-    by false e = absurd (grind (arith, nat_tests, e, same))
+eq_true a b same = is_true (a == b) (λ e. grind (arith, nat_tests, e, same))
 
 eq_false : (a b : ℕ) → (a ≡ b → ⊥) → (a == b) ≡ false
-eq_false a b other = by (a == b) refl
-  where
-    by : (c : Bool) → (a == b) ≡ c → (a == b) ≡ false
-    by true e = absurd (other (grind (arith, nat_tests, e)))
-    by false e = e
+eq_false a b other = is_false (a == b) (λ e. other (grind (arith, nat_tests, e)))
 
 one_more : (a i : ℕ) → cond (nat_lt a (i + 1)) 1 0 ≡ cond (nat_lt a i) 1 0 + cond (a == i) 1 0
 one_more a i = grind (arith)

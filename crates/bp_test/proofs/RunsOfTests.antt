@@ -47,14 +47,8 @@ module _ (s : SetupOf) (with_deadlock : Bool) (seed run : ℕ) (old x : SessionO
       (counted : (g : List Call) → Stands t x g → IsReport x.setup g r)
       (d : Bool) (told : (g : List Call) → Stands t x g → IsTrue d ↔ IsDeadlocked t (configuration_after t x.setup g))
       (ended : Bool) (returns : (g : List Call) → Stands t x g → IsTrue ended ↔ HaveReturned (configuration_after t x.setup g) (threads x.setup)) where
-    made_run : IsMadeRun t (setup_of_run s seed run) (made h r d ended)
+    pub made_run : IsMadeRun t (setup_of_run s seed run) (made h r d ended)
     made_run = search (rules, setup_is, within_contexts)
-
-    pub clean_run : is_sought with_deadlock r d ≡ false → IsCleanRun t (setup_of_run s seed run) with_deadlock (made h r d ended)
-    clean_run e = clean_by_report t (setup_of_run s seed run) with_deadlock h r d ended made_run e
-
-    pub sought_run : is_sought with_deadlock r d ≡ true → IsSoughtRun t (setup_of_run s seed run) with_deadlock (made h r d ended)
-    sought_run e = sought_by_report t (setup_of_run s seed run) with_deadlock h r d ended made_run e
 
   -- the places that it reaches
   pub reaches_is : (marks new : List Bool) → MarksGrow (place_of t) (Reaches t x.setup h) marks new → MarksGrow (place_of t) (Reaches t s h) marks new

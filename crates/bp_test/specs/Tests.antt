@@ -14,7 +14,6 @@ use Rattle.bp_machine.specs.Sessions.{SessionOf, Stands}
 use Rattle.bp_machine.specs.declared.calls.Outcome.{Outcome}
 use Rattle.bp_machine.specs.declared.calls.Report.{Report}
 use Rattle.bp_trace.specs.TraceText.{trace_text}
-use Rattle.bp_source.specs.declared.limits.TheConstants.{MAX_JOBS}
 use Rattle.bp_source.specs.declared.options.TestOptions.{TestOptions}
 use Rattle.bp_test.specs.declared.batches.FoundRun.{FoundRun}
 use Rattle.bp_test.specs.declared.tests.TestError.{TestError}
@@ -59,10 +58,6 @@ IsOver t s h = (is_failure (outcome_of h) ≡ true) ⊎ EachRests t s h
 -- thread i of the session rests
 abbrev pub RestsIn : SessionOf → ℕ → Type 0
 RestsIn x i = (h : List Call) → Stands x.code.tree x h → Rests x.code.tree x.setup h i
-
--- the number of jobs that make the runs: as many as asked for, and at least one
-abbrev pub jobs_of : TestOptions → ℕ
-jobs_of x = max 1 (min x.jobs MAX_JOBS)
 
 -- the setup of run r, from 0: its seed is the r-th after the first one, modulo 2 ^ 64
 abbrev pub setup_of_run : SetupOf → ℕ → ℕ → SetupOf

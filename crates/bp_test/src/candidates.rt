@@ -96,46 +96,35 @@ pub(crate) struct Candidates {
     work: u64,
 }
 
-/// Returns the place after the attempts of one thread that begin here.
-fn end_of_context(history: &[Call], from: usize, thread: u32) -> usize {
+/// Returns the place of the first attempt from a place on that this thread makes, or another one.
+fn first_from(history: &[Call], from: usize, thread: u32, is_own: bool) -> Option<usize> {
     for place in from..history.len() {
-        if history[place].thread != thread {
-            return place;
+        if (history[place].thread == thread) == is_own {
+            return Some(place);
         }
     }
-    history.len()
+    None
 }
 
-/// Returns the place of the first of the attempts of one thread that end before this place.
-fn start_of_context(history: &[Call], to: usize, thread: u32) -> usize {
-    for distance in 0..to {
-        let place = to - 1 - distance;
-        if history.get(place).map(|call| call.thread) != Some(thread) {
-            return place + 1;
-        }
-    }
-    0
-}
-
-/// Returns the place after the last attempt of the thread before a place.
-fn end_before(history: &[Call], before: usize, thread: u32) -> Option<usize> {
+/// Returns the place after the last attempt before a place that this thread makes, or another one.
+fn end_before(history: &[Call], before: usize, thread: u32, is_own: bool) -> Option<usize> {
     for distance in 0..before {
         let place = before - 1 - distance;
-        if history.get(place).map(|call| call.thread) == Some(thread) {
+        if (history.get(place).map(|call| call.thread) == Some(thread)) == is_own {
             return Some(place + 1);
         }
     }
     None
 }
 
-/// Returns the place of the first attempt of the thread from a place on.
-fn start_after(history: &[Call], from: usize, thread: u32) -> Option<usize> {
-    for place in from..history.len() {
-        if history[place].thread == thread {
-            return Some(place);
-        }
-    }
-    None
+/// Returns the place after the attempts of one thread that begin here.
+fn end_of_context(history: &[Call], from: usize, thread: u32) -> usize {
+    first_from(history, from, thread, false).unwrap_or(history.len())
+}
+
+/// Returns the place of the first of the attempts of one thread that end before this place.
+fn start_of_context(history: &[Call], to: usize, thread: u32) -> usize {
+    end_before(history, to, thread, false).unwrap_or(0)
 }
 
 /// Returns whether an attempt of the part has the bit 1.
@@ -151,7 +140,7 @@ fn earlier(history: &[Call], part: Part, thread: u32) -> Option<Change> {
     Some(Change::Split {
         part,
         middle: part.to,
-        earlier: end_before(history, part.from, thread)?,
+        earlier: end_before(history, part.from, thread, true)?,
         later: part.to,
     })
 }
@@ -162,14 +151,14 @@ fn later(history: &[Call], part: Part, thread: u32) -> Option<Change> {
         part,
         middle: part.from,
         earlier: part.from,
-        later: start_after(history, part.to, thread)?,
+        later: first_from(history, part.to, thread, true)?,
     })
 }
 
 /// Returns the end of the context before this place of the thread. If there is none, it is the
 /// start of the context before this place, whose thread is another one.
 fn place_before(history: &[Call], from: usize, thread: u32) -> usize {
-    if let Some(place) = end_before(history, from, thread) {
+    if let Some(place) = end_before(history, from, thread, true) {
         return place;
     }
     let Some(last) = from.checked_sub(1) else {
@@ -184,7 +173,7 @@ fn place_before(history: &[Call], from: usize, thread: u32) -> usize {
 /// Returns the start of the context of the thread from this place on. If there is none, it is the
 /// end of the context that begins here, whose thread is another one.
 fn place_after(history: &[Call], to: usize, thread: u32) -> usize {
-    if let Some(place) = start_after(history, to, thread) {
+    if let Some(place) = first_from(history, to, thread, true) {
         return place;
     }
     match history.get(to) {
@@ -201,10 +190,8 @@ fn split(history: &[Call], place: usize, thread: u32) -> Option<Change> {
     if from == place {
         return None;
     }
-    let (earlier, later) = (
-        place_before(history, from, thread),
-        place_after(history, to, thread),
-    );
+    let earlier = place_before(history, from, thread);
+    let later = place_after(history, to, thread);
     if earlier == from && later == to {
         return None;
     }
@@ -219,10 +206,8 @@ fn split(history: &[Call], place: usize, thread: u32) -> Option<Change> {
 /// Leaves out a context and the one after it.
 fn pair(history: &[Call], part: Part) -> Option<Change> {
     let next = history.get(part.to)?;
-    Some(Change::LeftOut(Part {
-        from: part.from,
-        to: end_of_context(history, part.to, next.thread),
-    }))
+    let end = end_of_context(history, part.to, next.thread);
+    Some(Change::LeftOut(Part { to: end, ..part }))
 }
 
 impl Candidates {

@@ -1,10 +1,11 @@
 //! Changes of a history.
 //! Leaving out loops of a history.
-ghost use Rattle.std.specs.Prelude.{◌≡◌, IfOk};
+ghost use Rattle.std.specs.Prelude.{◌≡◌, OnOk};
 ghost use Rattle.bp_machine.specs.Setups.{Fits};
 ghost use Rattle.bp_test.specs.Shrinks.{unseeded};
 
-use bp_machine::{AskError, Call, Reply, Session, Top};
+use crate::shrinks::granted;
+use bp_machine::{AskError, Call, Session, Top};
 use std::alloc::AllocError;
 
 /// The attempts of a history from one place to before another.
@@ -12,6 +13,11 @@ use std::alloc::AllocError;
 pub(crate) struct Part {
     pub(crate) from: usize,
     pub(crate) to: usize,
+}
+
+/// Returns the part from one place to before another.
+fn between(from: usize, to: usize) -> Part {
+    Part { from, to }
 }
 
 /// A change of a history.
@@ -33,21 +39,6 @@ pub(crate) enum Change {
     },
     /// The choice bits of this part are 0.
     Zeros(Part),
-}
-
-/// Returns whether the attempt made a step.
-fn is_granted(call: &Call) -> bool {
-    matches!(call.reply, Reply::Stepped | Reply::Failed)
-}
-
-/// Writes the attempts that made a step.
-fn write_granted(history: &[Call], lines: &mut Vec<Call>) -> Result<(), AllocError> {
-    for call in history {
-        if is_granted(call) {
-            lines.push(*call)?;
-        }
-    }
-    Ok(())
 }
 
 /// Writes these parts one after the other.
@@ -79,11 +70,13 @@ pub(crate) fn write_changed(
     lines.clear();
     let end = history.len();
     match change {
-        Change::Idle | Change::Loops => write_granted(history, lines),
+        Change::Idle | Change::Loops => {
+            *lines = granted(*lines.allocator(), history)?;
+            Ok(())
+        }
         Change::Zeros(part) => write_zeros(history, part, lines),
         Change::LeftOut(Part { from, to }) => {
-            let parts = [Part { from: 0, to: from }, Part { from: to, to: end }];
-            write_parts(history, &parts, lines)
+            write_parts(history, &[between(0, from), between(to, end)], lines)
         }
         Change::Split {
             part: Part { from, to },
@@ -92,24 +85,12 @@ pub(crate) fn write_changed(
             later,
         } => {
             let bounds = [
-                Part {
-                    from: 0,
-                    to: earlier,
-                },
-                Part { from, to: middle },
-                Part {
-                    from: earlier,
-                    to: from,
-                },
-                Part {
-                    from: to,
-                    to: later,
-                },
-                Part { from: middle, to },
-                Part {
-                    from: later,
-                    to: end,
-                },
+                between(0, earlier),
+                between(from, middle),
+                between(earlier, from),
+                between(to, later),
+                between(middle, to),
+                between(later, end),
             ];
             write_parts(history, &bounds, lines)
         }
@@ -168,15 +149,15 @@ fn make(session: &mut Session, call: &Call) -> Result<(), AllocError>
 /// Drives the attempts of a history again without a seed, and writes them, except for those that
 /// return a thread to an earlier place, with the same values, in the same context.
 pub(crate) fn without_loops(
-    session: Session,
+    session: &mut Session,
     history: &[Call],
     lines: &mut Vec<Call>,
-) -> Result<Session, AllocError>
-    requires { Fits session.code.tree session.setup }
-    ensures code { IfOk result (λ x. x.code ≡ session.code) }
-    ensures setup { IfOk result (λ x. x.setup ≡ unseeded session.setup) }
+) -> Result<(), AllocError>
+    requires { Fits session.old.code.tree session.old.setup }
+    ensures code { session.new.code ≡ session.old.code }
+    ensures setup { OnOk result (session.new.setup ≡ unseeded session.old.setup) }
 {
-    let mut session = session.restarted(None)?;
+    session.restart(None)?;
     let mut path = Vec::new(*lines.allocator());
     let mut thread = None;
     lines.clear();
@@ -186,8 +167,7 @@ pub(crate) fn without_loops(
             thread = Some(call.thread);
         }
         go_on(&mut path, *call, session.top(call.thread))?;
-        make(&mut session, call)?;
+        make(session, call)?;
     }
-    write_path(&mut path, lines)?;
-    Ok(session)
+    write_path(&mut path, lines)
 }

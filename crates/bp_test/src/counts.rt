@@ -6,6 +6,7 @@ ghost use Rattle.bp_machine.specs.Setups.{SetupOf};
 ghost use Rattle.bp_test.specs.Tallies.{share_of_marks, AreCounts, MadeRun, IsCounted, alone_before, is_alone, AreDistinct};
 
 use crate::tallies::{ContextsUsed, Ends, Tally};
+use crate::waits::is_of_kind;
 use bp_flat::{Code, Kind};
 use rayon::prelude::par_sort_unstable;
 use std::thread::Threads;
@@ -71,17 +72,6 @@ fn after_procedure(code: &Code, procedure: usize) -> usize {
     }
 }
 
-/// Returns whether the instruction is an assertion.
-fn is_assertion(code: &Code, number: usize) -> bool {
-    let Ok(number) = u32::try_from(number) else {
-        return false;
-    };
-    match code.get(number) {
-        Some(instr) => instr.kind() == Kind::Assert,
-        None => false,
-    }
-}
-
 /// Returns the shares of statements and assertions of a code, by the marks of instructions.
 fn statements_of(code: &Code, reached: &[bool]) -> (Share, Share) {
     let mut statements = Share::NONE;
@@ -93,7 +83,7 @@ fn statements_of(code: &Code, reached: &[bool]) -> (Share, Share) {
             continue;
         }
         statements.add(*is_reached);
-        if is_assertion(code, number) {
+        if is_of_kind(code, u32::try_from(number).ok(), Kind::Assert) {
             assertions.add(*is_reached);
         }
     }

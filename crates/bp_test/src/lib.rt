@@ -25,6 +25,6 @@ pub use pilots::{Focus, Pilots};
 pub use plans::Plan;
 pub use shrinks::{HistoryEnd, Shrunk, history_end, shrink};
 pub use tallies::{ContextsUsed, Ends, Tally};
-pub use tests::{Found, Progress, Runtimes, TestError, Tested, Untold, test};
+pub use tests::{Found, Progress, Runtimes, TestError, Tested, test};
 pub use visible_steps::VisibleSteps;
 pub use waits::{Waiting, failed_instruction, waiting_threads};

@@ -53,15 +53,6 @@ fn is_cut_off(session: &Session) -> bool {
     false
 }
 
-/// Returns a count of 0 for each instruction of a code.
-fn no_visits(alloc: Global, code: &Code) -> Result<Vec<u64>, AllocError> {
-    let mut visits = Vec::new(alloc);
-    for _ in 0..code.len() {
-        visits.push(0)?;
-    }
-    Ok(visits)
-}
-
 /// Returns the number of visible steps, and counts them for each instruction. The attempts are made
 /// again, on a session before any.
 fn count_visible(
@@ -166,7 +157,7 @@ impl Pilots {
     {
         let mut session = Session::new(alloc, code, setup)?;
         let (mut history, mut reached) = (Vec::new(alloc), Vec::new(alloc));
-        let mut visits = no_visits(alloc, code)?;
+        let mut visits = vec![in alloc; 0u64; code.len()]?;
         let (none, mut pilots) = (Pilots::none(alloc), Pilots::none(alloc));
         let mut calls: u64 = 0;
         for pilot in 0..PILOTS {

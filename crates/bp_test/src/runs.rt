@@ -18,6 +18,7 @@ use bp_machine::{Call, Reply, Session};
 use std::alloc::AllocError;
 
 /// Makes an attempt of a thread, and appends it.
+#[tactic(auto, using(crate::proofs::Plays::failure_of))]
 fn play(session: &mut Session, history: &mut Vec<Call>, thread: u32) -> Result<Reply, AllocError>
     requires { Stands session.old.code.tree session.old history.old.items }
     ensures stands { OnOk result (Stands session.new.code.tree session.new history.new.items) }
@@ -60,10 +61,7 @@ fn refuses_context(reply: Reply) -> bool
 pub(crate) fn is_marked(marks: &[bool], place: usize) -> bool
     ensures { result ≡ is_marked marks.now place }
 {
-    match marks.get(place) {
-        Some(mark) => *mark,
-        None => false,
-    }
+    marks.get(place).copied().unwrap_or(false)
 }
 
 /// Marks this instruction, the next one of a thread, if the thread waits at it. It is quicker to
@@ -175,12 +173,12 @@ fn follow(
         let Some(thread) = scheduler.next(session) else {
             return Ok(run);
         };
-        let number = scheduler.number();
+        let number = scheduler.number;
         let reply = play(session, history, thread)?;
         note(&mut run, reached, thread, number, reply);
         let next = next_number(session, thread);
         reach_wait(reached, session, thread, next);
-        scheduler.note_next(next);
+        scheduler.number = next;
         if reply == Reply::Failed {
             return Ok(run);
         }

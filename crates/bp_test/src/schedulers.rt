@@ -70,7 +70,7 @@ pub(crate) struct Scheduler<'a> {
     /// The thread of the last attempt, or of the first one.
     current: u32,
     /// Its next instruction, if there is one.
-    number: Option<u32>,
+    pub(crate) number: Option<u32>,
     /// Whether it has made a visible step since the last switch.
     has_stepped: bool,
     /// The number of switches left.
@@ -261,20 +261,6 @@ impl<'a> Scheduler<'a> {
             is_resuming,
             waiting: 0,
         }
-    }
-
-    /// Records the next instruction of the current thread after its attempt.
-    pub(crate) fn note_next(&mut self, number: Option<u32>)
-        ensures { self.new ≡ record self.old { number = number } }
-    {
-        self.number = number;
-    }
-
-    /// Returns the number of the next instruction of the current thread, if there is one.
-    pub(crate) fn number(&self) -> Option<u32>
-        ensures { result ≡ self.now.number }
-    {
-        self.number
     }
 
     /// Returns whether a switch before the step of a thread at this instruction may matter.

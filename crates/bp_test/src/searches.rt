@@ -1,11 +1,11 @@
 //! The search for a smaller history.
-ghost use Rattle.std.specs.Prelude.{◌≡◌, true, None, IfOk};
+ghost use Rattle.std.specs.Prelude.{◌≡◌, true, None, IfOk, OnOk};
 ghost use Rattle.bp_machine.specs.Setups.{Fits};
 ghost use Rattle.bp_test.specs.Shrinks.{EndsIn, IsNoMore, IsSearch, GoesOn};
 
 use crate::candidates::{Candidates, Next};
 use crate::changes::{Change, without_loops, write_changed};
-use crate::shrinks::{HistoryEnd, drive_again, has_end};
+use crate::shrinks::{HistoryEnd, drive_again, history_end, is_same};
 use bp_machine::{Call, Report, Session};
 use std::alloc::{AllocError, Global};
 
@@ -27,8 +27,8 @@ pub(crate) struct Search {
     pub(crate) best: Driven,
     /// The candidate: attempts to be driven.
     pub(crate) lines: Vec<Call>,
-    /// Memory for the history to which they are driven.
-    pub(crate) spare: Vec<Call>,
+    /// The history to which they were driven, unless it was taken: then the one before.
+    pub(crate) spare: Driven,
     /// Whether the last candidate was taken.
     pub(crate) is_taken: bool,
 }
@@ -69,91 +69,58 @@ fn is_wanted(
     if !is_better(new, old) {
         return Ok(false);
     }
-    has_end(alloc, session, end)
+    let own = history_end(alloc, session)?;
+    Ok(is_same(&own, end))
 }
 
 /// Drives the candidate, and takes the resulting history if it is wanted.
-fn drive_candidate(search: Search) -> Result<Search, AllocError>
-    requires { IsSearch search }
-    ensures { IfOk result (GoesOn search) }
+fn drive_candidate(search: &mut Search) -> Result<(), AllocError>
+    requires { IsSearch search.old }
+    ensures { OnOk result (GoesOn search.old search.new) }
 {
-    let Search {
-        session,
-        end,
-        best,
-        lines,
-        spare,
-        ..
-    } = search;
-    let mut history = spare;
-    let session = drive_again(session, &mut history, lines.as_slice())?;
-    let report = session.report();
-    let new = Driven { history, report };
-    let is_taken = is_wanted(*lines.allocator(), &session, &end, &new, &best)?;
-    let (best, other) = if is_taken { (new, best) } else { (best, new) };
-    Ok(Search {
-        session,
-        end,
-        best,
-        lines,
-        spare: other.history,
-        is_taken,
-    })
+    let alloc = *search.lines.allocator();
+    let lines = search.lines.as_slice();
+    drive_again(&mut search.session, &mut search.spare.history, lines)?;
+    search.spare.report = search.session.report();
+    let (session, end) = (&search.session, &search.end);
+    search.is_taken = is_wanted(alloc, session, end, &search.spare, &search.best)?;
+    if search.is_taken {
+        std::mem::swap(&mut search.best, &mut search.spare);
+    }
+    Ok(())
 }
 
 /// Writes the attempts of a history after a change. For some changes the session drives it again.
 fn write_candidate(
-    session: Session,
+    session: &mut Session,
     history: &[Call],
     change: Change,
     lines: &mut Vec<Call>,
-) -> Result<Session, AllocError>
-    requires fits { Fits session.code.tree session.setup }
-    requires unseeded { session.setup.seed ≡ None }
-    ensures { IfOk result (λ x. (x.code ≡ session.code) × (x.setup ≡ session.setup)) }
+) -> Result<(), AllocError>
+    requires fits { Fits session.old.code.tree session.old.setup }
+    requires unseeded { session.old.setup.seed ≡ None }
+    ensures { OnOk result
+        ((session.new.code ≡ session.old.code) × (session.new.setup ≡ session.old.setup)) }
 {
     if change == Change::Loops {
         return without_loops(session, history, lines);
     }
-    write_changed(history, change, lines)?;
-    Ok(session)
-}
-
-/// Makes the candidate of a change of the best history.
-fn change_best(search: Search, change: Change) -> Result<Search, AllocError>
-    requires { IsSearch search }
-    ensures { IfOk result (GoesOn search) }
-{
-    let Search {
-        session,
-        end,
-        best,
-        mut lines,
-        spare,
-        is_taken,
-    } = search;
-    let session = write_candidate(session, best.history.as_slice(), change, &mut lines)?;
-    Ok(Search {
-        session,
-        end,
-        best,
-        lines,
-        spare,
-        is_taken,
-    })
+    write_changed(history, change, lines)
 }
 
 /// Tries the next candidate, if it is a change.
-fn attempt(search: Search, candidates: &mut Candidates, next: Next) -> Result<Search, AllocError>
-    requires { IsSearch search }
-    ensures { IfOk result (GoesOn search) }
+fn attempt(search: &mut Search, candidates: &mut Candidates, next: Next) -> Result<(), AllocError>
+    requires { IsSearch search.old }
+    ensures { OnOk result (GoesOn search.old search.new) }
 {
     let Next::Try(change) = next else {
-        return Ok(search);
+        return Ok(());
     };
-    let search = drive_candidate(change_best(search, change)?)?;
+    let best = search.best.history.as_slice();
+    write_candidate(&mut search.session, best, change, &mut search.lines)?;
+    drive_candidate(search)?;
     candidates.tell(search.is_taken);
-    Ok(search)
+    Ok(())
 }
 
 /// Tries changes of the best history, until none makes it smaller or the work is done.
@@ -168,7 +135,7 @@ pub(crate) fn improve(search: Search) -> Result<Search, AllocError>
         if next == Next::Done {
             return Ok(search);
         }
-        search = attempt(search, &mut candidates, next)?;
+        attempt(&mut search, &mut candidates, next)?;
     }
     Ok(search)
 }

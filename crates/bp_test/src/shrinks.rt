@@ -30,7 +30,7 @@ pub struct Shrunk {
 }
 
 /// Returns the attempts that made a step.
-fn granted(alloc: Global, history: &[Call]) -> Result<Vec<Call>, AllocError>
+pub(crate) fn granted(alloc: Global, history: &[Call]) -> Result<Vec<Call>, AllocError>
     ensures { IfOk result (λ v. v.items ≡ granted_calls history.now) }
 {
     let mut calls = Vec::new(alloc);
@@ -107,7 +107,10 @@ pub fn shrink(
             report: *report,
         },
         lines: Vec::new(alloc),
-        spare: Vec::new(alloc),
+        spare: Driven {
+            history: Vec::new(alloc),
+            report: *report,
+        },
         is_taken: false,
     };
     let search = improve(search)?;
@@ -144,7 +147,7 @@ pub fn history_end(alloc: Global, session: &Session) -> Result<HistoryEnd, Alloc
 
 /// Returns whether two ends are the same: the same instruction, or the same threads that wait at
 /// the same instructions.
-fn is_same(one: &HistoryEnd, other: &HistoryEnd) -> bool
+pub(crate) fn is_same(one: &HistoryEnd, other: &HistoryEnd) -> bool
     ensures { result ≡ true
         → (t : Program) (s : SetupOf) (h : List Answered)
         → IsEnd t s h one.now
@@ -160,18 +163,6 @@ fn is_same(one: &HistoryEnd, other: &HistoryEnd) -> bool
         (HistoryEnd::Other, HistoryEnd::Other) => true,
         _ => false,
     }
-}
-
-/// Returns whether the history of a session has this end.
-pub(crate) fn has_end(
-    alloc: Global,
-    session: &Session,
-    end: &HistoryEnd,
-) -> Result<bool, AllocError>
-    ensures { IfOk result (λ has. has ≡ true → EndsIn session.now end.now) }
-{
-    let own = history_end(alloc, session)?;
-    Ok(is_same(&own, end))
 }
 
 /// Makes an attempt again, if the thread may make it, and appends it.
@@ -193,22 +184,22 @@ fn make_again(session: &mut Session, history: &mut Vec<Call>, line: &Call) -> Re
 /// Drives the attempts again without a seed, each with its thread and its bit. Those that a thread
 /// may not make are left out, and so are the attempts after a failure.
 pub(crate) fn drive_again(
-    session: Session,
+    session: &mut Session,
     history: &mut Vec<Call>,
     lines: &[Call],
-) -> Result<Session, AllocError>
-    requires { Fits session.code.tree session.setup }
-    ensures stands { IfOk result (λ x. Stands x.code.tree x history.new.items) }
-    ensures code { IfOk result (λ x. x.code ≡ session.code) }
-    ensures setup { IfOk result (λ x. x.setup ≡ unseeded session.setup) }
+) -> Result<(), AllocError>
+    requires { Fits session.old.code.tree session.old.setup }
+    ensures stands { OnOk result (Stands session.new.code.tree session.new history.new.items) }
+    ensures code { session.new.code ≡ session.old.code }
+    ensures setup { OnOk result (session.new.setup ≡ unseeded session.old.setup) }
 {
-    let mut session = session.restarted(None)?;
+    session.restart(None)?;
     history.clear();
     for line in lines {
         if session.is_failed() {
-            return Ok(session);
+            return Ok(());
         }
-        make_again(&mut session, history, line)?;
+        make_again(session, history, line)?;
     }
-    Ok(session)
+    Ok(())
 }

@@ -72,11 +72,7 @@ pub(crate) fn none_of(alloc: Global, count: usize) -> Result<Vec<bool>, AllocErr
     ensures size { IfOk result (λ v. length v.items ≡ count) }
     ensures none { IfOk result (λ v. (n : ℕ) → is_marked v.items n ≡ false) }
 {
-    let mut marks = Vec::with_capacity(alloc, count)?;
-    while marks.len() < count {
-        marks.push(false)?;
-    }
-    Ok(marks)
+    vec![in alloc; false; count]
 }
 
 /// Marks a place, if it exists.
@@ -89,6 +85,7 @@ pub(crate) fn mark(marks: &mut Vec<bool>, place: usize)
 }
 
 /// Marks the places that are marked in the other marks.
+#[tactic(auto, using(crate::proofs::MarkLemmas::below_marked, crate::proofs::MarkLemmas::below_unmarked))]
 fn mark_all(marks: &mut Vec<bool>, others: &[bool])
     ensures { MarksGrow (λ i. Some i) (λ n. is_marked others.now n ≡ true)
         marks.old.items marks.new.items }
@@ -142,6 +139,7 @@ fn are_all_marked(marks: &[bool]) -> bool
 }
 
 /// Marks the threads that made a step. After the first runs each of them is marked.
+#[tactic(auto, using(crate::proofs::MarkLemmas::step_at, crate::proofs::MarkLemmas::no_step_at))]
 fn note_steps(stepped: &mut Vec<bool>, history: &[Call])
     ensures { MarksGrow (λ i. Some i) (HasStep history.now) stepped.old.items stepped.new.items }
 {

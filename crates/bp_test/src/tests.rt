@@ -2,7 +2,7 @@
 //! a test. Why a test is not finished.
 ghost use Rattle.std.specs.Prelude.{◌≡◌, MatchResult, None, false};
 ghost use Rattle.bp_machine.specs.Setups.{Fits};
-ghost use Rattle.bp_test.specs.Tests.{found_in, jobs_of, IsTest, IsTestRefusal};
+ghost use Rattle.bp_test.specs.Tests.{found_in, IsTest, IsTestRefusal};
 
 use crate::batches::{Block, search};
 use crate::plans::Plan;
@@ -43,13 +43,6 @@ pub struct Tested {
     pub tally: Tally,
 }
 
-/// Returns the number of jobs of a test, side by side: as many as asked for, at least one.
-fn jobs_of(options: &TestOptions) -> usize
-    ensures { result ≡ jobs_of options.now }
-{
-    options.jobs.clamp(1, MAX_JOBS) as usize
-}
-
 /// Returns the finding for a run with this report.
 fn found_in(run: u64, report: Report) -> Found
     ensures { result ≡ found_in run report }
@@ -85,16 +78,8 @@ pub fn test<R: Threads + Sync, C: Clock + Sync, P: Progress, W: Write>(
     let deadline = deadline_after(rt.clock, options.seconds);
     let (seed, with_deadlock) = (options.seed, options.with_deadlock);
     let plan = Plan::new(rt.clock, alloc, code, setup, seed, with_deadlock, deadline)?;
-    let made = search(
-        rt,
-        alloc,
-        code,
-        setup,
-        &plan,
-        options.runs,
-        jobs_of(options),
-        progress,
-    );
+    let (runs, jobs) = (options.runs, options.jobs.clamp(1, MAX_JOBS) as usize);
+    let made = search(rt, alloc, code, setup, &plan, runs, jobs, progress);
     progress.end();
     let Block { found, tally, .. } = made?;
     let Some(found) = found else {
@@ -172,15 +157,6 @@ pub trait Progress {
 
     /// Is told that the test makes no more runs.
     fn end(&self);
-}
-
-/// Tells nobody.
-pub struct Untold;
-
-impl Progress for Untold {
-    fn tell(&self, _done: u64, _runs: u64) {}
-
-    fn end(&self) {}
 }
 
 /// Why a test is not finished.

@@ -9,7 +9,7 @@ ghost use Rattle.bp_test.specs.Tests.{HaveReturned, RestsIn, FailsAt};
 ghost use Rattle.bp_test.specs.Reach.{AreWaiting, IsWait};
 
 use crate::runs::next_number;
-use bp_flat::Kind;
+use bp_flat::{Code, Kind};
 use bp_machine::{Outcome, Session, failures_are_real};
 use std::alloc::{AllocError, Global};
 
@@ -21,14 +21,13 @@ pub struct Waiting {
     pub number: u32,
 }
 
-/// Returns whether the instruction of this number is an assumption. A thread at another one does
-/// not wait, and this is quicker to tell.
-fn is_assumption(session: &Session, number: Option<u32>) -> bool {
+/// Returns whether the instruction of this number is of this kind.
+pub(crate) fn is_of_kind(code: &Code, number: Option<u32>, kind: Kind) -> bool {
     let Some(number) = number else {
         return false;
     };
-    match session.code().get(number) {
-        Some(instr) => instr.kind() == Kind::Assume,
+    match code.get(number) {
+        Some(instr) => instr.kind() == kind,
         None => false,
     }
 }
@@ -43,7 +42,8 @@ pub(crate) fn may_step_at(session: &Session, thread: u32, number: Option<u32>) -
     if session.is_terminated(thread) {
         return false;
     }
-    !(is_assumption(session, number) && session.waits(thread))
+    // A thread at another instruction does not wait, and this is quicker to tell.
+    !(is_of_kind(session.code(), number, Kind::Assume) && session.waits(thread))
 }
 
 /// Returns whether a thread may step.
@@ -95,6 +95,7 @@ pub fn waiting_threads(alloc: Global, session: &Session) -> Result<Vec<Waiting>,
 }
 
 /// Returns the number of the instruction whose assertion failed, if one did.
+#[tactic(auto, using(crate::proofs::Plays::has_frame))]
 pub fn failed_instruction(session: &Session) -> Option<u32>
     ensures at { AfterEach session.now (λ t h. IfSome result (FailsAt t session.now.setup h)) }
     ensures none { AfterEach session.now (λ t h. IfNone result (outcome_of h ≡ Outcome.Clean)) }

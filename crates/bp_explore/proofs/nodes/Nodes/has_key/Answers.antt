@@ -1,6 +1,6 @@
 use Rattle.bp_explore.proofs.Common.{◌≡◌, ◌<◌, length, drop, ap, sym, ◌∙◌, arith, slice_get, length-drop, take_all, take_number, NodesOf, node_of, take_key, record_at}
 use Rattle.std.proofs.lemmas.Slice.Eq.{bytes_eq-Decides}
-use Rattle.bp_explore.proofs.PackedNodes.{node_there}
+use Rattle.bp_explore.proofs.PackedNodes.{nodes_get}
 use Rattle.bp_explore.proofs.nodes.Nodes.has_key.Goals as goal
 
 pub returns-then-place-record : goal.returns-then-place-record
@@ -18,6 +18,6 @@ returns-then-place-record c = λ yes.
     ap (λ l. (take_number l).1) (sym found) ∙ sym c.read_number-level.ensures.rest
     ∙ sym (take_all _ (drop place read) (omega (arith, long))) ∙ (bytes_eq-Decides _ _).0 (sym c.eq.ensures ∙ yes) in (
       node_of threads own,
-      ap (λ (m : NodesOf). slice_get m.items at) (sym c.self.view_is) ∙ node_there threads x.cells.items x.ends.items at within,
+      ap (λ (m : NodesOf). slice_get m.items at) (sym c.self.view_is) ∙ nodes_get threads x.cells.items 0 x.ends.items at within,
       ap (λ l. (take_key threads l).0) rest ∙ ap (λ (m : NodesOf). (take_key (length m.spare.stacks) c.args.key.now).0) c.self.view_is,
     )

@@ -1,26 +1,35 @@
-use Rattle.bp_explore.proofs.Common.{arith}
-use Rattle.bp_explore.proofs.Growth.{at_most_kept, at_most_more, grown_then, explored_next}
-use Rattle.bp_explore.proofs.ReachedNodes.{stay_more, stay_then}
+use Rattle.bp_explore.proofs.Common.{◌≤◌, length, sym, subst, arith, AreLayered, IsClosed}
+use Rattle.bp_explore.proofs.Growth.{grown_then, layered_kept, layered_next}
 use Rattle.bp_explore.proofs.spaces.Space.next_layer.Goals as goal
 
-pub returns-clause-explored : goal.returns-clause-explored
-returns-clause-explored g c = λ k is e.
-    explored_next (g.O.Observer.listed c.args.observer.now) c.args.code.now.instructions c.args.threads c.args.self.now.nodes.items c.begin_layer.new.self.nodes.items
-    c.close_layer.new.self.nodes.items c.args.from k c.args.level c.len-next.result (omega (arith, c.len-next.ensures)) is e
-    c.in_ok-begin_layer.ensures.grown c.in_ok-close_layer.ensures.grown (c.in_ok-begin_layer.ensures.closed k is e)
-    (c.in_ok-close_layer.ensures.closed c.args.threads)
+pub close_layer-requires-clause-layered : goal.close_layer-requires-clause-layered
+close_layer-requires-clause-layered g c =
+    let (k, is, e) = c.requires in
+    subst (λ m. AreLayered c.begin_layer.new.self.nodes.items m c.args.level) (sym c.len-next.ensures)
+    (layered_next _ _ _ _ c.args.from k c.args.level is e.layered c.in_ok-begin_layer.ensures.grown)
 
-pub returns-clause-grown : goal.returns-clause-grown
-returns-clause-grown g c =
-    grown_then c.args.self.now.nodes.items c.begin_layer.new.self.nodes.items c.args.level c.in_ok-begin_layer.ensures.grown
-    c.close_layer.new.self.nodes.items c.in_ok-close_layer.ensures.grown
-
-pub returns-clause-reached : goal.returns-clause-reached
-returns-clause-reached g c = λ k is low.
+pub returns : goal.returns
+returns g c =
     let o = g.O.Observer.listed c.args.observer.now in
+    let code = c.args.code.now.instructions in
+    let level = c.args.level in
+    let threads = c.args.threads in
     let old = c.args.self.now.nodes.items in
     let mid = c.begin_layer.new.self.nodes.items in
     let new = c.close_layer.new.self.nodes.items in
-    stay_then c.args.code.now o c.args.threads old mid new (c.in_ok-begin_layer.ensures.reached k is low)
-    (stay_more c.args.code.now o 0 c.args.threads mid new (omega arith)
-    (c.in_ok-close_layer.ensures.reached (at_most_kept old mid c.args.level c.in_ok-begin_layer.ensures.grown (at_most_more old k c.args.level (omega (arith, is)) low))))
+    let (k, is, e) = c.requires in
+    let g1 = c.in_ok-begin_layer.ensures.grown in
+    let g2 = c.in_ok-close_layer.ensures.grown in
+    let longer = g1.longer in
+    let longest = g2.longer in
+    let next = c.len-next.ensures in
+    record {
+      first = next;
+      grown = grown_then o code level old mid g1 new g2;
+      explored = record {
+        layered = layered_kept o code level mid new g2 c.len-next.result (omega (arith, next, longer))
+            (subst (λ m. AreLayered mid m level) (sym next) (layered_next o code old mid c.args.from k level is e.layered g1));
+        closed = c.in_ok-close_layer.ensures.closed threads (subst (λ m. IsClosed o code threads mid m level) (sym next) c.in_ok-begin_layer.ensures.closed);
+        few = omega (arith, next, longer, longest);
+      };
+    }

@@ -1,35 +1,19 @@
-use Rattle.bp_explore.proofs.Common.{◌≡◌, ◌≢◌, ◌+◌, Some, sym, subst, arith, inl, inr, cases_lt, IsExpanded}
-use Rattle.bp_explore.proofs.Growth.{grown_then, expanded_kept, at_most_kept}
-use Rattle.bp_explore.proofs.ReachedNodes.{stay_more, stay_then}
+use Rattle.bp_explore.proofs.Common.{◌≡◌, ◌+◌, sym, subst, arith, inl, inr, cases_lt, AreOthers}
+use Rattle.bp_explore.proofs.Growth.{expands_then, at_most_kept, opened_small}
 use Rattle.bp_explore.proofs.spaces.Space.switch.Goals as goal
+
+pub expand-requires-clause-most : goal.expand-requires-clause-most
+expand-requires-clause-most g c = at_most_kept _ _ _ _ _ c.loop-thread.invariant.grown c.requires.most
+
+pub expand-requires-clause-here : goal.expand-requires-clause-here
+expand-requires-clause-here g c =
+    let (node, is, less) = c.requires.here in
+    let small = opened_small node.last c.loop-thread.thread in
+    (node, c.loop-thread.invariant.grown.kept c.args.at node is, omega (arith, less, small))
 
 pub loop-thread-preserved : goal.loop-thread-preserved
 loop-thread-preserved g c =
-    let o = g.O.Observer.listed c.args.observer.now in
-    let xs = c.args.self.now.nodes.items in
-    let ys = c.loop-thread.self.nodes.items in
-    let zs = c.switch_to.new.self.nodes.items in
-    let h = c.loop-thread.invariant.grown in
-    let f = c.in_ok-switch_to.ensures.grown in
-    record {
-      grown = grown_then xs ys c.args.level h zs f;
-      expanded = λ node i at below other low. elim (cases_lt i c.loop-thread.thread) [
-        | inl near ↦
-            expanded_kept ys zs c.args.level f o c.args.code.now.instructions node i c.args.level
-            (c.loop-thread.invariant.expanded node i at near other low)
-        | inr past ↦
-            let same : c.loop-thread.thread ≡ i = omega (arith, below, past) in
-            subst (λ j. IsExpanded o c.args.code.now.instructions zs node j c.args.level) same
-            (c.in_ok-switch_to.ensures.expanded node (h.kept c.args.at node at) (subst (λ j. node.last ≢ Some j) (sym same) other)
-            (at_most_kept xs ys c.args.level h low))
-      ];
-      reached = λ node at less.
-          stay_then c.args.code.now o (c.loop-thread.thread + 1) xs ys zs
-          (stay_more c.args.code.now o c.loop-thread.thread (c.loop-thread.thread + 1) xs ys (omega arith) (c.loop-thread.invariant.reached node at less))
-          (c.in_ok-switch_to.ensures.reached node (h.kept c.args.at node at) less);
-    }
-
-pub returns-clause-reached : goal.returns-clause-reached
-returns-clause-reached g c = λ node at less.
-    stay_more c.args.code.now (g.O.Observer.listed c.args.observer.now) c.loop-thread.thread c.args.threads c.args.self.now.nodes.items c.loop-thread.self.nodes.items
-    (omega (arith, c.loop-thread.auto.thread-end)) (c.loop-thread.invariant.reached node at less)
+    let i = c.loop-thread.thread in
+    expands_then _ _ _ c.args.at (AreOthers i) (λ node j. j ≡ i) (AreOthers (i + 1)) _ _ _
+    (λ node j is other. elim (cases_lt j i) [ inl near ↦ inl (near, other.1) | inr past ↦ let below = other.0 in inr (omega (arith, below, past)) ])
+    c.loop-thread.invariant c.in_ok-expand.ensures
