@@ -1,6 +1,6 @@
 -- The imports of this crate's proofs: from std, the crates below and its own definitions.
 pub use Rattle.bp_code.specs.WellFormedTexts.{IsWellFormedText, IsProgramRefusal}
-pub use Rattle.bp_commands.specs.Commands.{Answers, AnswersOf, Command, Inputs, IsDoneWith, IsNotDone, IsRefusedWith, Pair, bundle_alone, text_alone, text_alone_of}
+pub use Rattle.bp_commands.specs.Commands.{Answers, AnswersOf, Command, Inputs, IsDoneWith, IsNotDone, IsRefusedWith, Pair, bundle_alone, limit_of, text_alone, text_alone_of}
 pub use Rattle.bp_commands.specs.Confirms.{IsOfSteps, choice_text, choices_text, confirmation_shown, confirms, line_as, verdict_word}
 pub use Rattle.bp_commands.specs.Explores.{bound_of, trace_of}
 pub use Rattle.bp_commands.specs.ErrorReports.{AnswerRule, AreReadOr, ExplainsPair, ExplainsText, HasSummary, IsConcluded, IsEndOf, IsFileOfPair, IsFileOfText, IsObjectIn, IsObjectRead, IsObjectWith, IsReported, IsSaid, IsSaidFor, IsSaidOfRead, IsTextOf, IsTold, of_report, of_run}

@@ -10,6 +10,9 @@ use Rattle.bp_messages.specs.declared.error_lines.InputError.TheVariants.{Device
 use Rattle.bp_messages.specs.declared.errors.Error.{Error}
 use Rattle.bp_messages.specs.ErrorTable.{error_of_input, error_of_text}
 use Rattle.bp_messages.specs.declared.errors.Error.TheVariants.{Write}
+use Rattle.bp_trace.specs.declared.limits.TheConstants.{MAX_SCHEDULE, MAX_TRACE}
+use Rattle.bp_commands.specs.declared.explanations.SecondInput.{SecondInput}
+use Rattle.bp_commands.specs.declared.explanations.SecondInput.TheVariants.{Schedule, Steps, Trace}
 use Rattle.bp_commands.specs.declared.limits.TheConstants.{MAX_BUNDLE}
 
 -- The bytes that reading an input within its limit takes, and its result.
@@ -41,6 +44,12 @@ abbrev pub IsInputRefusal : ℕ → Option (List ℕ) → Option (List ℕ) → 
 IsInputRefusal limit old new Device = ⊤
 IsInputRefusal limit old new TooLong = IsTooLong limit old new
 IsInputRefusal limit old new Memory = TookAtMost old new limit
+
+-- the most bytes of a second input of this kind
+abbrev pub limit_of : SecondInput → ℕ
+limit_of Schedule = MAX_SCHEDULE
+limit_of Steps = MAX_SCHEDULE
+limit_of Trace = MAX_TRACE
 
 -- The inputs of a command: their contents if they are read, and why they are not.
 

@@ -1,5 +1,5 @@
 -- The command `confirm`.
-use Rattle.std.specs.Prelude.{if◌then◌else◌, ◌≡◌, ◌⊎◌, ◌∷◌, ℕ, Bool, true, false, List, [], Option, None, Some, codes, decimal, drop, flat_map, is_some}
+use Rattle.std.specs.Prelude.{if◌then◌else◌, ◌≡◌, ◌⊎◌, ◌∷◌, ℕ, Bool, true, false, List, [], Option, None, Some, codes, decimal, drop, flat_map}
 use Rattle.std.specs.List.{concat}
 use Rattle.bp_text.specs.Pieces.{bit_text}
 use Rattle.bp_syntax.specs.Ast.{Program}
@@ -10,34 +10,22 @@ use Rattle.bp_trace.specs.TraceText.{trace_text}
 use Rattle.bp_confirm.specs.declared.confirmations.ConfirmError.{ConfirmError}
 use Rattle.bp_confirm.specs.declared.choices.LastChoice.{LastChoice}
 use Rattle.bp_confirm.specs.ConfirmedTexts.{IsConfirmedText, IsStepsRefusal}
-use Rattle.bp_view.specs.FooterFacts.{AreFooterFacts, ShownFooter}
 use Rattle.bp_source.specs.declared.tasks.ConfirmTask.{ConfirmTask}
 use Rattle.bp_source.specs.declared.tasks.Verdict.{Verdict}
 use Rattle.bp_source.specs.declared.tasks.Verdict.TheVariants.{Failure, Deadlock, Run}
-use Rattle.bp_source.specs.declared.options.ViewFormat.TheVariants.{Json}
-use Rattle.bp_view.specs.Views.{outcome_text, waits_text}
 use Rattle.bp_messages.specs.declared.errors.Error.{Error}
 use Rattle.bp_messages.specs.ErrorTable.{exit_status, error_of_steps}
 use Rattle.bp_messages.specs.ErrorObjects.{verdict_object, ShownVerdict}
 use Rattle.bp_commands.specs.Commands.{Command, Pair}
 use Rattle.bp_commands.specs.Programs.{IsNotOpened, IsOpened}
+use Rattle.bp_commands.specs.EndTexts.{is_verdict, AreEndTexts}
 use Rattle.bp_commands.specs.ErrorReports.{AnswerRule}
 use Rattle.bp_commands.specs.declared.confirmations.Confirmation.{Confirmation}
-
--- the verdict on a run, by the facts of its end
-abbrev pub verdict_of : ShownFooter → Verdict
-verdict_of x = if is_some x.failure then Failure else if x.deadlocked then Deadlock else Run
 
 abbrev pub verdict_word : Verdict → List ℕ
 verdict_word Failure = codes "failure"
 verdict_word Deadlock = codes "deadlock"
 verdict_word Run = codes "run"
-
-abbrev pub is_verdict : Verdict → Verdict → Bool
-is_verdict Failure Failure = true
-is_verdict Deadlock Deadlock = true
-is_verdict Run Run = true
-is_verdict v w = false
 
 -- the exit status: 1 for a failure; if a verdict is expected, 0 for this one and 4 for another
 abbrev pub status_of_verdict : (expected : Option Verdict) → Verdict → ℕ
@@ -84,23 +72,20 @@ line_as expected choices v = verdict_line choices v
 -- the verdict as shown to programs
 abbrev pub confirmation_shown : Confirmation → ShownVerdict
 confirmation_shown x = record {
-  word = verdict_word x.verdict;
+  word = verdict_word x.said.verdict;
   steps = x.report.calls;
   contexts = Some x.report.contexts;
-  failure = x.failure.items;
-  waits = x.waits.items;
+  failure = x.said.outcome.items;
+  waits = x.said.waits.items;
   choices = x.choices.items;
 }
 
-abbrev pub confirm_summary : Confirmation → List ℕ
-confirm_summary x =
-    if x.json then verdict_object (confirmation_shown x)
-    else line_as x.expected x.choices.items x.verdict
-
 abbrev pub of_confirm : AnswerRule Confirmation
 of_confirm = record {
-  status = λ x. status_of_verdict x.expected x.verdict;
-  summary = confirm_summary;
+  status = λ x. status_of_verdict x.expected x.said.verdict;
+  summary = λ x.
+      if x.json then verdict_object (confirmation_shown x)
+      else line_as x.expected x.choices.items x.said.verdict;
 }
 
 -- this is the verdict on the steps of a program, which the history takes, under the options; its
@@ -112,11 +97,7 @@ pub record IsConfirmation
   pub expected_is : x.expected ≡ task.expected
   pub json_is : x.json ≡ task.json
   pub reported : IsReport s h x.report
-  pub facts : ShownFooter
-  pub facts_are : AreFooterFacts t text s h x.report facts
-  pub verdict : x.verdict ≡ verdict_of facts
-  pub failure : x.failure.items ≡ outcome_text Json [] facts.deadlocked facts.failure
-  pub waits : x.waits.items ≡ waits_text Json [] facts.waits
+  pub said : AreEndTexts true [] text t s h x.report x.said
   pub choices_are : x.choices.items ≡ choices_text task.json choices
 
 -- Reported steps of the program of a text are confirmed, under the options of the task.

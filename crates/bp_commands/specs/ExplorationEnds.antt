@@ -7,7 +7,10 @@ use Rattle.bp_explore.specs.declared.explorations.Finding.TheVariants as finding
 use Rattle.bp_explore.specs.declared.explorations.Reason.{Reason}
 use Rattle.bp_explore.specs.declared.explorations.ThroughEnding.{ThroughEnding}
 use Rattle.bp_explore.specs.declared.explorations.ThroughEnding.TheVariants.{Found, Unplayed, Missing, MissingWithin, Unfinished}
+use Rattle.bp_source.specs.declared.tasks.Verdict.{Verdict}
+use Rattle.bp_source.specs.declared.tasks.Verdict.TheVariants as verdicts
 use Rattle.bp_messages.specs.ErrorTable.{exit_status}
+use Rattle.bp_commands.specs.EndTexts.{is_verdict}
 use Rattle.bp_commands.specs.declared.exploration_ends.EndFacts.{EndFacts}
 use Rattle.bp_commands.specs.declared.exploration_ends.Exploration.{Exploration}
 use Rattle.bp_commands.specs.declared.exploration_ends.FoundKind.{FoundKind}
@@ -63,18 +66,15 @@ made_through n (Missing last m) = Some m
 made_through n (MissingWithin k m) = Some m
 made_through n (Unfinished k reason) = None
 
--- the exit status if nothing was found: 5 if not all was explored, 4 if no run makes listed steps
-abbrev pub status_missed : Option Reason → Option ListedSteps → ℕ
-status_missed (Some reason) steps = 5
-status_missed None (Some steps) = 4
-status_missed None None = exit_status false None
-
--- the exit status; a run that makes listed steps has failed or not in the last of them
-abbrev pub status_found : FoundKind → Option Reason → Option ListedSteps → (failed : Bool) → ℕ
-status_found Nothing reason steps failed = status_missed reason steps
-status_found Failure reason steps failed = exit_status true None
-status_found Deadlock reason steps failed = exit_status true None
-status_found Steps reason steps failed = exit_status failed None
+-- the exit status: 5 if nothing was found and not all was explored, 4 if no run makes listed steps;
+-- a run that makes them has failed or not in the last of them
+abbrev pub status_found : FoundKind → Option Reason → Option ListedSteps → Verdict → ℕ
+status_found Nothing (Some reason) steps verdict = 5
+status_found Nothing None (Some steps) verdict = 4
+status_found Nothing None None verdict = exit_status false None
+status_found Failure reason steps verdict = exit_status true None
+status_found Deadlock reason steps verdict = exit_status true None
+status_found Steps reason steps verdict = exit_status (is_verdict verdict verdicts.Failure) None
 
 abbrev pub status_of : Exploration → ℕ
-status_of x = status_found x.facts.found x.facts.reason x.steps x.failed
+status_of x = status_found x.facts.found x.facts.reason x.steps x.said.verdict

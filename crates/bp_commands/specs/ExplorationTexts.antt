@@ -4,6 +4,9 @@ use Rattle.std.specs.List.{concat}
 use Rattle.bp_text.specs.Pieces.{displayed, key_text, list_text, number_or_null, string_or_null, string_text, truth_text}
 use Rattle.bp_explore.specs.declared.explorations.Reason.{Reason}
 use Rattle.bp_explore.specs.declared.explorations.Reason.TheVariants.{States, Stopped, Memory}
+use Rattle.bp_source.specs.declared.tasks.Verdict.{Verdict}
+use Rattle.bp_source.specs.declared.tasks.Verdict.TheVariants as verdicts
+use Rattle.bp_commands.specs.EndTexts.{is_verdict}
 use Rattle.bp_commands.specs.declared.exploration_ends.Exploration.{Exploration}
 use Rattle.bp_commands.specs.declared.exploration_ends.FoundKind.{FoundKind}
 use Rattle.bp_commands.specs.declared.exploration_ends.FoundKind.TheVariants.{Nothing, Failure, Deadlock, Steps}
@@ -91,7 +94,7 @@ abbrev pub unfinished_text : Exploration → Reason → List ℕ
 unfinished_text x reason =
     let k = x.facts.contexts in
     concat (
-    codes " within " ∷ contexts_text (k - 1)
+    codes "no run within " ∷ contexts_text (k - 1)
     ∷ codes " " ∷ sought_text x
     ∷ codes "; " ∷ contexts_text k
     ∷ were_text k ∷ codes " not looked through: " ∷ states_text x.states
@@ -102,10 +105,10 @@ unfinished_text x reason =
 abbrev pub anywhere_by : Option ListedSteps → Exploration → List ℕ
 anywhere_by None x =
     concat (
-    codes " of " ∷ displayed x.task.now.program.now
+    codes "no run of " ∷ displayed x.task.now.program.now
     ∷ codes " " ∷ sought_text x
     ∷ codes ", within any number of contexts" ∷ [])
-anywhere_by (Some steps) x = codes ", within any number of contexts, " ++ sought_text x
+anywhere_by (Some steps) x = codes "no run, within any number of contexts, " ++ sought_text x
 
 abbrev pub anywhere_text : Exploration → List ℕ
 anywhere_text x =
@@ -124,20 +127,11 @@ of_program (Some steps) file = []
 abbrev pub within_text : Exploration → List ℕ
 within_text x =
     concat (
-    of_program x.steps x.task.now.program.now
+    codes "no run" ∷ of_program x.steps x.task.now.program.now
     ∷ codes " within " ∷ contexts_text x.facts.contexts
     ∷ codes " " ∷ sought_text x
     ∷ codes ": " ∷ states_text x.states
     ∷ codes "\n" ∷ [])
-
-abbrev pub missed_by : Option Reason → (complete : Bool) → Exploration → List ℕ
-missed_by (Some reason) complete x = unfinished_text x reason
-missed_by None true x = anywhere_text x
-missed_by None false x = within_text x
-
--- nothing was found
-abbrev pub missed_text : Exploration → List ℕ
-missed_text x = codes "no run" ++ missed_by x.facts.reason x.facts.complete x
 
 -- The finding.
 
@@ -146,15 +140,15 @@ finding_text Failure = codes "an assertion fails"
 finding_text other = codes "deadlock"
 
 -- the note on the last step if an assertion fails in it
-abbrev pub made_end : (failed : Bool) → (outcome : List ℕ) → List ℕ
-made_end failed outcome = if failed then codes "\n" ++ outcome else []
+abbrev pub made_end : Verdict → (outcome : List ℕ) → List ℕ
+made_end verdict outcome = if is_verdict verdict verdicts.Failure then codes "\n" ++ outcome else []
 
 -- a run that ends in the finding, and a run that makes listed steps
 abbrev pub run_by : Option ListedSteps → (trace : Bool) → Exploration → List ℕ
-run_by None true x = x.outcome.items ++ x.waits.items
+run_by None true x = x.said.outcome.items ++ x.said.waits.items
 run_by None false x = finding_text x.facts.found
 run_by (Some steps) trace x =
-    codes "a run " ++ (steps_text steps.count ++ made_end x.failed x.outcome.items)
+    codes "a run " ++ (steps_text steps.count ++ made_end x.said.verdict x.said.outcome.items)
 
 -- the run has no trace
 abbrev pub it_text : Option ListedSteps → List ℕ
@@ -193,9 +187,11 @@ found_text x =
 
 -- The report of an exploration.
 
-abbrev pub ending_by : FoundKind → Exploration → List ℕ
-ending_by Nothing x = missed_text x
-ending_by other x = found_text x
+abbrev pub ending_by : FoundKind → Option Reason → (complete : Bool) → Exploration → List ℕ
+ending_by Nothing (Some reason) complete x = unfinished_text x reason
+ending_by Nothing None true x = anywhere_text x
+ending_by Nothing None false x = within_text x
+ending_by found reason complete x = found_text x
 
 -- the number of states that were cut off at a full stack
 abbrev pub cut_text : ℕ → List ℕ
@@ -210,7 +206,8 @@ cut_text n =
 
 -- for people: lines
 abbrev pub exploration_lines : Exploration → List ℕ
-exploration_lines x = ending_by x.facts.found x ++ cut_text x.full_stacks
+exploration_lines x =
+    ending_by x.facts.found x.facts.reason x.facts.complete x ++ cut_text x.full_stacks
 
 abbrev pub found_word : FoundKind → List ℕ
 found_word Nothing = codes "nothing"
@@ -244,9 +241,9 @@ exploration_object x =
     ∷ key_text (codes "reason") ∷ string_or_null (option_map reason_word x.facts.reason)
     ∷ key_text (codes "calls") ∷ number_or_null x.facts.calls
     ∷ key_text (codes "trace") ∷ truth_text x.facts.trace
-    ∷ key_text (codes "failure") ∷ x.outcome.items
+    ∷ key_text (codes "failure") ∷ x.said.outcome.items
     ∷ [])
-    ++ (last_members x.steps x.waits.items ++ codes "}\n")
+    ++ (last_members x.steps x.said.waits.items ++ codes "}\n")
 
 -- the report, as JSON or not
 abbrev pub exploration_text : Exploration → List ℕ

@@ -1,10 +1,9 @@
 -- The command `explore`.
-use Rattle.std.specs.Prelude.{◌≡◌, ◌⊎◌, ℕ, Bool, true, false, List, [], Option, None, Some}
+use Rattle.std.specs.Prelude.{◌≡◌, ◌⊎◌, ℕ, List, [], Option, None, Some}
 use Rattle.bp_syntax.specs.Ast.{Program}
 use Rattle.bp_explore.specs.declared.explorations.Ending.{Ending}
 use Rattle.bp_explore.specs.declared.explorations.Ending.TheVariants.{Found}
 use Rattle.bp_explore.specs.Explorations.{IsExploration}
-use Rattle.bp_view.specs.FooterFacts.{AreFooterFacts, ShownFooter}
 use Rattle.bp_flat.specs.Flat.{Flat}
 use Rattle.bp_flat.specs.StandsFor.{StandsFor}
 use Rattle.bp_machine.specs.declared.calls.Call.{Call}
@@ -14,17 +13,16 @@ use Rattle.bp_machine.specs.Setups.{SetupOf}
 use Rattle.bp_source.specs.declared.tasks.ContextBound.{ContextBound}
 use Rattle.bp_source.specs.declared.tasks.ContextBound.TheVariants.{AsUsed, Kept}
 use Rattle.bp_source.specs.declared.tasks.ExploreTask.{ExploreTask}
-use Rattle.bp_source.specs.declared.options.ViewFormat.{ViewFormat}
-use Rattle.bp_source.specs.declared.options.ViewFormat.TheVariants.{Columns, Json}
 use Rattle.bp_trace.specs.TraceText.{trace_text}
-use Rattle.bp_view.specs.Views.{clean_text, outcome_text, waits_text}
 use Rattle.bp_messages.specs.declared.errors.Error.{Error}
 use Rattle.bp_messages.specs.declared.errors.Error.TheVariants.{Memory}
 use Rattle.bp_commands.specs.Commands.{Command}
 use Rattle.bp_commands.specs.Programs.{IsNotOpened, IsOpened}
-use Rattle.bp_commands.specs.ErrorReports.{AnswerRule, report_failed}
+use Rattle.bp_commands.specs.ErrorReports.{AnswerRule}
+use Rattle.bp_commands.specs.EndTexts.{AreEndTexts, AreNoTexts}
 use Rattle.bp_commands.specs.ExplorationEnds.{facts_of_ending, status_of}
 use Rattle.bp_commands.specs.ExplorationTexts.{exploration_text}
+use Rattle.bp_commands.specs.declared.end_texts.EndTexts.{EndTexts}
 use Rattle.bp_commands.specs.declared.exploration_ends.Exploration.{Exploration}
 
 abbrev pub of_exploration : AnswerRule Exploration
@@ -35,37 +33,22 @@ abbrev pub trace_of : Ending → List ℕ
 trace_of (Found r) = trace_text r.session.setup r.history.items
 trace_of other = []
 
-abbrev pub format_of : (json : Bool) → ViewFormat
-format_of true = Json
-format_of false = Columns
-
 -- the most contexts of the runs to explore, if there is a bound
 abbrev pub bound_of : ContextBound → (contexts : ℕ) → Option ℕ
 bound_of Kept k = Some k
 bound_of AsUsed k = None
 
--- there is no run
-abbrev pub IsNothingSaid : ExploreTask → (outcome waits : List ℕ) → (failed : Bool) → Type 0
-IsNothingSaid x outcome waits failed =
-    (failed ≡ false) × (outcome ≡ clean_text (format_of x.json) false) × (waits ≡ [])
+-- this is said of the end of a history of the program of a text, under the task
+abbrev pub IsEndSaid
+    : ExploreTask → (text : List ℕ) → Program → SetupOf → List Call → EndTexts → Type 0
+IsEndSaid x text t s h said =
+    (r : Report) × IsReport s h r × AreEndTexts x.json x.program.now text t s h r said
 
--- Of the program of a text: the finding has this outcome and these waits, under the task.
-module _ (text : List ℕ) (t : Program) (x : ExploreTask) (outcome waits : List ℕ) where
-  -- they say how a history ends: which assertion failed, if one did, or which threads wait in a
-  -- deadlock
-  pub record IsEndSaid (s : SetupOf) (h : List Call) (failed : Bool) : Type 0 where
-    pub report : Report
-    pub reported : IsReport s h report
-    pub failed_is : failed ≡ report_failed report
-    pub facts : ShownFooter
-    pub facts_are : AreFooterFacts t text s h report facts
-    pub outcome_is :
-        outcome ≡ outcome_text (format_of x.json) x.program.now facts.deadlocked facts.failure
-    pub waits_are : waits ≡ waits_text (format_of x.json) x.program.now facts.waits
-
-  abbrev pub IsFindingSaid : (failed : Bool) → Ending → Type 0
-  IsFindingSaid failed (Found r) = IsEndSaid r.session.setup r.history.items failed
-  IsFindingSaid failed other = IsNothingSaid x outcome waits failed
+-- this is said of the finding
+abbrev pub IsFindingSaid
+    : ExploreTask → (text : List ℕ) → Program → Ending → EndTexts → Type 0
+IsFindingSaid x text t (Found r) said = IsEndSaid x text t r.session.setup r.history.items said
+IsFindingSaid x text t other said = AreNoTexts x.json said
 
 -- The runs of the program of a text are explored, under the options of the task.
 module _ (x : ExploreTask) (text : List ℕ) where
@@ -88,9 +71,7 @@ module _ (x : ExploreTask) (text : List ℕ) where
     pub task : answer.task.now ≡ x
     pub facts : answer.facts ≡ facts_of_ending trace.ending
     pub steps : answer.steps ≡ None
-    pub said :
-        let outcome = answer.outcome.items in
-        IsFindingSaid text trace.program x outcome answer.waits.items answer.failed trace.ending
+    pub said : IsFindingSaid x text trace.program trace.ending answer.said
 
   -- the program accepts the setup, and memory was refused
   pub record LacksMemory (f : Error) : Type 0 where

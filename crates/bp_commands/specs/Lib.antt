@@ -5,6 +5,7 @@ pub mod ErrorReports
 pub mod Jobs
 pub mod Runs
 pub mod Tests
+pub mod EndTexts
 pub mod Confirms
 pub mod ExplorationEnds
 pub mod ExplorationTexts

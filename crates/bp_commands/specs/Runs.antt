@@ -63,12 +63,11 @@ module _ (o : OptionsOf) (named : List NamedBitOf) (text : List ℕ) where
     pub out_of_range : has_bad_turn_or_ring o ≡ true
     pub is : f ≡ error_of_setup OutOfRange
 
-  -- memory was refused before a worker was started, or a worker could not be started
-  abbrev pub IsNotStarted : Error → Type 0
-  IsNotStarted f = ((f ≡ Memory) ⊎ (f ≡ Start)) × IsRunnable
-
+  -- these include that memory was refused before a worker was started, or a worker could not be
   abbrev pub IsRunRefused : Error → Type 0
-  IsRunRefused f = IsNotOpened o.start named text f ⊎ (HasBadNumbers f ⊎ IsNotStarted f)
+  IsRunRefused f =
+      IsNotOpened o.start named text f
+      ⊎ (HasBadNumbers f ⊎ (((f ≡ Memory) ⊎ (f ≡ Start)) × IsRunnable))
 
 -- the command writes the trace of the history that the workers make
 abbrev pub runs : OptionsOf → List NamedBitOf → Command (List ℕ) RunReport

@@ -22,13 +22,12 @@ use Rattle.bp_messages.specs.SummaryObjects.{summary_objects}
 use Rattle.bp_source.specs.SourceStatements.{AreStatements}
 use Rattle.bp_source.specs.StatementLines.{positions_of, AreStatementLines, AreUnreachedObjects}
 
--- the summary of a test for a user, as JSON or not
-abbrev pub summary_of : TestReport → List ℕ
-summary_of x = if x.json then summary_objects x else summary_text x
-
--- a test has a summary
+-- a test has a summary, as JSON or not
 abbrev pub of_test : AnswerRule TestReport
-of_test = record { status = λ x. exit_status (has_found x.found) None; summary = summary_of }
+of_test = record {
+  status = λ x. exit_status (has_found x.found) None;
+  summary = λ x. if x.json then summary_objects x else summary_text x;
+}
 
 -- the lines of the program's statements, as JSON or not, if they are to be listed
 abbrev pub AreListedAs

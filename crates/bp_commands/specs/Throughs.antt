@@ -1,5 +1,5 @@
 -- The command `explore --through`.
-use Rattle.std.specs.Prelude.{◌≡◌, ◌⊎◌, ℕ, Bool, List, [], Some, length}
+use Rattle.std.specs.Prelude.{◌≡◌, ◌⊎◌, ℕ, List, [], Some, length}
 use Rattle.bp_syntax.specs.Ast.{Program}
 use Rattle.bp_confirm.specs.declared.confirmations.ConfirmError.{ConfirmError}
 use Rattle.bp_confirm.specs.ConfirmedTexts.{AreTold, IsUntold}
@@ -19,7 +19,9 @@ use Rattle.bp_messages.specs.ErrorTable.{error_of_steps}
 use Rattle.bp_commands.specs.Commands.{Command, Pair}
 use Rattle.bp_commands.specs.Programs.{IsNotOpened, IsOpened}
 use Rattle.bp_commands.specs.ExplorationEnds.{facts_through, made_through}
-use Rattle.bp_commands.specs.Explores.{bound_of, IsEndSaid, IsNothingSaid}
+use Rattle.bp_commands.specs.EndTexts.{AreNoTexts}
+use Rattle.bp_commands.specs.Explores.{bound_of, IsEndSaid}
+use Rattle.bp_commands.specs.declared.end_texts.EndTexts.{EndTexts}
 use Rattle.bp_commands.specs.declared.exploration_ends.Exploration.{Exploration}
 
 -- the trace of the run that was found, if there is one
@@ -27,14 +29,11 @@ abbrev pub trace_through : ThroughEnding → List ℕ
 trace_through (Found r) = trace_text r.session.setup r.history.items
 trace_through other = []
 
--- of the program of a text: the report of the run that was found, and whether an assertion fails in
--- its last step
+-- this is said of the run that was found
 abbrev pub IsRunSaid
-    : (text : List ℕ) → Program → ExploreTask → (outcome waits : List ℕ) → (failed : Bool)
-    → ThroughEnding → Type 0
-IsRunSaid text t x outcome waits failed (Found r) =
-    IsEndSaid text t x outcome waits r.session.setup r.history.items failed
-IsRunSaid text t x outcome waits failed other = IsNothingSaid x outcome waits failed
+    : ExploreTask → (text : List ℕ) → Program → ThroughEnding → EndTexts → Type 0
+IsRunSaid x text t (Found r) said = IsEndSaid x text t r.session.setup r.history.items said
+IsRunSaid x text t other said = AreNoTexts x.json said
 
 -- The runs of the program of a text are searched for one that makes the steps of another text,
 -- under the options of the task.
@@ -67,9 +66,7 @@ module _ (x : ExploreTask) (given : Pair) where
     pub steps :
         let n = length trace.lines in
         answer.steps ≡ Some (record { count = n; made = made_through n trace.ending })
-    pub said :
-        let outcome = answer.outcome.items in
-        IsRunSaid given.text trace.program x outcome answer.waits.items answer.failed trace.ending
+    pub said : IsRunSaid x given.text trace.program trace.ending answer.said
 
   -- the program accepts the setup, and the steps are not of its threads and variables
   pub record AreStepsUntold (f : Error) : Type 0 where

@@ -4,7 +4,6 @@ ghost use Rattle.std.specs.Prelude.{◌≡◌, IfOk};
 ghost use Rattle.bp_text.specs.Writing.{Writes};
 ghost use Rattle.bp_code.specs.CompiledCode.{flat_of};
 ghost use Rattle.bp_code.specs.Listing.{listing_text};
-ghost use Rattle.bp_source.specs.Listings.{IsSourcedListing};
 ghost use Rattle.bp_commands.specs.Programs.{check_line, IsListingText};
 
 use crate::commands::ProgramCommand;
@@ -69,15 +68,6 @@ fn plain(alloc: Global, code: &Code) -> Result<Vec<u8>, AllocError>
     }
 }
 
-/// Returns the listing with the source of each instruction.
-fn sourced(alloc: Global, text: &[u8], code: &Code) -> Result<Vec<u8>, AllocError>
-    ensures { let listing = listing_text code.now in
-        IfOk result (λ v. IsSourcedListing text.now code.now.tree listing v.items) }
-{
-    let listing = plain(alloc, code)?;
-    sourced_listing(alloc, text, code.checked(), &listing)
-}
-
 /// Returns the listing of a program's code in this form.
 fn listing_in(
     alloc: Global,
@@ -90,7 +80,10 @@ fn listing_in(
 {
     match form {
         ListingForm::Lines => plain(alloc, code),
-        ListingForm::Sourced => sourced(alloc, text, code),
+        ListingForm::Sourced => {
+            let listing = plain(alloc, code)?;
+            sourced_listing(alloc, text, code.checked(), &listing)
+        }
         ListingForm::Json => code_objects(alloc, text, code),
     }
 }

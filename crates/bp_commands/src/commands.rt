@@ -1,6 +1,6 @@
 //! Commands on given inputs, and on inputs that they read.
 ghost use Rattle.std.specs.Prelude.{◌≡◌, List, ℕ};
-ghost use Rattle.bp_commands.specs.Commands.{Answers, AnswersOf, Command, text_alone, text_and, Pair};
+ghost use Rattle.bp_commands.specs.Commands.{Answers, AnswersOf, Command, limit_of, text_alone, text_and, Pair};
 ghost use Rattle.bp_commands.specs.declared.explanations.SecondInput.{SecondInput};
 ghost use Rattle.bp_commands.specs.ErrorReports.{AreReadOr};
 
@@ -51,13 +51,7 @@ pub trait PairCommand {
 
     ghost command: { Self → Command Pair Self.Answer };
 
-    ghost limit: { Self → ℕ };
-
     ghost second_input: { Self → SecondInput };
-
-    /// Returns the most bytes of the second input.
-    fn limit(&self) -> usize
-        ensures { result ≡ limit self.now };
 
     /// Does the command on the text of a program and the second input.
     fn apply<W: Write>(
@@ -113,11 +107,11 @@ pub fn do_on_pair<C: PairCommand, R: Read, S: Read, W: Write>(
     input: &mut Source<S>,
     out: &mut W,
 ) -> Result<C::Answer, Error>
-    ensures answers { let inputs = text_and (C.limit command.now)
+    ensures answers { let inputs = text_and (limit_of (C.second_input command.now))
         (R.remaining program.old.reader) (R.remaining program.new.reader)
         (S.remaining input.old.reader) (S.remaining input.new.reader) in
         Answers (C.command command.now) inputs (W.contents out.old) (W.contents out.new) result }
-    ensures holds { let inputs = text_and (C.limit command.now)
+    ensures holds { let inputs = text_and (limit_of (C.second_input command.now))
         (R.remaining program.old.reader) (R.remaining program.new.reader)
         (S.remaining input.old.reader) (S.remaining input.new.reader) in
         let given : Pair = record {
@@ -126,6 +120,6 @@ pub fn do_on_pair<C: PairCommand, R: Read, S: Read, W: Write>(
         } in
         AreReadOr inputs given result }
 {
-    read_pair(alloc, command.limit(), program, input)?;
+    read_pair(alloc, command.second_input().limit(), program, input)?;
     command.apply(alloc, &program.bytes, &input.bytes, out)
 }

@@ -1,23 +1,21 @@
 //! The command `confirm`.
 ghost use Rattle.std.specs.Prelude.{◌≡◌, ◌++◌, IfOk, OnOk};
-ghost use Rattle.bp_view.specs.FooterFacts.{footer_in};
 ghost use Rattle.bp_machine.specs.Sessions.{Stands};
-ghost use Rattle.bp_commands.specs.Confirms.{choice_text, choices_text, deadlock_lead, deadlock_line, of_confirm, status_of_verdict, verdict_line, verdict_of, verdict_word, IsConfirmation};
+ghost use Rattle.bp_commands.specs.Confirms.{choice_text, choices_text, deadlock_lead, deadlock_line, of_confirm, status_of_verdict, verdict_line, verdict_word, IsConfirmation};
 ghost use Rattle.bp_text.specs.Writing.{Writes};
 
 use crate::commands::PairCommand;
+use crate::end_texts::{EndTexts, texts_of_run};
 use crate::explanations::SecondInput;
 use crate::programs::open;
 use crate::run_ends::CommandAnswer;
 use bp_confirm::{Confirmed, LastChoice, confirm};
 use bp_machine::Report;
 use bp_messages::{Error, VerdictFacts, exit_status, put_verdict};
-use bp_source::{ConfirmTask, NamedStart, Verdict, ViewFormat, source_statements_of};
+use bp_source::{ConfirmTask, NamedStart, Verdict};
 use bp_text::Piece::{Bit, Bytes, Number};
 use bp_text::{WriteError, part_from, push_pieces, put, put_pieces};
-use bp_trace::limits::MAX_SCHEDULE;
 use bp_trace::{Version, write_with_live_threads};
-use bp_view::{FooterFacts, facts_of_footer, facts_of_program, outcome_text, waits_text};
 use std::alloc::{AllocError, Global};
 use std::io::Write;
 
@@ -27,32 +25,15 @@ const UNEXPECTED: u8 = 4;
 /// The verdict on steps that are a run, and the form of its report.
 #[derive(Drop)]
 pub struct Confirmation {
-    pub verdict: Verdict,
+    /// What is said of the end of their run, in JSON.
+    pub said: EndTexts,
     pub report: Report,
-    /// The object of the assertion that failed, or `null`.
-    pub failure: Vec<u8>,
-    /// The objects of the threads that wait in a deadlock, each after a comma.
-    pub waits: Vec<u8>,
     /// The last bits on which the deadlock depends, each as an object after a comma or in words.
     pub choices: Vec<u8>,
     /// The expected verdict, if the exit status tells whether it is met.
     pub expected: Option<Verdict>,
     /// Whether the report is a JSON object.
     pub json: bool,
-}
-
-/// Returns the verdict on steps whose run ends with these facts.
-fn verdict_of(footer: &FooterFacts<'_>) -> Verdict
-    ensures { result ≡ verdict_of (footer_in footer.now) }
-{
-    if footer.failure.is_some() {
-        return Verdict::Failure;
-    }
-    if footer.deadlocked {
-        Verdict::Deadlock
-    } else {
-        Verdict::Run
-    }
 }
 
 /// Returns the word for a verdict.
@@ -160,28 +141,28 @@ impl CommandAnswer for Confirmation {
     ghost rule = { of_confirm };
 
     fn status(&self) -> u8 {
-        status_of_verdict(self.expected, self.verdict)
+        status_of_verdict(self.expected, self.said.verdict)
     }
 
     fn summarize<E: Write>(&self, errors: &mut E) -> Result<(), WriteError> {
         if self.json {
             return put_verdict(
                 VerdictFacts {
-                    verdict: verdict_word(self.verdict),
+                    verdict: verdict_word(self.said.verdict),
                     steps: self.report.calls,
                     contexts: Some(u64::from(self.report.contexts)),
-                    failure: &self.failure,
-                    waits: &self.waits,
+                    failure: &self.said.outcome,
+                    waits: &self.said.waits,
                     choices: &self.choices,
                 },
                 errors,
             );
         }
         // A failure needs no line: its trace and the status show it.
-        if self.expected.is_none() && matches!(self.verdict, Verdict::Failure) {
+        if self.expected.is_none() && matches!(self.said.verdict, Verdict::Failure) {
             return Ok(());
         }
-        put_line(&self.choices, self.verdict, errors)
+        put_line(&self.choices, self.said.verdict, errors)
     }
 }
 
@@ -199,26 +180,12 @@ fn confirmation_of(
         let choices = confirmed.now.choices.items in
         IfOk result (IsConfirmation text.now t setup history choices task.now) }
 {
-    let checked = confirmed.session.code().checked();
-    let statements = source_statements_of(alloc, text, checked)?;
-    let program = facts_of_program(statements.as_slice(), checked);
     let report = confirmed.session.report();
-    let footer = facts_of_footer(alloc, &program, &confirmed.session, report)?;
-    let format = ViewFormat::Json;
-    let failure = outcome_text(
-        alloc,
-        format,
-        "",
-        footer.deadlocked,
-        footer.failure.as_ref(),
-    )?;
-    let waits = waits_text(alloc, format, "", footer.waits.as_slice())?;
+    let said = texts_of_run(alloc, text, true, "", &confirmed.session, report)?;
     let choices = choices_text(alloc, task.json, confirmed.choices.as_slice())?;
     Ok(Confirmation {
-        verdict: verdict_of(&footer),
+        said,
         report,
-        failure,
-        waits,
         choices,
         expected: task.expected,
         json: task.json,
@@ -228,20 +195,13 @@ fn confirmation_of(
 /// `confirm`: takes the steps that a model checker reports, and writes the trace.
 impl PairCommand for ConfirmTask<'_> {
     ghost use Rattle.bp_commands.specs.declared.explanations.SecondInput.{SecondInput};
-    ghost use Rattle.bp_trace.specs.declared.limits.TheConstants.{MAX_SCHEDULE};
     ghost use Rattle.bp_commands.specs.Confirms.{confirms};
 
     type Answer = Confirmation;
 
     ghost command = { λ x. confirms x };
 
-    ghost limit = { λ _. MAX_SCHEDULE };
-
     ghost second_input = { λ _. SecondInput.Steps };
-
-    fn limit(&self) -> usize {
-        MAX_SCHEDULE
-    }
 
     fn apply<W: Write>(
         &self,
@@ -264,9 +224,7 @@ impl PairCommand for ConfirmTask<'_> {
     }
 
     fn named_start(&self) -> Option<NamedStart<'_>> {
-        Some(NamedStart {
-            start: &self.start,
-            named: &self.named,
-        })
+        let (start, named) = (&self.start, &self.named);
+        Some(NamedStart { start, named })
     }
 }

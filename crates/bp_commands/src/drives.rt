@@ -15,7 +15,6 @@ use bp_machine::{Report, Start};
 use bp_messages::Error;
 use bp_source::{DriveTask, NamedBits, NamedStart};
 use bp_trace::drive;
-use bp_trace::limits::MAX_SCHEDULE;
 use std::alloc::Global;
 use std::io::{Read, Write};
 
@@ -40,20 +39,13 @@ fn drive_from<W: Write>(
 /// `drive`: drives a program by a schedule, and writes the trace.
 impl PairCommand for DriveTask<'_> {
     ghost use Rattle.bp_commands.specs.declared.explanations.SecondInput.{SecondInput};
-    ghost use Rattle.bp_trace.specs.declared.limits.TheConstants.{MAX_SCHEDULE};
     ghost use Rattle.bp_commands.specs.Traces.{drives};
 
     type Answer = Report;
 
     ghost command = { λ d. drives d.start d.named };
 
-    ghost limit = { λ _. MAX_SCHEDULE };
-
     ghost second_input = { λ _. SecondInput.Schedule };
-
-    fn limit(&self) -> usize {
-        MAX_SCHEDULE
-    }
 
     fn apply<W: Write>(
         &self,
@@ -70,15 +62,10 @@ impl PairCommand for DriveTask<'_> {
     }
 
     fn named_start(&self) -> Option<NamedStart<'_>> {
-        Some(NamedStart {
-            start: &self.start,
-            named: &self.named,
-        })
+        let (start, named) = (&self.start, &self.named);
+        Some(NamedStart { start, named })
     }
 }
-
-/// Why a bundle is not driven.
-pub type BundleError = Error;
 
 /// Reads a bundle, a program and a schedule, drives the program by the schedule, and writes the
 /// trace: one thread begins with `main`, all globals are 0, and at most 2 contexts and 1,000
@@ -87,7 +74,7 @@ pub fn drive_bundle<R: Read, W: Write>(
     alloc: Global,
     bundle: &mut Source<R>,
     out: &mut W,
-) -> Result<Report, BundleError>
+) -> Result<Report, Error>
     ensures answers { let inputs = bundle_alone
         (R.remaining bundle.old.reader) (R.remaining bundle.new.reader) in
         Answers bundles inputs (W.contents out.old) (W.contents out.new) result }

@@ -1,6 +1,6 @@
 //! The part of an error's sentence on the command line: the file, or the option. The sentence of an
 //! error alone.
-use crate::inputs::Failure;
+use crate::inputs::FailedFile;
 use bp_code::ProgramError;
 use bp_explain::{global_sentence, start_sentence, variable_sentence};
 use bp_machine::limits::{MAX_CALLS, MAX_CONTEXTS};
@@ -69,18 +69,11 @@ fn of_numbers(alloc: Global, start: &Start, numbers: OptionNumbers) -> Option<St
     sentence.ok()
 }
 
-/// A file of a command, and why it could not be opened or read.
-#[derive(Clone, Copy)]
-pub(crate) struct FailedFile<'a> {
-    pub(crate) name: &'a str,
-    pub(crate) failure: Failure,
-}
-
 /// Returns the sentence on the file that could not be opened or read, with the system's reason.
 fn of_file(alloc: Global, unread: Option<FailedFile<'_>>) -> Option<String> {
-    let FailedFile { name, failure } = unread?;
-    let verb = failure.verb();
-    let reason = failure.reason(alloc)?;
+    let file = unread?;
+    let (name, verb) = (file.name, file.verb());
+    let reason = file.reason(alloc)?;
     format!(in alloc; "cannot {verb} '{name}': {reason}").ok()
 }
 
@@ -102,36 +95,6 @@ fn of_limit(alloc: Global, file: Limited<'_>) -> Option<String> {
     }
 }
 
-/// The arguments on the program: its text, the start of its run, and the names of watched
-/// variables.
-#[derive(Clone, Copy)]
-pub(crate) struct Asked<'a, 't> {
-    pub(crate) program: &'t [u8],
-    pub(crate) start: Option<NamedStart<'a>>,
-    pub(crate) watch: Option<&'a str>,
-}
-
-/// Returns the sentence on the part of a start that does not fit the program.
-fn of_start(alloc: Global, asked: Asked<'_, '_>, error: SetupError) -> Option<Vec<u8>> {
-    let sentence = start_sentence(alloc, asked.program, asked.start?.start, error).ok()?;
-    if sentence.is_empty() {
-        None
-    } else {
-        Some(sentence)
-    }
-}
-
-/// Returns the sentence on the name of this number, from 1: a watched variable, or else a global
-/// with its bit. A command has names in one option, and nothing of the program has this one.
-fn of_name(alloc: Global, asked: Asked<'_, '_>, number: u64) -> Option<Vec<u8>> {
-    let place = (number as usize).checked_sub(1)?;
-    if asked.watch.is_none() {
-        return global_sentence(alloc, asked.program, asked.start?.named.name(place)?).ok();
-    }
-    let names = watched_names(alloc, asked.watch).ok()?;
-    variable_sentence(alloc, asked.program, names.get(place)?).ok()
-}
-
 /// The sentence on a bundle without a program.
 const EMPTY_BUNDLE: &str = "standard input has no program; without a command btrun reads a \
     program, a line '%' and a schedule ('btrun --help' shows the commands)";
@@ -141,7 +104,10 @@ const EMPTY_BUNDLE: &str = "standard input has no program; without a command btr
 pub(crate) struct ErrorContext<'a, 't> {
     pub(crate) unread: Option<FailedFile<'a>>,
     pub(crate) numbers: OptionNumbers,
-    pub(crate) asked: Asked<'a, 't>,
+    /// The text of the program, the start of its run, and the names of watched variables.
+    pub(crate) text: &'t [u8],
+    pub(crate) start: Option<NamedStart<'a>>,
+    pub(crate) watch: Option<&'a str>,
     /// The file of the program, and that of the second input.
     pub(crate) program: &'a str,
     pub(crate) input: Option<Limited<'a>>,
@@ -165,10 +131,32 @@ impl ErrorContext<'_, '_> {
             }
             Error::TooLong => of_limit(alloc, self.input?),
             Error::Setup(SetupError::OutOfRange) => {
-                of_numbers(alloc, self.asked.start?.start, self.numbers)
+                of_numbers(alloc, self.start?.start, self.numbers)
             }
             _ => None,
         }
+    }
+
+    /// Returns the sentence on the part of the start that does not fit the program.
+    fn of_start(&self, alloc: Global, error: SetupError) -> Option<Vec<u8>> {
+        let sentence = start_sentence(alloc, self.text, self.start?.start, error).ok()?;
+        if sentence.is_empty() {
+            None
+        } else {
+            Some(sentence)
+        }
+    }
+
+    /// Returns the sentence on the name of this number, from 1: a watched variable, or else a
+    /// global with its bit. A command has names in one option, and nothing of the program has this
+    /// one.
+    fn of_name(&self, alloc: Global, number: u64) -> Option<Vec<u8>> {
+        let place = (number as usize).checked_sub(1)?;
+        if self.watch.is_none() {
+            return global_sentence(alloc, self.text, self.start?.named.name(place)?).ok();
+        }
+        let names = watched_names(alloc, self.watch).ok()?;
+        variable_sentence(alloc, self.text, names.get(place)?).ok()
     }
 
     /// Returns the sentence that replaces the error's own, if there is more to say.
@@ -177,11 +165,11 @@ impl ErrorContext<'_, '_> {
             return Some(sentence.into_bytes());
         }
         match error {
-            Error::Setup(_) if self.is_bundle && self.asked.program.is_empty() => {
+            Error::Setup(_) if self.is_bundle && self.text.is_empty() => {
                 Some(String::from_str(alloc, EMPTY_BUNDLE).ok()?.into_bytes())
             }
-            Error::Setup(error) => of_start(alloc, self.asked, *error),
-            Error::NoVariable(number) => of_name(alloc, self.asked, *number),
+            Error::Setup(error) => self.of_start(alloc, *error),
+            Error::NoVariable(number) => self.of_name(alloc, *number),
             _ => None,
         }
     }

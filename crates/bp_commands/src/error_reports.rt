@@ -39,13 +39,10 @@ pub(crate) trait Texts {
     fn file(&self, error: &Error, context: ErrorContext<'_, '_>) -> Option<&str>
         ensures { is_in self.now error.now (name_in result) };
 
-    /// Returns the text of the program.
-    fn program(&self) -> &[u8]
-        ensures { let texts = given self.now in result.now ≡ texts.text };
-
-    /// Returns the second input, or an empty text without one.
-    fn input(&self) -> &[u8]
-        ensures { let texts = given self.now in result.now ≡ texts.input };
+    /// Returns the text of the program, and the second input, or an empty text without one.
+    fn texts(&self) -> (&[u8], &[u8])
+        ensures { let texts = given self.now in
+            (result.0.now ≡ texts.text) × (result.1.now ≡ texts.input) };
 }
 
 impl Texts for NamedText<'_> {
@@ -70,12 +67,8 @@ impl Texts for NamedText<'_> {
         }
     }
 
-    fn program(&self) -> &[u8] {
-        self.text
-    }
-
-    fn input(&self) -> &[u8] {
-        b""
+    fn texts(&self) -> (&[u8], &[u8]) {
+        (self.text, b"")
     }
 }
 
@@ -129,12 +122,8 @@ impl Texts for NamedPair<'_> {
         }
     }
 
-    fn program(&self) -> &[u8] {
-        self.program.text
-    }
-
-    fn input(&self) -> &[u8] {
-        self.input.text
+    fn texts(&self) -> (&[u8], &[u8]) {
+        (self.program.text, self.input.text)
     }
 }
 
@@ -163,12 +152,8 @@ impl Texts for ReadBundle<'_> {
         None
     }
 
-    fn program(&self) -> &[u8] {
-        self.bytes
-    }
-
-    fn input(&self) -> &[u8] {
-        b""
+    fn texts(&self) -> (&[u8], &[u8]) {
+        (self.bytes, b"")
     }
 }
 
@@ -201,8 +186,9 @@ fn put_object<G: Texts, E: Write>(
         × Writes (E.contents errors.old) (E.contents errors.new) object result }
 {
     let file = given.file(error, context);
-    let value = value_in(given.input(), error.row().detail);
-    put_error_object(error, file, given.program(), value, message, errors)
+    let (program, input) = given.texts();
+    let value = value_in(input, error.row().detail);
+    put_error_object(error, file, program, value, message, errors)
 }
 
 /// Writes the object of an error with the error in a sentence as its message.
@@ -297,21 +283,6 @@ fn report<G: Texts, T: CommandAnswer, E: Write>(
     }
 }
 
-/// Explains an error by lines, or else reports it in a sentence.
-fn explain<G: Texts, E: Write>(
-    alloc: Global,
-    given: &G,
-    error: &Error,
-    context: ErrorContext<'_, '_>,
-    errors: &mut E,
-) -> Explained
-    ensures { (said : List ℕ) × IsSaid (G.explains given.now error.now) result said
-        × Writes (E.contents errors.old) (E.contents errors.new) said result.told }
-{
-    let lines = explaining_text(alloc, given, error, true);
-    put_explanation(alloc, &lines, error, context, errors)
-}
-
 /// Ends a run by the result of its command: writes its summary, or its refusal in this format and
 /// its explanation.
 pub(crate) fn conclude<G: Texts, T: CommandAnswer, E: Write>(
@@ -330,7 +301,8 @@ pub(crate) fn conclude<G: Texts, T: CommandAnswer, E: Write>(
     let end = report(alloc, format, given, done, context, errors);
     match (format.is_explained(), done) {
         (true, Err(error)) => {
-            let explained = explain(alloc, given, error, context, errors);
+            let lines = explaining_text(alloc, given, error, true);
+            let explained = put_explanation(alloc, &lines, error, context, errors);
             RunEnd { explained, ..end }
         }
         _ => end,

@@ -1,9 +1,9 @@
 //! The text that `--explain` adds after the line of an error, for people.
-ghost use Rattle.std.specs.Prelude.{ℕ, List, IfOk};
+ghost use Rattle.std.specs.Prelude.{◌≡◌, ℕ, List, IfOk};
 ghost use Rattle.bp_advice.specs.Explanations.{IsExplanationOf};
 ghost use Rattle.bp_text.specs.Writing.{Writes};
 ghost use Rattle.bp_commands.specs.ErrorReports.{ExplainsInput, ExplainsPair, ExplainsText, IsSentenceLine, IsSaidFor};
-ghost use Rattle.bp_commands.specs.Commands.{Pair};
+ghost use Rattle.bp_commands.specs.Commands.{limit_of, Pair};
 
 use crate::error_contexts::{ErrorContext, shown_sentence};
 use crate::programs::start_of_run;
@@ -16,6 +16,7 @@ use bp_source::{NamedBits, NamedStart};
 use bp_text::Piece::Bytes;
 use bp_text::{WriteError, first_line, put, put_pieces};
 use bp_trace::ReplayError;
+use bp_trace::limits::{MAX_SCHEDULE, MAX_TRACE};
 use std::alloc::{AllocError, Global};
 use std::io::Write;
 
@@ -32,6 +33,18 @@ pub enum SecondInput {
     Schedule,
     Steps,
     Trace,
+}
+
+impl SecondInput {
+    /// Returns the most bytes of an input of this kind.
+    pub(crate) fn limit(self) -> usize
+        ensures { result ≡ limit_of self }
+    {
+        match self {
+            SecondInput::Schedule | SecondInput::Steps => MAX_SCHEDULE,
+            SecondInput::Trace => MAX_TRACE,
+        }
+    }
 }
 
 /// Returns the explanation of an error of a program, if there is one.

@@ -1,10 +1,11 @@
 //! How an exploration ends, and the exit status of its run.
 ghost use Rattle.std.specs.Prelude.{◌≡◌};
-ghost use Rattle.bp_commands.specs.ExplorationEnds.{facts_of_ending, facts_through, found_end, kind_of, made_through, missed_end, status_found, status_missed};
+ghost use Rattle.bp_commands.specs.ExplorationEnds.{facts_of_ending, facts_through, found_end, kind_of, made_through, missed_end, status_of};
 
+use crate::end_texts::EndTexts;
 use bp_explore::{Ending, Finding, Reason, ThroughEnding};
 use bp_messages::exit_status;
-use bp_source::ExploreTask;
+use bp_source::{ExploreTask, Verdict};
 
 /// The exit status if no run makes the steps.
 const NOT_MADE: u8 = 4;
@@ -47,7 +48,7 @@ pub struct ListedSteps {
     pub made: Option<u32>,
 }
 
-/// How an exploration ended, and the texts of the run that it found.
+/// How an exploration ended, and what is said of the run that it found.
 #[derive(Drop)]
 pub struct Exploration<'a> {
     pub task: &'a ExploreTask<'a>,
@@ -58,12 +59,8 @@ pub struct Exploration<'a> {
     pub states: usize,
     /// The number of them in which a call had no room on its stack.
     pub full_stacks: usize,
-    /// The outcome of the run that was found.
-    pub outcome: Vec<u8>,
-    /// The threads that wait at its end.
-    pub waits: Vec<u8>,
-    /// Whether an assertion failed in it.
-    pub failed: bool,
+    /// What is said of the end of the run that was found.
+    pub said: EndTexts,
 }
 
 /// Returns an end without a finding.
@@ -164,29 +161,18 @@ pub(crate) fn made_through(steps: u32, ending: &ThroughEnding) -> Option<u32>
     }
 }
 
-/// Returns the exit status if nothing was found.
-fn status_missed(reason: Option<Reason>, steps: Option<ListedSteps>) -> u8
-    ensures { result ≡ status_missed reason steps }
+/// Returns the exit status of an exploration: 1 if a run fails or ends in a deadlock, 4 if no run
+/// makes listed steps, 5 if not all was explored.
+pub(crate) fn status_of(x: &Exploration<'_>) -> u8
+    ensures { result ≡ status_of x.now }
 {
-    match (reason, steps) {
-        (Some(_), _) => UNFINISHED,
-        (None, Some(_)) => NOT_MADE,
-        (None, None) => exit_status(false, None),
-    }
-}
-
-/// Returns the exit status of an exploration with this end.
-pub(crate) fn status_found(
-    found: FoundKind,
-    reason: Option<Reason>,
-    steps: Option<ListedSteps>,
-    failed: bool,
-) -> u8
-    ensures { result ≡ status_found found reason steps failed }
-{
-    match found {
-        FoundKind::Nothing => status_missed(reason, steps),
-        FoundKind::Failure | FoundKind::Deadlock => exit_status(true, None),
-        FoundKind::Steps => exit_status(failed, None),
+    match (x.facts.found, x.facts.reason, x.steps) {
+        (FoundKind::Nothing, Some(_), _) => UNFINISHED,
+        (FoundKind::Nothing, None, Some(_)) => NOT_MADE,
+        (FoundKind::Nothing, None, None) => exit_status(false, None),
+        (FoundKind::Failure | FoundKind::Deadlock, _, _) => exit_status(true, None),
+        (FoundKind::Steps, _, _) => {
+            exit_status(matches!(x.said.verdict, Verdict::Failure), None)
+        }
     }
 }

@@ -1,10 +1,11 @@
 //! The report of an exploration on standard error: lines for people, or one JSON object.
 ghost use Rattle.std.specs.Prelude.{◌≡◌, option_map};
 ghost use Rattle.bp_text.specs.Writing.{Given, Writes};
-ghost use Rattle.bp_commands.specs.ExplorationTexts.{anywhere_by, anywhere_text, below_text, count_of, cut_text, digit, end_text, ending_by, exploration_lines, exploration_object, exploration_text, finding_text, first_text, found_text, found_word, grouped, it_text, last_members, last_three, less_by, made_end, missed_text, of_program, plural, reason_text, reason_word, run_by, sought_text, steps_text, traceless_by, unfinished_text, were_text, within_text};
+ghost use Rattle.bp_commands.specs.ExplorationTexts.{anywhere_by, anywhere_text, below_text, count_of, cut_text, digit, end_text, ending_by, exploration_object, exploration_text, finding_text, first_text, found_text, found_word, grouped, it_text, last_members, last_three, less_by, made_end, of_program, plural, reason_text, reason_word, run_by, sought_text, steps_text, traceless_by, unfinished_text, were_text, within_text};
 
 use crate::exploration_ends::{Exploration, FoundKind, ListedSteps};
 use bp_explore::Reason;
+use bp_source::Verdict;
 use bp_text::Piece::{Bytes, Displayed, Key, List, Number, NumberOrNull, Text, TextOrNull, Truth};
 use bp_text::{Sink, WriteError};
 use std::io::Write;
@@ -132,7 +133,7 @@ fn put_unfinished<W: Write>(x: &Exploration<'_>, reason: Reason, sink: &mut Sink
     ensures { Given W.contents sink.old sink.new (unfinished_text x.now reason) }
 {
     let contexts = x.facts.contexts as u64;
-    sink.put(b" within ");
+    sink.put(b"no run within ");
     put_count(contexts.saturating_sub(1), b"context", sink);
     sink.put(b" ");
     put_sought(x, sink);
@@ -150,14 +151,14 @@ fn put_anywhere<W: Write>(x: &Exploration<'_>, sink: &mut Sink<'_, W>)
 {
     match x.steps {
         None => {
-            sink.put(b" of ");
+            sink.put(b"no run of ");
             sink.put_pieces(&[Displayed(x.task.program.as_bytes())]);
             sink.put(b" ");
             put_sought(x, sink);
             sink.put(b", within any number of contexts")
         }
         Some(_) => {
-            sink.put(b", within any number of contexts, ");
+            sink.put(b"no run, within any number of contexts, ");
             put_sought(x, sink)
         }
     }
@@ -191,6 +192,7 @@ fn put_program<W: Write>(steps: Option<ListedSteps>, file: &str, sink: &mut Sink
 fn put_within<W: Write>(x: &Exploration<'_>, sink: &mut Sink<'_, W>)
     ensures { Given W.contents sink.old sink.new (within_text x.now) }
 {
+    sink.put(b"no run");
     put_program(x.steps, x.task.program, sink);
     sink.put(b" within ");
     put_count(x.facts.contexts as u64, b"context", sink);
@@ -199,18 +201,6 @@ fn put_within<W: Write>(x: &Exploration<'_>, sink: &mut Sink<'_, W>)
     sink.put(b": ");
     put_count(x.states as u64, b"state", sink);
     sink.put(b"\n")
-}
-
-/// Writes that nothing was found.
-fn put_missed<W: Write>(x: &Exploration<'_>, sink: &mut Sink<'_, W>)
-    ensures { Given W.contents sink.old sink.new (missed_text x.now) }
-{
-    sink.put(b"no run");
-    match (x.facts.reason, x.facts.complete) {
-        (Some(reason), _) => put_unfinished(x, reason, sink),
-        (None, true) => put_complete(x, sink),
-        (None, false) => put_within(x, sink),
-    }
 }
 
 fn finding_text(found: FoundKind) -> &'static [u8]
@@ -223,10 +213,10 @@ fn finding_text(found: FoundKind) -> &'static [u8]
 }
 
 /// Writes the note on the last step if an assertion fails in it.
-fn put_made_end<W: Write>(failed: bool, outcome: &[u8], sink: &mut Sink<'_, W>)
-    ensures { Given W.contents sink.old sink.new (made_end failed outcome.now) }
+fn put_made_end<W: Write>(verdict: Verdict, outcome: &[u8], sink: &mut Sink<'_, W>)
+    ensures { Given W.contents sink.old sink.new (made_end verdict outcome.now) }
 {
-    if failed {
+    if matches!(verdict, Verdict::Failure) {
         sink.put(b"\n");
         return sink.put(outcome);
     }
@@ -239,14 +229,14 @@ fn put_run<W: Write>(x: &Exploration<'_>, sink: &mut Sink<'_, W>)
 {
     match (x.steps, x.facts.trace) {
         (None, true) => {
-            sink.put(x.outcome.as_slice());
-            sink.put(x.waits.as_slice())
+            sink.put(x.said.outcome.as_slice());
+            sink.put(x.said.waits.as_slice())
         }
         (None, false) => sink.put(finding_text(x.facts.found)),
         (Some(steps), _) => {
             sink.put(b"a run ");
             put_steps(steps.count, sink);
-            put_made_end(x.failed, x.outcome.as_slice(), sink)
+            put_made_end(x.said.verdict, x.said.outcome.as_slice(), sink)
         }
     }
 }
@@ -261,18 +251,14 @@ fn it_text(steps: Option<ListedSteps>) -> &'static [u8]
 }
 
 /// Writes why there is not a trace of the run, if there is none.
-fn put_traceless<W: Write>(
-    trace: bool,
-    calls: Option<u64>,
-    steps: Option<ListedSteps>,
-    sink: &mut Sink<'_, W>,
-)
-    ensures { Given W.contents sink.old sink.new (traceless_by trace calls steps) }
+fn put_traceless<W: Write>(x: &Exploration<'_>, sink: &mut Sink<'_, W>)
+    ensures { let facts = x.now.facts in
+        Given W.contents sink.old sink.new (traceless_by facts.trace facts.calls x.now.steps) }
 {
-    match (trace, calls) {
+    match (x.facts.trace, x.facts.calls) {
         (false, Some(calls)) => {
             sink.put(b", but no trace can hold ");
-            sink.put(it_text(steps));
+            sink.put(it_text(x.steps));
             sink.put(b": a thread makes ");
             put_count(calls, b"call", sink)
         }
@@ -313,18 +299,22 @@ fn put_found<W: Write>(x: &Exploration<'_>, sink: &mut Sink<'_, W>)
     put_count(contexts, b"context", sink);
     sink.put(b": ");
     put_run(x, sink);
-    put_traceless(x.facts.trace, x.facts.calls, x.steps, sink);
+    put_traceless(x, sink);
     sink.put(b"\n");
     put_below(x, contexts, sink)
 }
 
 /// Writes how an exploration ended.
 fn put_ending<W: Write>(x: &Exploration<'_>, sink: &mut Sink<'_, W>)
-    ensures { Given W.contents sink.old sink.new (ending_by x.now.facts.found x.now) }
+    ensures { let facts = x.now.facts in
+        let text = ending_by facts.found facts.reason facts.complete x.now in
+        Given W.contents sink.old sink.new text }
 {
-    match x.facts.found {
-        FoundKind::Nothing => put_missed(x, sink),
-        FoundKind::Failure | FoundKind::Deadlock | FoundKind::Steps => put_found(x, sink),
+    match (x.facts.found, x.facts.reason, x.facts.complete) {
+        (FoundKind::Nothing, Some(reason), _) => put_unfinished(x, reason, sink),
+        (FoundKind::Nothing, None, true) => put_complete(x, sink),
+        (FoundKind::Nothing, None, false) => put_within(x, sink),
+        (FoundKind::Failure | FoundKind::Deadlock | FoundKind::Steps, _, _) => put_found(x, sink),
     }
 }
 
@@ -339,14 +329,6 @@ fn put_cut<W: Write>(states: u64, sink: &mut Sink<'_, W>)
     put_count(states, b"state", sink);
     sink.put(b" a call had no room on a stack of 1,024 frames; ");
     sink.put(b"what follows it was not looked through\n")
-}
-
-/// Writes lines for people.
-fn put_lines<W: Write>(x: &Exploration<'_>, sink: &mut Sink<'_, W>)
-    ensures { Given W.contents sink.old sink.new (exploration_lines x.now) }
-{
-    put_ending(x, sink);
-    put_cut(x.full_stacks as u64, sink)
 }
 
 fn found_word(found: FoundKind) -> &'static [u8]
@@ -412,9 +394,9 @@ fn put_object<W: Write>(x: &Exploration<'_>, sink: &mut Sink<'_, W>)
         Key(b"trace"),
         Truth(facts.trace),
         Key(b"failure"),
-        Bytes(x.outcome.as_slice()),
+        Bytes(x.said.outcome.as_slice()),
     ]);
-    put_last_members(x.steps, x.waits.as_slice(), sink);
+    put_last_members(x.steps, x.said.waits.as_slice(), sink);
     sink.put(b"}\n")
 }
 
@@ -427,6 +409,7 @@ pub(crate) fn put_exploration<W: Write>(x: &Exploration<'_>, out: &mut W) -> Res
         put_object(x, &mut sink);
         return sink.finish();
     }
-    put_lines(x, &mut sink);
+    put_ending(x, &mut sink);
+    put_cut(x.full_stacks as u64, &mut sink);
     sink.finish()
 }

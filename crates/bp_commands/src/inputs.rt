@@ -5,7 +5,6 @@ ghost use Rattle.std.specs.IoError.{error_kind};
 ghost use Rattle.bp_messages.specs.ErrorTable.{error_of_text};
 ghost use Rattle.bp_commands.specs.Commands.{reading_error_of, IsInput, IsInputRefusal, TookAtMost, IsPairIn, IsPairUnread, IsReadRefused, IsText, IsTextUnread};
 
-use crate::error_contexts::FailedFile;
 use bp_code::ProgramError;
 use bp_messages::{Error, InputError};
 use bp_syntax::ReadError;
@@ -148,14 +147,15 @@ pub trait Files {
         ensures { IfOk result (λ file. Self.Input.remaining file ≡ bytes self.now path.now) };
 }
 
-/// Why a file was not opened, or not read.
+/// A file of a command that could not be opened or read.
 #[derive(Clone, Copy)]
-pub(crate) struct Failure {
+pub(crate) struct FailedFile<'a> {
+    pub(crate) name: &'a str,
     error: io::Error,
     was_open: bool,
 }
 
-impl Failure {
+impl FailedFile<'_> {
     /// Returns the operation that failed.
     pub(crate) fn verb(&self) -> &'static str {
         if self.was_open { "read" } else { "open" }
@@ -182,7 +182,7 @@ pub struct InputFile<'a, F: Files> {
     path: &'a str,
     file: Option<F::Input>,
     /// Why it was not opened, or not read, if so.
-    failure: Option<Failure>,
+    pub(crate) unread: Option<FailedFile<'a>>,
 }
 
 impl<F: Files> Read for InputFile<'_, F> {
@@ -196,17 +196,22 @@ impl<F: Files> Read for InputFile<'_, F> {
             None => self.opened()?,
         };
         let count = file.read(buf);
-        self.failure = failure_of(&count, true);
+        self.unread = failure_of(self.path, &count, true);
         self.file = Some(file);
         count
     }
 }
 
 /// Returns why a file was not opened, or not read, if so.
-fn failure_of<T>(done: &io::Result<T>, was_open: bool) -> Option<Failure> {
+fn failure_of<'a, T>(
+    name: &'a str,
+    done: &io::Result<T>,
+    was_open: bool,
+) -> Option<FailedFile<'a>> {
     match done {
         Ok(_) => None,
-        Err(error) => Some(Failure {
+        Err(error) => Some(FailedFile {
+            name,
             error: *error,
             was_open,
         }),
@@ -225,17 +230,8 @@ impl<'a, F: Files> InputFile<'a, F> {
         ensures file { self.new.file ≡ self.old.file }
     {
         let file = self.files.open(self.path);
-        self.failure = failure_of(&file, false);
+        self.unread = failure_of(self.path, &file, false);
         file
-    }
-
-    /// Returns the facts of the file's failure, by its name.
-    pub(crate) fn unread(&self) -> Option<FailedFile<'a>> {
-        let failure = self.failure?;
-        Some(FailedFile {
-            name: self.path,
-            failure,
-        })
     }
 
     /// Makes the input of the file of this path.
@@ -248,7 +244,7 @@ impl<'a, F: Files> InputFile<'a, F> {
             files,
             path,
             file: None,
-            failure: None,
+            unread: None,
         };
         Source::new(alloc, file)
     }

@@ -1,15 +1,16 @@
 //! Runs of the commands, from the paths of their files to the exit status.
 ghost use Rattle.std.specs.Io.Buffered.{writer_contents};
+ghost use Rattle.bp_commands.specs.Commands.{limit_of};
 ghost use Rattle.bp_commands.specs.ErrorReports.{of_run, IsObjectIn, IsSaid};
 ghost use Rattle.bp_commands.specs.Jobs.{held, on_bundle, on_file, on_files, IsFinished, IsRun};
 ghost use Rattle.bp_commands.specs.Runs.{runs};
 
 use crate::commands::{PairCommand, ProgramCommand, do_on_pair, do_on_program};
 use crate::drives::{drive_bundle, parts};
-use crate::error_contexts::{Asked, ErrorContext, FailedFile, Limited, OptionNumbers};
+use crate::error_contexts::{ErrorContext, Limited, OptionNumbers};
 use crate::error_reports::{NamedPair, ReadBundle, Texts, conclude};
 use crate::explanations::NamedText;
-use crate::inputs::{Files, InputFile, Source};
+use crate::inputs::{FailedFile, Files, InputFile, Source};
 use crate::limits::MAX_BUNDLE;
 use crate::run_ends::{CommandAnswer, RunEnd, flushed};
 use crate::worker_runs::{Run, run_program};
@@ -70,11 +71,9 @@ fn context_of<'a>(
     ErrorContext {
         unread,
         numbers,
-        asked: Asked {
-            program: program.text,
-            start,
-            watch: None,
-        },
+        text: program.text,
+        start,
+        watch: None,
         program: program.name,
         input: None,
         is_bundle: false,
@@ -102,7 +101,7 @@ pub fn run_on_program<'a, C: ProgramCommand, F: Files, W: Write + Drop, E: Write
         name: path,
         text: &program.bytes,
     };
-    let unread = program.reader.unread();
+    let unread = program.reader.unread;
     let context = context_of(given, unread, command.numbers(), command.named_start());
     finish(io.alloc, io.format, &given, done, context, streams)
 }
@@ -135,7 +134,7 @@ pub fn run_by_workers<
         name: path,
         text: &program.bytes,
     };
-    let unread = program.reader.unread();
+    let unread = program.reader.unread;
     let (options, named) = (&asked.task.options, &asked.task.named);
     let start = &options.start;
     let start = Some(NamedStart { start, named });
@@ -156,7 +155,7 @@ pub fn run_on_pair<'a, C: PairCommand, F: Files, W: Write + Drop, E: Write + Dro
         held (writer_contents W.contents streams.output) (E.contents streams.errors) in
         let after = held (W.contents result.1.output) (E.contents result.1.errors) in
         let job = on_files (F.bytes io.entry.files.now) io.entry.format (C.command command.now)
-        C.Answer.rule (C.limit command.now) (C.second_input command.now)
+        C.Answer.rule (limit_of (C.second_input command.now)) (C.second_input command.now)
         path.now input_path.now in
         IsRun job before after result.0 }
 {
@@ -169,7 +168,7 @@ pub fn run_on_pair<'a, C: PairCommand, F: Files, W: Write + Drop, E: Write + Dro
         &mut input,
         &mut streams.output,
     );
-    let unread = program.reader.unread().or(input.reader.unread());
+    let unread = program.reader.unread.or(input.reader.unread);
     let given = NamedPair {
         program: NamedText {
             name: path,
@@ -185,15 +184,13 @@ pub fn run_on_pair<'a, C: PairCommand, F: Files, W: Write + Drop, E: Write + Dro
     let context = ErrorContext {
         unread,
         numbers: OptionNumbers::NONE,
-        asked: Asked {
-            program: given.program.text,
-            start: command.named_start(),
-            watch: command.watch(),
-        },
+        text: given.program.text,
+        start: given.start,
+        watch: command.watch(),
         program: path,
         input: Some(Limited {
             name: input_path,
-            limit: command.limit(),
+            limit: command.second_input().limit(),
         }),
         is_bundle: false,
     };
@@ -224,11 +221,9 @@ pub fn run_on_bundle<R: Read + Drop, W: Write + Drop, E: Write + Drop>(
     let context = ErrorContext {
         unread: None,
         numbers: OptionNumbers::NONE,
-        asked: Asked {
-            program: parts(given.bytes).0,
-            start: None,
-            watch: None,
-        },
+        text: parts(given.bytes).0,
+        start: None,
+        watch: None,
         program: STANDARD_INPUT,
         input: Some(Limited {
             name: STANDARD_INPUT,

@@ -127,10 +127,8 @@ impl<R: Threads + Sync, P: Progress> ProgramCommand for Test<'_, R, P> {
     }
 
     fn named_start(&self) -> Option<NamedStart<'_>> {
-        Some(NamedStart {
-            start: &self.task.start,
-            named: &self.task.named,
-        })
+        let (start, named) = (&self.task.start, &self.task.named);
+        Some(NamedStart { start, named })
     }
 
     fn numbers(&self) -> OptionNumbers {

@@ -8,7 +8,6 @@ use crate::shows::{Show, show_trace};
 use bp_code::code_of;
 use bp_machine::Report;
 use bp_messages::Error;
-use bp_trace::limits::MAX_TRACE;
 use std::alloc::Global;
 use std::io::Write;
 
@@ -23,19 +22,12 @@ pub enum TraceCommand<'a> {
 
 impl PairCommand for TraceCommand<'_> {
     ghost use Rattle.bp_commands.specs.declared.explanations.SecondInput.{SecondInput};
-    ghost use Rattle.bp_trace.specs.declared.limits.TheConstants.{MAX_TRACE};
 
     type Answer = Report;
 
     ghost command = { trace_command };
 
-    ghost limit = { λ _. MAX_TRACE };
-
     ghost second_input = { λ _. SecondInput.Trace };
-
-    fn limit(&self) -> usize {
-        MAX_TRACE
-    }
 
     fn apply<W: Write>(
         &self,

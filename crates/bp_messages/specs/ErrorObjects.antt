@@ -192,22 +192,17 @@ facts_text r file text =
 abbrev pub message_text : (message : List ℕ) → List ℕ
 message_text message = concat (key_text (codes "message") ∷ string_text message ∷ codes "}\n" ∷ [])
 
--- the object of a row of the table: its facts, its step and a sentence
-abbrev pub row_object
-    : RowOf → Option (List ℕ) → (text : List ℕ) → Option (List ℕ × Bool) → (message : List ℕ)
-    → List ℕ
-row_object r file text value message =
-    facts_text r file text ++ (step_text r.detail value ++ message_text message)
-
 -- the object of the verdict on steps, if an error refutes them
 abbrev pub refutation_text : Detail → List ℕ
 refutation_text (Step r) = verdict_object (refuted_after (r.line - 1))
 refutation_text d = []
 
--- the object of an error in this file, or in none; that of a verdict comes before it
+-- the object of an error in this file, or in none: the facts of its row of the table, its step and
+-- a sentence; that of a verdict comes before it
 abbrev pub error_object
     : Error → Option (List ℕ) → (text : List ℕ) → Option (List ℕ × Bool) → (message : List ℕ)
     → List ℕ
 error_object f file text value message =
     let row = error_row f in
-    refutation_text row.detail ++ row_object row file text value message
+    refutation_text row.detail
+    ++ (facts_text row file text ++ (step_text row.detail value ++ message_text message))

@@ -256,9 +256,7 @@ detail_text (Step r) = step_detail r.line r.reason
 detail_text (Wanted n r) =
     concat (codes " line " ∷ decimal n ∷ codes " wanted " ∷ (letter_of r ∷ []) ∷ [])
 
-abbrev pub row_line : RowOf → List ℕ
-row_line r = error_head r.number r.name ++ (detail_text r.detail ++ codes "\n")
-
 -- the line of an error
 abbrev pub error_line : Error → List ℕ
-error_line f = row_line (error_row f)
+error_line f =
+    let r = error_row f in error_head r.number r.name ++ (detail_text r.detail ++ codes "\n")

@@ -9,11 +9,10 @@ use Rattle.bp_trace.specs.declared.judgements.Printed.{Printed}
 use Rattle.bp_trace.specs.Replays.{row_of}
 
 -- `print`, the thread, and a digit for each value
-abbrev pub row_head : ℕ → List ℕ
-row_head thread = concat (codes "print " ∷ decimal thread ∷ codes " " ∷ [])
-
 abbrev pub row_line : PrintedRow → List ℕ
-row_line r = row_head r.thread ++ (flat_map bit_text r.values ++ codes "\n")
+row_line r =
+    concat (codes "print " ∷ decimal r.thread ∷ codes " " ∷ [])
+    ++ (flat_map bit_text r.values ++ codes "\n")
 
 -- the line of a row of a replay's result
 abbrev pub printed_line : Printed → List ℕ

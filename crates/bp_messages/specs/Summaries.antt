@@ -39,15 +39,11 @@ abbrev pub name_text : (json : Bool) → List ℕ → List ℕ
 name_text false name = name
 name_text true name = string_text name
 
--- a name after these bytes
-abbrev pub name_after : (json : Bool) → (before name : List ℕ) → List ℕ
-name_after json before name = concat (before ∷ name_text json name ∷ [])
-
 -- names, with these bytes before the first and those before each other one
 abbrev pub names_text : (json : Bool) → (before between : List ℕ) → List (List ℕ) → List ℕ
 names_text json before between [] = []
 names_text json before between (name ∷ names) =
-    name_after json before name ++ names_text json between between names
+    concat (before ∷ name_text json name ∷ []) ++ names_text json between between names
 
 -- a digit for each global
 abbrev pub bits_text : List Bool → List ℕ
@@ -67,14 +63,12 @@ bounds_text x =
     ∷ codes ", seed " ∷ decimal x.options.seed
     ∷ codes "\n" ∷ [])
 
-abbrev pub settings_text : TestReport → List ℕ
-settings_text x = codes ", init " ++ (init_text x.setup.init ++ bounds_text x)
-
 -- the line from which the test can be repeated
 abbrev pub asked_line : TestReport → List ℕ
 asked_line x =
     concat (codes "test of " ∷ displayed x.file.items ∷ codes ": threads" ∷ [])
-    ++ (names_text false (codes " ") (codes " ") x.setup.entries ++ settings_text x)
+    ++ (names_text false (codes " ") (codes " ") x.setup.entries
+    ++ (codes ", init " ++ (init_text x.setup.init ++ bounds_text x)))
 
 -- the bounds as members of an object, with the rest of the request
 abbrev pub bounds_members : TestReport → List ℕ
@@ -88,16 +82,13 @@ bounds_members x =
     ∷ key_text (codes "deadlock") ∷ truth_text x.options.with_deadlock
     ∷ codes "}" ∷ [])
 
-abbrev pub settings_members : TestReport → List ℕ
-settings_members x =
-    codes "],\"init\":\"" ++ (bits_text x.setup.init ++ bounds_members x)
-
 abbrev pub asked_member : TestReport → List ℕ
 asked_member x =
     concat (
     codes ",\"asked\":{\"file\":" ∷ string_text x.file.items
     ∷ key_text (codes "entries") ∷ [])
-    ++ (names_text true (codes "[") (codes ",") x.setup.entries ++ settings_members x)
+    ++ (names_text true (codes "[") (codes ",") x.setup.entries
+    ++ (codes "],\"init\":\"" ++ (bits_text x.setup.init ++ bounds_members x)))
 
 -- The threads that wait at the end of a run, and their places.
 
@@ -257,10 +248,6 @@ finding_text x (Failed run report) =
     failure_text failure statement x.file.items run x.options.runs
 finding_text x (Deadlock run report) = deadlock_text x run
 
--- the finding and the request
-abbrev pub head_text : TestReport → List ℕ
-head_text x = finding_text x x.found ++ asked_line x
-
 -- the number of runs made, how they ended, and the statements and threads that they reached
 abbrev pub counts_text : Counts → List ℕ
 counts_text x =
@@ -307,7 +294,8 @@ unreached_text (line ∷ lines) (is_reached ∷ marks) =
 
 abbrev pub summary_text : TestReport → List ℕ
 summary_text x =
-    head_text x
+    finding_text x x.found
+    ++ (asked_line x
     ++ (counts_text x.counts
     ++ (distinct_text x.distinct
-    ++ (notes_text x ++ unreached_text x.lines.items x.reached.items)))
+    ++ (notes_text x ++ unreached_text x.lines.items x.reached.items))))

@@ -62,13 +62,6 @@ reach_members x =
     ∷ key_text (codes "all") ∷ decimal x.threads.all
     ∷ codes "}" ∷ [])
 
-abbrev pub counts_members : Counts → List ℕ
-counts_members x = ends_members x ++ reach_members x
-
--- the request, and the counts of the runs
-abbrev pub runs_members : TestReport → List ℕ
-runs_members x = asked_member x ++ counts_members x.counts
-
 -- the number of different runs, and the share of further ones that would be new
 abbrev pub distinct_member : Distinct → List ℕ
 distinct_member x =
@@ -85,8 +78,10 @@ summary_object x =
     finding_members x.found
     ++ (failure_member failure (statement_of x.statements.items failure)
     ++ (waits_member x.positions.items x.waiting.items
-    ++ (runs_members x
-    ++ (distinct_member x.distinct ++ notes_members (notes_of x)))))
+    ++ (asked_member x
+    ++ (ends_members x.counts
+    ++ (reach_members x.counts
+    ++ (distinct_member x.distinct ++ notes_members (notes_of x)))))))
 
 -- the summary, and the objects of the statements that were not reached
 abbrev pub summary_objects : TestReport → List ℕ

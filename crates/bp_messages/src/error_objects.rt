@@ -4,7 +4,7 @@ ghost use Rattle.std.specs.Prelude.{◌≡◌, option_map};
 ghost use Rattle.bp_text.specs.Writing.{Writes, Given};
 ghost use Rattle.bp_text.specs.Pieces.{piece_text, string_or_null};
 ghost use Rattle.bp_confirm.specs.Steps.{value_of};
-ghost use Rattle.bp_messages.specs.ErrorObjects.{byte_of, facts_text, error_object, letter_text, message_text, name_in, place_in, refutation_text, thread_of};
+ghost use Rattle.bp_messages.specs.ErrorObjects.{byte_of, facts_text, error_object, letter_text, name_in, place_in, refutation_text, thread_of};
 ghost use Rattle.bp_messages.specs.ErrorTable.{row_of};
 
 use crate::error_table::{Detail, Row};
@@ -102,13 +102,6 @@ fn put_facts<'a, W: Write>(row: Row, file: Option<&'a str>, text: &[u8], sink: &
     ])
 }
 
-/// Writes the sentence that ends an object.
-fn put_message<W: Write>(message: &[u8], sink: &mut Sink<'_, W>)
-    ensures { Given W.contents sink.old sink.new (message_text message.now) }
-{
-    sink.put_pieces(&[Key(b"message"), Text(message), Bytes(b"}\n")])
-}
-
 /// Writes the object of the verdict on steps, if an error refutes them.
 fn put_refutation<W: Write>(detail: Detail, sink: &mut Sink<'_, W>)
     ensures { Given W.contents sink.old sink.new (refutation_text detail) }
@@ -141,6 +134,6 @@ pub fn put_error_object<'a, W: Write>(
     put_refutation(row.detail, &mut sink);
     put_facts(row, file, text, &mut sink);
     put_step(row.detail, value, &mut sink);
-    put_message(message, &mut sink);
+    sink.put_pieces(&[Key(b"message"), Text(message), Bytes(b"}\n")]);
     sink.finish()
 }

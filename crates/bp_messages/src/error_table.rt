@@ -217,17 +217,10 @@ impl Error {
         }
     }
 
-    /// Returns the number by which users know the error.
-    pub fn number(&self) -> u32
-        ensures { let row = error_row self.now in result ≡ row.number }
-    {
-        self.row().number
-    }
-
     /// Returns the exit status of a run that the error ended.
     pub fn status(&self) -> u8
         ensures { result ≡ status_of self.now }
     {
-        exit_status(false, Some(self.number()))
+        exit_status(false, Some(self.row().number))
     }
 }

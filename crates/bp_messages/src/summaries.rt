@@ -3,7 +3,7 @@
 ghost use Rattle.std.specs.Prelude.{◌≡◌};
 ghost use Rattle.bp_text.specs.Writing.{Writes, Given};
 ghost use Rattle.bp_text.specs.Pieces.{piece_text};
-ghost use Rattle.bp_messages.specs.Summaries.{counts_text, deadlock_text, distinct_text, finding_text, line_unless, nothing_text, nothing_phrase, summary_text, unreached_text, is_limit, limit_of, limit_text, of_word};
+ghost use Rattle.bp_messages.specs.Summaries.{counts_text, deadlock_text, finding_text, line_unless, nothing_text, nothing_phrase, summary_text, unreached_text, is_limit, limit_of, limit_text, of_word};
 ghost use Rattle.bp_messages.specs.Notes.{has_found};
 
 use crate::asked_tests::put_asked_line;
@@ -140,21 +140,6 @@ fn put_counts<W: Write>(counts: &Counts, sink: &mut Sink<'_, W>)
     ])
 }
 
-/// Writes the number of different runs.
-fn put_distinct<W: Write>(distinct: Distinct, sink: &mut Sink<'_, W>)
-    ensures { Given W.contents sink.old sink.new (distinct_text distinct) }
-{
-    sink.put_pieces(&[
-        Bytes(b"distinct: runs "),
-        Number(distinct.runs),
-        Bytes(b" of "),
-        Number(distinct.of),
-        Bytes(b", seen once "),
-        Number(distinct.once),
-        Bytes(b"\n"),
-    ])
-}
-
 /// Returns the line of a statement that was not reached.
 fn line_unless(is_reached: bool, line: &Vec<u8>) -> &[u8]
     ensures { result.now ≡ line_unless is_reached line.now }
@@ -188,13 +173,19 @@ pub fn put_summary<W: Write>(tested: &TestReport, out: &mut W) -> Result<(), Wri
     put_finding(tested, &mut sink);
     put_asked_line(tested, &mut sink);
     put_counts(&tested.counts, &mut sink);
-    put_distinct(tested.distinct, &mut sink);
+    let distinct = tested.distinct;
+    sink.put_pieces(&[
+        Bytes(b"distinct: runs "),
+        Number(distinct.runs),
+        Bytes(b" of "),
+        Number(distinct.of),
+        Bytes(b", seen once "),
+        Number(distinct.once),
+        Bytes(b"\n"),
+    ]);
     put_notes(tested, &mut sink);
-    put_unreached(
-        tested.lines.as_slice(),
-        tested.reached.as_slice(),
-        &mut sink,
-    );
+    let (lines, reached) = (tested.lines.as_slice(), tested.reached.as_slice());
+    put_unreached(lines, reached, &mut sink);
     sink.finish()
 }
 

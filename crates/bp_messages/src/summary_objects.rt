@@ -2,13 +2,13 @@
 //! for each statement that no run reached. It is written without memory.
 ghost use Rattle.std.specs.Prelude.{◌≡◌};
 ghost use Rattle.bp_text.specs.Writing.{Writes, Given};
-ghost use Rattle.bp_messages.specs.SummaryObjects.{distinct_member, ends_members, finding_members, found_name, found_run, reach_members, summary_object, summary_objects};
+ghost use Rattle.bp_messages.specs.SummaryObjects.{ends_members, found_name, found_run, reach_members, summary_object, summary_objects};
 
 use crate::asked_tests::put_asked_member;
 use crate::failures::{failed_assertion, put_failure_member, put_waits_member, statement_of};
 use crate::notes::{new_percent, put_notes_members};
 use crate::summaries::{TestReport, put_unreached};
-use bp_test::{Counts, Distinct, Found};
+use bp_test::{Counts, Found};
 use bp_text::Piece::{Bytes, Key, Number, NumberOrNull, Text};
 use bp_text::{Sink, WriteError};
 use std::io::Write;
@@ -32,19 +32,6 @@ fn found_run(found: Found) -> Option<u64>
         Found::Nothing => None,
         Found::Failed { run, .. } | Found::Deadlock { run, .. } => Some(run),
     }
-}
-
-/// Writes the finding, and its run.
-fn put_finding_members<W: Write>(found: Found, sink: &mut Sink<'_, W>)
-    ensures { Given W.contents sink.old sink.new (finding_members found) }
-{
-    sink.put_pieces(&[
-        Bytes(b"{\"kind\":\"test\",\"version\":4"),
-        Key(b"found"),
-        Text(found_name(found)),
-        Key(b"run"),
-        NumberOrNull(found_run(found)),
-    ])
 }
 
 /// Writes the number of runs made, how they ended, and the lacks of those that ended too early.
@@ -105,10 +92,25 @@ fn put_reach_members<W: Write>(counts: &Counts, sink: &mut Sink<'_, W>)
     ])
 }
 
-/// Writes the number of different runs, and the share of further ones that would be new.
-fn put_distinct_member<W: Write>(distinct: Distinct, sink: &mut Sink<'_, W>)
-    ensures { Given W.contents sink.old sink.new (distinct_member distinct) }
+/// Writes the object of the finding and of the statements and threads that the runs reached.
+fn put_summary_object<W: Write>(tested: &TestReport, sink: &mut Sink<'_, W>)
+    ensures { Given W.contents sink.old sink.new (summary_object tested.now) }
 {
+    sink.put_pieces(&[
+        Bytes(b"{\"kind\":\"test\",\"version\":4"),
+        Key(b"found"),
+        Text(found_name(tested.found)),
+        Key(b"run"),
+        NumberOrNull(found_run(tested.found)),
+    ]);
+    let failure = failed_assertion(tested);
+    let statement = statement_of(tested.statements.as_slice(), failure);
+    put_failure_member(failure, statement, sink);
+    put_waits_member(tested.positions.as_slice(), tested.waiting.as_slice(), sink);
+    put_asked_member(tested, sink);
+    put_ends_members(&tested.counts, sink);
+    put_reach_members(&tested.counts, sink);
+    let distinct = tested.distinct;
     sink.put_pieces(&[
         Bytes(b",\"distinct\":{\"runs\":"),
         Number(distinct.runs),
@@ -119,22 +121,7 @@ fn put_distinct_member<W: Write>(distinct: Distinct, sink: &mut Sink<'_, W>)
         Key(b"new_percent"),
         NumberOrNull(new_percent(distinct)),
         Bytes(b"}"),
-    ])
-}
-
-/// Writes the object of the finding and of the statements and threads that the runs reached.
-fn put_summary_object<W: Write>(tested: &TestReport, sink: &mut Sink<'_, W>)
-    ensures { Given W.contents sink.old sink.new (summary_object tested.now) }
-{
-    put_finding_members(tested.found, sink);
-    let failure = failed_assertion(tested);
-    let statement = statement_of(tested.statements.as_slice(), failure);
-    put_failure_member(failure, statement, sink);
-    put_waits_member(tested.positions.as_slice(), tested.waiting.as_slice(), sink);
-    put_asked_member(tested, sink);
-    put_ends_members(&tested.counts, sink);
-    put_reach_members(&tested.counts, sink);
-    put_distinct_member(tested.distinct, sink);
+    ]);
     put_notes_members(tested, sink)
 }
 
@@ -145,10 +132,7 @@ pub fn put_summary_objects<W: Write>(tested: &TestReport, out: &mut W) -> Result
 {
     let mut sink = Sink::new(out);
     put_summary_object(tested, &mut sink);
-    put_unreached(
-        tested.lines.as_slice(),
-        tested.reached.as_slice(),
-        &mut sink,
-    );
+    let (lines, reached) = (tested.lines.as_slice(), tested.reached.as_slice());
+    put_unreached(lines, reached, &mut sink);
     sink.finish()
 }

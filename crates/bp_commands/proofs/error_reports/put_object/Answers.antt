@@ -9,8 +9,8 @@ returns g c =
     let message = c.args.message.now in
     let value = option_map value_of c.value_in-value.result in
     let value_is = subst (λ r. IsValueIn texts.input r.detail value) c.row.ensures
-    (subst (λ t. IsValueIn t c.row.result.detail value) c.input.ensures c.value_in-value.ensures) in
+    (subst (λ t. IsValueIn t c.row.result.detail value) c.texts.ensures.1 c.value_in-value.ensures) in
     let object = error_object c.args.error.now (name_in c.file-file.result) texts.text value message in
     let is : IsObjectWith (g.G.Texts.is_in given) texts c.args.error.now message object =
     record { file = name_in c.file-file.result; named = c.file-file.ensures; value = value; value_is = value_is; is = refl } in
-    (object, is, rw c.program.ensures at c.put_error_object.ensures)
+    (object, is, rw c.texts.ensures.0 at c.put_error_object.ensures)

@@ -1,4 +1,4 @@
-use Rattle.bp_commands.proofs.Common.{ℕ, List, Option, writer_contents, ExplainsPair, AreReadOr, IsFileOfPair, IsObjectIn, rest_of, pair_of_files, Pair}
+use Rattle.bp_commands.proofs.Common.{ℕ, List, Option, writer_contents, ExplainsPair, AreReadOr, IsFileOfPair, IsObjectIn, rest_of, limit_of, pair_of_files, Pair}
 use Rattle.bp_commands.proofs.ConcludedReads.{finished_read}
 use Rattle.bp_commands.proofs.runs.run_on_pair.Goals as goal
 
@@ -14,7 +14,7 @@ returns g c =
     ) in
     let given : Pair = record { text = c.do_on_pair-done.new.program.bytes.items; input = c.do_on_pair-done.new.input.bytes.items } in
     let kind = g.C.PairCommand.second_input c.args.command.now in
-    let inputs = pair_of_files (g.C.PairCommand.limit c.args.command.now) (g.F.Files.bytes c.args.io.files.now path)
+    let inputs = pair_of_files (limit_of kind) (g.F.Files.bytes c.args.io.files.now path)
     (g.F.Files.bytes c.args.io.files.now input_path) left in
     let holds : AreReadOr inputs given c.do_on_pair-done.result = rw (← c.source-program.ensures, ← c.source-input.ensures) c.do_on_pair-done.ensures.holds in
     record {

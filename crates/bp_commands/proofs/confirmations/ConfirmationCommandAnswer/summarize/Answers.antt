@@ -20,13 +20,13 @@ returns-then-self g c =
     let choices = c.deref-then-self-2.result.now in
     let word = subst (λ w. Writes old new (verdict_object (shown w (Some c.from.result) failure waits choices)) told)
     c.verdict_word.ensures c.put_verdict.ensures in
-    let contexts = subst (λ n. Writes old new (verdict_object (shown (verdict_word x.verdict) (Some n) failure waits choices)) told)
+    let contexts = subst (λ n. Writes old new (verdict_object (shown (verdict_word x.said.verdict) (Some n) failure waits choices)) told)
     c.from.ensures word in
-    let failed = subst (λ f. Writes old new (verdict_object (shown (verdict_word x.verdict) (Some x.report.contexts) f waits choices)) told)
+    let failed = subst (λ f. Writes old new (verdict_object (shown (verdict_word x.said.verdict) (Some x.report.contexts) f waits choices)) told)
     c.deref.ensures.value contexts in
-    let written = subst (λ v. Writes old new (verdict_object (shown (verdict_word x.verdict) (Some x.report.contexts) x.failure.items v choices)) told)
+    let written = subst (λ v. Writes old new (verdict_object (shown (verdict_word x.said.verdict) (Some x.report.contexts) x.said.outcome.items v choices)) told)
     c.deref-then-self.ensures.value failed in
-    let whole = subst (λ v. Writes old new (verdict_object (shown (verdict_word x.verdict) (Some x.report.contexts) x.failure.items x.waits.items v)) told)
+    let whole = subst (λ v. Writes old new (verdict_object (shown (verdict_word x.said.verdict) (Some x.report.contexts) x.said.outcome.items x.said.waits.items v)) told)
     c.deref-then-self-2.ensures.value written in
-    subst (λ b. HasSummary (if b then verdict_object (confirmation_shown x) else line_as x.expected x.choices.items x.verdict) old new told)
+    subst (λ b. HasSummary (if b then verdict_object (confirmation_shown x) else line_as x.expected x.choices.items x.said.verdict) old new told)
     (sym c.if-self.true) whole
