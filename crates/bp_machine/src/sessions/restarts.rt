@@ -1,5 +1,5 @@
 //! Restarting a session.
-ghost use Rattle.std.specs.Prelude.{◌≡◌, [], None, IfOk, IsOk, OnOk, OnErr};
+ghost use Rattle.std.specs.Prelude.{◌≡◌, [], None, IsOk, OnOk, OnErr};
 ghost use Rattle.bp_machine.specs.Setups.{Fits};
 ghost use Rattle.bp_machine.specs.Sessions.{Stands};
 
@@ -28,18 +28,5 @@ impl Session {
         let word = word_of(self.setup.bits());
         self.machine.restart(word, &self.code, self.setup.entries());
         Ok(())
-    }
-
-    /// Returns a session of the same code before any attempt, in the same setup but with this seed
-    /// or none. It uses the memory of this one.
-    pub fn restarted(self, seed: Option<u64>) -> Result<Session, AllocError>
-        requires { Fits self.code.tree self.setup }
-        ensures stands { IfOk result (λ x. Stands self.code.tree x []) }
-        ensures kept { IfOk result (λ x.
-            (x.code ≡ self.code) × (x.setup ≡ record self.setup { seed = seed })) }
-    {
-        let mut session = self;
-        session.restart(seed)?;
-        Ok(session)
     }
 }
