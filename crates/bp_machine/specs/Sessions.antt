@@ -217,7 +217,8 @@ IsGiven None bit = Unit {0}
 -- `new` now. After each history it answers with the attempt, after which it stands, or says why it
 -- refuses, and is then unchanged.
 pub record IsAnswer
-    (old : SessionOf) (i : ℕ) (given : Option Bool) (new : SessionOf) (result : Result Call AskError)
+    (old : SessionOf) (i : ℕ) (given : Option Bool) (new : SessionOf)
+    (result : Result Call AskError)
     : Type 0 where
   pub answer : AfterEach old (λ t h. MatchResult result
       (IsNextCall t old.setup h i given)

@@ -53,10 +53,10 @@ fn histories_keep_their_laws()
     failures_are_real();
 }
 
-/// Opens a board of these parts for a code and a setup, and plays it: one worker for each seat makes
-/// the attempts of its thread, and the calling thread writes the trace while the workers run. If a
-/// worker stopped too early, playing is refused once the trace is written. The counts of the workers
-/// replace those in `counts`.
+/// Opens a board of these parts for a code and a setup, and plays it: one worker for each seat
+/// makes the attempts of its thread, and the calling thread writes the trace while the workers run.
+/// If a worker stopped too early, playing is refused once the trace is written. The counts of the
+/// workers replace those in `counts`.
 pub(crate) fn play<
     'a,
     C: Calls + Send + Sync,

@@ -78,8 +78,8 @@ pub fn work<C: Calls, O: Ledger, G: Gate, R: Wait + Clock>(
     done
 }
 
-/// Does all the work of a worker's seat, and then counts the worker as ended. Whether it stopped too
-/// early is seen from the gathered board.
+/// Does all the work of a worker's seat, and then counts the worker as ended. Whether it stopped
+/// too early is seen from the gathered board.
 pub(crate) fn worker<C: Calls, O: Ledger, G: Gate, R: Wait + Clock>(
     rt: &R,
     board: &Board<C, O>,
