@@ -142,16 +142,16 @@ module _ (others : List Bool) (n : ℕ) (old cur : List Bool) (was : MarksGrow (
   below_cases : (i : ℕ) → IsMarkedBelow others (n + 1) i → IsMarkedBelow others n i ⊎ (i ≡ n)
   below_cases i given1 = grind (arith)
 
-  pub below_marked : is_marked others n ≡ true → MarksGrow (λ i. Some i) (IsMarkedBelow others (n + 1)) old (slice_set cur n true)
-  below_marked is =
+  pub if_marked : is_marked others n ≡ true → MarksGrow (λ i. Some i) (IsMarkedBelow others (n + 1)) old (slice_set cur n true)
+  if_marked is =
       one_mark (λ i. Some i) (IsMarkedBelow others n) (IsMarkedBelow others (n + 1)) old cur was n n refl
       (omega arith, is) below_then (λ i at. elim (below_cases i at) [
         | inl earlier ↦ inl earlier
         | inr same ↦ inr (ap (λ k. Some k) (sym same))
       ])
 
-  pub below_unmarked : is_marked others n ≡ false → MarksGrow (λ i. Some i) (IsMarkedBelow others (n + 1)) old cur
-  below_unmarked given1 = grind (arith)
+  pub if_unmarked : is_marked others n ≡ false → MarksGrow (λ i. Some i) (IsMarkedBelow others (n + 1)) old cur
+  if_unmarked given1 = grind (arith)
 
 -- the marks after the attempt at i
 module _ (h : List Call) (i : ℕ) (within : i < length h) (d : Call) (old cur : List Bool) (was : MarksGrow (λ i. Some i) (HasStep (take i h)) old cur) where

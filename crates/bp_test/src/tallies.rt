@@ -85,7 +85,7 @@ pub(crate) fn mark(marks: &mut Vec<bool>, place: usize)
 }
 
 /// Marks the places that are marked in the other marks.
-#[tactic(auto, using(crate::proofs::MarkLemmas::below_marked, crate::proofs::MarkLemmas::below_unmarked))]
+#[tactic(auto, using(crate::proofs::MarkLemmas::if_marked, crate::proofs::MarkLemmas::if_unmarked))]
 fn mark_all(marks: &mut Vec<bool>, others: &[bool])
     ensures { MarksGrow (λ i. Some i) (λ n. is_marked others.now n ≡ true)
         marks.old.items marks.new.items }
